@@ -1,0 +1,4 @@
+pub mod Laws
+pub mod Packing
+pub mod PortId
+pub mod Time
