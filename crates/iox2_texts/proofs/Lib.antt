@@ -1,0 +1,7 @@
+pub mod ListingLemmas
+pub mod Multiple
+pub mod PathLemmas
+pub mod TextLemmas
+pub mod ValueLemmas
+pub mod VerifyLemmas
+pub mod VisitLemmas

@@ -1,0 +1,10 @@
+pub mod Attribute
+pub mod Errors
+pub mod Laws
+pub mod Multiple
+pub mod Name
+pub mod Pair
+pub mod Path
+pub mod Text
+pub mod Verify
+pub mod VerifyErrors

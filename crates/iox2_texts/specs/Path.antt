@@ -1,0 +1,50 @@
+-- Paths and file names.
+use Rattle.std.specs.Prelude.{◌≡◌, ◌≢◌, ℕ, List, [], ◌++◌, ◌<◌, ◌≤◌, length, Contains, All, Result, Ok, Err, if◌then◌else◌, Bool, IsTrue, ◌==◌, slice_index, not, ◌&&◌, ◌||◌, ◌-◌, nat_eq}
+use Rattle.std.specs.Char.{is_ascii_alphanumeric}
+use Rattle.std.specs.List.{after_last, list_any}
+use lib.Chars.{codes}
+use Rattle.iox2_texts.specs.Name.{IsName}
+use Rattle.iox2_texts.specs.declared.bounded.SemanticStringError.{SemanticStringError}
+use Rattle.iox2_texts.specs.declared.bounded.SemanticStringError.TheVariants.{InvalidContent, ExceedsMaximumLength}
+
+-- the byte `/`
+abbrev pub is_slash : ℕ → Bool
+is_slash b = b == 47
+
+-- a name of 1 to 255 bytes with no `/`, that is neither `.` nor `..`
+abbrev pub IsFileName : List ℕ → Type 0
+IsFileName bytes = IsName 255 bytes × (¬ (Contains bytes 47)) × (bytes ≢ codes ".") × (bytes ≢ codes "..")
+
+-- a path of 1 to 255 bytes whose part after its last `/` is a file name
+abbrev pub IsFilePath : List ℕ → Type 0
+IsFilePath bytes = IsName 255 bytes × IsFileName (after_last is_slash bytes)
+
+-- a letter, a digit or one of `-`, `.`, `:`, `_`
+abbrev pub is_restricted : ℕ → Bool
+is_restricted b = is_ascii_alphanumeric b || list_any (nat_eq b) (codes "-.:_")
+
+-- 1 to `n` such bytes, that are neither `.` nor `..`
+abbrev pub IsRestrictedName : ℕ → List ℕ → Type 0
+IsRestrictedName n bytes =
+    (1 ≤ length bytes) × (length bytes ≤ n) × All (λ b. IsTrue (is_restricted b)) bytes
+    × (bytes ≢ codes ".") × (bytes ≢ codes "..")
+
+-- whether a `/` is needed before an entry: the path is neither empty nor ends in one
+abbrev pub needs_slash : List ℕ → Bool
+needs_slash path = not (length path == 0) && not (slice_index path (length path - 1) == 47)
+
+-- the path followed by the entry, with one `/` between where it is needed
+abbrev pub join : List ℕ → List ℕ → List ℕ
+join path entry = path ++ (if needs_slash path then codes "/" else []) ++ entry
+
+-- what joining two texts answers
+abbrev pub MakesJoined : List ℕ → List ℕ → Result (List ℕ) SemanticStringError → Type 0
+MakesJoined path entry (Ok joined) = (joined ≡ join path entry) × (length (join path entry) ≤ 255)
+MakesJoined path entry (Err ExceedsMaximumLength) = 255 < length (join path entry)
+MakesJoined path entry (Err InvalidContent) = ⊥
+
+-- what joining an entry to the path `old` answers and leaves
+abbrev pub JoinsTo : List ℕ → List ℕ → Result (Unit {0}) SemanticStringError → List ℕ → Type 0
+JoinsTo old entry (Ok _) new = (new ≡ join old entry) × (length (join old entry) ≤ 255)
+JoinsTo old entry (Err ExceedsMaximumLength) new = (new ≡ old) × (255 < length (join old entry))
+JoinsTo old entry (Err InvalidContent) new = ⊥

@@ -1,0 +1,26 @@
+-- What a verifier requires, and what a set lacks.
+use Rattle.std.specs.Prelude.{◌≡◌, ◌≢◌, ℕ, List, Contains, All, take, slice_get, Some}
+use Rattle.std.specs.declared.cmp.Ordering.TheVariants.{Less}
+use Rattle.iox2_texts.specs.Pair.{Pair, pair_cmp}
+use Rattle.iox2_texts.specs.Attribute.{ContainsKey}
+
+-- the pairs that are required, in rising order, and the keys, in the order of the calls
+pub record Requirements : Type 0 where
+  pub pairs : List Pair
+  pub keys : List (List ℕ)
+
+-- each required pair is in the set, and each required key is the key of some pair of it
+abbrev pub IsSatisfied : Requirements → List Pair → Type 0
+IsSatisfied required pairs = All (Contains pairs) required.pairs × All (ContainsKey pairs) required.keys
+
+-- the least of the required pairs that are not in the set
+abbrev pub IsLeastMissing : List Pair → List Pair → Pair → Type 0
+IsLeastMissing required pairs missing =
+    Contains required missing × (¬ (Contains pairs missing))
+    × ((other : Pair) → Contains required other → ¬ (Contains pairs other) → pair_cmp other missing ≢ Less)
+
+-- the first of the required keys that no pair has
+abbrev pub IsFirstMissing : List (List ℕ) → List Pair → List ℕ → Type 0
+IsFirstMissing keys pairs missing =
+    (i : ℕ) × (slice_get keys i ≡ Some missing) × (¬ (ContainsKey pairs missing))
+    × All (ContainsKey pairs) (take i keys)

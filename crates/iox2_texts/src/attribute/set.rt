@@ -1,0 +1,190 @@
+//! Sets of attributes.
+ghost use Rattle.std.specs.Prelude.{◌≡◌, ◌+◌, ◌<◌, ◌≤◌, ◌↔◌, [], ◌∷◌, Some, length, IsTrue, IsOk, OnOk, OnErr, Contains, slice_get};
+ghost use Rattle.std.specs.Option.{option_copied};
+ghost use Rattle.std.specs.Fn.{CalledAt};
+ghost use Rattle.iox2_texts.specs.Pair.{IsAttributes};
+ghost use Rattle.iox2_texts.specs.Attribute.{IsListing, ContainsKey, Visits, values_of};
+
+use super::pair::Attribute;
+use super::text::{AttributeKey, AttributeValue};
+use crate::bounded::CallbackProgression;
+use arrayvec::ArrayVec;
+use std::error::Error;
+use std::fmt;
+use std::marker::Model;
+
+/// The greatest number of pairs of a set, and of the requirements of a verifier.
+pub const MAX_ATTRIBUTES: usize = 16;
+
+/// Why a pair or a key was not added.
+#[derive(Clone, Copy, Debug, PartialEq, Eq)]
+pub enum AttributeDefinitionError {
+    /// There are 16 already.
+    ExceedsMaxSupportedAttributes,
+}
+
+/// The path of the variant.
+impl fmt::Display for AttributeDefinitionError {
+    ghost use lib.Chars.{codes};
+
+    ghost output = { λ e. Some (codes "AttributeDefinitionError::ExceedsMaxSupportedAttributes") };
+
+    fn fmt<W: fmt::Write>(&self, f: &mut fmt::Formatter<W>) -> fmt::Result {
+        f.write_str("AttributeDefinitionError::ExceedsMaxSupportedAttributes")
+    }
+}
+
+impl Error for AttributeDefinitionError {}
+
+/// Up to 16 pairs in rising order. A pair that was added twice stands in it twice.
+#[derive(Debug, Drop, PartialEq, Eq)]
+pub struct AttributeSet {
+    attributes: ArrayVec<Attribute, MAX_ATTRIBUTES>,
+}
+
+impl Model for AttributeSet {
+    ghost use Rattle.std.specs.Prelude.{List};
+    ghost use Rattle.iox2_texts.specs.Pair.{Pair, IsAttributes};
+
+    ghost Value = { List Pair };
+
+    ghost view = { λ s. s.attributes.items };
+
+    ghost invariant = { λ s. IsAttributes s.attributes.items };
+
+    ghost inverse = { λ pairs. record { attributes = record { items = pairs } } };
+}
+
+impl AttributeSet {
+    /// The empty set.
+    pub fn new() -> Self
+        ensures { result ≡ [] }
+    {
+        AttributeSet {
+            attributes: ArrayVec::new(),
+        }
+    }
+
+    /// Adds a pair. One that is there already is kept once more.
+    ///
+    /// Refused where 16 pairs stand, and then the set stays as it was.
+    pub fn add(
+        &mut self,
+        key: &AttributeKey,
+        value: &AttributeValue,
+    ) -> Result<(), AttributeDefinitionError>
+        ensures variant { IsOk result ↔ (length self.old < 16) }
+        ensures added { OnOk result (IsListing (record { key = key.now; value = value.now } ∷ self.old) self.new) }
+        ensures full { OnErr result (self.new ≡ self.old) }
+        ensures len { OnOk result (length self.new ≡ length self.old + 1) }
+        ensures bound { length self.new ≤ 16 }
+    {
+        if self.attributes.is_full() {
+            return Err(AttributeDefinitionError::ExceedsMaxSupportedAttributes);
+        }
+        self.attributes.push(Attribute::new(key, value));
+        // Linear: so short a list is sorted by insertion, and all but the last pair stand in order.
+        self.attributes.sort_unstable();
+        Ok(())
+    }
+
+    /// The pairs in rising order.
+    pub fn as_slice(&self) -> &[Attribute]
+        ensures value { result.now ≡ self.now }
+        ensures legal { IsAttributes result.now }
+    {
+        self.attributes.as_slice()
+    }
+
+    /// The number of pairs, repeats counted.
+    pub fn number_of_attributes(&self) -> usize
+        ensures value { result ≡ length self.now }
+        ensures bound { result ≤ 16 }
+    {
+        self.attributes.len()
+    }
+
+    /// The greatest number of pairs of a set.
+    pub fn capacity() -> usize
+        ensures { result ≡ 16 }
+    {
+        MAX_ATTRIBUTES
+    }
+
+    /// The number of pairs that have the key.
+    pub fn number_of_key_values(&self, key: &AttributeKey) -> usize
+        ensures { result ≡ length (values_of self.now key.now) }
+    {
+        self.attributes
+            .as_slice()
+            .iter()
+            .filter(|attribute| attribute.key() == key)
+            .count()
+    }
+
+    /// The value at `index`, counted from 0, of the key's values in rising order, or `None` where there are
+    /// not that many.
+    pub fn key_value(&self, key: &AttributeKey, index: usize) -> Option<&AttributeValue>
+        ensures { option_copied result ≡ slice_get (values_of self.now key.now) index }
+    {
+        let mut left = index;
+        for attribute in self.attributes.as_slice() {
+            if attribute.key() == key {
+                if left == 0 {
+                    return Some(attribute.value());
+                }
+                left -= 1;
+            }
+        }
+        None
+    }
+
+    /// Calls `callback` with the key's values in rising order, up to and with the first that it answers `Stop`.
+    ///
+    /// The callback is left in the state after its last call.
+    pub fn iter_key_values<F: FnMut(&AttributeValue) -> CallbackProgression>(
+        &self,
+        key: &AttributeKey,
+        callback: &mut F,
+    )
+        requires { F.IsAlwaysCallable callback.old }
+        ensures { Visits (CalledAt F.FnMut) callback.old (values_of self.now key.now) callback.new }
+    {
+        for attribute in self.attributes.as_slice() {
+            if attribute.key() == key {
+                match callback(attribute.value()) {
+                    CallbackProgression::Continue => {}
+                    CallbackProgression::Stop => return,
+                }
+            }
+        }
+    }
+
+    /// Whether the pair is in the set.
+    pub(super) fn contains(&self, attribute: &Attribute) -> bool
+        ensures { IsTrue result ↔ Contains self.now attribute.now }
+    {
+        self.attributes.as_slice().contains(attribute)
+    }
+
+    /// Whether some pair has the key.
+    pub(super) fn contains_key(&self, key: &AttributeKey) -> bool
+        ensures { IsTrue result ↔ ContainsKey self.now key.now }
+    {
+        self.attributes
+            .as_slice()
+            .iter()
+            .any(|attribute| attribute.key() == key)
+    }
+
+    /// An equal set.
+    pub fn copied(&self) -> Self
+        ensures { result ≡ self.now }
+    {
+        let mut attributes: ArrayVec<Attribute, MAX_ATTRIBUTES> = ArrayVec::new();
+        for attribute in self.attributes.as_slice() {
+            attributes.push(attribute.copied());
+        }
+        AttributeSet { attributes }
+    }
+}

@@ -1,0 +1,6 @@
+//! Worked values, printed texts, and each public call once.
+
+mod attributes;
+mod bounded;
+mod paths;
+mod service_names;
