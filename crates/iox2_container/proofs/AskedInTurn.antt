@@ -1,0 +1,98 @@
+-- Callbacks that are asked in turn.
+use Rattle.std.proofs.Common.{◌≡◌, ℕ, zero, suc, ◌+◌, Option, Some, None, List, [], ◌∷◌, ◌++◌, take, map, refl, sym, ◌∙◌, ap, subst, arith, inl, inr}
+use Rattle.std.specs.Prelude.{All, slice_get}
+use Rattle.std.proofs.lemmas.List.Elements.{All-push}
+use Rattle.iox2_texts.specs.declared.bounded.CallbackProgression.{CallbackProgression}
+use Rattle.iox2_texts.specs.declared.bounded.CallbackProgression.TheVariants.{Continue, Stop}
+use Rattle.iox2_container.specs.State.{Entry}
+use Rattle.iox2_container.specs.Places.{entries_from}
+use Rattle.std.proofs.lemmas.List.{append-nil}
+use Rattle.iox2_container.specs.Passes.{AskedOfCell}
+use Rattle.iox2_container.specs.Steps.{Asked, Visit}
+use Rattle.iox2_container.proofs.CellEntries.{same_entry, cell_ticket, cell_details}
+
+pub Asked-push : {F A R : Type 0} (calls : F → A → R → F → Type 0) (f : F) (items : List A) (answers : List R) (g : F) (item : A) (answer : R) (h : F) → Asked calls f items answers g → calls g item answer h → Asked calls f (items ++ item ∷ []) (answers ++ answer ∷ []) h
+Asked-push {F} calls f [] [] g item answer h a c = (h, subst (λ (k : F). calls k item answer h) a c, refl)
+Asked-push calls f [] (r ∷ rs) g item answer h a c = absurd a
+Asked-push calls f (x ∷ xs) [] g item answer h a c = absurd a
+Asked-push calls f (x ∷ xs) (r ∷ rs) g item answer h a c = (a.0, a.1, Asked-push calls a.0 xs rs g item answer h a.2 c)
+
+-- the details in the first cells, and those after them
+pub entries_split : {T : Type 0} (low i : ℕ) (cells : List (Option (ℕ × T))) → (rest : List (Entry T)) × (entries_from low cells ≡ entries_from low (take i cells) ++ rest)
+entries_split low zero cells = (entries_from low cells, refl)
+entries_split low (suc i) [] = ([], refl)
+entries_split low (suc i) (None ∷ cells) = entries_split (low + 1) i cells
+entries_split {T} low (suc i) (Some (t, d) ∷ cells) =
+    let x : Entry T = record { slot = low; ticket = t; details = d } in
+    let r = entries_split (low + 1) i cells in
+    (r.0, ap (λ (l : List (Entry T)). x ∷ l) r.1)
+
+abbrev pub details_of : {T : Type 0} → List (Entry T) → List T
+details_of es = map (λ e. e.details) es
+
+pub details-append : {T : Type 0} (xs ys : List (Entry T)) → details_of (xs ++ ys) ≡ details_of xs ++ details_of ys
+details-append [] ys = refl
+details-append (x ∷ xs) ys = ap (λ l. x.details ∷ l) (details-append xs ys)
+
+-- one cell more
+pub taken_more : {T : Type 0} (low i : ℕ) (cells : List (Option (ℕ × T))) (x : Entry T) → slice_get cells i ≡ Some (Some (x.ticket, x.details)) → x.slot ≡ low + i → entries_from low (take (suc i) cells) ≡ entries_from low (take i cells) ++ x ∷ []
+taken_more low i [] x h s = (cc)
+taken_more low zero (None ∷ cells) x h s = (cc)
+taken_more {T} low zero (Some (t, d) ∷ cells) x h s =
+    ap (λ (y : Entry T). y ∷ []) (same_entry low t d x (omega arith) (cell_ticket t d x.ticket x.details h) (cell_details t d x.ticket x.details h))
+taken_more low (suc i) (None ∷ cells) x h s = taken_more (low + 1) i cells x h (omega arith)
+taken_more {T} low (suc i) (Some (t, d) ∷ cells) x h s =
+    let y : Entry T = record { slot = low; ticket = t; details = d } in
+    ap (λ (l : List (Entry T)). y ∷ l) (taken_more (low + 1) i cells x h (omega arith))
+
+pub taken_free : {T : Type 0} (low i : ℕ) (cells : List (Option (ℕ × T))) → slice_get cells i ≡ Some None → entries_from low (take (suc i) cells) ≡ entries_from low (take i cells)
+taken_free low i [] h = (cc)
+taken_free low zero (None ∷ cells) h = refl
+taken_free low zero (Some (t, d) ∷ cells) h = (cc)
+taken_free low (suc i) (None ∷ cells) h = taken_free (low + 1) i cells h
+taken_free {T} low (suc i) (Some (t, d) ∷ cells) h =
+    let y : Entry T = record { slot = low; ticket = t; details = d } in
+    ap (λ (l : List (Entry T)). y ∷ l) (taken_free (low + 1) i cells h)
+
+-- so far each answer was `Continue`
+pub record GoesOn {F T : Type 0} (calls : F → T → CallbackProgression → F → Type 0) (f : F) (items : List T) (g : F) : Type 0 where
+  pub answers : List CallbackProgression
+  pub asked : Asked calls f items answers g
+  pub continues : All (λ a. a ≡ Continue) answers
+
+details_more : {T : Type 0} (i : ℕ) (cells : List (Option (ℕ × T))) (t : ℕ) (d : T) → slice_get cells i ≡ Some (Some (t, d)) → details_of (entries_from 0 (take (suc i) cells)) ≡ details_of (entries_from 0 (take i cells)) ++ d ∷ []
+details_more {T} i cells t d h =
+    let x : Entry T = record { slot = i; ticket = t; details = d } in
+    ap details_of (taken_more 0 i cells x h (omega arith)) ∙ details-append (entries_from 0 (take i cells)) (x ∷ [])
+
+pub goes_on : {F T : Type 0} (calls : F → T → CallbackProgression → F → Type 0) (f g h : F) (cells : List (Option (ℕ × T))) (i : ℕ) (cell : Option (ℕ × T)) (answer : CallbackProgression) → slice_get cells i ≡ Some cell → AskedOfCell calls g cell answer h → answer ≡ Continue → GoesOn calls f (details_of (entries_from 0 (take i cells))) g → GoesOn calls f (details_of (entries_from 0 (take (suc i) cells))) h
+goes_on {F} {T} calls f g h cells i None answer is a c w =
+    subst (λ (k : F). GoesOn calls f (details_of (entries_from 0 (take (suc i) cells))) k) (sym a.1)
+    (subst (λ (l : List (Entry T)). GoesOn calls f (details_of l) g) (sym (taken_free 0 i cells is)) w)
+goes_on {F} {T} calls f g h cells i (Some (t, d)) answer is a c w =
+    subst (λ (l : List T). GoesOn calls f l h) (sym (details_more i cells t d is))
+    (record {
+      answers = w.answers ++ answer ∷ [];
+      asked = Asked-push calls f (details_of (entries_from 0 (take i cells))) w.answers g d answer h w.asked a;
+      continues = All-push (λ a. a ≡ Continue) w.answers answer w.continues c;
+    })
+
+pub stops : {F T : Type 0} (calls : F → T → CallbackProgression → F → Type 0) (f g h : F) (cells : List (Option (ℕ × T))) (i : ℕ) (cell : Option (ℕ × T)) (answer : CallbackProgression) → slice_get cells i ≡ Some cell → AskedOfCell calls g cell answer h → answer ≡ Stop → GoesOn calls f (details_of (entries_from 0 (take i cells))) g → Visit calls f (details_of (entries_from 0 cells)) h
+stops {F} {T} calls f g h cells i None answer is a c w = (let e : Continue ≡ Stop = sym a.0 ∙ c in cc)
+stops {F} {T} calls f g h cells i (Some (t, d)) answer is a c w =
+    let split = entries_split 0 (suc i) cells in
+    record {
+      seen = details_of (entries_from 0 (take i cells)) ++ d ∷ [];
+      rest = details_of split.0;
+      answers = w.answers ++ answer ∷ [];
+      items_are = ap details_of split.1 ∙ (details-append (entries_from 0 (take (suc i) cells)) split.0 ∙ ap (λ (l : List T). l ++ details_of split.0) (details_more i cells t d is));
+      asked = Asked-push calls f (details_of (entries_from 0 (take i cells))) w.answers g d answer h w.asked a;
+      ends = inr (w.answers, w.continues, ap (λ (r : CallbackProgression). w.answers ++ r ∷ []) c);
+    }
+
+pub ends : {F T : Type 0} (calls : F → T → CallbackProgression → F → Type 0) (f g : F) (items : List T) → GoesOn calls f items g → Visit calls f items g
+ends calls f g items w = record { seen = items; rest = []; answers = w.answers; items_are = sym (append-nil items); asked = w.asked; ends = inl (w.continues, refl) }
+
+pub not_stop : (a : CallbackProgression) → (a ≡ Stop → ⊥) → a ≡ Continue
+not_stop Continue h = refl
+not_stop Stop h = absurd (h refl)

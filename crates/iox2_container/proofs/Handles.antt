@@ -1,0 +1,55 @@
+-- What a handle names.
+use Rattle.std.proofs.Common.{◌≡◌, ◌≢◌, ℕ, ◌<◌, Bool, true, false, Option, Some, None, List, length, refl, sym, ◌∙◌, ap, arith}
+use Rattle.std.specs.Prelude.{◌↔◌, MatchOption, slice_get, slice_set}
+use Rattle.std.proofs.lemmas.Bool.{iff_false}
+use Rattle.std.proofs.lemmas.List.Elements.{All-weaker}
+use Rattle.iox2_container.specs.declared.container.ledger.Ledger.{Ledger}
+use Rattle.iox2_container.specs.declared.container.role.Role.{Role}
+use Rattle.iox2_container.specs.Handle.{Handle}
+use Rattle.iox2_container.specs.State.{Entry, handle_of}
+use Rattle.iox2_container.specs.Steps.{IsForeign, Stands}
+use Rattle.iox2_container.specs.Places.{Finds, entries_from}
+use Rattle.iox2_container.specs.Kept.{registry_of}
+use Rattle.iox2_container.proofs.CellEntries.{below_from, shown_from, gains_clear}
+
+-- the handle is one of this container and of a slot that it has
+abbrev pub MayBeHad : Ledger → Handle → ℕ → Type 0
+MayBeHad a handle capacity = (handle.service ≡ a.service) × (handle.role ≡ a.role) × (handle.slot < capacity)
+
+-- any other handle is that of no entry
+pub foreign_by_parts : {T : Type 0} (a : Ledger) (cells : List (Option (ℕ × T))) (handle : Handle) (capacity : ℕ) (may : Bool) → ((may ≡ true) ↔ MayBeHad a handle capacity) → capacity ≡ length cells → may ≡ false → IsForeign (registry_of a cells) handle
+foreign_by_parts {T} a cells handle capacity may h n f =
+    All-weaker (λ (x : Entry T). x.slot < length cells) (λ (x : Entry T). handle ≢ handle_of (registry_of a cells) x)
+    (λ x below q.
+    let slots : handle.slot ≡ x.slot = ap (λ (k : Handle). k.slot) q in
+    iff_false h f (ap (λ (k : Handle). k.service) q, ap (λ (k : Handle). k.role) q, omega arith))
+    (entries_from 0 cells) (below_from cells)
+
+-- what was found in the handle's place, by the names that its calls have
+pub finds : {T : Type 0} (cells : List (Option (ℕ × T))) (handle : Handle) (slot ticket : ℕ) (cell : Option (ℕ × T)) (found : Option T) → slot ≡ handle.slot → ticket ≡ handle.ticket → slice_get cells slot ≡ Some cell → MatchOption found ((d : T) → cell ≢ Some (ticket, d)) (λ d. cell ≡ Some (ticket, d)) → Finds cells handle found
+finds {T} cells handle slot ticket cell None es et shown f =
+    λ d q. f d (let z : ◌≡◌ {A = Option (Option (ℕ × T))} (Some cell) (Some (Some (ticket, d))) = sym shown ∙ (ap (slice_get cells) es ∙ (q ∙ ap (λ (t : ℕ). (let o : Option (Option (ℕ × T)) = Some (Some (t, d)) in o)) (sym et))) in cc)
+finds {T} cells handle slot ticket cell (Some d) es et shown f =
+    ap (slice_get cells) (sym es) ∙ (shown ∙ (ap (λ (o : Option (ℕ × T)). Some o) f ∙ ap (λ (t : ℕ). (let o : Option (Option (ℕ × T)) = Some (Some (t, d)) in o)) et))
+
+-- nothing was found, so no entry has the handle
+pub foreign_by_ticket : {T : Type 0} (a : Ledger) (cells : List (Option (ℕ × T))) (handle : Handle) → Finds cells handle None → IsForeign (registry_of a cells) handle
+foreign_by_ticket {T} a cells handle none =
+    All-weaker (λ (x : Entry T). slice_get cells x.slot ≡ Some (Some (x.ticket, x.details))) (λ (x : Entry T). handle ≢ handle_of (registry_of a cells) x)
+    (λ x is q.
+    let f : ℕ → Option (Option (ℕ × T)) = λ t. Some (Some (t, x.details)) in
+    none x.details (ap (λ (k : Handle). slice_get cells k.slot) q ∙ (is ∙ ap f (sym (ap (λ (k : Handle). k.ticket) q)))))
+    (entries_from 0 cells) (shown_from cells)
+
+-- the handle is that of an entry of this container
+pub has_parts : (a : Ledger) (handle : Handle) → handle.service ≡ a.service → handle.role ≡ a.role → handle ≡ record { service = a.service; role = a.role; slot = handle.slot; ticket = handle.ticket }
+has_parts a handle hs hr =
+    let h : ℕ → Role → Handle = λ n r. record { service = n; role = r; slot = handle.slot; ticket = handle.ticket } in
+    ap (λ n. h n handle.role) hs ∙ ap (h a.service) hr
+
+-- what was found is what the handle names
+pub names : {T : Type 0} (a : Ledger) (cells : List (Option (ℕ × T))) (handle : Handle) (found : Option T) → handle.service ≡ a.service → handle.role ≡ a.role → Finds cells handle found → MatchOption found (IsForeign (registry_of a cells) handle) (Stands (registry_of a cells) handle)
+names a cells handle None hs hr l = foreign_by_ticket a cells handle l
+names {T} a cells handle (Some d) hs hr shown =
+    let x : Entry T = record { slot = handle.slot; ticket = handle.ticket; details = d } in
+    (x, has_parts a handle hs hr, refl, (entries_from 0 (slice_set cells handle.slot None), gains_clear 0 cells handle.slot x shown (omega arith)))

@@ -1,0 +1,26 @@
+mod Walks
+pub mod ListEdits
+pub mod Gaining
+pub mod CellEntries
+pub mod ShownCells
+pub mod Keeping
+pub mod Making
+pub mod Adding
+pub mod Handles
+pub mod Removing
+pub mod AskedInTurn
+pub mod Sweeping
+pub mod Counting
+pub mod Mapped
+pub mod Asking
+pub mod Recovering
+pub mod FreeList
+pub mod FreeSlots
+pub mod Members
+pub mod Leaving
+pub mod Histories
+pub mod SameEntries
+pub mod KnownHandles
+pub mod Alike
+pub mod Runs
+pub mod Collecting

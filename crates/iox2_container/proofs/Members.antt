@@ -1,0 +1,106 @@
+-- Members of lists, and what they tell of lists of entries that gain one.
+use Rattle.std.proofs.Common.{◌≡◌, ◌≢◌, ℕ, zero, suc, List, [], ◌∷◌, ◌++◌, refl, sym, ◌∙◌, ap, subst, arith, inl, inr, ◌⊎◌, Contains, Any}
+use Rattle.std.specs.Prelude.{All, AllPairs}
+use Rattle.std.proofs.lemmas.List.Elements.{All-head, All-tail}
+use Rattle.iox2_container.specs.State.{Entry}
+use Rattle.iox2_container.specs.Steps.{Gains}
+use Rattle.iox2_container.proofs.Gaining.{AllPairs-head, AllPairs-tail}
+
+-- x is in the list
+abbrev pub Among : {X : Type 0} → X → List X → Type 0
+Among x [] = ⊥
+Among x (y ∷ ys) = (x ≡ y) ⊎ Among x ys
+
+pub among_contained : {X : Type 0} (xs : List X) (x : X) → Contains xs x → Among x xs
+among_contained [] x (k, l, e) = absurd (omega (arith, l))
+among_contained (y ∷ ys) x (zero, l, e) = inl (sym e)
+among_contained (y ∷ ys) x (suc k, l, e) = inr (among_contained ys x (k, omega (arith, l), e))
+
+pub contains_among : {X : Type 0} (xs : List X) (x : X) → Among x xs → Contains xs x
+contains_among [] x a = absurd a
+contains_among (y ∷ ys) x (inl e) = (zero, omega arith, sym e)
+contains_among (y ∷ ys) x (inr a) =
+    let c = contains_among ys x a in
+    (suc c.0, omega (arith, c.1), c.2)
+
+-- what holds of some item holds of the first or of another
+pub first_or_other : {X : Type 0} (P : X → Type 0) (x : X) (xs : List X) → Any P (x ∷ xs) → P x ⊎ Any P xs
+first_or_other P x xs (zero, y, l, e, p) = inl (subst P (sym e) p)
+first_or_other P x xs (suc k, y, l, e, p) = inr (k, y, omega (arith, l), e, p)
+
+pub of_all : {X : Type 0} (P : X → Type 0) (xs : List X) (x : X) → All P xs → Among x xs → P x
+of_all P [] x h a = absurd a
+of_all P (y ∷ ys) x h (inl e) = subst P (sym e) (All-head P y ys h)
+of_all P (y ∷ ys) x h (inr a) = of_all P ys x (All-tail P y ys h) a
+
+pub moved : {X : Type 0} (x : X) (xs ys : List X) → xs ≡ ys → Among x xs → Among x ys
+moved {X} x xs ys e h = subst (λ (l : List X). Among x l) e h
+
+among_put : {X : Type 0} (b a : List X) (x y : X) → Among y (b ++ a) → Among y (b ++ x ∷ a)
+among_put [] a x y h = inr h
+among_put (z ∷ b) a x y (inl e) = inl e
+among_put (z ∷ b) a x y (inr h) = inr (among_put b a x y h)
+
+among_put_self : {X : Type 0} (b a : List X) (x : X) → Among x (b ++ x ∷ a)
+among_put_self [] a x = inl refl
+among_put_self (z ∷ b) a x = inr (among_put_self b a x)
+
+among_cut : {X : Type 0} (b a : List X) (x y : X) → Among y (b ++ x ∷ a) → Among y (b ++ a) ⊎ (y ≡ x)
+among_cut [] a x y (inl e) = inr e
+among_cut [] a x y (inr h) = inl h
+among_cut (z ∷ b) a x y (inl e) = inl (inl e)
+among_cut {X} (z ∷ b) a x y (inr h) = elim (among_cut b a x y h) [ inl k ↦ inl (inr k) | inr e ↦ inr e ]
+
+-- the entry that was gained, the others, and no third
+pub gained : {T : Type 0} (old new : List (Entry T)) (x : Entry T) → Gains old new x → Among x new
+gained old new x g = moved x (g.before ++ x ∷ g.after) new (sym g.new_is) (among_put_self g.before g.after x)
+
+pub among_more : {T : Type 0} (old new : List (Entry T)) (x y : Entry T) → Gains old new x → Among y old → Among y new
+among_more old new x y g h = moved y (g.before ++ x ∷ g.after) new (sym g.new_is) (among_put g.before g.after x y (moved y old (g.before ++ g.after) g.old_is h))
+
+pub among_less : {T : Type 0} (old new : List (Entry T)) (x y : Entry T) → Gains old new x → Among y new → Among y old ⊎ (y ≡ x)
+among_less old new x y g h =
+    elim (among_cut g.before g.after x y (moved y new (g.before ++ x ∷ g.after) g.new_is h)) [
+      | inl m ↦ inl (moved y (g.before ++ g.after) old (sym g.old_is) m)
+      | inr e ↦ inr e
+    ]
+
+-- a list without one of its entries
+pub record Without {T : Type 0} (es : List (Entry T)) (x : Entry T) : Type 0 where
+  pub rest : List (Entry T)
+  pub gains : Gains rest es x
+
+pub without : {T : Type 0} (es : List (Entry T)) (x : Entry T) → Among x es → Without es x
+without [] x h = absurd h
+without {T} (e ∷ es) x (inl p) =
+    record { rest = es; gains = record { before = []; after = es; old_is = refl; new_is = ap (λ (y : Entry T). y ∷ es) (sym p) } }
+without {T} (e ∷ es) x (inr h) =
+    let w = without es x h in
+    record {
+      rest = e ∷ w.rest;
+      gains = record {
+        before = e ∷ w.gains.before;
+        after = w.gains.after;
+        old_is = ap (λ (l : List (Entry T)). e ∷ l) w.gains.old_is;
+        new_is = ap (λ (l : List (Entry T)). e ∷ l) w.gains.new_is;
+      };
+    }
+
+-- entries that differ in their number, which is the slot or the ticket
+abbrev pub Differ : {T : Type 0} → (Entry T → ℕ) → List (Entry T) → Type 0
+Differ n es = AllPairs (λ v w. n v ≢ n w) es
+
+pub head_differs : {T : Type 0} (n : Entry T → ℕ) (e : Entry T) (es : List (Entry T)) (x : Entry T) → Differ n (e ∷ es) → Among x es → n e ≢ n x
+head_differs n e es x p h = of_all (λ w. n e ≢ n w) es x (AllPairs-head (λ v w. n v ≢ n w) e es p) h
+
+pub rest_differ : {T : Type 0} (n : Entry T → ℕ) (e : Entry T) (es : List (Entry T)) → Differ n (e ∷ es) → Differ n es
+rest_differ n e es p = AllPairs-tail (λ v w. n v ≢ n w) e es p
+
+cut_differs : {T : Type 0} (n : Entry T → ℕ) (b a : List (Entry T)) (x y : Entry T) → Differ n (b ++ x ∷ a) → Among y (b ++ a) → n y ≢ n x
+cut_differs n [] a x y p h s = head_differs n x a y p h (sym s)
+cut_differs n (z ∷ b) a x y p (inl e) s = head_differs n z (b ++ x ∷ a) x p (among_put_self b a x) (sym (ap n e) ∙ s)
+cut_differs n (z ∷ b) a x y p (inr h) s = cut_differs n b a x y (rest_differ n z (b ++ x ∷ a) p) h s
+
+pub other_differs : {T : Type 0} (n : Entry T → ℕ) (old new : List (Entry T)) (x y : Entry T) → Gains old new x → Differ n new → Among y old → n y ≢ n x
+other_differs {T} n old new x y g p h =
+    cut_differs n g.before g.after x y (subst (λ (l : List (Entry T)). Differ n l) g.new_is p) (moved y old (g.before ++ g.after) g.old_is h)

@@ -1,0 +1,25 @@
+use Rattle.std.proofs.Common.{◌≡◌, ◌+◌, length, take, sym, ◌∙◌, ap, arith}
+use Rattle.std.proofs.Math.Seq.{take-length}
+use Rattle.iox2_container.specs.Places.{entries_from}
+use Rattle.iox2_container.specs.Steps.{is_of}
+use Rattle.iox2_container.proofs.Counting.{counted, counted_more, few_more, one_if}
+use Rattle.iox2_container.proofs.Sweeping.{add_zero}
+use Rattle.iox2_container.proofs.container.passes.count_of.Goals as goal
+use Rattle.iox2_container.proofs.container.passes.count_of.Goals.{then-stands_for, else-stands_for}
+
+pub returns : goal.returns
+returns g c =
+    let cells = g.P.Places.cells c.args.places.now in
+    let all : c.loop-slot.slot ≡ length cells = omega (arith, c.capacity-slot-end.ensures, c.loop-slot.auto.slot-end, c.loop-slot-test.false) in
+    c.loop-slot.invariant.count ∙ ap (λ cs. counted (is_of g.T.Attached.node c.args.node.now) (entries_from 0 cs)) (ap (λ n. take n cells) all ∙ take-length cells)
+
+pub loop-slot-preserved : goal.loop-slot-preserved
+loop-slot-preserved g c =
+    let by_is : c.if-stands_for.count ≡ c.loop-slot.count + one_if c.stands_for.result = elim c.if-stands_for.branch [
+      | then-stands_for w ↦ w.count-is ∙ ap (λ b. c.loop-slot.count + one_if b) (sym w.if-stands_for.true)
+      | else-stands_for w ↦ w.count-is ∙ (add_zero c.loop-slot.count ∙ ap (λ b. c.loop-slot.count + one_if b) (sym w.if-stands_for.false))
+    ] in
+    record {
+      count = counted_more g.T.Attached.node c.args.node.now c.loop-slot.slot c.loop-slot.count c.if-stands_for.count (g.P.Places.cells c.args.places.now) c.peek_at.result c.stands_for.result c.peek_at.ensures c.stands_for.ensures by_is c.loop-slot.invariant.count;
+      few = few_more c.loop-slot.count c.if-stands_for.count c.loop-slot.slot c.stands_for.result by_is c.loop-slot.invariant.few;
+    }

@@ -1,0 +1,36 @@
+use Rattle.std.proofs.Common.{◌≡◌, ◌+◌, refl, sym, ◌∙◌, ap, arith}
+use Rattle.std.specs.Prelude.{if◌then◌else◌}
+use Rattle.std.specs.Fn.{CalledAt}
+use Rattle.iox2_container.specs.Steps.{is_of}
+use Rattle.iox2_container.proofs.Sweeping.{swept_none, sweeps_more, cells_swept, later_kept, length_kept, few_gone, add_zero}
+use Rattle.iox2_container.proofs.container.passes.sweep.Goals as goal
+use Rattle.iox2_container.proofs.container.passes.sweep.Goals.{then-sweep_place, else-sweep_place}
+
+pub loop-slot-init : goal.loop-slot-init
+loop-slot-init g c = record {
+  callable = record { at = c.requires.at };
+  len = refl;
+  swept = swept_none (CalledAt g.F.FnMut) (is_of g.T.Attached.node c.args.dead.now) c.args.f.now;
+  later = λ k h. refl;
+  few = omega arith;
+  touched = omega arith;
+  counted = omega arith;
+}
+
+pub loop-slot-preserved : goal.loop-slot-preserved
+loop-slot-preserved g c =
+    let cells_are = cells_swept (g.P.Places.cells c.loop-slot.places) (g.P.Places.cells c.sweep_place.new.places) c.loop-slot.slot c.sweep_place.result c.sweep_place.ensures.gone c.sweep_place.ensures.kept in
+    let gone_is : c.if-sweep_place.gone ≡ c.loop-slot.gone + (if c.sweep_place.result then 1 else 0) = elim c.if-sweep_place.branch [
+      | then-sweep_place w ↦ w.gone-is ∙ ap (λ b. c.loop-slot.gone + (if b then 1 else 0)) (sym w.if-sweep_place.true)
+      | else-sweep_place w ↦ w.gone-is ∙ (add_zero c.loop-slot.gone ∙ ap (λ b. c.loop-slot.gone + (if b then 1 else 0)) (sym w.if-sweep_place.false))
+    ] in
+    record {
+      callable = c.sweep_place.ensures.callable;
+      len = length_kept (g.P.Places.cells c.loop-slot.places) (g.P.Places.cells c.sweep_place.new.places) c.loop-slot.slot c.sweep_place.result cells_are ∙ c.loop-slot.invariant.len;
+      swept = sweeps_more (CalledAt g.F.FnMut) (is_of g.T.Attached.node c.args.dead.now) c.args.f.now c.loop-slot.f c.sweep_place.new.f (g.P.Places.cells c.args.places.now) (g.P.Places.cells c.loop-slot.places) (g.P.Places.cells c.sweep_place.new.places) c.loop-slot.slot c.loop-slot.gone c.if-sweep_place.gone c.sweep_place.result
+          (c.loop-slot.invariant.later c.loop-slot.slot (omega arith)) c.sweep_place.ensures.swept cells_are gone_is c.loop-slot.invariant.swept;
+      later = later_kept (g.P.Places.cells c.args.places.now) (g.P.Places.cells c.loop-slot.places) (g.P.Places.cells c.sweep_place.new.places) c.loop-slot.slot c.sweep_place.result cells_are c.loop-slot.invariant.later;
+      few = few_gone c.loop-slot.gone c.if-sweep_place.gone c.loop-slot.slot c.sweep_place.result gone_is c.loop-slot.invariant.few;
+      touched = omega (arith, c.sweep_place.ensures.touched, c.loop-slot.invariant.touched);
+      counted = omega (arith, c.sweep_place.ensures.counted, c.loop-slot.invariant.counted);
+    }

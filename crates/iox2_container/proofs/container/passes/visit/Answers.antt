@@ -1,0 +1,27 @@
+use Rattle.std.proofs.Common.{◌≡◌, ℕ, length, take, arith, add-one, sym, ◌∙◌, subst, ap}
+use Rattle.std.proofs.Math.Seq.{take-length}
+use Rattle.std.specs.Fn.{CalledAt}
+use Rattle.iox2_container.specs.Places.{entries_from}
+use Rattle.iox2_container.proofs.AskedInTurn.{details_of, GoesOn, goes_on, stops, ends, not_stop}
+use Rattle.iox2_container.proofs.container.passes.visit.Goals as goal
+
+pub returns-in-Stop-clause-visit : goal.returns-in-Stop-clause-visit
+returns-in-Stop-clause-visit g c =
+    stops (CalledAt g.F.FnMut) c.args.f.now c.loop-slot.f c.show.new.f (g.P.Places.cells c.args.places.now) c.loop-slot.slot c.peek_at.result c.show.result c.peek_at.ensures c.show.ensures.asked c.in-Stop.is c.loop-slot.invariant.asked
+
+pub loop-slot-preserved : goal.loop-slot-preserved
+loop-slot-preserved g c =
+    let cells = g.P.Places.cells c.args.places.now in
+    record {
+      callable = c.show.ensures.callable;
+      asked =
+          subst (λ (n : ℕ). GoesOn (CalledAt g.F.FnMut) c.args.f.now (details_of (entries_from 0 (take n cells))) c.show.new.f) (sym (add-one c.loop-slot.slot))
+          (goes_on (CalledAt g.F.FnMut) c.args.f.now c.loop-slot.f c.show.new.f cells c.loop-slot.slot c.peek_at.result c.show.result c.peek_at.ensures c.show.ensures.asked (not_stop c.show.result c.in_default.not-Stop) c.loop-slot.invariant.asked);
+    }
+
+pub returns-clause-visit : goal.returns-clause-visit
+returns-clause-visit g c =
+    let cells = g.P.Places.cells c.args.places.now in
+    let all : c.loop-slot.slot ≡ length cells = omega (arith, c.capacity-slot-end.ensures, c.loop-slot.auto.slot-end, c.loop-slot-test.false) in
+    ends (CalledAt g.F.FnMut) c.args.f.now c.loop-slot.f (details_of (entries_from 0 cells))
+    (subst (λ cs. GoesOn (CalledAt g.F.FnMut) c.args.f.now (details_of (entries_from 0 cs)) c.loop-slot.f) (ap (λ n. take n cells) all ∙ take-length cells) c.loop-slot.invariant.asked)

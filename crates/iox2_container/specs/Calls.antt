@@ -1,0 +1,91 @@
+-- Calls on a registry as values, and when the replies of two registries are of one kind.
+use Rattle.std.specs.Prelude.{◌≡◌, ℕ, ◌==◌, Bool, not, ⊤, Option, Some, None, Result, Ok, Err, List, [], ◌∷◌, ◌++◌, length, map, take, slice_get}
+use Rattle.std.specs.Global.{Vec}
+use Rattle.std.specs.List.{list_any, AllZip}
+use Rattle.std.specs.List.Sorted.{IsPermutation}
+use Rattle.iox2_container.specs.declared.container.refusal.ContainerAddFailure.{ContainerAddFailure}
+use Rattle.iox2_container.specs.declared.container.refusal.ContainerRemoveError.{ContainerRemoveError}
+use Rattle.iox2_container.specs.declared.container.release.ReleaseMode.{ReleaseMode}
+use Rattle.iox2_container.specs.declared.container.release.ReleaseState.{ReleaseState}
+use Rattle.iox2_container.specs.declared.container.calls.RegistryCall.{RegistryCall}
+use Rattle.iox2_container.specs.declared.container.calls.RegistryCall.TheVariants as Call
+use Rattle.iox2_container.specs.declared.container.calls.RegistryReply.{RegistryReply}
+use Rattle.iox2_container.specs.declared.container.calls.RegistryReply.TheVariants as Reply
+use Rattle.iox2_container.specs.Handle.{Handle}
+use Rattle.iox2_container.specs.State.{RegistryState, IsRegistry}
+use Rattle.iox2_container.specs.Steps.{AddStep, RemoveStep, Recovers, candidates, is_of, listed}
+
+-- the handle in a reply
+abbrev pub handle_in : {T : Type 0} → Option (RegistryReply T) → Option Handle
+handle_in (Some (Reply.Handle handle)) = Some handle
+handle_in _ = None
+
+-- the handle that call k gave
+abbrev pub handle_given : {T : Type 0} → List (RegistryReply T) → ℕ → Option Handle
+handle_given replies k = handle_in (slice_get replies k)
+
+-- whether the key of the details is outside the list
+abbrev pub is_outside : {T : Type 0} → (T → ℕ) → List ℕ → T → Bool
+is_outside number keys details = not (list_any (λ key. key == number details) keys)
+
+-- a recovery that keeps the candidates with these keys
+abbrev pub RecoversBut : {T : Type 0} → (T → Bool) → (T → ℕ) → List ℕ → RegistryState T → ReleaseMode → ReleaseState → RegistryState T → Type 0
+RecoversBut is_dead number keys old mode state new =
+    Recovers is_dead (map (λ e. is_outside number keys e.details) (candidates is_dead old.entries)) old mode state new
+
+-- the reply to an add
+abbrev pub reply_of_add : {T : Type 0} → Result Handle ContainerAddFailure → RegistryReply T
+reply_of_add (Ok handle) = Reply.Handle handle
+reply_of_add (Err failure) = Reply.Refused failure
+
+-- the reply to a removal
+abbrev pub reply_of_remove : {T : Type 0} → Result ReleaseState ContainerRemoveError → RegistryReply T
+reply_of_remove (Ok state) = Reply.State state
+reply_of_remove (Err e) = Reply.NotOwned
+
+-- a removal by the handle that an earlier call gave, if it gave one
+abbrev pub RemoveGiven : {T : Type 0} → RegistryState T → Option Handle → ReleaseMode → RegistryReply T → RegistryState T → Type 0
+RemoveGiven old None mode reply new = (reply ≡ Reply.NoHandle) × (new ≡ old)
+RemoveGiven old (Some handle) mode reply new =
+    (result : Result ReleaseState ContainerRemoveError) × RemoveStep old handle mode result new × (reply ≡ reply_of_remove result)
+
+-- what a registry may reply to a call, after it gave the earlier replies
+abbrev pub CallStep : {T : Type 0} → (T → ℕ) → (T → ℕ) → RegistryState T → List (RegistryReply T) → RegistryCall T → RegistryReply T → RegistryState T → Type 0
+CallStep node number old earlier (Call.Add details) reply new =
+    (result : Result Handle ContainerAddFailure) × AddStep old details result new × (reply ≡ reply_of_add result)
+CallStep node number old earlier (Call.Remove k mode) reply new = RemoveGiven old (handle_given earlier k) mode reply new
+CallStep node number old earlier (Call.Recover dead keys mode) reply new =
+    (state : ReleaseState) × RecoversBut (is_of node dead) number keys.items old mode state new × (reply ≡ Reply.State state)
+CallStep {T} node number old earlier Call.List reply new =
+    (entries : Vec T) × (entries.items ≡ listed old) × (reply ≡ Reply.Entries entries) × (new ≡ old)
+CallStep node number old earlier Call.Len reply new = (reply ≡ Reply.Count (length old.entries)) × (new ≡ old)
+
+-- a registry was called, and its reply put after the earlier ones
+pub record Answered {T : Type 0} (node number : T → ℕ) (old : RegistryState T) (earlier : List (RegistryReply T)) (call : RegistryCall T) (replies : List (RegistryReply T)) (new : RegistryState T) : Type 0 where
+  pub reply : RegistryReply T
+  pub step : CallStep node number old earlier call reply new
+  pub kept : IsRegistry new
+  pub put : replies ≡ earlier ++ reply ∷ []
+
+-- replies to calls in turn, after the earlier ones
+abbrev pub CallRun : {T : Type 0} → (T → ℕ) → (T → ℕ) → RegistryState T → List (RegistryReply T) → List (RegistryCall T) → List (RegistryReply T) → RegistryState T → Type 0
+CallRun node number old earlier [] [] new = new ≡ old
+CallRun {T} node number old earlier (call ∷ calls) (reply ∷ replies) new =
+    (mid : RegistryState T) × CallStep node number old earlier call reply mid × IsRegistry mid
+    × CallRun node number mid (earlier ++ reply ∷ []) calls replies new
+CallRun node number old earlier [] (reply ∷ replies) new = ⊥
+CallRun node number old earlier (call ∷ calls) [] new = ⊥
+
+-- a registry made as many of the calls as there are replies, and these are the replies
+pub record Made {T : Type 0} (node number : T → ℕ) (old : RegistryState T) (calls : List (RegistryCall T)) (replies : List (RegistryReply T)) (new : RegistryState T) : Type 0 where
+  pub run : CallRun node number old [] (take (length replies) calls) replies new
+
+-- the same reply, but for handles and the order of listings
+abbrev pub SameReply : {T : Type 0} → RegistryReply T → RegistryReply T → Type 0
+SameReply (Reply.Handle one) (Reply.Handle other) = ⊤
+SameReply (Reply.Entries one) (Reply.Entries other) = IsPermutation one.items other.items
+SameReply one other = one ≡ other
+
+-- the same replies in turn, but for handles and the order of listings
+abbrev pub SameKind : {T : Type 0} → List (RegistryReply T) → List (RegistryReply T) → Type 0
+SameKind ones others = AllZip SameReply ones others

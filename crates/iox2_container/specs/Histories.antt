@@ -1,0 +1,73 @@
+-- What holds over every list of changes of a registry.
+use Rattle.std.specs.Prelude.{◌≡◌, ◌++◌, Bool, false, if◌then◌else◌, Option, Some, None, Result, Ok, Err, List, [], ◌∷◌, length, map, All, Contains, filter_map}
+use Rattle.iox2_container.specs.declared.container.refusal.ContainerAddFailure.{ContainerAddFailure}
+use Rattle.iox2_container.specs.declared.container.refusal.ContainerRemoveError.{ContainerRemoveError}
+use Rattle.iox2_container.specs.declared.container.refusal.ContainerRemoveError.TheVariants.{ContainerHandleNotOwnedByContainer}
+use Rattle.iox2_container.specs.declared.container.release.ReleaseMode.{ReleaseMode}
+use Rattle.iox2_container.specs.declared.container.release.ReleaseState.{ReleaseState}
+use Rattle.iox2_container.specs.Handle.{Handle}
+use Rattle.iox2_container.specs.State.{Entry, RegistryState, IsRegistry, handle_of}
+use Rattle.iox2_container.specs.Steps.{AddStep, RemoveStep, Recovers, Stands, candidates, is_true_first, after_first_answer}
+
+-- the entries that go, where the candidates were answered so, in order
+abbrev pub leaving : {T : Type 0} → (T → Bool) → List (Entry T) → List Bool → List (Entry T)
+leaving is_dead [] answers = []
+leaving is_dead (e ∷ es) answers =
+    if is_dead e.details
+    then (if is_true_first answers then e ∷ leaving is_dead es (after_first_answer answers) else leaving is_dead es (after_first_answer answers))
+    else leaving is_dead es answers
+
+-- a change that was asked for, and what came of it
+pub data Change (T : Type 0) : Type 0 where
+  Adding : T → Result Handle ContainerAddFailure → Change T
+  Removing : Handle → ReleaseMode → Result ReleaseState ContainerRemoveError → Change T
+  Recovering : (T → Bool) → List Bool → List Handle → ReleaseMode → ReleaseState → Change T  -- with the answers, and the handles of the entries that went
+
+-- the change leads from the old state to the new one
+abbrev pub ChangeStep : {T : Type 0} → RegistryState T → Change T → RegistryState T → Type 0
+ChangeStep old (Adding details result) new = AddStep old details result new
+ChangeStep old (Removing handle mode result) new = RemoveStep old handle mode result new
+ChangeStep old (Recovering is_dead answers went mode state) new =
+    (length answers ≡ length (candidates is_dead old.entries))
+    × Recovers is_dead answers old mode state new
+    × (went ≡ map (handle_of old) (leaving is_dead old.entries answers))
+
+-- one change after another; each state is that of a registry
+abbrev pub History : {T : Type 0} → RegistryState T → List (Change T) → RegistryState T → Type 0
+History old [] new = new ≡ old
+History {T} old (change ∷ changes) new =
+    (mid : RegistryState T) × ChangeStep old change mid × IsRegistry mid × History mid changes new
+
+-- nothing was added yet
+abbrev pub IsNew : {T : Type 0} → RegistryState T → Type 0
+IsNew r = (r.entries ≡ []) × (r.locked ≡ false) × (r.used ≡ 0)
+
+-- the change removed or recovered the entry of the handle
+abbrev pub TakesOut : {T : Type 0} → Handle → Change T → Type 0
+TakesOut handle (Adding details result) = ⊥
+TakesOut handle (Removing removed mode (Ok state)) = handle ≡ removed
+TakesOut handle (Removing removed mode (Err e)) = ⊥
+TakesOut handle (Recovering is_dead answers went mode state) = Contains went handle
+
+-- the details were added under the handle, and not since removed or recovered
+pub record Remains {T : Type 0} (changes : List (Change T)) (handle : Handle) (details : T) : Type 0 where
+  pub earlier : List (Change T)
+  pub later : List (Change T)
+  pub added : changes ≡ earlier ++ Adding details (Ok handle) ∷ later
+  pub untouched : All (λ change. TakesOut handle change → ⊥) later
+
+-- a removal by the handle is refused, and no entry has it
+pub record IsRefused {T : Type 0} (r : RegistryState T) (handle : Handle) : Type 0 where
+  pub removal : (mode : ReleaseMode) (result : Result ReleaseState ContainerRemoveError) (new : RegistryState T) → RemoveStep r handle mode result new → result ≡ Err ContainerHandleNotOwnedByContainer
+  pub nothing : (details : T) → Stands r handle details → ⊥
+
+-- the handle that the change gave
+abbrev pub handle_given_by : {T : Type 0} → Change T → Option Handle
+handle_given_by (Adding details (Ok handle)) = Some handle
+handle_given_by (Adding details (Err failure)) = None
+handle_given_by (Removing handle mode result) = None
+handle_given_by (Recovering is_dead answers went mode state) = None
+
+-- the handles that the changes gave
+abbrev pub handles_given : {T : Type 0} → List (Change T) → List Handle
+handles_given changes = filter_map handle_given_by changes

@@ -1,0 +1,14 @@
+pub mod Handle
+pub mod State
+pub mod Steps
+pub mod Held
+pub mod Mapped
+pub mod Cells
+pub mod Places
+pub mod Passes
+pub mod Shown
+pub mod Kept
+pub mod Threads
+pub mod Threaded
+pub mod Histories
+pub mod Calls

@@ -1,0 +1,149 @@
+-- What the calls on a registry do.
+use Rattle.std.specs.Prelude.{◌≡◌, ◌≢◌, ℕ, zero, suc, ◌+◌, ◌<◌, ◌≤◌, ◌==◌, ◌⊎◌, Bool, true, false, if◌then◌else◌, Result, Ok, Err, List, [], ◌∷◌, ◌++◌, length, map, filter, All}
+use Rattle.std.specs.List.{list_any}
+use Rattle.iox2_texts.specs.declared.bounded.CallbackProgression.{CallbackProgression}
+use Rattle.iox2_texts.specs.declared.bounded.CallbackProgression.TheVariants.{Continue, Stop}
+use Rattle.iox2_container.specs.declared.container.refusal.ContainerAddFailure.{ContainerAddFailure}
+use Rattle.iox2_container.specs.declared.container.refusal.ContainerAddFailure.TheVariants.{IsLocked, OutOfSpace}
+use Rattle.iox2_container.specs.declared.container.refusal.ContainerRemoveError.{ContainerRemoveError}
+use Rattle.iox2_container.specs.declared.container.release.ReleaseMode.{ReleaseMode}
+use Rattle.iox2_container.specs.declared.container.release.ReleaseMode.TheVariants.{Default, LockIfLastIndex}
+use Rattle.iox2_container.specs.declared.container.release.ReleaseState.{ReleaseState}
+use Rattle.iox2_container.specs.declared.container.release.ReleaseState.TheVariants.{Locked, Unlocked}
+use Rattle.iox2_container.specs.Handle.{Handle}
+use Rattle.iox2_container.specs.State.{Entry, RegistryState, handle_of}
+
+-- the new entries are the old ones and x
+pub record Gains {T : Type 0} (old new : List (Entry T)) (x : Entry T) : Type 0 where
+  pub before : List (Entry T)
+  pub after : List (Entry T)
+  pub old_is : old ≡ before ++ after
+  pub new_is : new ≡ before ++ x ∷ after
+
+-- an entry fits, and there is a ticket for it
+abbrev pub HasRoom : {T : Type 0} → RegistryState T → Type 0
+HasRoom r = (length r.entries < r.capacity) × (r.used < r.budget)
+
+-- no entry fits, or there is no ticket for it
+abbrev pub IsFull : {T : Type 0} → RegistryState T → Type 0
+IsFull r = (r.capacity ≤ length r.entries) ⊎ (r.budget ≤ r.used)
+
+-- the details got the next ticket and a free slot
+abbrev pub Enters : {T : Type 0} → RegistryState T → T → Handle → RegistryState T → Type 0
+Enters {T} old details handle new =
+    let x : Entry T = record { slot = handle.slot; ticket = old.used; details = details } in
+    (handle ≡ handle_of old x)
+    × All (λ e. e.slot ≢ x.slot) old.entries
+    × Gains old.entries new.entries x
+    × (new ≡ record old { entries = new.entries; used = old.used + 1 })
+
+-- what `add` may do
+abbrev pub AddStep : {T : Type 0} → RegistryState T → T → Result Handle ContainerAddFailure → RegistryState T → Type 0
+AddStep old details (Err IsLocked) new = (old.locked ≡ true) × (new ≡ old)
+AddStep old details (Err OutOfSpace) new = (old.locked ≡ false) × IsFull old × (new ≡ old)
+AddStep old details (Ok handle) new = (old.locked ≡ false) × HasRoom old × Enters old details handle new
+
+-- the answer by the lock
+abbrev pub release_state : Bool → ReleaseState
+release_state locked = if locked then Locked else Unlocked
+
+-- the lock, after some entry went and so many are left
+abbrev pub lock_after : ReleaseMode → ℕ → Bool → Bool
+lock_after LockIfLastIndex zero locked = true
+lock_after LockIfLastIndex (suc left) locked = locked
+lock_after Default left locked = locked
+
+-- the entry of the handle goes
+abbrev pub Leaves : {T : Type 0} → RegistryState T → Handle → ReleaseMode → RegistryState T → Type 0
+Leaves {T} old handle mode new =
+    (x : Entry T) × (handle ≡ handle_of old x) × Gains new.entries old.entries x
+    × (new ≡ record old { entries = new.entries; locked = lock_after mode (length new.entries) old.locked })
+
+-- no entry has the handle
+abbrev pub IsForeign : {T : Type 0} → RegistryState T → Handle → Type 0
+IsForeign r handle = All (λ x. handle ≢ handle_of r x) r.entries
+
+-- what `remove` may do
+abbrev pub RemoveStep : {T : Type 0} → RegistryState T → Handle → ReleaseMode → Result ReleaseState ContainerRemoveError → RegistryState T → Type 0
+RemoveStep old handle mode (Ok state) new = Leaves old handle mode new × (state ≡ release_state new.locked)
+RemoveStep old handle mode (Err e) new = IsForeign old handle × (new ≡ old)
+
+-- the entry of the handle has these details
+abbrev pub Stands : {T : Type 0} → RegistryState T → Handle → T → Type 0
+Stands {T} r handle details =
+    (x : Entry T) × (handle ≡ handle_of r x) × (x.details ≡ details) × ((rest : List (Entry T)) × Gains rest r.entries x)
+
+-- a callback was asked once for each item, in order, and gave these answers
+abbrev pub Asked : {F A R : Type 0} → (F → A → R → F → Type 0) → F → List A → List R → F → Type 0
+Asked calls f [] [] f' = f' ≡ f
+Asked calls f [] (answer ∷ answers) f' = ⊥
+Asked calls f (item ∷ items) [] f' = ⊥
+Asked {F} calls f (item ∷ items) (answer ∷ answers) f' =
+    (g : F) × calls f item answer g × Asked calls g items answers f'
+
+-- the details by rising slot
+abbrev pub listed : {T : Type 0} → RegistryState T → List T
+listed r = map (λ e. e.details) r.entries
+
+-- a callback goes on after each of these answers but a last `Stop`, which it need not give where nothing is left
+abbrev pub EndsWell : {A : Type 0} → List CallbackProgression → List A → Type 0
+EndsWell answers rest =
+    (All (λ a. a ≡ Continue) answers × (rest ≡ []))
+    ⊎ ((front : List CallbackProgression) × All (λ a. a ≡ Continue) front × (answers ≡ front ++ Stop ∷ []))
+
+-- a callback was asked about the items in order, up to and with the first answer `Stop`, or about all
+pub record Visit {F A : Type 0} (calls : F → A → CallbackProgression → F → Type 0) (f : F) (items : List A) (f' : F) : Type 0 where
+  pub seen : List A
+  pub rest : List A
+  pub answers : List CallbackProgression
+  pub items_are : items ≡ seen ++ rest
+  pub asked : Asked calls f seen answers f'
+  pub ends : EndsWell answers rest
+
+-- whether details are those of the node
+abbrev pub is_of : {T : Type 0} → (T → ℕ) → ℕ → T → Bool
+is_of node id details = node details == id
+
+-- the entries whose details are so
+abbrev pub candidates : {T : Type 0} → (T → Bool) → List (Entry T) → List (Entry T)
+candidates is_dead entries = filter (λ e. is_dead e.details) entries
+
+-- how many entries are those of the node
+abbrev pub entries_of : {T : Type 0} → (T → ℕ) → ℕ → RegistryState T → ℕ
+entries_of node id r = length (candidates (is_of node id) r.entries)
+
+-- how many entries of a registry of nodes are those of the node
+abbrev pub entries_of_node : ℕ → RegistryState ℕ → ℕ
+entries_of_node id nodes = entries_of (λ node. node) id nodes
+
+abbrev pub is_true_first : List Bool → Bool
+is_true_first [] = false
+is_true_first (answer ∷ answers) = answer
+
+abbrev pub after_first_answer : List Bool → List Bool
+after_first_answer [] = []
+after_first_answer (answer ∷ answers) = answers
+
+-- the entries that stay, where the candidates were answered so, in order
+abbrev pub staying : {T : Type 0} → (T → Bool) → List (Entry T) → List Bool → List (Entry T)
+staying is_dead [] answers = []
+staying is_dead (e ∷ es) answers =
+    if is_dead e.details
+    then (if is_true_first answers then staying is_dead es (after_first_answer answers) else e ∷ staying is_dead es (after_first_answer answers))
+    else e ∷ staying is_dead es answers
+
+-- the candidates were answered so, in order
+abbrev pub Recovers : {T : Type 0} → (T → Bool) → List Bool → RegistryState T → ReleaseMode → ReleaseState → RegistryState T → Type 0
+Recovers is_dead answers old mode state new =
+    (new ≡ record old {
+      entries = staying is_dead old.entries answers;
+      locked = if list_any (λ goes. goes) answers then lock_after mode (length new.entries) old.locked else old.locked;
+    })
+    × (state ≡ release_state new.locked)
+
+-- what `recover` may do, where `calls` are the calls of its callback
+abbrev pub RecoverStep : {T F : Type 0} → (F → T → Bool → F → Type 0) → (T → Bool) → RegistryState T → F → ReleaseMode → ReleaseState → RegistryState T → F → Type 0
+RecoverStep calls is_dead old f mode state new f' =
+    (answers : List Bool)
+    × Asked calls f (map (λ e. e.details) (candidates is_dead old.entries)) answers f'
+    × Recovers is_dead answers old mode state new

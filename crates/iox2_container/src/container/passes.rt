@@ -1,0 +1,144 @@
+//! What a container does with all its places, one after another.
+ghost use Rattle.std.specs.Prelude.{◌≡◌, ◌+◌, ◌*◌, ◌≤◌, ◌<◌, ℕ, Option, Some, None, IsTrue, false};
+ghost use Rattle.std.specs.Prelude.{length, slice_get, slice_set};
+ghost use Rattle.std.specs.Fn.{CalledAt};
+ghost use Rattle.iox2_container.specs.Places.{details_in, entries_from};
+ghost use Rattle.iox2_container.specs.Passes.{AskedOfCell, SweptCell, Swept, cell_is_of};
+ghost use Rattle.iox2_container.specs.Steps.{Visit, candidates, is_of};
+
+use super::attached::Attached;
+use super::places::Places;
+use iox2_ids::identifiers::UniqueNodeId;
+use iox2_texts::bounded::CallbackProgression;
+
+/// Asks the callback once.
+fn ask<T: Copy, R, F: FnMut(&T) -> R>(details: T, f: &mut F) -> R
+    requires { F.IsAlwaysCallable f.old }
+    ensures callable { F.IsAlwaysCallable f.new }
+    ensures called { CalledAt F.FnMut f.old details result f.new }
+{
+    f(&details)
+}
+
+/// Asks the callback about what stands in a place, if anything does.
+fn show<T: Copy, F: FnMut(&T) -> CallbackProgression>(
+    cell: Option<(u64, T)>,
+    f: &mut F,
+) -> CallbackProgression
+    requires { F.IsAlwaysCallable f.old }
+    ensures callable { F.IsAlwaysCallable f.new }
+    ensures asked { AskedOfCell (CalledAt F.FnMut) f.old cell result f.new }
+{
+    match cell {
+        Some(entry) => ask(entry.1, f),
+        None => CallbackProgression::Continue,
+    }
+}
+
+/// Asks the callback about each entry in turn, until it stops.
+pub(super) fn visit<T: Copy, P: Places<T>, F: FnMut(&T) -> CallbackProgression>(
+    places: &P,
+    f: &mut F,
+)
+    requires { F.IsAlwaysCallable f.old }
+    ensures visit { Visit (CalledAt F.FnMut) f.old (details_in (P.cells places.now)) f.new }
+    ensures callable { F.IsAlwaysCallable f.new }
+{
+    for slot in 0..places.capacity() {
+        if let CallbackProgression::Stop = show(places.peek_at(slot), f) {
+            return;
+        }
+    }
+}
+
+/// Whether what stands in a place is the node's.
+fn stands_for<T: Attached + Copy>(cell: Option<(u64, T)>, node: &UniqueNodeId) -> bool
+    ensures { result ≡ cell_is_of T.node node.now cell }
+{
+    match cell {
+        Some(entry) => entry.1.node_id() == *node,
+        None => false,
+    }
+}
+
+/// How many entries are those of the node.
+pub(super) fn count_of<T: Attached + Copy, P: Places<T>>(places: &P, node: &UniqueNodeId) -> usize
+    ensures { result ≡ length (candidates (is_of T.node node.now) (entries_from 0 (P.cells places.now))) }
+{
+    let mut count = 0;
+    for slot in 0..places.capacity() {
+        if stands_for(places.peek_at(slot), node) {
+            count += 1;
+        }
+    }
+    count
+}
+
+/// Whether what stands in a place goes: it is the dead node's, and the callback says so.
+fn asks_to_go<T: Attached + Copy, F: FnMut(&T) -> bool>(
+    cell: Option<(u64, T)>,
+    dead: &UniqueNodeId,
+    f: &mut F,
+) -> bool
+    requires { F.IsAlwaysCallable f.old }
+    ensures callable { F.IsAlwaysCallable f.new }
+    ensures swept { SweptCell (CalledAt F.FnMut) (is_of T.node dead.now) f.old cell result f.new }
+{
+    match cell {
+        Some(entry) => {
+            if entry.1.node_id() == *dead {
+                ask(entry.1, f)
+            } else {
+                false
+            }
+        }
+        None => false,
+    }
+}
+
+/// Clears the place, if what stands there goes.
+fn sweep_place<T: Attached + Copy, P: Places<T>, F: FnMut(&T) -> bool>(
+    places: &mut P,
+    slot: usize,
+    dead: &UniqueNodeId,
+    f: &mut F,
+) -> bool
+    requires slot { slot < length (P.cells places.old) }
+    requires callable { F.IsAlwaysCallable f.old }
+    ensures callable { F.IsAlwaysCallable f.new }
+    ensures swept { (cell : Option (ℕ × T)) × (slice_get (P.cells places.old) slot ≡ Some cell)
+        × SweptCell (CalledAt F.FnMut) (is_of T.node dead.now) f.old cell result f.new }
+    ensures gone { IsTrue result → P.cells places.new ≡ slice_set (P.cells places.old) slot None }
+    ensures kept { result ≡ false → P.cells places.new ≡ P.cells places.old }
+    ensures touched { P.touches places.new ≤ P.touches places.old + 2 }
+    ensures counted { P.touches places.old ≤ P.touches places.new }
+{
+    let goes = asks_to_go(places.look(slot), dead, f);
+    if goes {
+        places.clear(slot);
+    }
+    goes
+}
+
+/// Clears the places of the dead node's entries for which the callback says so, and counts them.
+pub(super) fn sweep<T: Attached + Copy, P: Places<T>, F: FnMut(&T) -> bool>(
+    places: &mut P,
+    dead: &UniqueNodeId,
+    f: &mut F,
+) -> usize
+    requires { F.IsAlwaysCallable f.old }
+    ensures callable { F.IsAlwaysCallable f.new }
+    ensures swept { Swept (CalledAt F.FnMut) (is_of T.node dead.now) f.old (entries_from 0 (P.cells places.old))
+        f.new (entries_from 0 (P.cells places.new)) result }
+    ensures len { length (P.cells places.new) ≡ length (P.cells places.old) }
+    ensures touched { P.touches places.new ≤ P.touches places.old + 2 * length (P.cells places.old) }
+    ensures counted { P.touches places.old ≤ P.touches places.new }
+{
+    let mut gone = 0;
+    for slot in 0..places.capacity() {
+        if sweep_place(places, slot, dead, f) {
+            gone += 1;
+        }
+    }
+    gone
+}

@@ -1,0 +1,77 @@
+//! Numbered slots.
+ghost use Rattle.std.specs.Prelude.{◌≡◌, ◌+◌, ◌<◌, Some, length, slice_get, slice_set, replicate, IfOk};
+
+use super::touches::Touches;
+use std::alloc::{AllocError, Global};
+use std::marker::Model;
+
+/// A fixed number of slots, each with a cell in it.
+///
+/// Contracts see the cells and how often one was read or written. The count takes no bytes.
+#[derive(Drop)]
+pub struct Slots<C: Copy> {
+    cells: Vec<C>,
+    touches: Touches,
+}
+
+impl<C: Copy> Model for Slots<C> {
+    ghost use Rattle.iox2_container.specs.Cells.{Cells};
+
+    ghost Value = { Cells C };
+
+    ghost view = { λ s. record { cells = s.cells.items; touches = s.touches.count } };
+}
+
+impl<C: Copy> Slots<C> {
+    /// So many slots, each with this cell in it, untouched so far. Refused where there is no memory for them.
+    pub fn new(alloc: Global, capacity: usize, fill: C) -> Result<Self, AllocError>
+        ensures cells { IfOk result (λ s. s.cells ≡ replicate capacity fill) }
+        ensures touches { IfOk result (λ s. s.touches ≡ 0) }
+    {
+        let mut cells = Vec::with_capacity(alloc, capacity)?;
+        for _ in 0..capacity {
+            cells.push(fill)?;
+        }
+        Ok(Slots {
+            cells,
+            touches: Touches::none(),
+        })
+    }
+
+    /// How many slots there are.
+    pub fn len(&self) -> usize
+        ensures { result ≡ length self.now.cells }
+    {
+        self.cells.len()
+    }
+
+    /// The cell in a slot. This is a touch.
+    pub fn read(&mut self, index: usize) -> C
+        requires { index < length self.old.cells }
+        ensures cell { slice_get self.old.cells index ≡ Some result }
+        ensures cells { self.new.cells ≡ self.old.cells }
+        ensures touches { self.new.touches ≡ self.old.touches + 1 }
+    {
+        let cell = self.cells[index];
+        self.touches = self.touches.one_more();
+        cell
+    }
+
+    /// Puts a cell into a slot, in place of the one that was there. This is a touch.
+    pub fn write(&mut self, index: usize, cell: C)
+        requires { index < length self.old.cells }
+        ensures cells { self.new.cells ≡ slice_set self.old.cells index cell }
+        ensures touches { self.new.touches ≡ self.old.touches + 1 }
+    {
+        self.touches = self.touches.one_more();
+        self.cells[index] = cell;
+    }
+
+    /// The cell in a slot, for calls that change nothing. This is no touch.
+    pub fn peek(&self, index: usize) -> C
+        requires { index < length self.now.cells }
+        ensures { slice_get self.now.cells index ≡ Some result }
+    {
+        self.cells[index]
+    }
+}

@@ -1,0 +1,31 @@
+//! A count for proofs: it takes no bytes, and its functions do nothing when they run.
+ghost use Rattle.std.specs.Prelude.{◌≡◌, ℕ, ◌+◌};
+ghost use Rattle.std.specs.Borrow.{ftrue};
+
+use std::marker::Model;
+
+/// How often slots were read or written.
+#[derive(Drop)]
+pub(super) struct Touches {
+    pub(super) ghost count: { ℕ },
+}
+
+impl Model for Touches {
+    ghost also_owns = { λ _. ftrue };
+}
+
+impl Touches {
+    /// No touch so far.
+    pub(super) fn none() -> Self
+        ensures { result.count ≡ 0 }
+    {
+        Touches {}
+    }
+
+    /// One touch more.
+    pub(super) fn one_more(&self) -> Self
+        ensures { result.count ≡ self.now.count + 1 }
+    {
+        Touches {}
+    }
+}

@@ -1,0 +1,7 @@
+//! Containers of what is attached to a service: bounded registries that hand out a new handle for each entry.
+#![tactic(auto)]
+
+pub mod container;
+pub mod laws;
+#[cfg(test)]
+mod tests;
