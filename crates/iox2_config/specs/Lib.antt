@@ -1,0 +1,12 @@
+pub mod Blocks
+pub mod Compatible
+pub mod DefaultTypes
+pub mod Defaults
+pub mod GlobalSettings
+pub mod Hashing
+pub mod Layout
+pub mod Parts
+pub mod Room
+pub mod TypeDetails
+pub mod TypeFacts
+pub mod TypeLayouts

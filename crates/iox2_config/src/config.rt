@@ -1,0 +1,91 @@
+//! The configuration: where the system's files lie, how they are called, and the limits that services have where
+//! nothing else is said.
+//!
+//! `Default` of each struct is the table that `specs/Defaults.antt` states.
+ghost use Rattle.std.specs.Prelude.{◌≡◌};
+ghost use lib.Chars.{codes};
+
+mod blackboard;
+mod choices;
+mod defaults;
+mod event;
+mod global;
+mod literals;
+mod node;
+mod publish_subscribe;
+mod request_response;
+mod service;
+
+pub use blackboard::Blackboard;
+pub use choices::{AllocationStrategy, BackpressureStrategy, DataSegmentType, EventId};
+pub use defaults::Defaults;
+pub use event::Event;
+pub use global::Global;
+use iox2_texts::paths::{FileName, FilePath, Path};
+use literals::{file_name, file_path, path};
+pub use node::Node;
+pub use publish_subscribe::PublishSubscribe;
+pub use request_response::RequestResonse;
+pub use service::Service;
+
+/// All settings: those of the system, and those that services get by default.
+#[derive(Debug, Drop, PartialEq, Eq)]
+pub struct Config {
+    /// The settings that all services and nodes of one system share.
+    pub global: Global,
+    /// The settings of services of each pattern.
+    pub defaults: Defaults,
+}
+
+impl Default for Config {
+    ghost use Rattle.iox2_config.specs.Defaults.{IsDefaultConfig};
+
+    ghost is_default = { IsDefaultConfig };
+
+    fn default() -> Self {
+        Config {
+            global: Global::default(),
+            defaults: Defaults::default(),
+        }
+    }
+}
+
+impl Config {
+    /// The name of a configuration file, `iceoryx2.toml`.
+    pub fn default_config_file_name() -> FileName
+        ensures { result ≡ codes "iceoryx2.toml" }
+    {
+        file_name(b"iceoryx2.toml")
+    }
+
+    /// The configuration file of a working directory, `config/iceoryx2.toml`.
+    pub fn default_config_file_path() -> FilePath
+        ensures { result ≡ codes "config/iceoryx2.toml" }
+    {
+        file_path(b"config/iceoryx2.toml")
+    }
+
+    /// The directory, below one for configurations, that has this system's configuration: `iceoryx2`.
+    pub fn relative_config_path() -> Path
+        ensures { result ≡ codes "iceoryx2" }
+    {
+        path(b"iceoryx2")
+    }
+
+    /// The configuration file below a user's directory for configurations, `iceoryx2/iceoryx2.toml`.
+    pub fn default_user_config_file_path() -> FilePath
+        ensures { result ≡ codes "iceoryx2/iceoryx2.toml" }
+    {
+        file_path(b"iceoryx2/iceoryx2.toml")
+    }
+
+    /// An equal configuration.
+    pub fn copied(&self) -> Self
+        ensures { result ≡ self.now }
+    {
+        Config {
+            global: self.global.copied(),
+            defaults: self.defaults.copied(),
+        }
+    }
+}

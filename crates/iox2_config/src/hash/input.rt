@@ -1,0 +1,33 @@
+//! The patterns of services, and what is hashed of a service.
+ghost use Rattle.std.specs.Prelude.{◌≡◌};
+ghost use Rattle.iox2_config.specs.Hashing.{hash_input};
+
+use arrayvec::ArrayVec;
+use iox2_texts::bounded::StaticString;
+use iox2_texts::service_name::ServiceName;
+
+/// The pattern by which the ports of a service exchange messages. Its number stands in the hash text.
+#[derive(Clone, Copy, Debug, PartialEq, Eq)]
+pub enum PatternKind {
+    /// Publishers send samples to subscribers.
+    PublishSubscribe = 0,
+    /// Notifiers tell listeners of events.
+    Event = 1,
+    /// Clients send requests, to which servers send responses.
+    RequestResponse = 2,
+    /// A writer keeps values, which readers read.
+    Blackboard = 3,
+}
+
+/// What is hashed of a service: the number of its pattern as one digit, and then its name.
+pub fn hash_input(kind: PatternKind, name: &ServiceName) -> StaticString<256>
+    ensures { result ≡ hash_input kind name.now }
+{
+    let mut bytes: ArrayVec<u8, 256> = ArrayVec::new();
+    bytes.push(b'0' + kind as u8);
+    let _fits = bytes.try_extend_from_slice(name.as_str().as_bytes());
+    match StaticString::from_bytes(bytes.as_slice()) {
+        Ok(text) => text,
+        Err(_) => unreachable!(),
+    }
+}

@@ -1,0 +1,49 @@
+//! The hasher that uses SHA-1.
+
+use super::hash_value::HashValue;
+use super::hasher::{Hash, HashError};
+use base64::engine::general_purpose::URL_SAFE_NO_PAD;
+use sha1::Sha1;
+use std::marker::Model;
+
+/// A hasher whose texts are the SHA-1 digest (FIPS 180-4, section 6.1) of the input in the URL-safe alphabet (RFC 4648,
+/// section 5) without padding: 27 bytes. It refuses no input.
+#[derive(Debug, Drop)]
+pub struct Sha1Hasher {
+    digest: [u8; 20],
+}
+
+impl Model for Sha1Hasher {
+    ghost use Rattle.std.specs.Prelude.{List, ℕ};
+
+    ghost Value = { List ℕ };
+
+    ghost view = { λ hasher. hasher.digest };
+}
+
+impl Hash for Sha1Hasher {
+    ghost use Rattle.std.specs.Prelude.{◌≡◌};
+    ghost use Rattle.sha1.specs.Sha1.{sha1};
+    ghost use Rattle.iox2_config.specs.Hashing.{sha1_text};
+
+    ghost meaning = { sha1_text };
+
+    ghost may_refuse = { λ input. ⊥ };
+
+    ghost takes = { λ hasher input. hasher ≡ sha1 input };
+
+    fn new(bytes: &[u8]) -> Self {
+        Sha1Hasher {
+            digest: Sha1::digest(bytes),
+        }
+    }
+
+    fn value(&self) -> Result<HashValue, HashError> {
+        let mut text = [0u8; 27];
+        let _length = URL_SAFE_NO_PAD.encode_slice(&self.digest, &mut text);
+        match HashValue::new(&text) {
+            Some(value) => Ok(value),
+            None => unreachable!(),
+        }
+    }
+}

@@ -1,0 +1,124 @@
+//! Where the parts of a message lie, and how much room it needs.
+ghost use Rattle.std.specs.Prelude.{◌≡◌, ◌^◌, ◌<◌, ◌≤◌, ◌↔◌, IsTrue, IfSome, IfNone};
+ghost use Rattle.iox2_texts.specs.Multiple.{least_multiple};
+ghost use Rattle.iox2_config.specs.Blocks.{HoldsEverywhere};
+ghost use Rattle.iox2_config.specs.Compatible.{Compatible, Suits};
+ghost use Rattle.iox2_config.specs.Layout.{user_header_place, payload_place, bound, HaveAlignments, HasPlaces};
+
+use super::message_details::MessageTypeDetails;
+use super::sample_layout::SampleLayout;
+use super::type_detail::TypeDetail;
+use iox2_texts::bounded::align;
+
+/// The greatest size of a block of memory, 2^63 - 1.
+const GREATEST_SIZE: usize = isize::MAX as usize;
+
+impl MessageTypeDetails {
+    /// Whether no alignment is 0, so that the details of all parts were given.
+    pub fn has_alignments(&self) -> bool
+        ensures { IsTrue result ↔ HaveAlignments self.now }
+    {
+        self.header.alignment() != 0
+            && self.user_header.alignment() != 0
+            && self.payload.alignment() != 0
+    }
+
+    /// Whether a message with its header at the place `header` has a place for its payload: no alignment is 0, and the
+    /// payload's place fits 64 bits.
+    #[tactic(auto, using(iox2_texts::proofs::Multiple::multiples))]
+    pub fn has_places(&self, header: usize) -> bool
+        ensures { IsTrue result ↔ HasPlaces self.now header }
+    {
+        if !self.has_alignments() {
+            return false;
+        }
+        let Some(header_end) = header.checked_add(self.header.size()) else {
+            return false;
+        };
+        let Some(user_header) = checked_align(header_end, self.user_header.alignment()) else {
+            return false;
+        };
+        let Some(user_header_end) = user_header.checked_add(self.user_header.size()) else {
+            return false;
+        };
+        checked_align(user_header_end, self.payload.alignment()).is_some()
+    }
+
+    /// The place of the user header in a message with its header at the place `header`, for which `has_places` says
+    /// yes.
+    #[tactic(auto, using(iox2_texts::proofs::Multiple::multiples))]
+    pub fn user_header_ptr_from_header(&self, header: usize) -> usize
+        requires { HasPlaces self.now header }
+        ensures { result ≡ user_header_place self.now header }
+    {
+        align(header + self.header.size(), self.user_header.alignment())
+    }
+
+    /// The place of the payload in a message with its header at the place `header`, for which `has_places` says yes.
+    #[tactic(auto, using(iox2_texts::proofs::Multiple::multiples))]
+    pub fn payload_ptr_from_header(&self, header: usize) -> usize
+        requires { HasPlaces self.now header }
+        ensures { result ≡ payload_place self.now header }
+    {
+        align(
+            self.user_header_ptr_from_header(header) + self.user_header.size(),
+            self.payload.alignment(),
+        )
+    }
+
+    /// The room for a message whose payload has `n` elements, or `None` exactly where it would pass 2^63 - 1 bytes. It
+    /// is asked of details for which `has_alignments` says yes.
+    ///
+    /// Wherever the header lies at a multiple of its alignment, all parts lie in the room, apart and aligned, for the
+    /// service and for every compatible opener; so they do in rooms that lie end to end. The room need not be the
+    /// least.
+    #[tactic(auto, using(iox2_texts::proofs::Multiple::multiples))]
+    pub fn sample_layout(&self, n: usize) -> Option<SampleLayout>
+        requires { HaveAlignments self.now }
+        ensures some { IfSome result (λ room. room ≡ record { size = bound self.now n; alignment = self.now.header.alignment }) }
+        ensures limit { IfSome result (λ room. room.size < 2 ^ 63) }
+        ensures none { IfNone result (2 ^ 63 ≤ bound self.now n) }
+        ensures holds { IfSome result (λ room. HoldsEverywhere self.now n room.size) }
+    {
+        let elements = self.payload.size().checked_mul(n)?;
+        let with_header = elements.checked_add(self.header.size())?;
+        let with_user_header = with_header.checked_add(self.user_header.size())?;
+        let with_first_gap = with_user_header.checked_add(self.user_header.alignment() - 1)?;
+        let with_second_gap = with_first_gap.checked_add(self.payload.alignment() - 1)?;
+        let size = checked_align(with_second_gap, self.header.alignment())?;
+        if size > GREATEST_SIZE {
+            return None;
+        }
+        Some(SampleLayout::new(size, self.header.alignment()))
+    }
+
+    /// Whether an opener with these details may use a service with the details `rhs`: the headers are equal, and user
+    /// headers and payloads are equal but for their alignments, which are at most those of `rhs`.
+    pub fn is_compatible_to(&self, rhs: &Self) -> bool
+        ensures { IsTrue result ↔ Compatible self.now rhs.now }
+    {
+        self.header == rhs.header
+            && suits(&self.user_header, &rhs.user_header)
+            && suits(&self.payload, &rhs.payload)
+    }
+}
+
+/// Whether a type of an opener suits that of the service.
+fn suits(opener: &TypeDetail, service: &TypeDetail) -> bool
+    ensures { IsTrue result ↔ Suits opener.now service.now }
+{
+    opener.type_name() == service.type_name()
+        && opener.variant() == service.variant()
+        && opener.size() == service.size()
+        && opener.alignment() <= service.alignment()
+}
+
+/// As `align`, or `None` where the multiple does not fit.
+#[tactic(auto, unfolding(iox2_texts::specs::Multiple::least_multiple))]
+fn checked_align(value: usize, alignment: usize) -> Option<usize>
+    requires { 0 < alignment }
+    ensures some { IfSome result (λ y. y ≡ least_multiple value alignment) }
+    ensures none { IfNone result (2 ^ 64 ≤ least_multiple value alignment) }
+{
+    value.checked_next_multiple_of(alignment)
+}

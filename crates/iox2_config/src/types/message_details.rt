@@ -1,0 +1,64 @@
+//! What a service knows of its messages.
+ghost use Rattle.std.specs.Prelude.{◌≡◌};
+
+use super::type_detail::{TypeDetail, TypeDetailError, TypeVariant};
+use super::zero_copy_send::ZeroCopySend;
+
+/// What a service knows of the parts of its messages, which lie one after another.
+#[derive(Debug, Drop, PartialEq, Eq, Hash)]
+pub struct MessageTypeDetails {
+    /// The first part, which belongs to the system.
+    pub header: TypeDetail,
+    /// The second part, which users may choose.
+    pub user_header: TypeDetail,
+    /// The last part: what the message is for.
+    pub payload: TypeDetail,
+}
+
+impl Default for MessageTypeDetails {
+    ghost use Rattle.std.specs.Prelude.{◌≡◌};
+    ghost use Rattle.iox2_config.specs.DefaultTypes.{default_details};
+
+    ghost is_default = { λ details. details ≡ default_details };
+
+    fn default() -> Self {
+        MessageTypeDetails {
+            header: TypeDetail::default(),
+            user_header: TypeDetail::default(),
+            payload: TypeDetail::default(),
+        }
+    }
+}
+
+impl MessageTypeDetails {
+    ghost use Rattle.iox2_config.specs.declared.types.type_detail.TypeVariant.TheVariants.{FixedSize};
+    ghost use Rattle.iox2_config.specs.TypeDetails.{detail, message, DescribesMessage};
+
+    /// The details of messages with these three types. There is one header and one user header.
+    ///
+    /// Refused is the first of the three names that is none.
+    pub fn from<Header: ZeroCopySend, UserHeader: ZeroCopySend, Payload: ZeroCopySend>(
+        payload_variant: TypeVariant,
+    ) -> Result<Self, TypeDetailError>
+        ensures { DescribesMessage (message (detail FixedSize Header.type_name Header.SIZE Header.ALIGNMENT)
+            (detail FixedSize UserHeader.type_name UserHeader.SIZE UserHeader.ALIGNMENT)
+            (detail payload_variant Payload.type_name Payload.SIZE Payload.ALIGNMENT)) result }
+    {
+        Ok(MessageTypeDetails {
+            header: TypeDetail::new::<Header>(TypeVariant::FixedSize)?,
+            user_header: TypeDetail::new::<UserHeader>(TypeVariant::FixedSize)?,
+            payload: TypeDetail::new::<Payload>(payload_variant)?,
+        })
+    }
+
+    /// Equal details.
+    pub fn copied(&self) -> Self
+        ensures { result ≡ self.now }
+    {
+        MessageTypeDetails {
+            header: self.header.copied(),
+            user_header: self.user_header.copied(),
+            payload: self.payload.copied(),
+        }
+    }
+}
