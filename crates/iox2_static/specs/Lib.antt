@@ -1,0 +1,9 @@
+pub mod Blackboard
+pub mod Chunks
+pub mod Description
+pub mod Event
+pub mod MessagingPattern
+pub mod PatternLoans
+pub mod PublishSubscribe
+pub mod RequestResponse
+pub mod ServiceLoans

@@ -1,0 +1,119 @@
+//! Static configurations of event services.
+ghost use Rattle.std.specs.Prelude.{◌≡◌};
+
+use iox2_config::config::{Config, EventId};
+use iox2_ids::identifiers::Time;
+use std::time::Duration;
+
+/// How long listeners wait for a notification before one counts as missed.
+#[derive(Clone, Copy, Debug, PartialEq, Eq, Hash)]
+pub struct Deadline {
+    /// When the deadline was set.
+    pub creation_time: Time,
+    /// The longest time between two notifications.
+    pub value: Duration,
+}
+
+/// What is fixed of an event service.
+#[derive(Clone, Copy, Debug, PartialEq, Eq, Hash)]
+pub struct StaticConfig {
+    /// How many notifiers there may be at once.
+    pub max_notifiers: usize,
+    /// How many listeners there may be at once.
+    pub max_listeners: usize,
+    /// How many nodes may have the service open at once.
+    pub max_nodes: usize,
+    /// The greatest number that an event may have.
+    pub event_id_max_value: usize,
+    /// The deadline, if there is one.
+    pub deadline: Option<Deadline>,
+    /// The number of the event that tells of a new notifier, if it is told.
+    pub notifier_created_event: Option<usize>,
+    /// The number of the event that tells that a notifier went, if it is told.
+    pub notifier_dropped_event: Option<usize>,
+    /// The number of the event that tells that a notifier's process died, if it is told.
+    pub notifier_dead_event: Option<usize>,
+}
+
+impl StaticConfig {
+    ghost use Rattle.iox2_static.specs.Event.{event_of, duration_of};
+
+    /// The event defaults of a configuration. A deadline is made with the default time.
+    pub fn new(config: &Config) -> Self
+        ensures { result ≡ event_of config.now.defaults.event }
+    {
+        let defaults = &config.defaults.event;
+        StaticConfig {
+            max_notifiers: defaults.max_notifiers,
+            max_listeners: defaults.max_listeners,
+            max_nodes: defaults.max_nodes,
+            event_id_max_value: defaults.event_id_max_value,
+            deadline: match defaults.deadline {
+                Some(value) => Some(Deadline {
+                    creation_time: Time::default(),
+                    value,
+                }),
+                None => None,
+            },
+            notifier_created_event: defaults.notifier_created_event,
+            notifier_dropped_event: defaults.notifier_dropped_event,
+            notifier_dead_event: defaults.notifier_dead_event,
+        }
+    }
+
+    /// The longest time between two notifications, if there is a deadline.
+    pub fn deadline(&self) -> Option<Duration>
+        ensures { result ≡ duration_of self.now.deadline }
+    {
+        self.deadline.map(|deadline| deadline.value)
+    }
+
+    /// How many nodes may have the service open at once.
+    pub fn max_nodes(&self) -> usize
+        ensures { result ≡ self.now.max_nodes }
+    {
+        self.max_nodes
+    }
+
+    /// How many notifiers there may be at once.
+    pub fn max_notifiers(&self) -> usize
+        ensures { result ≡ self.now.max_notifiers }
+    {
+        self.max_notifiers
+    }
+
+    /// How many listeners there may be at once.
+    pub fn max_listeners(&self) -> usize
+        ensures { result ≡ self.now.max_listeners }
+    {
+        self.max_listeners
+    }
+
+    /// The greatest number that an event may have.
+    pub fn event_id_max_value(&self) -> usize
+        ensures { result ≡ self.now.event_id_max_value }
+    {
+        self.event_id_max_value
+    }
+
+    /// The event that tells of a new notifier, if it is told.
+    pub fn notifier_created_event(&self) -> Option<EventId>
+        ensures { result ≡ self.now.notifier_created_event }
+    {
+        self.notifier_created_event.map(EventId::new)
+    }
+
+    /// The event that tells that a notifier went, if it is told.
+    pub fn notifier_dropped_event(&self) -> Option<EventId>
+        ensures { result ≡ self.now.notifier_dropped_event }
+    {
+        self.notifier_dropped_event.map(EventId::new)
+    }
+
+    /// The event that tells that a notifier's process died, if it is told.
+    pub fn notifier_dead_event(&self) -> Option<EventId>
+        ensures { result ≡ self.now.notifier_dead_event }
+    {
+        self.notifier_dead_event.map(EventId::new)
+    }
+}

@@ -1,0 +1,135 @@
+//! Static configurations of publish-subscribe services.
+ghost use Rattle.std.specs.Prelude.{◌≡◌};
+
+use super::chunks::amount_of_chunks;
+use iox2_config::config::Config;
+use iox2_config::types::MessageTypeDetails;
+
+/// What is fixed of a publish-subscribe service.
+#[derive(Debug, Drop, PartialEq, Eq, Hash)]
+pub struct StaticConfig {
+    /// How many subscribers there may be at once.
+    pub max_subscribers: usize,
+    /// How many publishers there may be at once.
+    pub max_publishers: usize,
+    /// How many nodes may have the service open at once.
+    pub max_nodes: usize,
+    /// How many past samples a publisher keeps for subscribers that come later.
+    pub history_size: usize,
+    /// How many samples wait for a subscriber at most.
+    pub subscriber_max_buffer_size: usize,
+    /// How many samples a subscriber reads at once at most.
+    pub subscriber_max_borrowed_samples: usize,
+    /// Whether a full buffer gives up its oldest sample for a new one.
+    pub enable_safe_overflow: bool,
+    /// The types of a sample's header, user header and payload.
+    pub message_type_details: MessageTypeDetails,
+}
+
+impl StaticConfig {
+    ghost use Rattle.iox2_static.specs.Chunks.{TellsGreatest};
+    ghost use Rattle.iox2_static.specs.PublishSubscribe.{publish_subscribe_of, sample_limits};
+
+    /// The publish-subscribe defaults of a configuration, with the default type details.
+    pub fn new(config: &Config) -> Self
+        ensures { result ≡ publish_subscribe_of config.now.defaults.publish_subscribe }
+    {
+        let defaults = &config.defaults.publish_subscribe;
+        StaticConfig {
+            max_subscribers: defaults.max_subscribers,
+            max_publishers: defaults.max_publishers,
+            max_nodes: defaults.max_nodes,
+            history_size: defaults.publisher_history_size,
+            subscriber_max_buffer_size: defaults.subscriber_max_buffer_size,
+            subscriber_max_borrowed_samples: defaults.subscriber_max_borrowed_samples,
+            enable_safe_overflow: defaults.enable_safe_overflow,
+            message_type_details: MessageTypeDetails::default(),
+        }
+    }
+
+    /// The greatest number of one publisher's samples that can be in use at once, where the publisher loans up to
+    /// `publisher_max_loaned_samples` of them to be written. `None` exactly where that number passes a `usize`.
+    pub fn required_amount_of_samples_per_data_segment(
+        &self,
+        publisher_max_loaned_samples: usize,
+    ) -> Option<usize>
+        ensures { TellsGreatest (sample_limits self.now publisher_max_loaned_samples) result }
+    {
+        let for_each = self.subscriber_max_buffer_size as u128
+            + self.subscriber_max_borrowed_samples as u128;
+        let others = self.history_size as u128 + publisher_max_loaned_samples as u128;
+        amount_of_chunks(self.max_subscribers as u128, for_each, others)
+    }
+
+    /// How many nodes may have the service open at once.
+    pub fn max_nodes(&self) -> usize
+        ensures { result ≡ self.now.max_nodes }
+    {
+        self.max_nodes
+    }
+
+    /// How many publishers there may be at once.
+    pub fn max_publishers(&self) -> usize
+        ensures { result ≡ self.now.max_publishers }
+    {
+        self.max_publishers
+    }
+
+    /// How many subscribers there may be at once.
+    pub fn max_subscribers(&self) -> usize
+        ensures { result ≡ self.now.max_subscribers }
+    {
+        self.max_subscribers
+    }
+
+    /// How many past samples a publisher keeps for subscribers that come later.
+    pub fn history_size(&self) -> usize
+        ensures { result ≡ self.now.history_size }
+    {
+        self.history_size
+    }
+
+    /// How many samples wait for a subscriber at most.
+    pub fn subscriber_max_buffer_size(&self) -> usize
+        ensures { result ≡ self.now.subscriber_max_buffer_size }
+    {
+        self.subscriber_max_buffer_size
+    }
+
+    /// How many samples a subscriber reads at once at most.
+    pub fn subscriber_max_borrowed_samples(&self) -> usize
+        ensures { result ≡ self.now.subscriber_max_borrowed_samples }
+    {
+        self.subscriber_max_borrowed_samples
+    }
+
+    /// Whether a full buffer gives up its oldest sample for a new one.
+    pub fn has_safe_overflow(&self) -> bool
+        ensures { result ≡ self.now.enable_safe_overflow }
+    {
+        self.enable_safe_overflow
+    }
+
+    /// The types of a sample's header, user header and payload.
+    pub fn message_type_details(&self) -> &MessageTypeDetails
+        ensures { result.now ≡ self.now.message_type_details }
+    {
+        &self.message_type_details
+    }
+
+    /// An equal configuration.
+    pub fn copied(&self) -> Self
+        ensures { result ≡ self.now }
+    {
+        StaticConfig {
+            max_subscribers: self.max_subscribers,
+            max_publishers: self.max_publishers,
+            max_nodes: self.max_nodes,
+            history_size: self.history_size,
+            subscriber_max_buffer_size: self.subscriber_max_buffer_size,
+            subscriber_max_borrowed_samples: self.subscriber_max_borrowed_samples,
+            enable_safe_overflow: self.enable_safe_overflow,
+            message_type_details: self.message_type_details.copied(),
+        }
+    }
+}

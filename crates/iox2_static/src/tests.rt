@@ -1,0 +1,4 @@
+mod chunk_counts;
+mod defaults;
+mod descriptions;
+mod laws;
