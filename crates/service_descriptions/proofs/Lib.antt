@@ -1,0 +1,9 @@
+pub mod CommandLines
+pub mod Fronts
+pub mod Kept
+pub mod Known
+pub mod OneReading
+pub mod Numerals
+pub mod Runs
+pub mod Scripts
+pub mod Services

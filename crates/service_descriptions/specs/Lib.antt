@@ -1,0 +1,10 @@
+pub mod Handles
+pub mod Inner
+pub mod Laws
+pub mod Lines
+pub mod Pattern
+pub mod Reading
+pub mod Replies
+pub mod Script
+pub mod Steps
+pub mod Streams

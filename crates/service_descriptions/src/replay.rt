@@ -1,0 +1,24 @@
+//! Scripts of commands on one service, and the replies to them.
+
+mod command;
+mod earlier;
+mod inner;
+mod line;
+mod number;
+mod reply;
+mod reply_line;
+mod script;
+mod serve;
+mod service;
+mod service_line;
+mod state;
+mod streams;
+mod word;
+
+pub use command::Command;
+pub use line::read_line;
+pub use reply::Reply;
+pub use reply_line::write_reply;
+pub use script::{ScriptError, run_script};
+pub use state::{ServiceState, replay};
+pub use streams::run_streams;
