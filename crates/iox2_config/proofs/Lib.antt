@@ -1,3 +1,4 @@
 pub mod Blocks
 pub mod Compatible
+pub mod Equality
 pub mod Powers

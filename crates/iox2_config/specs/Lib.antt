@@ -3,6 +3,7 @@ pub mod Compatible
 pub mod DefaultTypes
 pub mod Defaults
 pub mod GlobalSettings
+pub mod HashWrites
 pub mod Hashing
 pub mod Layout
 pub mod Parts

@@ -22,7 +22,7 @@ pub use defaults::Defaults;
 pub use event::Event;
 pub use global::Global;
 use iox2_texts::paths::{FileName, FilePath, Path};
-use literals::{file_name, file_path, path};
+use literals::literal;
 pub use node::Node;
 pub use publish_subscribe::PublishSubscribe;
 pub use request_response::RequestResonse;
@@ -55,28 +55,28 @@ impl Config {
     pub fn default_config_file_name() -> FileName
         ensures { result ≡ codes "iceoryx2.toml" }
     {
-        file_name(b"iceoryx2.toml")
+        literal(b"iceoryx2.toml")
     }
 
     /// The configuration file of a working directory, `config/iceoryx2.toml`.
     pub fn default_config_file_path() -> FilePath
         ensures { result ≡ codes "config/iceoryx2.toml" }
     {
-        file_path(b"config/iceoryx2.toml")
+        literal(b"config/iceoryx2.toml")
     }
 
     /// The directory, below one for configurations, that has this system's configuration: `iceoryx2`.
     pub fn relative_config_path() -> Path
         ensures { result ≡ codes "iceoryx2" }
     {
-        path(b"iceoryx2")
+        literal(b"iceoryx2")
     }
 
     /// The configuration file below a user's directory for configurations, `iceoryx2/iceoryx2.toml`.
     pub fn default_user_config_file_path() -> FilePath
         ensures { result ≡ codes "iceoryx2/iceoryx2.toml" }
     {
-        file_path(b"iceoryx2/iceoryx2.toml")
+        literal(b"iceoryx2/iceoryx2.toml")
     }
 
     /// An equal configuration.

@@ -2,8 +2,12 @@
 ghost use Rattle.std.specs.Prelude.{◌≡◌, ◌↔◌, IsTrue, fold};
 ghost use Rattle.iox2_texts.specs.Pair.{text_cmp, text_writes};
 ghost use Rattle.iox2_config.specs.Compatible.{IsCompatibleToItself, IsCompatibleThrough, AreEqualBothWays};
+ghost use Rattle.iox2_config.specs.HashWrites.{detail_writes, details_writes};
 ghost use Rattle.iox2_config.specs.Hashing.{HashInputsDiffer};
 
+use crate::config::{
+    Blackboard, Config, Defaults, Event, Global, Node, PublishSubscribe, RequestResonse, Service,
+};
 use crate::hash::ServiceHash;
 use crate::types::{MessageTypeDetails, TypeDetail};
 use std::cmp::Ordering;
@@ -46,18 +50,101 @@ pub fn service_hashes_go_by_bytes<H: Hasher>(
     (one == other, one.cmp(other))
 }
 
-/// Two types' details are equal exactly where all their parts are.
-pub fn type_details_are_equal_by_parts(one: &TypeDetail, other: &TypeDetail) -> bool
+/// Details of types are equal exactly where all their parts are, and hashed by them in turn.
+pub fn type_details_go_by_parts<H: Hasher>(
+    one: &TypeDetail,
+    other: &TypeDetail,
+    state: &mut H,
+) -> bool
+    ensures equal { IsTrue result ↔ (one.now ≡ other.now) }
+    ensures hashed { state.new ≡ fold H.write state.old (detail_writes one.now) }
+{
+    one.hash(state);
+    one == other
+}
+
+/// Details of messages are equal exactly where all their parts are, and hashed by them in turn.
+#[tactic(auto, using(crate::proofs::Equality::message_details_decide))]
+pub fn message_details_go_by_parts<H: Hasher>(
+    one: &MessageTypeDetails,
+    other: &MessageTypeDetails,
+    state: &mut H,
+) -> bool
+    ensures equal { IsTrue result ↔ (one.now ≡ other.now) }
+    ensures hashed { state.new ≡ fold H.write state.old (details_writes one.now) }
+{
+    one.hash(state);
+    one == other
+}
+
+/// Two settings of services' files are equal exactly where their fields are.
+#[tactic(auto, using(crate::proofs::Equality::services_decide))]
+pub fn services_are_equal_by_fields(one: &Service, other: &Service) -> bool
     ensures { IsTrue result ↔ (one.now ≡ other.now) }
 {
     one == other
 }
 
-/// Two messages' details are equal exactly where all their parts are.
-pub fn message_details_are_equal_by_parts(
-    one: &MessageTypeDetails,
-    other: &MessageTypeDetails,
+/// Two settings of nodes' files are equal exactly where their fields are.
+#[tactic(auto, using(crate::proofs::Equality::nodes_decide))]
+pub fn nodes_are_equal_by_fields(one: &Node, other: &Node) -> bool
+    ensures { IsTrue result ↔ (one.now ≡ other.now) }
+{
+    one == other
+}
+
+/// Two settings of a whole system are equal exactly where their fields are.
+#[tactic(auto, using(crate::proofs::Equality::globals_decide))]
+pub fn globals_are_equal_by_fields(one: &Global, other: &Global) -> bool
+    ensures { IsTrue result ↔ (one.now ≡ other.now) }
+{
+    one == other
+}
+
+/// Two settings of publish-subscribe services are equal exactly where their fields are.
+pub fn publish_subscribes_are_equal_by_fields(
+    one: &PublishSubscribe,
+    other: &PublishSubscribe,
 ) -> bool
+    ensures { IsTrue result ↔ (one.now ≡ other.now) }
+{
+    one == other
+}
+
+/// Two settings of event services are equal exactly where their fields are.
+#[tactic(auto, using(crate::proofs::Equality::events_decide))]
+pub fn events_are_equal_by_fields(one: &Event, other: &Event) -> bool
+    ensures { IsTrue result ↔ (one.now ≡ other.now) }
+{
+    one == other
+}
+
+/// Two settings of request-response services are equal exactly where their fields are.
+#[tactic(auto, using(crate::proofs::Equality::request_responses_decide))]
+pub fn request_responses_are_equal_by_fields(one: &RequestResonse, other: &RequestResonse) -> bool
+    ensures { IsTrue result ↔ (one.now ≡ other.now) }
+{
+    one == other
+}
+
+/// Two settings of blackboard services are equal exactly where their fields are.
+pub fn blackboards_are_equal_by_fields(one: &Blackboard, other: &Blackboard) -> bool
+    ensures { IsTrue result ↔ (one.now ≡ other.now) }
+{
+    one == other
+}
+
+/// Two settings of services of all patterns are equal exactly where their fields are.
+#[tactic(auto, using(crate::proofs::Equality::defaults_decide))]
+pub fn defaults_are_equal_by_fields(one: &Defaults, other: &Defaults) -> bool
+    ensures { IsTrue result ↔ (one.now ≡ other.now) }
+{
+    one == other
+}
+
+/// Two configurations are equal exactly where their fields are.
+#[tactic(auto, using(crate::proofs::Equality::configurations_decide))]
+pub fn configurations_are_equal_by_fields(one: &Config, other: &Config) -> bool
     ensures { IsTrue result ↔ (one.now ≡ other.now) }
 {
     one == other

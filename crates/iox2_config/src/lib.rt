@@ -6,6 +6,4 @@
 pub mod config;
 pub mod hash;
 pub mod laws;
-#[cfg(test)]
-mod tests;
 pub mod types;

@@ -19,7 +19,7 @@ use Rattle.iox2_container.proofs.CellEntries.{gains_write, gains_clear, nothing_
 use Rattle.iox2_container.proofs.Gaining.{length-Gains}
 use Rattle.iox2_container.proofs.FreeList.{taken_apart, threads_kept, threads_freed, cell_free, shown_free, replicate_free, taken_at}
 use Rattle.iox2_container.proofs.ListEdits.{get_set_other}
-use Rattle.iox2_container.proofs.ShownCells.{shown_at, shown_set, nothing_shown}
+use Rattle.iox2_container.proofs.ShownCells.{shown_at, shown_set, nothing_shown_yet}
 
 -- so many entries stand in the slots
 abbrev pub standing : {T : Type 0} → List (Linked T) → ℕ
@@ -142,7 +142,7 @@ taken_within cells slot i = omega (arith, slice_get_within (map shown cells) slo
 
 pub threaded_new : {T : Type 0} (c : Inside T) (n : ℕ) → c.slots.cells ≡ replicate n (Free None) → c.head ≡ None → c.fresh ≡ 0 → IsThreaded c
 threaded_new {T} c n e h f =
-    let none : standing c.slots.cells ≡ 0 = ap standing e ∙ ap length (ap (entries_from 0) (nothing_shown None n) ∙ nothing_stands 0 n) in
+    let none : standing c.slots.cells ≡ 0 = ap length (ap (entries_from 0) (nothing_shown_yet c.slots.cells None n e) ∙ nothing_stands 0 n) in
     record {
       free = [];
       threads = subst (λ (o : Option ℕ). Threads c.slots.cells o []) (sym h) tt;

@@ -24,3 +24,4 @@ pub mod KnownHandles
 pub mod Alike
 pub mod Runs
 pub mod Collecting
+pub mod Agreeing

@@ -12,3 +12,4 @@ pub mod Threads
 pub mod Threaded
 pub mod Histories
 pub mod Calls
+pub mod Agreement

@@ -3,5 +3,3 @@
 
 pub mod container;
 pub mod laws;
-#[cfg(test)]
-mod tests;

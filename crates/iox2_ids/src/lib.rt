@@ -6,5 +6,3 @@
 
 pub mod identifiers;
 pub mod laws;
-#[cfg(test)]
-mod tests;

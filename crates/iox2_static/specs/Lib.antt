@@ -2,6 +2,7 @@ pub mod Blackboard
 pub mod Chunks
 pub mod Description
 pub mod Event
+pub mod HashWrites
 pub mod MessagingPattern
 pub mod PatternLoans
 pub mod PublishSubscribe

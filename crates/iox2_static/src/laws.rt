@@ -1,54 +1,97 @@
-//! Laws of static configurations: two of one type are equal exactly where all their fields are.
-ghost use Rattle.std.specs.Prelude.{◌≡◌, ◌↔◌, IsTrue};
+//! Laws of static configurations: two of one type are equal exactly where all their fields are, and each gives its
+//! fields in turn to a hasher, so `==` and hashing agree.
+ghost use Rattle.std.specs.Prelude.{◌≡◌, ◌↔◌, IsTrue, fold};
+ghost use Rattle.iox2_static.specs.HashWrites.{publish_subscribe_writes, request_response_writes, deadline_writes};
+ghost use Rattle.iox2_static.specs.HashWrites.{event_writes, blackboard_writes, pattern_writes};
 
 use crate::static_config::messaging_pattern::MessagingPattern;
 use crate::static_config::{StaticConfig, blackboard, event, publish_subscribe, request_response};
+use std::hash::{Hash, Hasher};
 
-/// Two configurations of publish-subscribe services are equal exactly where their fields are.
-pub fn publish_subscribes_are_equal_by_fields(
+/// Configurations of publish-subscribe services are equal and hashed by their fields.
+#[tactic(auto, using(crate::proofs::Equality::publish_subscribes_decide))]
+pub fn publish_subscribes_go_by_fields<H: Hasher>(
     one: &publish_subscribe::StaticConfig,
     other: &publish_subscribe::StaticConfig,
+    state: &mut H,
 ) -> bool
-    ensures { IsTrue result ↔ (one.now ≡ other.now) }
+    ensures equal { IsTrue result ↔ (one.now ≡ other.now) }
+    ensures hashed { state.new ≡ fold H.write state.old (publish_subscribe_writes one.now) }
 {
+    one.hash(state);
     one == other
 }
 
-/// Two configurations of request-response services are equal exactly where their fields are.
-pub fn request_responses_are_equal_by_fields(
+/// Configurations of request-response services are equal and hashed by their fields.
+#[tactic(auto, using(crate::proofs::Equality::request_responses_decide))]
+pub fn request_responses_go_by_fields<H: Hasher>(
     one: &request_response::StaticConfig,
     other: &request_response::StaticConfig,
+    state: &mut H,
 ) -> bool
-    ensures { IsTrue result ↔ (one.now ≡ other.now) }
+    ensures equal { IsTrue result ↔ (one.now ≡ other.now) }
+    ensures hashed { state.new ≡ fold H.write state.old (request_response_writes one.now) }
 {
+    one.hash(state);
     one == other
 }
 
-/// Two configurations of event services are equal exactly where their fields are.
-pub fn events_are_equal_by_fields(one: &event::StaticConfig, other: &event::StaticConfig) -> bool
-    ensures { IsTrue result ↔ (one.now ≡ other.now) }
+/// Deadlines are equal and hashed by their fields.
+pub fn deadlines_go_by_fields<H: Hasher>(
+    one: &event::Deadline,
+    other: &event::Deadline,
+    state: &mut H,
+) -> bool
+    ensures equal { IsTrue result ↔ (one.now ≡ other.now) }
+    ensures hashed { state.new ≡ fold H.write state.old (deadline_writes one.now) }
 {
+    one.hash(state);
     one == other
 }
 
-/// Two configurations of blackboard services are equal exactly where their fields are.
-pub fn blackboards_are_equal_by_fields(
+/// Configurations of event services are equal and hashed by their fields.
+#[tactic(auto, using(crate::proofs::Equality::events_decide))]
+pub fn events_go_by_fields<H: Hasher>(
+    one: &event::StaticConfig,
+    other: &event::StaticConfig,
+    state: &mut H,
+) -> bool
+    ensures equal { IsTrue result ↔ (one.now ≡ other.now) }
+    ensures hashed { state.new ≡ fold H.write state.old (event_writes one.now) }
+{
+    one.hash(state);
+    one == other
+}
+
+/// Configurations of blackboard services are equal and hashed by their fields.
+pub fn blackboards_go_by_fields<H: Hasher>(
     one: &blackboard::StaticConfig,
     other: &blackboard::StaticConfig,
+    state: &mut H,
 ) -> bool
-    ensures { IsTrue result ↔ (one.now ≡ other.now) }
+    ensures equal { IsTrue result ↔ (one.now ≡ other.now) }
+    ensures hashed { state.new ≡ fold H.write state.old (blackboard_writes one.now) }
 {
+    one.hash(state);
     one == other
 }
 
-/// Two patterns are equal exactly where kind and configuration are.
-pub fn patterns_are_equal_by_fields(one: &MessagingPattern, other: &MessagingPattern) -> bool
-    ensures { IsTrue result ↔ (one.now ≡ other.now) }
+/// Patterns are equal and hashed by kind and configuration.
+#[tactic(auto, using(crate::proofs::Equality::patterns_decide, crate::proofs::HashWrites::patterns_written))]
+pub fn patterns_go_by_fields<H: Hasher>(
+    one: &MessagingPattern,
+    other: &MessagingPattern,
+    state: &mut H,
+) -> bool
+    ensures equal { IsTrue result ↔ (one.now ≡ other.now) }
+    ensures hashed { state.new ≡ fold H.write state.old (pattern_writes one.now) }
 {
+    one.hash(state);
     one == other
 }
 
 /// Two descriptions are equal exactly where their parts are.
+#[tactic(auto, using(crate::proofs::Equality::descriptions_decide))]
 pub fn descriptions_are_equal_by_fields(one: &StaticConfig, other: &StaticConfig) -> bool
     ensures { IsTrue result ↔ (one.now ≡ other.now) }
 {

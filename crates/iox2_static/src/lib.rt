@@ -3,5 +3,3 @@
 
 pub mod laws;
 pub mod static_config;
-#[cfg(test)]
-mod tests;

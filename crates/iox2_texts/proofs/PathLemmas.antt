@@ -7,8 +7,7 @@ use Rattle.std.proofs.Math.ListN.{get_or-append}
 use Rattle.std.proofs.lemmas.List.{get_or_default, append-nil}
 use Rattle.std.proofs.lemmas.List.Sums.{suffix_len_is}
 use Rattle.std.proofs.lemmas.Bool.Decides.{eqb_tells}
-use Rattle.iox2_texts.specs.Text.{IsTextUpTo}
-use Rattle.iox2_texts.specs.Path.{is_slash, needs_slash, join, IsFileName, IsFilePath}
+use Rattle.iox2_texts.specs.Path.{is_slash, needs_slash, join, IsPlain, EndsPlain}
 
 -- from `start` on there is no `/`, and before it stands one or nothing
 pub last_part_is : (bytes : List ℕ) (start d : ℕ) → start ≤ length bytes
@@ -80,9 +79,7 @@ joined_by false path file is plain =
 pub last_part-join : (path file : List ℕ) → ¬ (Contains file 47) → after_last is_slash (join path file) ≡ file
 last_part-join path file plain = joined_by (needs_slash path) path file refl plain
 
-pub file_path-join : (path file joined : List ℕ) → IsFileName file → joined ≡ join path file
-    → IsTextUpTo 255 joined → IsFilePath joined
-file_path-join path file joined legal is fits =
-    let last : after_last is_slash joined ≡ file = ap (after_last is_slash) is ∙ last_part-join path file legal.1 in
-    let long : 1 ≤ length joined = rw is (omega (arith, legal.0.0, length-append (front_of (needs_slash path) path) file)) in
-    ((long, fits), subst IsFileName (sym last) legal)
+-- a plain file stands at the end of what it is joined to
+pub ends_plain_joined : (path file joined : List ℕ) → IsPlain file → joined ≡ join path file → EndsPlain joined
+ends_plain_joined path file joined plain is =
+    subst IsPlain (sym (ap (after_last is_slash) is ∙ last_part-join path file plain.1)) plain

@@ -39,4 +39,4 @@ prefixed_error prefix name old new e (Ok text) same refused is = absurd is
 prefixed_error prefix name old new InsertWouldExceedCapacity (Err x) same refused is =
     rw is (omega (arith, refused.1, ap length same, length-append prefix name))
 prefixed_error prefix name old new InvalidCharacter (Err x) same refused is =
-    rw is (omega (arith, refused.1, ap length same, length-append prefix name), λ legal. refused.2 (IsText-right prefix name legal.1.1))
+    rw is (omega (arith, refused.1, ap length same, length-append prefix name), λ legal. refused.2 (IsText-right prefix name legal.0.1))

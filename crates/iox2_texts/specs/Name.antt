@@ -8,9 +8,13 @@ use Rattle.iox2_texts.specs.declared.bounded.SemanticStringError.TheVariants.{In
 use Rattle.iox2_texts.specs.declared.service_name.ServiceNameError.{ServiceNameError}
 use Rattle.iox2_texts.specs.declared.service_name.ServiceNameError.TheVariants as name
 
+-- a text of at most `n` bytes that is one of those that `Allows`
+abbrev pub IsAllowed : (List ℕ → Type 0) → ℕ → List ℕ → Type 0
+IsAllowed Allows n bytes = IsTextUpTo n bytes × Allows bytes
+
 -- a text of 1 to `n` bytes
 abbrev pub IsName : ℕ → List ℕ → Type 0
-IsName n bytes = (1 ≤ length bytes) × IsTextUpTo n bytes
+IsName n bytes = IsAllowed (λ b. 1 ≤ length b) n bytes
 
 -- what making a text answers whose legal contents are `Legal`, none of them longer than `n`:
 -- too long is told only of what is too long, and everything else that is not legal is an invalid content

@@ -3,7 +3,7 @@ use Rattle.std.specs.Prelude.{◌≡◌, ◌≢◌, ℕ, List, [], ◌++◌, ◌
 use Rattle.std.specs.Char.{is_ascii_alphanumeric}
 use Rattle.std.specs.List.{after_last, list_any}
 use lib.Chars.{codes}
-use Rattle.iox2_texts.specs.Name.{IsName}
+use Rattle.iox2_texts.specs.Name.{IsAllowed}
 use Rattle.iox2_texts.specs.declared.bounded.SemanticStringError.{SemanticStringError}
 use Rattle.iox2_texts.specs.declared.bounded.SemanticStringError.TheVariants.{InvalidContent, ExceedsMaximumLength}
 
@@ -11,23 +11,34 @@ use Rattle.iox2_texts.specs.declared.bounded.SemanticStringError.TheVariants.{In
 abbrev pub is_slash : ℕ → Bool
 is_slash b = b == 47
 
--- a name of 1 to 255 bytes with no `/`, that is neither `.` nor `..`
-abbrev pub IsFileName : List ℕ → Type 0
-IsFileName bytes = IsName 255 bytes × (¬ (Contains bytes 47)) × (bytes ≢ codes ".") × (bytes ≢ codes "..")
+-- not empty, without `/`, and neither `.` nor `..`
+abbrev pub IsPlain : List ℕ → Type 0
+IsPlain bytes = (1 ≤ length bytes) × (¬ (Contains bytes 47)) × (bytes ≢ codes ".") × (bytes ≢ codes "..")
 
--- a path of 1 to 255 bytes whose part after its last `/` is a file name
+-- a plain text of at most 255 bytes
+abbrev pub IsFileName : List ℕ → Type 0
+IsFileName bytes = IsAllowed IsPlain 255 bytes
+
+-- what stands after the last `/` is plain; where there is no `/`, all is
+abbrev pub EndsPlain : List ℕ → Type 0
+EndsPlain bytes = IsPlain (after_last is_slash bytes)
+
+-- such a text of at most 255 bytes
 abbrev pub IsFilePath : List ℕ → Type 0
-IsFilePath bytes = IsName 255 bytes × IsFileName (after_last is_slash bytes)
+IsFilePath bytes = IsAllowed EndsPlain 255 bytes
 
 -- a letter, a digit or one of `-`, `.`, `:`, `_`
 abbrev pub is_restricted : ℕ → Bool
 is_restricted b = is_ascii_alphanumeric b || list_any (nat_eq b) (codes "-.:_")
 
--- 1 to `n` such bytes, that are neither `.` nor `..`
+-- such bytes alone and at least one, and neither `.` nor `..`
+abbrev pub IsRestricted : List ℕ → Type 0
+IsRestricted bytes =
+    (1 ≤ length bytes) × All (λ b. IsTrue (is_restricted b)) bytes × (bytes ≢ codes ".") × (bytes ≢ codes "..")
+
+-- a text of at most `n` of them
 abbrev pub IsRestrictedName : ℕ → List ℕ → Type 0
-IsRestrictedName n bytes =
-    (1 ≤ length bytes) × (length bytes ≤ n) × All (λ b. IsTrue (is_restricted b)) bytes
-    × (bytes ≢ codes ".") × (bytes ≢ codes "..")
+IsRestrictedName n bytes = IsAllowed IsRestricted n bytes
 
 -- whether a `/` is needed before an entry: the path is neither empty nor ends in one
 abbrev pub needs_slash : List ℕ → Bool

@@ -10,7 +10,7 @@ pub use pair::Attribute;
 pub use set::{AttributeDefinitionError, AttributeSet, MAX_ATTRIBUTES};
 pub use specifier::AttributeSpecifier;
 pub use text::{
-    AttributeKey, AttributeText, AttributeValue, MAX_ATTRIBUTE_KEY_LENGTH,
+    AttributeContent, AttributeKey, AttributeValue, MAX_ATTRIBUTE_KEY_LENGTH,
     MAX_ATTRIBUTE_VALUE_LENGTH,
 };
 pub use verifier::{AttributeVerificationError, AttributeVerifier};

@@ -1,12 +1,15 @@
-//! Texts of a bounded length, the answers of callbacks, and least multiples.
+//! Texts of a bounded length, those of them that have a meaning, the answers of callbacks, and least multiples.
 //!
 //! A text holds bytes from 1 to 127 alone: ASCII without the zero byte.
 ghost use Rattle.std.specs.Prelude.{◌≡◌, ◌↔◌, ◌+◌, ◌<◌, ◌^◌, ◌≤◌, ◌++◌, [], Some, length, IsTrue};
 ghost use Rattle.iox2_texts.specs.Multiple.{IsLeastMultiple, least_multiple};
-ghost use Rattle.iox2_texts.specs.Name.{MakesLegal, MakesName};
+ghost use Rattle.iox2_texts.specs.Name.{MakesLegal};
 ghost use Rattle.iox2_texts.specs.Text.{IsText, IsTextUpTo, MakesText, AppendsText};
 
+mod semantic_string;
+
 use arrayvec::ArrayVec;
+pub use semantic_string::{Content, SemanticString};
 use std::marker::Model;
 use std::{fmt, str};
 
@@ -185,16 +188,6 @@ impl<const N: usize> StaticString<N> {
                 SemanticStringError::InvalidContent,
             ),
         }
-    }
-
-    /// The text of these bytes, of which there must be one at least.
-    pub(crate) fn make_name(bytes: &[u8]) -> Result<Self, SemanticStringError>
-        ensures { MakesName N bytes.now result }
-    {
-        if bytes.is_empty() {
-            return Err(SemanticStringError::InvalidContent);
-        }
-        Self::make_text(bytes)
     }
 }
 

@@ -6,9 +6,8 @@ ghost use Rattle.iox2_texts.specs.Laws.{ListingsAreUnique, ValuesAreCounted, Lea
 ghost use Rattle.iox2_texts.specs.Name.{MakesName};
 ghost use Rattle.iox2_texts.specs.Pair.{text_cmp, text_writes, pair_cmp};
 
-use crate::attribute::{Attribute, AttributeKey, AttributeSet, AttributeText, AttributeValue};
-use crate::bounded::{SemanticStringError, StaticString};
-use crate::paths::{FileName, FilePath, Path, RestrictedFileName};
+use crate::attribute::{Attribute, AttributeKey, AttributeSet, AttributeValue};
+use crate::bounded::{Content, SemanticString, SemanticStringError, StaticString};
 use crate::service_name::ServiceName;
 use std::cmp::Ordering;
 use std::hash::{Hash, Hasher};
@@ -52,10 +51,10 @@ pub fn texts_go_by_bytes<const N: usize, H: Hasher>(
     (one == other, one.cmp(other))
 }
 
-/// Names of services are equal, ordered and hashed by their bytes.
-pub fn service_names_go_by_bytes<H: Hasher>(
-    one: &ServiceName,
-    other: &ServiceName,
+/// Keys, values, file names and paths are equal, ordered and hashed by their bytes.
+pub fn semantic_strings_go_by_bytes<C: Content, const N: usize, H: Hasher>(
+    one: &SemanticString<C, N>,
+    other: &SemanticString<C, N>,
     state: &mut H,
 ) -> (bool, Ordering)
     ensures equal { IsTrue result.0 ↔ (one.now ≡ other.now) }
@@ -66,10 +65,10 @@ pub fn service_names_go_by_bytes<H: Hasher>(
     (one == other, one.cmp(other))
 }
 
-/// Keys and values of attributes are equal, ordered and hashed by their bytes.
-pub fn attribute_texts_go_by_bytes<const N: usize, H: Hasher>(
-    one: &AttributeText<N>,
-    other: &AttributeText<N>,
+/// Names of services are equal, ordered and hashed by their bytes.
+pub fn service_names_go_by_bytes<H: Hasher>(
+    one: &ServiceName,
+    other: &ServiceName,
     state: &mut H,
 ) -> (bool, Ordering)
     ensures equal { IsTrue result.0 ↔ (one.now ≡ other.now) }
@@ -92,58 +91,6 @@ pub fn values_have_up_to_256_bytes(bytes: &[u8]) -> Result<AttributeValue, Seman
     ensures { MakesName 256 bytes.now result }
 {
     AttributeValue::new(bytes)
-}
-
-/// Paths are equal, ordered and hashed by their bytes.
-pub fn paths_go_by_bytes<H: Hasher>(one: &Path, other: &Path, state: &mut H) -> (bool, Ordering)
-    ensures equal { IsTrue result.0 ↔ (one.now ≡ other.now) }
-    ensures ordered { result.1 ≡ text_cmp one.now other.now }
-    ensures hashed { state.new ≡ fold H.write state.old (text_writes one.now) }
-{
-    one.hash(state);
-    (one == other, one.cmp(other))
-}
-
-/// Names of files are equal, ordered and hashed by their bytes.
-pub fn file_names_go_by_bytes<H: Hasher>(
-    one: &FileName,
-    other: &FileName,
-    state: &mut H,
-) -> (bool, Ordering)
-    ensures equal { IsTrue result.0 ↔ (one.now ≡ other.now) }
-    ensures ordered { result.1 ≡ text_cmp one.now other.now }
-    ensures hashed { state.new ≡ fold H.write state.old (text_writes one.now) }
-{
-    one.hash(state);
-    (one == other, one.cmp(other))
-}
-
-/// Paths of files are equal, ordered and hashed by their bytes.
-pub fn file_paths_go_by_bytes<H: Hasher>(
-    one: &FilePath,
-    other: &FilePath,
-    state: &mut H,
-) -> (bool, Ordering)
-    ensures equal { IsTrue result.0 ↔ (one.now ≡ other.now) }
-    ensures ordered { result.1 ≡ text_cmp one.now other.now }
-    ensures hashed { state.new ≡ fold H.write state.old (text_writes one.now) }
-{
-    one.hash(state);
-    (one == other, one.cmp(other))
-}
-
-/// Restricted names of files are equal, ordered and hashed by their bytes.
-pub fn restricted_names_go_by_bytes<const N: usize, H: Hasher>(
-    one: &RestrictedFileName<N>,
-    other: &RestrictedFileName<N>,
-    state: &mut H,
-) -> (bool, Ordering)
-    ensures equal { IsTrue result.0 ↔ (one.now ≡ other.now) }
-    ensures ordered { result.1 ≡ text_cmp one.now other.now }
-    ensures hashed { state.new ≡ fold H.write state.old (text_writes one.now) }
-{
-    one.hash(state);
-    (one == other, one.cmp(other))
 }
 
 /// Attributes are equal by key and value, and ordered by the key's bytes and then the value's.

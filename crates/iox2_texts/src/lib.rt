@@ -9,5 +9,3 @@ pub mod bounded;
 pub mod laws;
 pub mod paths;
 pub mod service_name;
-#[cfg(test)]
-mod tests;

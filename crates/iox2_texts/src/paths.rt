@@ -9,10 +9,10 @@ mod file_path;
 mod joining;
 mod restricted;
 
-pub use file_name::FileName;
-pub use file_path::FilePath;
-pub use joining::Path;
-pub use restricted::RestrictedFileName;
+pub use file_name::{FileName, FileNameContent};
+pub use file_path::{FilePath, FilePathContent};
+pub use joining::{Path, PathContent};
+pub use restricted::{RestrictedFileName, RestrictedFileNameContent};
 
 /// The greatest number of bytes of a path and of a file name.
 const MAX_PATH_LENGTH: usize = 255;

@@ -13,5 +13,3 @@ pub use iox2_texts::{attribute, bounded, paths, service_name};
 pub mod dynamic_config;
 pub mod laws;
 pub mod replay;
-#[cfg(test)]
-mod tests;

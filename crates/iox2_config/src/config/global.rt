@@ -2,7 +2,7 @@
 ghost use Rattle.std.specs.Prelude.{◌≡◌};
 ghost use Rattle.iox2_texts.specs.Path.{MakesJoined};
 
-use super::literals::{file_name, path};
+use super::literals::literal;
 use super::node::Node;
 use super::service::Service;
 use iox2_texts::bounded::SemanticStringError;
@@ -41,8 +41,8 @@ impl Default for Global {
 
     fn default() -> Self {
         Global {
-            root_path: path(b"/tmp/iceoryx2/"),
-            prefix: file_name(b"iox2_"),
+            root_path: literal(b"/tmp/iceoryx2/"),
+            prefix: literal(b"iox2_"),
             service: Service::default(),
             node: Node::default(),
             creation_timeout: Duration::from_millis(500),

@@ -1,6 +1,6 @@
 //! The settings of nodes' files.
 
-use super::literals::{file_name, path};
+use super::literals::literal;
 use iox2_texts::paths::{FileName, Path};
 
 /// Where the files of nodes lie, and how their names end.
@@ -32,12 +32,12 @@ impl Default for Node {
 
     fn default() -> Self {
         Node {
-            directory: path(b"nodes"),
-            monitor_suffix: file_name(b".node_monitor"),
-            static_config_suffix: file_name(b".details"),
-            service_tag_suffix: file_name(b".service_tag"),
-            port_tag_suffix: file_name(b".port_tag"),
-            global_mgmt_suffix: file_name(b".global_mgmt"),
+            directory: literal(b"nodes"),
+            monitor_suffix: literal(b".node_monitor"),
+            static_config_suffix: literal(b".details"),
+            service_tag_suffix: literal(b".service_tag"),
+            port_tag_suffix: literal(b".port_tag"),
+            global_mgmt_suffix: literal(b".global_mgmt"),
             cleanup_dead_nodes_on_creation: true,
             cleanup_dead_nodes_on_destruction: true,
         }

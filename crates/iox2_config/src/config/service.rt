@@ -1,6 +1,6 @@
 //! The settings of services' files.
 
-use super::literals::{file_name, path};
+use super::literals::literal;
 use iox2_texts::paths::{FileName, Path};
 
 /// Where the files of services lie, and how their names end.
@@ -34,14 +34,14 @@ impl Default for Service {
 
     fn default() -> Self {
         Service {
-            directory: path(b"services"),
-            data_segment_suffix: file_name(b".data"),
-            static_config_storage_suffix: file_name(b".service"),
-            dynamic_config_storage_suffix: file_name(b".dynamic"),
-            connection_suffix: file_name(b".connection"),
-            event_connection_suffix: file_name(b".event"),
-            blackboard_mgmt_suffix: file_name(b".blackboard_mgmt"),
-            blackboard_data_suffix: file_name(b".blackboard_data"),
+            directory: literal(b"services"),
+            data_segment_suffix: literal(b".data"),
+            static_config_storage_suffix: literal(b".service"),
+            dynamic_config_storage_suffix: literal(b".dynamic"),
+            connection_suffix: literal(b".connection"),
+            event_connection_suffix: literal(b".event"),
+            blackboard_mgmt_suffix: literal(b".blackboard_mgmt"),
+            blackboard_data_suffix: literal(b".blackboard_data"),
             cleanup_dead_nodes_on_open: true,
         }
     }

@@ -1,7 +1,7 @@
 //! Whether two registries replied the same, but for handles and the order of listings.
-ghost use Rattle.std.specs.Prelude.{◌≡◌, IsTrue, count_by};
-ghost use Rattle.std.specs.List.Sorted.{IsPermutation};
-ghost use Rattle.iox2_container.specs.Calls.{SameReply, SameKind};
+ghost use Rattle.std.specs.Prelude.{◌≡◌, ◌↔◌, IsTrue, count_by};
+ghost use Rattle.std.specs.List.{AllZip};
+ghost use Rattle.iox2_container.specs.Agreement.{AgreesBy, EquallyMany};
 
 use super::calls::RegistryReply;
 
@@ -14,22 +14,17 @@ fn count_of<T: Eq>(items: &[T], item: &T) -> usize
 
 /// Whether the lists have the same items, whatever their order.
 fn is_permutation<T: Eq>(ones: &[T], others: &[T]) -> bool
-    ensures { IsPermutation ones.now others.now → IsTrue result }
+    ensures { IsTrue result ↔ EquallyMany T.eq ones.now others.now }
 {
-    if ones.len() != others.len() {
-        return false;
-    }
-    for item in ones {
-        if count_of(ones, item) != count_of(others, item) {
-            return false;
-        }
-    }
-    true
+    ones.len() == others.len()
+        && ones
+            .iter()
+            .all(|item| count_of(ones, item) == count_of(others, item))
 }
 
 /// Whether the replies are the same, but for handles and the order of listings.
 fn is_same_reply<T: Copy + Eq>(one: &RegistryReply<T>, other: &RegistryReply<T>) -> bool
-    ensures { SameReply one.now other.now → IsTrue result }
+    ensures { IsTrue result ↔ AgreesBy T.eq one.now other.now }
 {
     match (one, other) {
         (RegistryReply::Handle(_), RegistryReply::Handle(_)) => true,
@@ -41,11 +36,11 @@ fn is_same_reply<T: Copy + Eq>(one: &RegistryReply<T>, other: &RegistryReply<T>)
 }
 
 /// Whether the replies are the same in turn.
-pub(crate) fn is_same_kind<T: Copy + Eq>(
+pub(super) fn is_same_kind<T: Copy + Eq>(
     ones: &[RegistryReply<T>],
     others: &[RegistryReply<T>],
 ) -> bool
-    ensures { SameKind ones.now others.now → IsTrue result }
+    ensures { IsTrue result ↔ AllZip (AgreesBy T.eq) ones.now others.now }
 {
     let mut ones_left = ones;
     let mut others_left = others;

@@ -4,7 +4,7 @@ ghost use Rattle.iox2_container.specs.Shown.{shown};
 
 /// A slot's cell. A free one keeps what its container finds free slots by.
 #[derive(Clone, Copy)]
-pub(super) enum Cell<T: Copy, N: Copy> {
+pub enum Cell<T: Copy, N: Copy> {
     Free(N),
     Taken { ticket: u64, details: T },
 }

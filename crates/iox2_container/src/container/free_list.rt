@@ -1,5 +1,5 @@
 //! Places of which the one that was freed last is taken. The free ones are in a list that is threaded through the cells.
-ghost use Rattle.std.specs.Prelude.{◌≡◌, ◌+◌, ◌≤◌, ◌<◌, ◌^◌, None, length, replicate, IfOk};
+ghost use Rattle.std.specs.Prelude.{◌≡◌, ◌+◌, ◌≤◌, ◌<◌, ◌^◌, None, length};
 ghost use Rattle.iox2_container.specs.Threads.{HasFree, TakesFirst};
 
 use super::cell::Cell;
@@ -13,7 +13,7 @@ type Linked<T> = Cell<T, Option<usize>>;
 
 /// Places, and where their free ones are.
 #[derive(Drop)]
-pub(super) struct FreeList<T: Copy> {
+pub struct FreeList<T: Copy> {
     slots: Slots<Linked<T>>,
     // The slot that was freed last, of those that are free again.
     head: Option<usize>,
@@ -33,21 +33,6 @@ impl<T: Copy> Model for FreeList<T> {
     ghost view = { λ l. record { cells = map shown l.slots.cells; touches = l.slots.touches } };
 
     ghost invariant = { λ l. IsThreaded l };
-}
-
-impl<T: Copy> FreeList<T> {
-    /// So many free places.
-    pub(super) fn new(alloc: Global, capacity: usize) -> Result<Self, AllocError>
-        ensures cells { IfOk result (λ l. l.cells ≡ replicate capacity None) }
-        ensures touches { IfOk result (λ l. l.touches ≡ 0) }
-    {
-        let slots = Slots::new(alloc, capacity, Cell::Free(None))?;
-        Ok(FreeList {
-            slots,
-            head: None,
-            fresh: 0,
-        })
-    }
 }
 
 /// Takes the slot that was freed last, or else the first that was never used.
@@ -85,6 +70,15 @@ impl<T: Copy> Places<T> for FreeList<T> {
 
     ghost most_for_put = { λ n. 2 };
 
+    fn all_free(alloc: Global, capacity: usize) -> Result<Self, AllocError> {
+        let slots = Slots::new(alloc, capacity, Cell::Free(None))?;
+        Ok(FreeList {
+            slots,
+            head: None,
+            fresh: 0,
+        })
+    }
+
     fn capacity(&self) -> usize {
         self.slots.len()
     }
@@ -94,6 +88,7 @@ impl<T: Copy> Places<T> for FreeList<T> {
     }
 
     fn put(&mut self, ticket: u64, details: T) -> usize {
+        // Tells the proof that the number of slots fits a `usize`.
         let _fits = self.slots.len();
         let slot = take_first(&mut self.slots, &mut self.head, &mut self.fresh);
         self.slots.write(slot, Cell::Taken { ticket, details });

@@ -6,6 +6,7 @@ ghost use Rattle.iox2_container.specs.Shown.{shown};
 use super::cell::Cell;
 use super::places::Places;
 use super::slots::Slots;
+use std::alloc::{AllocError, Global};
 
 /// The lowest free slot.
 fn lowest_free<T: Copy>(slots: &mut Slots<Cell<T, ()>>) -> Option<usize>
@@ -30,6 +31,10 @@ impl<T: Copy> Places<T> for Slots<Cell<T, ()>> {
     ghost touches = { λ s. s.touches };
 
     ghost most_for_put = { λ n. n + 1 };
+
+    fn all_free(alloc: Global, capacity: usize) -> Result<Self, AllocError> {
+        Slots::new(alloc, capacity, Cell::Free(()))
+    }
 
     fn capacity(&self) -> usize {
         self.len()

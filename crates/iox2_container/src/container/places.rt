@@ -1,12 +1,13 @@
 //! Numbered places for entries, whatever finds the free ones.
-ghost use Rattle.std.specs.Prelude.{◌≡◌, ◌≢◌, ◌+◌, ◌*◌, ◌≤◌, ◌<◌, ℕ, Option, Some, None, IfNone, IfSome};
-ghost use Rattle.std.specs.Prelude.{List, MatchOption, length, slice_get, slice_set};
+ghost use Rattle.std.specs.Prelude.{◌≡◌, ◌≢◌, ◌+◌, ◌*◌, ◌≤◌, ◌<◌, ℕ, Option, Some, None, IfNone, IfOk, IfSome};
+ghost use Rattle.std.specs.Prelude.{List, MatchOption, length, replicate, slice_get, slice_set};
 ghost use Rattle.iox2_container.specs.Places.{Finds, IsTakenAt, entries_from};
 
 use super::handle::ContainerHandle;
+use std::alloc::{AllocError, Global};
 
 /// Places in which entries stand, each with its ticket.
-pub(super) trait Places<T: Copy> {
+pub trait Places<T: Copy>: Drop {
     /// The ticket and the details in each place.
     ghost cells: { Self → List (Option (ℕ × T)) };
 
@@ -15,6 +16,11 @@ pub(super) trait Places<T: Copy> {
 
     /// The most touches of a put, by the number of places.
     ghost most_for_put: { ℕ → ℕ };
+
+    /// So many free places, untouched so far. Refused where there is no memory for them.
+    fn all_free(alloc: Global, capacity: usize) -> Result<Self, AllocError>
+        ensures cells { IfOk result (λ p. cells p ≡ replicate capacity None) }
+        ensures touches { IfOk result (λ p. touches p ≡ 0) };
 
     /// How many places there are.
     fn capacity(&self) -> usize

@@ -148,7 +148,8 @@ impl AttributeSet {
         callback: &mut F,
     )
         requires { F.IsAlwaysCallable callback.old }
-        ensures { Visits (CalledAt F.FnMut) callback.old (values_of self.now key.now) callback.new }
+        ensures visit { Visits (CalledAt F.FnMut) callback.old (values_of self.now key.now) callback.new }
+        ensures callable { F.IsAlwaysCallable callback.new }
     {
         for attribute in self.attributes.as_slice() {
             if attribute.key() == key {

@@ -1,11 +1,8 @@
 //! The keys and the values of attributes.
-ghost use Rattle.std.specs.Prelude.{◌≡◌, ◌≤◌, Some, length};
+ghost use Rattle.std.specs.Prelude.{◌≡◌, ◌≤◌};
 ghost use lib.Chars.{codes};
-ghost use Rattle.iox2_texts.specs.Name.{IsName, MakesName};
 
-use crate::bounded::{SemanticStringError, StaticString};
-use std::fmt;
-use std::marker::Model;
+use crate::bounded::{Content, SemanticString, StaticString};
 
 /// The greatest number of bytes of a key.
 pub const MAX_ATTRIBUTE_KEY_LENGTH: usize = 64;
@@ -14,120 +11,48 @@ pub const MAX_ATTRIBUTE_KEY_LENGTH: usize = 64;
 pub const MAX_ATTRIBUTE_VALUE_LENGTH: usize = 256;
 
 /// The key of an attribute: 1 to 64 bytes, each from 1 to 127.
-pub type AttributeKey = AttributeText<MAX_ATTRIBUTE_KEY_LENGTH>;
+pub type AttributeKey = SemanticString<AttributeContent, MAX_ATTRIBUTE_KEY_LENGTH>;
 
 /// The value of an attribute: 1 to 256 bytes, each from 1 to 127.
-pub type AttributeValue = AttributeText<MAX_ATTRIBUTE_VALUE_LENGTH>;
+pub type AttributeValue = SemanticString<AttributeContent, MAX_ATTRIBUTE_VALUE_LENGTH>;
 
-/// A key or a value of an attribute: 1 to `N` bytes, each from 1 to 127.
-#[derive(Debug, Drop, PartialEq, Eq, PartialOrd, Ord, Hash)]
-pub struct AttributeText<const N: usize> {
-    text: StaticString<N>,
-}
+/// What keys and values of attributes allow: every text but the empty one.
+pub enum AttributeContent {}
 
-impl<const N: usize> Model for AttributeText<N> {
-    ghost use Rattle.std.specs.Prelude.{List, ℕ, length, ◌≤◌};
+impl Content for AttributeContent {
+    ghost use Rattle.std.specs.Prelude.{◌≤◌, length};
 
-    ghost Value = { List ℕ };
+    ghost Allows = { λ bytes. 1 ≤ length bytes };
 
-    ghost view = { λ s. s.text };
-
-    ghost invariant = { λ s. 1 ≤ length s.text };
-
-    ghost inverse = { λ bytes. record { text = bytes } };
-}
-
-impl<const N: usize> AttributeText<N> {
-    /// The key or value of these bytes.
-    ///
-    /// Refused are, in this order, no byte at all, more than `N` bytes, and a byte that is not from 1 to 127.
-    pub fn new(bytes: &[u8]) -> Result<Self, SemanticStringError>
-        ensures { MakesName N bytes.now result }
-    {
-        Ok(AttributeText {
-            text: StaticString::make_name(bytes)?,
-        })
-    }
-
-    /// The text.
-    pub fn as_str(&self) -> &str
-        ensures value { result.now ≡ self.now }
-        ensures legal { IsName N result.now }
-    {
-        self.text.as_str()
-    }
-
-    /// The bytes of the text.
-    pub fn as_bytes(&self) -> &[u8]
-        ensures value { result.now ≡ self.now }
-        ensures legal { IsName N result.now }
-    {
-        self.text.as_bytes()
-    }
-
-    /// The number of bytes, from 1 to `N`.
-    pub fn len(&self) -> usize
-        ensures value { result ≡ length self.now }
-        ensures least { 1 ≤ result }
-        ensures greatest { result ≤ N }
-    {
-        self.text.len()
-    }
-
-    /// An equal key or value.
-    pub fn copied(&self) -> Self
-        ensures { result ≡ self.now }
-    {
-        AttributeText {
-            text: self.text.copied(),
-        }
-    }
-
-    /// The text `-`.
-    fn dash() -> Self
-        requires { 1 ≤ N }
-        ensures { result ≡ codes "-" }
-    {
-        let mut text = StaticString::new();
-        text.push_bytes(b"-");
-        AttributeText { text }
+    fn allows(bytes: &[u8]) -> bool {
+        !bytes.is_empty()
     }
 }
 
-/// As `new` of the text's bytes.
-impl<const N: usize> TryFrom<&str> for AttributeText<N> {
-    type Error = SemanticStringError;
-
-    ghost try_from_gives = { λ s r. MakesName N s.now r };
-
-    fn try_from(value: &str) -> Result<Self, SemanticStringError> {
-        Self::new(value.as_bytes())
-    }
+/// The text `-`.
+fn dash<const N: usize>() -> SemanticString<AttributeContent, N>
+    requires { 1 ≤ N }
+    ensures { result ≡ codes "-" }
+{
+    let mut text = StaticString::new();
+    text.push_bytes(b"-");
+    SemanticString::of_allowed(text)
 }
 
 /// The key `-`, which stands where a list of fixed room wants a value.
-impl Default for AttributeText<MAX_ATTRIBUTE_KEY_LENGTH> {
+impl Default for AttributeKey {
     ghost is_default = { λ k. k ≡ codes "-" };
 
     fn default() -> Self {
-        Self::dash()
+        dash()
     }
 }
 
 /// The value `-`, which stands where a list of fixed room wants a value.
-impl Default for AttributeText<MAX_ATTRIBUTE_VALUE_LENGTH> {
+impl Default for AttributeValue {
     ghost is_default = { λ v. v ≡ codes "-" };
 
     fn default() -> Self {
-        Self::dash()
-    }
-}
-
-/// The text itself.
-impl<const N: usize> fmt::Display for AttributeText<N> {
-    ghost output = { λ s. Some s };
-
-    fn fmt<W: fmt::Write>(&self, f: &mut fmt::Formatter<W>) -> fmt::Result {
-        f.pad(self.as_str())
+        dash()
     }
 }

@@ -1,82 +1,36 @@
 //! Paths, and how an entry is joined to one.
-ghost use Rattle.std.specs.Prelude.{◌≡◌, IfOk, Some};
+ghost use Rattle.std.specs.Prelude.{◌≡◌, IfOk, IsTrue};
 ghost use Rattle.iox2_texts.specs.Text.{IsTextUpTo};
-ghost use Rattle.iox2_texts.specs.Name.{MakesLegal};
 ghost use Rattle.iox2_texts.specs.Path.{JoinsTo, MakesJoined, needs_slash};
 
 use super::MAX_PATH_LENGTH;
-use crate::bounded::{SemanticStringError, StaticString};
-use std::fmt;
-use std::marker::Model;
+use crate::bounded::{Content, SemanticString, SemanticStringError, StaticString};
 
 /// A path of at most 255 bytes, which may be empty.
-#[derive(Debug, Drop, PartialEq, Eq, PartialOrd, Ord, Hash)]
-pub struct Path {
-    text: StaticString<MAX_PATH_LENGTH>,
-}
+pub type Path = SemanticString<PathContent, MAX_PATH_LENGTH>;
 
-impl Model for Path {
-    ghost use Rattle.std.specs.Prelude.{List, ℕ};
+/// What a path allows: every text.
+pub enum PathContent {}
 
-    ghost Value = { List ℕ };
+impl Content for PathContent {
+    ghost use Rattle.std.specs.Prelude.{⊤};
 
-    ghost view = { λ s. s.text };
+    ghost Allows = { λ bytes. ⊤ };
 
-    ghost inverse = { λ bytes. record { text = bytes } };
+    fn allows(_bytes: &[u8]) -> bool {
+        true
+    }
 }
 
 impl Path {
-    /// The path of these bytes. Refused are more than 255 bytes, and then a byte that is not from 1 to 127.
-    pub fn new(bytes: &[u8]) -> Result<Self, SemanticStringError>
-        ensures { MakesLegal (IsTextUpTo 255) 255 bytes.now result }
-    {
-        Ok(Path {
-            text: StaticString::make_text(bytes)?,
-        })
-    }
-
     /// Joins an entry to the path, with one `/` between them unless the path is empty or ends in `/`.
     ///
     /// Where that would be longer than 255 bytes it is refused, and the path stays as it was.
     pub fn add_path_entry(&mut self, entry: &Path) -> Result<(), SemanticStringError>
         ensures { JoinsTo self.old entry.now result self.new }
     {
-        self.text = joined(self.as_bytes(), entry.as_bytes())?;
+        *self = Self::of_allowed(joined(self.as_bytes(), entry.as_bytes())?);
         Ok(())
-    }
-
-    /// The text of the path.
-    pub fn as_str(&self) -> &str
-        ensures value { result.now ≡ self.now }
-        ensures legal { IsTextUpTo 255 result.now }
-    {
-        self.text.as_str()
-    }
-
-    /// The bytes of the path.
-    pub fn as_bytes(&self) -> &[u8]
-        ensures value { result.now ≡ self.now }
-        ensures legal { IsTextUpTo 255 result.now }
-    {
-        self.text.as_bytes()
-    }
-
-    /// An equal path.
-    pub fn copied(&self) -> Self
-        ensures { result ≡ self.now }
-    {
-        Path {
-            text: self.text.copied(),
-        }
-    }
-}
-
-/// The text of the path.
-impl fmt::Display for Path {
-    ghost output = { λ s. Some s };
-
-    fn fmt<W: fmt::Write>(&self, f: &mut fmt::Formatter<W>) -> fmt::Result {
-        f.pad(self.as_str())
     }
 }
 

@@ -1,5 +1,7 @@
-use Rattle.std.proofs.Common.{◌+◌, ◌<◌, arith, sym, ◌∙◌, ap, subst, length}
-use Rattle.iox2_container.specs.Calls.{SameKind}
+use Rattle.std.proofs.Common.{◌+◌, ◌<◌, arith, sym, ◌∙◌, ap, length}
+use Rattle.std.specs.List.{AllZip}
+use Rattle.iox2_container.specs.Agreement.{AgreesBy}
+use Rattle.iox2_container.proofs.Agreeing.{same_kind_agrees}
 use Rattle.iox2_container.proofs.Runs.{one_longer, made_more, made_still, same_made}
 use Rattle.iox2_container.proofs.container.comparison.compare.Goals as goal
 
@@ -24,7 +26,8 @@ returns-clause-same_kind g c =
 
 pub returns-clause-answer : goal.returns-clause-answer
 returns-clause-answer g c =
-    c.is_same_kind.ensures (subst (λ ones. SameKind ones c.deref-2.result.now) (sym c.deref.ensures.value) (subst (SameKind c.loop-call.replies_a.items) (sym c.deref-2.ensures.value) (returns-clause-same_kind g c)))
+    let agree : AllZip (AgreesBy g.T.PartialEq.eq) c.loop-call.replies_a.items c.loop-call.replies_b.items = same_kind_agrees g.T.PartialEq.eq _ _ (returns-clause-same_kind g c) in
+    c.is_same_kind.ensures.1 (rw (c.deref.ensures.value, c.deref-2.ensures.value) agree)
 
 pub returns-in_err-serve_both-clause-same_kind : goal.returns-in_err-serve_both-clause-same_kind
 returns-in_err-serve_both-clause-same_kind g c =

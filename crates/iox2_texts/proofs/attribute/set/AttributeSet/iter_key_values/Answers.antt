@@ -5,8 +5,8 @@ use Rattle.iox2_texts.proofs.attribute.set.AttributeSet.iter_key_values.Goals as
 use Rattle.iox2_texts.proofs.attribute.set.AttributeSet.iter_key_values.Goals.{then-eq+in-Continue, else-eq}
 
 -- the call that stops ends the visit
-pub returns-in-Stop : goal.returns-in-Stop
-returns-in-Stop g c =
+pub returns-in-Stop-clause-visit : goal.returns-in-Stop-clause-visit
+returns-in-Stop-clause-visit g c =
     let pairs = c.as_slice-attribute-items.result.now in
     let i = c.loop-attribute.attribute-index in
     rw (← c.self.view_is, ← c.as_slice-attribute-items.ensures.value)

@@ -1,3 +1,0 @@
-mod config;
-mod hash;
-mod types;

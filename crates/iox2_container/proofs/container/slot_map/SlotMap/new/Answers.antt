@@ -1,0 +1,10 @@
+use Rattle.iox2_container.proofs.Making.{new_kept, new_is_fresh}
+use Rattle.iox2_container.proofs.container.slot_map.SlotMap.new.Goals as goal
+
+pub invariant_of-result : goal.invariant_of-result
+invariant_of-result g c =
+    new_kept c.new.result (g.P.Places.cells c.in_ok-places.places) c.args.service c.args.role c.args.tickets c.args.capacity c.new.ensures c.in_ok-places.ensures.cells
+
+pub returns : goal.returns
+returns g c =
+    new_is_fresh c.new.result (g.P.Places.cells c.in_ok-places.places) (g.P.Places.touches c.in_ok-places.places) c.args.service c.args.role c.args.tickets c.args.capacity c.new.ensures c.in_ok-places.ensures.cells c.in_ok-places.ensures.touches

@@ -1,4 +1,0 @@
-mod chunk_counts;
-mod defaults;
-mod descriptions;
-mod laws;

@@ -1,0 +1,6 @@
+//! The configuration, hash texts, and the layout of messages.
+
+mod config;
+mod hash;
+mod laws;
+mod types;

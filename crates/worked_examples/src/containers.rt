@@ -1,0 +1,13 @@
+//! Registries, and two of them under the same calls.
+
+mod comparison;
+mod memory;
+mod registries;
+
+use service_descriptions::identifiers::UniqueNodeId;
+use std::test::Fail;
+
+/// The id with these parts and no nanoseconds.
+fn node(process: u32, seconds: u32, counter: u32) -> Result<UniqueNodeId, Fail> {
+    Ok(UniqueNodeId::new(process, seconds, 0, counter).ok_or("no node has these parts")?)
+}

@@ -1,0 +1,146 @@
+//! `compare` of a scan and a free list.
+use super::node;
+use service_descriptions::container::*;
+use service_descriptions::identifiers::UniqueNodeId;
+use std::alloc::{AllocError, Global};
+use std::test::Fail;
+
+type Call = RegistryCall<UniqueNodeId>;
+
+type Reply = RegistryReply<UniqueNodeId>;
+
+/// The reply of a new scan of service 1, made by `compared`.
+pub(super) fn by_scan(slot: usize, ticket: u64) -> Reply {
+    RegistryReply::Handle(ContainerHandle::from_parts(1, Role::Node, slot, ticket))
+}
+
+/// The reply of a new free list of service 2, made by `compared`.
+fn by_list(slot: usize, ticket: u64) -> Reply {
+    RegistryReply::Handle(ContainerHandle::from_parts(2, Role::Reader, slot, ticket))
+}
+
+/// The answer and both lists of replies, for registries of three places.
+fn compared(
+    alloc: Global,
+    tickets: u64,
+    calls: &[Call],
+) -> Result<(bool, Vec<Reply>, Vec<Reply>), AllocError> {
+    let mut scan = Container::new(alloc, 1, Role::Node, 3, tickets)?;
+    let mut list = ListContainer::new(alloc, 2, Role::Reader, 3, tickets)?;
+    let mut of_scan = Vec::new(alloc);
+    let mut of_list = Vec::new(alloc);
+    let same = compare(
+        alloc,
+        &mut scan,
+        &mut list,
+        calls,
+        &mut of_scan,
+        &mut of_list,
+    )?;
+    Ok((same, of_scan, of_list))
+}
+
+/// Adds three entries, removes the first two and adds two again, each in a place of its own.
+#[test]
+fn freed_places_are_taken_in_other_orders(rt: HostRuntime) -> Result<(), Fail> {
+    let alloc = rt.alloc();
+    let (c, d, e) = (node(3, 0, 1)?, node(4, 0, 1)?, node(5, 0, 1)?);
+    let calls = vec![in alloc;
+        RegistryCall::Add(node(1, 0, 1)?),
+        RegistryCall::Add(node(2, 0, 1)?),
+        RegistryCall::Add(c),
+        RegistryCall::Remove(0, ReleaseMode::Default),
+        RegistryCall::Remove(1, ReleaseMode::Default),
+        RegistryCall::Add(d),
+        RegistryCall::Add(e),
+        RegistryCall::List,
+        RegistryCall::Len,
+        RegistryCall::Remove(3, ReleaseMode::Default),
+    ]?;
+    let (same, of_scan, of_list) = compared(alloc, u64::MAX, &calls)?;
+    assert!(rt; same);
+    let expected = vec![in alloc;
+        by_scan(0, 0),
+        by_scan(1, 1),
+        by_scan(2, 2),
+        RegistryReply::State(ReleaseState::Unlocked),
+        RegistryReply::State(ReleaseState::Unlocked),
+        by_scan(0, 3),
+        by_scan(1, 4),
+        RegistryReply::Entries(vec![in alloc; d, e, c]?),
+        RegistryReply::Count(3),
+        RegistryReply::NoHandle,
+    ]?;
+    assert_eq!(rt; of_scan, expected);
+    let expected = vec![in alloc;
+        by_list(0, 0),
+        by_list(1, 1),
+        by_list(2, 2),
+        RegistryReply::State(ReleaseState::Unlocked),
+        RegistryReply::State(ReleaseState::Unlocked),
+        by_list(1, 3),
+        by_list(0, 4),
+        RegistryReply::Entries(vec![in alloc; e, d, c]?),
+        RegistryReply::Count(3),
+        RegistryReply::NoHandle,
+    ]?;
+    assert_eq!(rt; of_list, expected);
+    Ok(())
+}
+
+/// Two recoveries keep an entry or take it, the last one locks, and removals name calls that gave no live handle.
+#[test]
+fn both_recover_and_lock(rt: HostRuntime) -> Result<(), Fail> {
+    let alloc = rt.alloc();
+    let (a, b) = (node(1, 0, 1)?, node(2, 0, 1)?);
+    let calls = vec![in alloc;
+        RegistryCall::Add(a),
+        RegistryCall::Add(b),
+        RegistryCall::Recover(a, vec![in alloc]?, ReleaseMode::LockIfLastIndex),
+        RegistryCall::Remove(0, ReleaseMode::LockIfLastIndex),
+        RegistryCall::Recover(b, vec![in alloc; b.value()]?, ReleaseMode::LockIfLastIndex),
+        RegistryCall::Recover(b, vec![in alloc; a.value()]?, ReleaseMode::LockIfLastIndex),
+        RegistryCall::Add(a),
+        RegistryCall::List,
+        RegistryCall::Remove(9, ReleaseMode::Default),
+    ]?;
+    let (same, of_scan, of_list) = compared(alloc, u64::MAX, &calls)?;
+    assert!(rt; same);
+    for (given, replies) in [
+        ([by_scan(0, 0), by_scan(1, 1)], of_scan),
+        ([by_list(0, 0), by_list(1, 1)], of_list),
+    ] {
+        let [of_a, of_b] = given;
+        let expected = vec![in alloc;
+            of_a,
+            of_b,
+            RegistryReply::State(ReleaseState::Unlocked),
+            RegistryReply::NotOwned,
+            RegistryReply::State(ReleaseState::Unlocked),
+            RegistryReply::State(ReleaseState::Locked),
+            RegistryReply::Refused(ContainerAddFailure::IsLocked),
+            RegistryReply::Entries(vec![in alloc]?),
+            RegistryReply::NoHandle,
+        ]?;
+        assert_eq!(rt; replies, expected);
+    }
+    Ok(())
+}
+
+#[test]
+fn both_run_out_of_tickets(rt: HostRuntime) -> Result<(), Fail> {
+    let alloc = rt.alloc();
+    let a = node(1, 0, 1)?;
+    let calls = vec![in alloc;
+        RegistryCall::Add(a),
+        RegistryCall::Add(a),
+        RegistryCall::Add(a),
+    ]?;
+    let (same, of_scan, of_list) = compared(alloc, 2, &calls)?;
+    let refused = RegistryReply::Refused(ContainerAddFailure::OutOfSpace);
+    assert!(rt; same);
+    assert_eq!(rt; (of_scan.len(), of_list.len()), (3, 3));
+    assert_eq!(rt; of_scan.get(2), Some(&refused));
+    assert_eq!(rt; of_list.get(2), Some(&refused));
+    Ok(())
+}

@@ -1,0 +1,414 @@
+//! Each of the two registries.
+use super::node;
+use service_descriptions::bounded::CallbackProgression;
+use service_descriptions::container::*;
+use service_descriptions::identifiers::UniqueNodeId;
+use std::alloc::{AllocError, Global};
+use std::process::Abort;
+use std::test::Fail;
+
+/// A port with its own number, and its node.
+#[derive(Clone, Copy, Debug, PartialEq, Eq)]
+struct Port {
+    number: u64,
+    node: UniqueNodeId,
+}
+
+impl Attached for Port {
+    ghost node = { λ port. port.node };
+
+    ghost number = { λ port. port.number };
+
+    fn node_id(&self) -> UniqueNodeId {
+        self.node
+    }
+
+    fn key(&self) -> u128 {
+        self.number as u128
+    }
+}
+
+/// The numbers of the entries by rising slot, up to and with this one.
+fn listed_up_to<T: Attached + Copy, R: Registry<T>>(
+    alloc: Global,
+    registry: &R,
+    last: Option<u128>,
+) -> Result<Vec<u128>, AllocError> {
+    let mut numbers = Vec::with_capacity(alloc, registry.capacity())?;
+    let mut note = |details: &T| {
+        let _ = numbers.push(details.key());
+        if Some(details.key()) == last {
+            CallbackProgression::Stop
+        } else {
+            CallbackProgression::Continue
+        }
+    };
+    registry.for_each(&mut note);
+    Ok(numbers)
+}
+
+fn place(handle: ContainerHandle) -> (usize, u64) {
+    (handle.slot(), handle.ticket())
+}
+
+const OUT_OF_SPACE: Result<ContainerHandle, ContainerAddFailure> = Err(
+    ContainerAddFailure::OutOfSpace,
+);
+
+const NOT_OWNED: Result<ReleaseState, ContainerRemoveError> = Err(
+    ContainerRemoveError::ContainerHandleNotOwnedByContainer,
+);
+
+/// On a registry of three places and two tickets.
+fn tickets_run_out<R: Registry<UniqueNodeId>>(
+    rt: &impl Abort,
+    registry: &mut R,
+) -> Result<(), Fail> {
+    let id = node(1, 0, 1)?;
+    let handle = registry.add(id)?;
+    assert_eq!(rt; handle, ContainerHandle::from_parts(7, Role::Node, 0, 0));
+    assert_eq!(rt; (handle.service(), handle.role()), (7, Role::Node));
+    assert_eq!(rt; place(registry.add(id)?), (1, 1));
+    assert_eq!(rt; registry.add(id), OUT_OF_SPACE);
+    assert_eq!(rt; (registry.len(), registry.capacity()), (2, 3));
+    Ok(())
+}
+
+#[test]
+fn a_third_entry_wants_a_ticket(rt: HostRuntime) -> Result<(), Fail> {
+    tickets_run_out(&rt, &mut Container::new(rt.alloc(), 7, Role::Node, 3, 2)?)?;
+    tickets_run_out(
+        &rt,
+        &mut ListContainer::new(rt.alloc(), 7, Role::Node, 3, 2)?,
+    )
+}
+
+/// On a registry of three places, where the entries of the lower two leave and one comes.
+fn a_place_is_used_again<R: Registry<UniqueNodeId>>(
+    rt: &impl Abort,
+    registry: &mut R,
+    slot: usize,
+) -> Result<(), Fail> {
+    let id = node(1, 0, 1)?;
+    let a = registry.add(id)?;
+    let b = registry.add(id)?;
+    registry.add(id)?;
+    assert_eq!(rt;
+        registry.remove(a, ReleaseMode::Default)?,
+        ReleaseState::Unlocked
+    );
+    assert_eq!(rt;
+        registry.remove(b, ReleaseMode::Default)?,
+        ReleaseState::Unlocked
+    );
+    assert_eq!(rt; place(registry.add(id)?), (slot, 3));
+    assert_eq!(rt; registry.len(), 2);
+    Ok(())
+}
+
+#[test]
+fn the_scan_takes_the_lowest_and_the_list_the_last_freed(rt: HostRuntime) -> Result<(), Fail> {
+    let tickets = u64::MAX;
+    a_place_is_used_again(
+        &rt,
+        &mut Container::new(rt.alloc(), 7, Role::Node, 3, tickets)?,
+        0,
+    )?;
+    a_place_is_used_again(
+        &rt,
+        &mut ListContainer::new(rt.alloc(), 7, Role::Node, 3, tickets)?,
+        1,
+    )
+}
+
+/// On a registry of three places, of which a recovery frees the first and the last.
+fn recovered_places_are_used_again<R: Registry<Port>>(
+    rt: &impl Abort,
+    alloc: Global,
+    registry: &mut R,
+    slots: [usize; 2],
+    listing: [u128; 3],
+) -> Result<(), Fail> {
+    let x = node(1, 0, 1)?;
+    let y = node(2, 0, 2)?;
+    registry.add(Port {
+        number: 10,
+        node: x,
+    })?;
+    registry.add(Port {
+        number: 11,
+        node: y,
+    })?;
+    registry.add(Port {
+        number: 12,
+        node: x,
+    })?;
+    let mut all = |_: &Port| true;
+    let state = registry.recover(&x, &mut all, ReleaseMode::Default);
+    assert_eq!(rt; state, ReleaseState::Unlocked);
+    assert_eq!(rt; registry.entries_of(&x), 0);
+    assert_eq!(rt;
+        place(registry.add(Port {
+            number: 13,
+            node: x
+        })?),
+        (slots[0], 3)
+    );
+    assert_eq!(rt;
+        place(registry.add(Port {
+            number: 14,
+            node: y
+        })?),
+        (slots[1], 4)
+    );
+    assert_eq!(rt;
+        registry.add(Port {
+            number: 15,
+            node: x
+        }),
+        OUT_OF_SPACE
+    );
+    assert_eq!(rt; registry.entries_of(&y), 2);
+    let listed = listed_up_to(alloc, registry, None)?;
+    assert_eq!(rt; listed.as_slice(), listing.as_slice());
+    Ok(())
+}
+
+#[test]
+fn recovery_frees_by_rising_slots(rt: HostRuntime) -> Result<(), Fail> {
+    recovered_places_are_used_again(
+        &rt,
+        rt.alloc(),
+        &mut Container::new(rt.alloc(), 7, Role::Publisher, 3, u64::MAX)?,
+        [0, 2],
+        [13, 11, 14],
+    )?;
+    recovered_places_are_used_again(
+        &rt,
+        rt.alloc(),
+        &mut ListContainer::new(rt.alloc(), 7, Role::Publisher, 3, u64::MAX)?,
+        [2, 0],
+        [14, 11, 13],
+    )
+}
+
+/// On a registry of three places, with a live entry in slot 1.
+fn foreign_handles_are_refused<R: Registry<UniqueNodeId>>(
+    rt: &impl Abort,
+    registry: &mut R,
+) -> Result<(), Fail> {
+    let id = node(1, 0, 1)?;
+    let removed = registry.add(id)?;
+    let live = registry.add(id)?;
+    registry.remove(removed, ReleaseMode::Default)?;
+    let newer = registry.add(id)?;
+    assert_eq!(rt;
+        (place(removed), place(live), place(newer)),
+        ((0, 0), (1, 1), (0, 2))
+    );
+    for handle in [
+        removed,
+        ContainerHandle::from_parts(7, Role::Node, 1, u64::MAX),
+        ContainerHandle::from_parts(7, Role::Node, 3, 1),
+        ContainerHandle::from_parts(7, Role::Node, usize::MAX, 1),
+        ContainerHandle::from_parts(7, Role::Listener, 1, 1),
+        ContainerHandle::from_parts(8, Role::Node, 1, 1),
+    ] {
+        assert_eq!(rt; registry.get(handle), None, "{handle:?}");
+        let answer = registry.remove(handle, ReleaseMode::LockIfLastIndex);
+        assert_eq!(rt; answer, NOT_OWNED, "{handle:?}");
+    }
+    assert_eq!(rt; registry.get(live), Some(id));
+    assert_eq!(rt; (registry.len(), registry.is_locked()), (2, false));
+    Ok(())
+}
+
+#[test]
+fn handles_that_do_not_belong(rt: HostRuntime) -> Result<(), Fail> {
+    foreign_handles_are_refused(
+        &rt,
+        &mut Container::new(rt.alloc(), 7, Role::Node, 3, u64::MAX)?,
+    )?;
+    foreign_handles_are_refused(
+        &rt,
+        &mut ListContainer::new(rt.alloc(), 7, Role::Node, 3, u64::MAX)?,
+    )
+}
+
+/// On two registries of one service number and role.
+fn handles_are_values<A: Registry<UniqueNodeId>, B: Registry<UniqueNodeId>>(
+    rt: &impl Abort,
+    a: &mut A,
+    b: &mut B,
+) -> Result<(), Fail> {
+    let of_a = a.add(node(1, 0, 1)?)?;
+    let of_b = b.add(node(2, 0, 2)?)?;
+    assert_eq!(rt; a.get(of_b), Some(node(1, 0, 1)?));
+    assert_eq!(rt;
+        a.remove(of_b, ReleaseMode::Default)?,
+        ReleaseState::Unlocked
+    );
+    assert_eq!(rt;
+        b.remove(of_a, ReleaseMode::Default)?,
+        ReleaseState::Unlocked
+    );
+    assert_eq!(rt; (a.len(), b.len()), (0, 0));
+    Ok(())
+}
+
+#[test]
+fn containers_of_one_service_and_role_accept_each_others_handles(
+    rt: HostRuntime,
+) -> Result<(), Fail> {
+    handles_are_values(
+        &rt,
+        &mut Container::new(rt.alloc(), 7, Role::Node, 1, u64::MAX)?,
+        &mut Container::new(rt.alloc(), 7, Role::Node, 1, u64::MAX)?,
+    )?;
+    handles_are_values(
+        &rt,
+        &mut ListContainer::new(rt.alloc(), 7, Role::Node, 1, u64::MAX)?,
+        &mut ListContainer::new(rt.alloc(), 7, Role::Node, 1, u64::MAX)?,
+    )
+}
+
+/// On a registry with two tickets.
+fn recovery_goes_by_the_whole_id<R: Registry<UniqueNodeId>>(
+    rt: &impl Abort,
+    alloc: Global,
+    registry: &mut R,
+) -> Result<(), Fail> {
+    let dead = node(1, 1, 5)?;
+    let other = node(1, 2, 5)?;
+    assert_eq!(rt; dead.owner_id(), other.owner_id());
+    let mut all = |_: &UniqueNodeId| true;
+    let state = registry.recover(&dead, &mut all, ReleaseMode::LockIfLastIndex);
+    assert_eq!(rt; state, ReleaseState::Unlocked);
+    registry.add(dead)?;
+    registry.add(other)?;
+    let mut asked = Vec::with_capacity(alloc, 2)?;
+    let mut none = |id: &UniqueNodeId| {
+        let _ = asked.push(*id);
+        false
+    };
+    registry.recover(&dead, &mut none, ReleaseMode::LockIfLastIndex);
+    assert_eq!(rt; asked.as_slice(), [dead].as_slice());
+    let state = registry.recover(&dead, &mut all, ReleaseMode::LockIfLastIndex);
+    assert_eq!(rt; state, ReleaseState::Unlocked);
+    assert_eq!(rt;
+        (registry.entries_of(&dead), registry.entries_of(&other)),
+        (0, 1)
+    );
+    let state = registry.recover(&other, &mut all, ReleaseMode::LockIfLastIndex);
+    assert_eq!(rt; state, ReleaseState::Locked);
+    assert_eq!(rt; registry.add(other), Err(ContainerAddFailure::IsLocked));
+    Ok(())
+}
+
+#[test]
+fn nodes_that_share_an_owner_id(rt: HostRuntime) -> Result<(), Fail> {
+    recovery_goes_by_the_whole_id(
+        &rt,
+        rt.alloc(),
+        &mut Container::new(rt.alloc(), 9, Role::Node, 4, 2)?,
+    )?;
+    recovery_goes_by_the_whole_id(
+        &rt,
+        rt.alloc(),
+        &mut ListContainer::new(rt.alloc(), 9, Role::Node, 4, 2)?,
+    )
+}
+
+/// On a registry of three places.
+fn a_listing_stops<R: Registry<Port>>(
+    rt: &impl Abort,
+    alloc: Global,
+    registry: &mut R,
+) -> Result<(), Fail> {
+    for number in 10..13 {
+        let node = node(1, 0, 1)?;
+        registry.add(Port { number, node })?;
+    }
+    let listed = listed_up_to(alloc, registry, Some(11))?;
+    assert_eq!(rt; listed.as_slice(), [10, 11].as_slice());
+    Ok(())
+}
+
+#[test]
+fn a_listing_stops_at_its_second_entry(rt: HostRuntime) -> Result<(), Fail> {
+    a_listing_stops(
+        &rt,
+        rt.alloc(),
+        &mut Container::new(rt.alloc(), 7, Role::Publisher, 3, u64::MAX)?,
+    )?;
+    a_listing_stops(
+        &rt,
+        rt.alloc(),
+        &mut ListContainer::new(rt.alloc(), 7, Role::Publisher, 3, u64::MAX)?,
+    )
+}
+
+/// On a registry with no place or no ticket.
+fn nothing_fits<R: Registry<UniqueNodeId>>(rt: &impl Abort, registry: &mut R) -> Result<(), Fail> {
+    let id = node(1, 0, 1)?;
+    let handle = ContainerHandle::from_parts(7, Role::Node, 0, 0);
+    let mut all = |_: &UniqueNodeId| true;
+    assert_eq!(rt; registry.add(id), OUT_OF_SPACE);
+    assert_eq!(rt; registry.get(handle), None);
+    assert_eq!(rt;
+        registry.remove(handle, ReleaseMode::LockIfLastIndex),
+        NOT_OWNED
+    );
+    let state = registry.recover(&id, &mut all, ReleaseMode::LockIfLastIndex);
+    assert_eq!(rt; state, ReleaseState::Unlocked);
+    Ok(())
+}
+
+#[test]
+fn no_place_or_no_ticket(rt: HostRuntime) -> Result<(), Fail> {
+    for (capacity, tickets) in [(0, 2), (2, 0)] {
+        nothing_fits(
+            &rt,
+            &mut Container::new(rt.alloc(), 7, Role::Node, capacity, tickets)?,
+        )?;
+        nothing_fits(
+            &rt,
+            &mut ListContainer::new(rt.alloc(), 7, Role::Node, capacity, tickets)?,
+        )?;
+    }
+    Ok(())
+}
+
+#[test]
+fn places_that_no_memory_holds(rt: HostRuntime) {
+    let most = usize::MAX;
+    let scan: Result<Container<Port>, AllocError> = Container::new(
+        rt.alloc(),
+        7,
+        Role::Publisher,
+        most,
+        1,
+    );
+    assert!(rt; scan.is_err());
+    let list: Result<ListContainer<Port>, AllocError> = ListContainer::new(
+        rt.alloc(),
+        7,
+        Role::Publisher,
+        most,
+        1,
+    );
+    assert!(rt; list.is_err());
+    assert!(rt; Slots::new(rt.alloc(), most, 0u16).is_err());
+}
+
+#[test]
+fn slots_are_read_written_and_peeked_at(rt: HostRuntime) -> Result<(), Fail> {
+    let mut slots = Slots::new(rt.alloc(), 3, b'-')?;
+    assert_eq!(rt; slots.len(), 3);
+    slots.write(1, b'a');
+    assert_eq!(rt;
+        (slots.read(0), slots.read(1), slots.peek(2)),
+        (b'-', b'a', b'-')
+    );
+    Ok(())
+}

@@ -1,0 +1,210 @@
+//! The program on streams of a test's own, which fail at a call that the test names.
+ghost use Rattle.std.specs.Prelude.{◌≤◌};
+
+use super::{LINES, SCRIPT};
+use service_descriptions::replay::run_streams;
+use std::io;
+use std::io::{ErrorKind, Read, Write};
+
+/// Counts calls, one of which fails.
+#[derive(Clone, Copy)]
+struct Calls {
+    made: u64,
+    failing: Option<u64>,
+    kind: ErrorKind,
+}
+
+impl Calls {
+    fn failing_at(failing: Option<u64>) -> Self {
+        Calls {
+            made: 0,
+            failing,
+            kind: ErrorKind::Other,
+        }
+    }
+
+    fn next(&mut self) -> io::Result<()> {
+        let now = self.made;
+        self.made = now.wrapping_add(1);
+        if self.failing == Some(now) {
+            Err(io::Error::from(self.kind))
+        } else {
+            Ok(())
+        }
+    }
+}
+
+/// Gives a text in pieces of at most 40 bytes.
+#[derive(Clone, Copy)]
+struct Source<'a> {
+    text: &'a [u8],
+    calls: Calls,
+}
+
+impl Read for Source<'_> {
+    fn read(&mut self, buf: &mut [u8]) -> io::Result<usize> {
+        self.calls.next()?;
+        let n = buf.len().min(self.text.len()).min(40);
+        buf[..n].copy_from_slice(&self.text[..n]);
+        self.text = &self.text[n..];
+        Ok(n)
+    }
+}
+
+/// Takes at most 20 bytes at a call.
+#[derive(Clone, Copy)]
+struct Sink {
+    bytes: [u8; 200],
+    len: usize,
+    calls: Calls,
+    ghost in_range: { len ≤ 200 },
+}
+
+impl Sink {
+    fn failing_at(failing: Option<u64>) -> Self {
+        Sink {
+            bytes: [0; 200],
+            len: 0,
+            calls: Calls::failing_at(failing),
+        }
+    }
+
+    fn holds(&self, text: &str) -> bool {
+        self.bytes.starts_with(text.as_bytes()) && self.len == text.len()
+    }
+}
+
+impl Write for Sink {
+    fn write(&mut self, buf: &[u8]) -> io::Result<usize> {
+        self.calls.next()?;
+        let n = buf.len().min(20).min(200 - self.len);
+        self.bytes[self.len..self.len + n].copy_from_slice(&buf[..n]);
+        self.len += n;
+        Ok(n)
+    }
+
+    fn flush(&mut self) -> io::Result<()> {
+        self.calls.next()
+    }
+}
+
+#[test]
+fn statuses(rt: HostRuntime) {
+    let rows = [
+        (SCRIPT, 0, LINES, ""),
+        ("service event 7 1 2 2\n", 0, "", ""),
+        ("", 1, "", "bad line 1\n"),
+        (
+            "service event 7 1 2 2\nregister 01.0.0.1\n",
+            1,
+            "",
+            "bad line 2\n",
+        ),
+        (
+            "service event 7 1 2 2\nregister 0.5.6.0\n",
+            1,
+            "",
+            "bad line 2\n",
+        ),
+        ("service event 7 1 2 2\nnodes", 1, "", "bad line 2\n"),
+        (
+            "service event 7 1 2 2\nregister 1.0.0.1\nnodes\n",
+            1,
+            "handle 0 0\n",
+            "bad line 3\n",
+        ),
+        // No memory has room for so many nodes.
+        (
+            "service event 7 18446744073709551615 2 2\nregister 1.0.0.1\n",
+            2,
+            "",
+            "no memory\n",
+        ),
+    ];
+    for (script, status, lines, error) in rows {
+        let mut input = Source {
+            text: script.as_bytes(),
+            calls: Calls::failing_at(None),
+        };
+        let (mut output, mut errors) = (Sink::failing_at(None), Sink::failing_at(None));
+        assert_eq!(rt;
+            run_streams(rt.alloc(), &mut input, &mut output, &mut errors),
+            status,
+            "at {script}"
+        );
+        assert!(rt; output.holds(lines), "at {script}");
+        assert!(rt; errors.holds(error), "at {script}");
+    }
+}
+
+#[test]
+fn a_read_that_fails(rt: HostRuntime) {
+    // The script is read in three pieces, and the fourth read finds its end.
+    for call in 0..4 {
+        for kind in [ErrorKind::Other, ErrorKind::Interrupted] {
+            let calls = Calls {
+                made: 0,
+                failing: Some(call),
+                kind,
+            };
+            let mut input = Source {
+                text: SCRIPT.as_bytes(),
+                calls,
+            };
+            let (mut output, mut errors) = (Sink::failing_at(None), Sink::failing_at(None));
+            assert_eq!(rt;
+                run_streams(rt.alloc(), &mut input, &mut output, &mut errors),
+                3,
+                "at {call}"
+            );
+            assert_eq!(rt; input.calls.made, call + 1);
+            assert_eq!(rt; (output.calls.made, errors.calls.made), (0, 0), "at {call}");
+        }
+    }
+}
+
+#[test]
+fn a_write_or_flush_of_the_output_that_fails(rt: HostRuntime) {
+    // The replies are written in three pieces, and then flushed.
+    for call in 0..4 {
+        for kind in [ErrorKind::Other, ErrorKind::Interrupted] {
+            let mut input = Source {
+                text: SCRIPT.as_bytes(),
+                calls: Calls::failing_at(None),
+            };
+            let (mut output, mut errors) = (Sink::failing_at(Some(call)), Sink::failing_at(None));
+            output.calls.kind = kind;
+            assert_eq!(rt;
+                run_streams(rt.alloc(), &mut input, &mut output, &mut errors),
+                3,
+                "at {call}"
+            );
+            assert_eq!(rt;
+                (output.calls.made, errors.calls.made),
+                (call + 1, 0),
+                "at {call}"
+            );
+        }
+    }
+}
+
+#[test]
+fn a_write_or_flush_of_the_errors_that_fails(rt: HostRuntime) {
+    // The number of the bad line is written between two texts, and then flushed.
+    for call in 0..4 {
+        for kind in [ErrorKind::Other, ErrorKind::Interrupted] {
+            let mut input = Source {
+                text: b"",
+                calls: Calls::failing_at(None),
+            };
+            let (mut output, mut errors) = (Sink::failing_at(None), Sink::failing_at(Some(call)));
+            errors.calls.kind = kind;
+            assert_eq!(rt;
+                run_streams(rt.alloc(), &mut input, &mut output, &mut errors),
+                3,
+                "at {call}"
+            );
+            assert_eq!(rt; errors.calls.made, call + 1, "at {call}");
+        }
+    }
+}
