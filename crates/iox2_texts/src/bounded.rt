@@ -3,7 +3,6 @@
 //! A text holds bytes from 1 to 127 alone: ASCII without the zero byte.
 ghost use Rattle.std.specs.Prelude.{◌≡◌, ◌↔◌, ◌+◌, ◌<◌, ◌^◌, ◌≤◌, ◌++◌, [], Some, length, IsTrue};
 ghost use Rattle.iox2_texts.specs.Multiple.{IsLeastMultiple, least_multiple};
-ghost use Rattle.iox2_texts.specs.Name.{MakesLegal};
 ghost use Rattle.iox2_texts.specs.Text.{IsText, IsTextUpTo, MakesText, AppendsText};
 
 mod semantic_string;
@@ -38,6 +37,21 @@ pub enum SemanticStringError {
     InvalidContent,
     /// There are more bytes than the greatest length allows. It is told before an illegal byte.
     ExceedsMaximumLength,
+}
+
+/// Too long stays too long, and an illegal byte is an invalid content.
+impl From<StringModificationError> for SemanticStringError {
+    ghost use Rattle.iox2_texts.specs.Errors.{semantic_error};
+
+    ghost from_gives = { λ e r. r ≡ semantic_error e };
+
+    fn from(error: StringModificationError) -> Self {
+        match error {
+            StringModificationError::InsertWouldExceedCapacity =>
+                SemanticStringError::ExceedsMaximumLength,
+            StringModificationError::InvalidCharacter => SemanticStringError::InvalidContent,
+        }
+    }
 }
 
 /// The least multiple of `alignment` that is at least `value`.
@@ -173,21 +187,6 @@ impl<const N: usize> StaticString<N> {
         let mut text = StaticString::new();
         text.push_bytes(self.as_bytes());
         text
-    }
-
-    /// The text of these bytes, with the refusals of names.
-    pub(crate) fn make_text(bytes: &[u8]) -> Result<Self, SemanticStringError>
-        ensures { MakesLegal (IsTextUpTo N) N bytes.now result }
-    {
-        match StaticString::from_bytes(bytes) {
-            Ok(text) => Ok(text),
-            Err(StringModificationError::InsertWouldExceedCapacity) => Err(
-                SemanticStringError::ExceedsMaximumLength,
-            ),
-            Err(StringModificationError::InvalidCharacter) => Err(
-                SemanticStringError::InvalidContent,
-            ),
-        }
     }
 }
 

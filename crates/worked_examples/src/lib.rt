@@ -1,18 +1,8 @@
-//! Worked examples of the whole layer: what no contract says. They are tests, with values from outside: worked rows, vectors of
-//! public standards, printed texts, each public call once with ample memory, and streams that fail.
-//!
-//! They stand in a crate of their own, since a crate with tests is proved twice.
+//! Worked examples of the whole layer: containers, and scripts of commands on a service. They are tests of what no contract
+//! says: worked rows, each public call once with ample memory and with memory refused, and streams that fail.
 #![tactic(auto)]
 
 #[cfg(test)]
-mod configuration;
-#[cfg(test)]
 mod containers;
 #[cfg(test)]
-mod descriptions;
-#[cfg(test)]
-mod ids;
-#[cfg(test)]
 mod service;
-#[cfg(test)]
-mod texts;

@@ -1,7 +1,6 @@
 //! Texts with a meaning, which allows some contents alone.
-ghost use Rattle.std.specs.Prelude.{◌≡◌, ◌↔◌, ◌≤◌, List, ℕ, Some, IsTrue, IfOk, length};
+ghost use Rattle.std.specs.Prelude.{◌≡◌, ◌↔◌, List, [], ℕ, Some, IsTrue, length};
 ghost use Rattle.iox2_texts.specs.Name.{IsAllowed, MakesLegal};
-ghost use Rattle.iox2_texts.specs.Text.{IsTextUpTo};
 
 use super::{SemanticStringError, StaticString};
 use std::fmt;
@@ -47,7 +46,7 @@ impl<C: Content, const N: usize> SemanticString<C, N> {
     pub fn new(bytes: &[u8]) -> Result<Self, SemanticStringError>
         ensures { MakesLegal (IsAllowed C.Allows N) N bytes.now result }
     {
-        let text: StaticString<N> = StaticString::make_text(bytes)?;
+        let text: StaticString<N> = StaticString::from_bytes(bytes)?;
         if !C::allows(text.as_bytes()) {
             return Err(SemanticStringError::InvalidContent);
         }
@@ -87,6 +86,13 @@ impl<C: Content, const N: usize> SemanticString<C, N> {
         ensures legal { IsAllowed C.Allows N self.now }
     {
         self.as_bytes().len()
+    }
+
+    /// Whether there is no byte.
+    pub fn is_empty(&self) -> bool
+        ensures { IsTrue result ↔ (self.now ≡ []) }
+    {
+        self.text.is_empty()
     }
 
     /// An equal semantic string.

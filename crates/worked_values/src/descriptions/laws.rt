@@ -1,12 +1,12 @@
+use iox2_config::config::Config;
+use iox2_config::hash::Sha1Hasher;
+use iox2_ids::identifiers::{Time, UniqueServiceId};
 use iox2_static::laws::*;
-use service_descriptions::config::Config;
-use service_descriptions::hash::Sha1Hasher;
-use service_descriptions::identifiers::{Time, UniqueServiceId};
-use service_descriptions::service_name::ServiceName;
-use service_descriptions::static_config::messaging_pattern::MessagingPattern;
-use service_descriptions::static_config::{
+use iox2_static::static_config::messaging_pattern::MessagingPattern;
+use iox2_static::static_config::{
     StaticConfig, blackboard, event, publish_subscribe, request_response,
 };
+use iox2_texts::service_name::ServiceName;
 use std::hash::DefaultHasher;
 use std::test::Fail;
 use std::time::Duration;

@@ -1,6 +1,6 @@
 //! Ids.
+use iox2_ids::identifiers::*;
 use iox2_ids::laws::*;
-use service_descriptions::identifiers::*;
 use std::alloc::Global;
 use std::cmp::Ordering;
 use std::hash::DefaultHasher;

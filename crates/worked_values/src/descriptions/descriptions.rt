@@ -1,14 +1,12 @@
-use service_descriptions::attribute::{AttributeKey, AttributeSet, AttributeValue};
-use service_descriptions::config::Config;
-use service_descriptions::hash::{
-    Hash, HashError, HashValue, PatternKind, ServiceHashError, Sha1Hasher,
-};
-use service_descriptions::identifiers::UniqueServiceId;
-use service_descriptions::service_name::ServiceName;
-use service_descriptions::static_config::messaging_pattern::MessagingPattern;
-use service_descriptions::static_config::{
+use iox2_config::config::Config;
+use iox2_config::hash::{Hash, HashError, HashValue, PatternKind, ServiceHashError, Sha1Hasher};
+use iox2_ids::identifiers::UniqueServiceId;
+use iox2_static::static_config::messaging_pattern::MessagingPattern;
+use iox2_static::static_config::{
     StaticConfig, blackboard, event, publish_subscribe, request_response,
 };
+use iox2_texts::attribute::{AttributeKey, AttributeSet, AttributeValue};
+use iox2_texts::service_name::ServiceName;
 use std::alloc::Global;
 use std::hash::{DefaultHasher, Hash as _, Hasher};
 use std::process::Abort;

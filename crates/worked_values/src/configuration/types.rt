@@ -1,7 +1,7 @@
-use service_descriptions::bounded::StringModificationError;
-use service_descriptions::types::{
+use iox2_config::types::{
     MessageTypeDetails, TypeDetail, TypeDetailError, TypeVariant, ZeroCopySend,
 };
+use iox2_texts::bounded::StringModificationError;
 use std::process::Abort;
 
 /// Two values of 64 bits.

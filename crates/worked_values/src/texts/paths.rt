@@ -1,6 +1,6 @@
+use iox2_texts::bounded::{Content, SemanticString, SemanticStringError};
 use iox2_texts::laws::semantic_strings_go_by_bytes;
-use service_descriptions::bounded::{Content, SemanticString, SemanticStringError};
-use service_descriptions::paths::{FileName, FilePath, Path, RestrictedFileName};
+use iox2_texts::paths::{FileName, FilePath, Path, RestrictedFileName};
 use std::alloc::Global;
 use std::cmp::Ordering;
 use std::hash::DefaultHasher;

@@ -1,6 +1,6 @@
+use iox2_texts::bounded::StringModificationError;
 use iox2_texts::laws::service_names_go_by_bytes;
-use service_descriptions::bounded::StringModificationError;
-use service_descriptions::service_name::{
+use iox2_texts::service_name::{
     INTERNAL_SERVICE_PREFIX, MAX_SERVICE_NAME_LENGTH, ServiceName, ServiceNameError,
 };
 use std::cmp::Ordering;

@@ -1,14 +1,14 @@
+use iox2_texts::attribute::{
+    Attribute, AttributeDefinitionError, AttributeKey, AttributeSet, AttributeSpecifier,
+    AttributeValue, AttributeVerificationError, AttributeVerifier, MAX_ATTRIBUTE_KEY_LENGTH,
+    MAX_ATTRIBUTE_VALUE_LENGTH, MAX_ATTRIBUTES,
+};
+use iox2_texts::bounded::{CallbackProgression, SemanticStringError};
 use iox2_texts::laws::{
     attributes_go_by_bytes, keys_have_up_to_64_bytes, listings_are_unique,
     semantic_strings_go_by_bytes, sets_are_equal_by_pairs, values_are_counted,
     values_have_up_to_256_bytes,
 };
-use service_descriptions::attribute::{
-    Attribute, AttributeDefinitionError, AttributeKey, AttributeSet, AttributeSpecifier,
-    AttributeValue, AttributeVerificationError, AttributeVerifier, MAX_ATTRIBUTE_KEY_LENGTH,
-    MAX_ATTRIBUTE_VALUE_LENGTH, MAX_ATTRIBUTES,
-};
-use service_descriptions::bounded::{CallbackProgression, SemanticStringError};
 use std::cmp::Ordering;
 use std::hash::DefaultHasher;
 use std::process::Abort;

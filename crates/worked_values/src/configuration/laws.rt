@@ -1,8 +1,8 @@
+use iox2_config::config::Config;
+use iox2_config::hash::{PatternKind, ServiceHash, Sha1Hasher};
 use iox2_config::laws::*;
-use service_descriptions::config::Config;
-use service_descriptions::hash::{PatternKind, ServiceHash, Sha1Hasher};
-use service_descriptions::service_name::ServiceName;
-use service_descriptions::types::{MessageTypeDetails, TypeDetail, TypeVariant};
+use iox2_config::types::{MessageTypeDetails, TypeDetail, TypeVariant};
+use iox2_texts::service_name::ServiceName;
 use std::cmp::Ordering;
 use std::hash::DefaultHasher;
 use std::test::Fail;

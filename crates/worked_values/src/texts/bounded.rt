@@ -1,5 +1,5 @@
+use iox2_texts::bounded::{StaticString, StringModificationError, align};
 use iox2_texts::laws::{least_multiples_are_unique, texts_go_by_bytes};
-use service_descriptions::bounded::{StaticString, StringModificationError, align};
 use std::cmp::Ordering;
 use std::hash::DefaultHasher;
 use std::test::Fail;

@@ -1,8 +1,8 @@
-use service_descriptions::bounded::SemanticStringError;
-use service_descriptions::config::{
+use iox2_config::config::{
     AllocationStrategy, BackpressureStrategy, Config, DataSegmentType, EventId, Global,
 };
-use service_descriptions::paths::Path;
+use iox2_texts::bounded::SemanticStringError;
+use iox2_texts::paths::Path;
 use std::time::Duration;
 
 #[test]

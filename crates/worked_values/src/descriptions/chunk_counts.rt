@@ -1,5 +1,5 @@
-use service_descriptions::config::Config;
-use service_descriptions::static_config::{publish_subscribe, request_response};
+use iox2_config::config::Config;
+use iox2_static::static_config::{publish_subscribe, request_response};
 
 const MOST: usize = usize::MAX;
 

@@ -1,8 +1,8 @@
-use service_descriptions::config::{Config, EventId};
-use service_descriptions::identifiers::Time;
-use service_descriptions::static_config::event::Deadline;
-use service_descriptions::static_config::{blackboard, event, publish_subscribe, request_response};
-use service_descriptions::types::{MessageTypeDetails, TypeDetail};
+use iox2_config::config::{Config, EventId};
+use iox2_config::types::{MessageTypeDetails, TypeDetail};
+use iox2_ids::identifiers::Time;
+use iox2_static::static_config::event::Deadline;
+use iox2_static::static_config::{blackboard, event, publish_subscribe, request_response};
 use std::time::Duration;
 
 #[test]

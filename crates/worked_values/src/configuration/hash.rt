@@ -1,8 +1,8 @@
 use base64::engine::general_purpose::STANDARD;
-use service_descriptions::hash::{
+use iox2_config::hash::{
     Hash, HashError, HashValue, PatternKind, ServiceHash, ServiceHashError, Sha1Hasher, hash_input,
 };
-use service_descriptions::service_name::ServiceName;
+use iox2_texts::service_name::ServiceName;
 use sha1::Sha1;
 
 /// A hasher that means `N` letters by every input.
