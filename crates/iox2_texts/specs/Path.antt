@@ -15,17 +15,9 @@ is_slash b = b == 47
 abbrev pub IsPlain : List ℕ → Type 0
 IsPlain bytes = (1 ≤ length bytes) × (¬ (Contains bytes 47)) × (bytes ≢ codes ".") × (bytes ≢ codes "..")
 
--- a plain text of at most 255 bytes
-abbrev pub IsFileName : List ℕ → Type 0
-IsFileName bytes = IsAllowed IsPlain 255 bytes
-
 -- what stands after the last `/` is plain; where there is no `/`, all is
 abbrev pub EndsPlain : List ℕ → Type 0
 EndsPlain bytes = IsPlain (after_last is_slash bytes)
-
--- such a text of at most 255 bytes
-abbrev pub IsFilePath : List ℕ → Type 0
-IsFilePath bytes = IsAllowed EndsPlain 255 bytes
 
 -- a letter, a digit or one of `-`, `.`, `:`, `_`
 abbrev pub is_restricted : ℕ → Bool
