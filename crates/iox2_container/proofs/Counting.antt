@@ -1,13 +1,11 @@
 -- How many entries a test holds of.
-use Rattle.std.proofs.Common.{◌≡◌, ℕ, suc, ◌+◌, ◌≤◌, Bool, true, false, Option, Some, None, List, [], ◌∷◌, ◌++◌, length, map, take, refl, sym, ◌∙◌, ap, arith, add-one}
-use Rattle.std.specs.Prelude.{All, ◌==◌, if◌then◌else◌, slice_get}
+use Rattle.std.proofs.Common.{◌≡◌, ℕ, suc, ◌+◌, ◌≤◌, Bool, true, false, Option, Some, None, List, [], ◌∷◌, ◌++◌, length, take, sym, ◌∙◌, ap, arith, add-one}
+use Rattle.std.specs.Prelude.{if◌then◌else◌, slice_get}
 use Rattle.std.proofs.lemmas.List.{append-nil}
-use Rattle.std.proofs.lemmas.List.Elements.{All-nil, All-cons}
-use Rattle.iox2_container.specs.Mapped.{entry_as, registry_as}
 use Rattle.iox2_container.specs.Passes.{cell_is_of}
 use Rattle.iox2_container.specs.Places.{entries_from}
-use Rattle.iox2_container.specs.State.{Entry, RegistryState}
-use Rattle.iox2_container.specs.Steps.{Gains, after_first_answer, candidates, entries_of, is_of, is_true_first, staying}
+use Rattle.iox2_container.specs.State.{Entry}
+use Rattle.iox2_container.specs.Steps.{candidates, is_of}
 use Rattle.iox2_container.proofs.AskedInTurn.{taken_free, taken_more}
 use Rattle.iox2_container.proofs.Sweeping.{add_zero}
 
@@ -29,11 +27,6 @@ counted-between p [] x ys = omega (arith, counted-cons p x ys)
 counted-between p (e ∷ xs) x ys =
     omega (arith, counted-cons p e (xs ++ x ∷ ys), counted-cons p e (xs ++ ys), counted-between p xs x ys)
 
--- one entry more
-pub counted-Gains : {T : Type 0} (p : T → Bool) (old new : List (Entry T)) (x : Entry T) → Gains old new x → counted p new ≡ counted p old + one_if (p x.details)
-counted-Gains p old new x g =
-    ap (counted p) g.new_is ∙ (counted-between p g.before x g.after ∙ ap (λ es. counted p es + one_if (p x.details)) (sym g.old_is))
-
 counted_cell : {T : Type 0} (node : T → ℕ) (id i : ℕ) (cells : List (Option (ℕ × T))) (cell : Option (ℕ × T)) → slice_get cells i ≡ Some cell
     → counted (is_of node id) (entries_from 0 (take (suc i) cells)) ≡ counted (is_of node id) (entries_from 0 (take i cells)) + one_if (cell_is_of node id cell)
 counted_cell node id i cells None h = ap (counted (is_of node id)) (taken_free 0 i cells h) ∙ add_zero (counted (is_of node id) (entries_from 0 (take i cells)))
@@ -50,48 +43,6 @@ counted_more node id i n m cells cell b h e em en =
     em ∙ (ap (λ k. k + one_if b) en
     ∙ (ap (λ c. counted (is_of node id) (entries_from 0 (take i cells)) + one_if c) e
     ∙ (sym (counted_cell node id i cells cell h) ∙ ap (λ k. counted (is_of node id) (entries_from 0 (take k cells))) (sym (add-one i)))))
-
--- a recovery leaves entries that are not dead
-pub counted-staying : {T : Type 0} (p is_dead : T → Bool) → ((d : T) → is_dead d ≡ true → p d ≡ false) → (es : List (Entry T)) (answers : List Bool) → counted p (staying is_dead es answers) ≡ counted p es
-counted-staying p is_dead other [] answers = refl
-counted-staying {T} p is_dead other (e ∷ es) answers =
-    let gone : List (Entry T) = staying is_dead es (after_first_answer answers) in
-    let kept : List (Entry T) = staying is_dead es answers in
-    let c = counted-cons p e es in
-    let g = counted-staying p is_dead other es (after_first_answer answers) in
-    let k = counted-staying p is_dead other es answers in
-    (elim (is_dead e.details) as (λ b. (b ≡ true → p e.details ≡ false) → counted p (if b then (if is_true_first answers then gone else e ∷ gone) else e ∷ kept) ≡ counted p (e ∷ es)) [
-      | true ↦ λ o. elim (is_true_first answers) as (λ b. counted p (if b then gone else e ∷ gone) ≡ counted p (e ∷ es)) [
-        | true ↦ let n : one_if (p e.details) ≡ 0 = ap one_if (o refl) in omega (arith, c, g, n)
-        | false ↦ omega (arith, c, g, counted-cons p e gone)
-      ]
-      | false ↦ λ o. omega (arith, c, k, counted-cons p e kept)
-    ]) (other e.details)
-
-not_one : (b : Bool) → one_if b ≡ 0 → b ≡ false
-not_one true h = absurd (omega arith)
-not_one false h = refl
-
--- where none is counted, each differs
-pub All-other : {T : Type 0} (p : T → Bool) (es : List (Entry T)) → counted p es ≡ 0 → All (λ e. p e.details ≡ false) es
-All-other {T} p [] h = All-nil (λ (e : Entry T). p e.details ≡ false)
-All-other {T} p (e ∷ es) h =
-    All-cons (λ (e : Entry T). p e.details ≡ false) e es
-    (not_one (p e.details) (omega (arith, counted-cons p e es)))
-    (All-other p es (omega (arith, counted-cons p e es)))
-
--- it does not depend on what the test does not look at
-pub counted-as : {T U : Type 0} (g : T → U) (is_dead : T → Bool) (is_dead' : U → Bool) → ((x : T) → is_dead' (g x) ≡ is_dead x) → (es : List (Entry T)) → counted is_dead' (map (entry_as g) es) ≡ counted is_dead es
-counted-as g is_dead is_dead' same [] = refl
-counted-as g is_dead is_dead' same (e ∷ es) = rw (same e.details) (elim (is_dead e.details) as (λ b. length (if b then entry_as g e ∷ candidates is_dead' (map (entry_as g) es) else candidates is_dead' (map (entry_as g) es)) ≡ length (if b then e ∷ candidates is_dead es else candidates is_dead es)) [
-  | true ↦ ap suc (counted-as g is_dead is_dead' same es)
-  | false ↦ counted-as g is_dead is_dead' same es
-])
-
--- nor do the entries of a node
-pub entries_of-as : {T U : Type 0} (g : T → U) (node : T → ℕ) (node' : U → ℕ) → ((x : T) → node' (g x) ≡ node x) → (id : ℕ) (r : RegistryState T) → entries_of node' id (registry_as g r) ≡ entries_of node id r
-entries_of-as g node node' same id r =
-    counted-as g (is_of node id) (is_of node' id) (λ x. ap (λ n. n == id) (same x)) r.entries
 
 pub few_more : (n m slot : ℕ) (b : Bool) → m ≡ n + one_if b → n ≤ slot → m ≤ slot + 1
 few_more n m slot true e h = omega arith

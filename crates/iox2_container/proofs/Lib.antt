@@ -11,8 +11,6 @@ pub mod Removing
 pub mod AskedInTurn
 pub mod Sweeping
 pub mod Counting
-pub mod Mapped
-pub mod Asking
 pub mod Recovering
 pub mod FreeList
 pub mod FreeSlots

@@ -2,7 +2,6 @@ pub mod Handle
 pub mod State
 pub mod Steps
 pub mod Held
-pub mod Mapped
 pub mod Cells
 pub mod Places
 pub mod Passes

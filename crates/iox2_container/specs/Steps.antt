@@ -112,10 +112,6 @@ candidates is_dead entries = filter (λ e. is_dead e.details) entries
 abbrev pub entries_of : {T : Type 0} → (T → ℕ) → ℕ → RegistryState T → ℕ
 entries_of node id r = length (candidates (is_of node id) r.entries)
 
--- how many entries of a registry of nodes are those of the node
-abbrev pub entries_of_node : ℕ → RegistryState ℕ → ℕ
-entries_of_node id nodes = entries_of (λ node. node) id nodes
-
 abbrev pub is_true_first : List Bool → Bool
 is_true_first [] = false
 is_true_first (answer ∷ answers) = answer
