@@ -9,4 +9,6 @@ mod descriptions;
 #[cfg(test)]
 mod ids;
 #[cfg(test)]
+mod printing;
+#[cfg(test)]
 mod texts;

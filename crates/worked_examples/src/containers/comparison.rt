@@ -44,10 +44,11 @@ fn compared(
 #[test]
 fn freed_places_are_taken_in_other_orders(rt: HostRuntime) -> Result<(), Fail> {
     let alloc = rt.alloc();
-    let (c, d, e) = (node(3, 0, 1)?, node(4, 0, 1)?, node(5, 0, 1)?);
-    let calls = vec![in alloc;
-        RegistryCall::Add(node(1, 0, 1)?),
-        RegistryCall::Add(node(2, 0, 1)?),
+    let (a, b, c) = (node(1, 0, 1)?, node(2, 0, 1)?, node(3, 0, 1)?);
+    let (d, e) = (node(4, 0, 1)?, node(5, 0, 1)?);
+    let calls = [
+        RegistryCall::Add(a),
+        RegistryCall::Add(b),
         RegistryCall::Add(c),
         RegistryCall::Remove(0, ReleaseMode::Default),
         RegistryCall::Remove(1, ReleaseMode::Default),
@@ -56,10 +57,8 @@ fn freed_places_are_taken_in_other_orders(rt: HostRuntime) -> Result<(), Fail> {
         RegistryCall::List,
         RegistryCall::Len,
         RegistryCall::Remove(3, ReleaseMode::Default),
-    ]?;
-    let (same, of_scan, of_list) = compared(alloc, u64::MAX, &calls)?;
-    assert!(rt; same);
-    let expected = vec![in alloc;
+    ];
+    let of_scan = vec![in alloc;
         by_scan(0, 0),
         by_scan(1, 1),
         by_scan(2, 2),
@@ -71,8 +70,7 @@ fn freed_places_are_taken_in_other_orders(rt: HostRuntime) -> Result<(), Fail> {
         RegistryReply::Count(3),
         RegistryReply::NoHandle,
     ]?;
-    assert_eq!(rt; of_scan, expected);
-    let expected = vec![in alloc;
+    let of_list = vec![in alloc;
         by_list(0, 0),
         by_list(1, 1),
         by_list(2, 2),
@@ -84,8 +82,24 @@ fn freed_places_are_taken_in_other_orders(rt: HostRuntime) -> Result<(), Fail> {
         RegistryReply::Count(3),
         RegistryReply::NoHandle,
     ]?;
-    assert_eq!(rt; of_list, expected);
+    let found = compared(alloc, u64::MAX, &calls)?;
+    assert_eq!(rt; found, (true, of_scan, of_list));
     Ok(())
+}
+
+/// The replies to the calls of `both_recover_and_lock`, of which these are the first two.
+fn recovered_and_locked(alloc: Global, of_a: Reply, of_b: Reply) -> Result<Vec<Reply>, AllocError> {
+    Ok(vec![in alloc;
+        of_a,
+        of_b,
+        RegistryReply::State(ReleaseState::Unlocked),
+        RegistryReply::NotOwned,
+        RegistryReply::State(ReleaseState::Unlocked),
+        RegistryReply::State(ReleaseState::Locked),
+        RegistryReply::Refused(ContainerAddFailure::IsLocked),
+        RegistryReply::Entries(Vec::new(alloc)),
+        RegistryReply::NoHandle,
+    ]?)
 }
 
 /// Two recoveries keep an entry or take it, the last one locks, and removals name calls that gave no live handle.
@@ -93,37 +107,23 @@ fn freed_places_are_taken_in_other_orders(rt: HostRuntime) -> Result<(), Fail> {
 fn both_recover_and_lock(rt: HostRuntime) -> Result<(), Fail> {
     let alloc = rt.alloc();
     let (a, b) = (node(1, 0, 1)?, node(2, 0, 1)?);
-    let calls = vec![in alloc;
+    let keys_of_a = vec![in alloc; a.value()]?;
+    let keys_of_b = vec![in alloc; b.value()]?;
+    let calls = [
         RegistryCall::Add(a),
         RegistryCall::Add(b),
-        RegistryCall::Recover(a, vec![in alloc]?, ReleaseMode::LockIfLastIndex),
+        RegistryCall::Recover(a, Vec::new(alloc), ReleaseMode::LockIfLastIndex),
         RegistryCall::Remove(0, ReleaseMode::LockIfLastIndex),
-        RegistryCall::Recover(b, vec![in alloc; b.value()]?, ReleaseMode::LockIfLastIndex),
-        RegistryCall::Recover(b, vec![in alloc; a.value()]?, ReleaseMode::LockIfLastIndex),
+        RegistryCall::Recover(b, keys_of_b, ReleaseMode::LockIfLastIndex),
+        RegistryCall::Recover(b, keys_of_a, ReleaseMode::LockIfLastIndex),
         RegistryCall::Add(a),
         RegistryCall::List,
         RegistryCall::Remove(9, ReleaseMode::Default),
-    ]?;
-    let (same, of_scan, of_list) = compared(alloc, u64::MAX, &calls)?;
-    assert!(rt; same);
-    for (given, replies) in [
-        ([by_scan(0, 0), by_scan(1, 1)], of_scan),
-        ([by_list(0, 0), by_list(1, 1)], of_list),
-    ] {
-        let [of_a, of_b] = given;
-        let expected = vec![in alloc;
-            of_a,
-            of_b,
-            RegistryReply::State(ReleaseState::Unlocked),
-            RegistryReply::NotOwned,
-            RegistryReply::State(ReleaseState::Unlocked),
-            RegistryReply::State(ReleaseState::Locked),
-            RegistryReply::Refused(ContainerAddFailure::IsLocked),
-            RegistryReply::Entries(vec![in alloc]?),
-            RegistryReply::NoHandle,
-        ]?;
-        assert_eq!(rt; replies, expected);
-    }
+    ];
+    let of_scan = recovered_and_locked(alloc, by_scan(0, 0), by_scan(1, 1))?;
+    let of_list = recovered_and_locked(alloc, by_list(0, 0), by_list(1, 1))?;
+    let found = compared(alloc, u64::MAX, &calls)?;
+    assert_eq!(rt; found, (true, of_scan, of_list));
     Ok(())
 }
 
@@ -131,16 +131,22 @@ fn both_recover_and_lock(rt: HostRuntime) -> Result<(), Fail> {
 fn both_run_out_of_tickets(rt: HostRuntime) -> Result<(), Fail> {
     let alloc = rt.alloc();
     let a = node(1, 0, 1)?;
-    let calls = vec![in alloc;
+    let calls = [
         RegistryCall::Add(a),
         RegistryCall::Add(a),
         RegistryCall::Add(a),
+    ];
+    let of_scan = vec![in alloc;
+        by_scan(0, 0),
+        by_scan(1, 1),
+        RegistryReply::Refused(ContainerAddFailure::OutOfSpace),
     ]?;
-    let (same, of_scan, of_list) = compared(alloc, 2, &calls)?;
-    let refused = RegistryReply::Refused(ContainerAddFailure::OutOfSpace);
-    assert!(rt; same);
-    assert_eq!(rt; (of_scan.len(), of_list.len()), (3, 3));
-    assert_eq!(rt; of_scan.get(2), Some(&refused));
-    assert_eq!(rt; of_list.get(2), Some(&refused));
+    let of_list = vec![in alloc;
+        by_list(0, 0),
+        by_list(1, 1),
+        RegistryReply::Refused(ContainerAddFailure::OutOfSpace),
+    ]?;
+    let found = compared(alloc, 2, &calls)?;
+    assert_eq!(rt; found, (true, of_scan, of_list));
     Ok(())
 }

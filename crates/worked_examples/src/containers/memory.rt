@@ -3,8 +3,19 @@
 use super::comparison::by_scan;
 use super::node;
 use service_descriptions::container::*;
+use service_descriptions::identifiers::UniqueNodeId;
 use std::alloc::AllocError;
+use std::process::Abort;
 use std::test::Fail;
+
+/// On the first replies of the scan, or all of them.
+fn each_add_gave_its_handle(rt: &impl Abort, replies: &[RegistryReply<UniqueNodeId>]) {
+    for (k, slot, ticket) in [(0, 0, 0), (1, 1, 1), (2, 2, 2), (5, 0, 3)] {
+        if let Some(reply) = replies.get(k) {
+            assert_eq!(rt; reply, &by_scan(slot, ticket));
+        }
+    }
+}
 
 /// Whatever request for memory is refused, both registries have made as many calls as there are replies.
 #[test]
@@ -29,28 +40,25 @@ fn memory_is_taken_for_both_before_either_changes(rt: HostRuntime) -> Result<(),
     };
     let mut of_scan = Vec::new(alloc);
     let mut of_list = Vec::new(alloc);
-    match compare(
+    let same = compare(
         alloc,
         &mut scan,
         &mut list,
         &calls,
         &mut of_scan,
         &mut of_list,
-    ) {
-        Ok(same) => {
-            assert!(rt; same);
-            assert_eq!(rt; of_scan.len(), calls.len());
-        }
-        Err(AllocError) => assert!(rt; of_scan.len() < calls.len()),
-    }
-    assert_eq!(rt; of_scan.len(), of_list.len());
-    assert!(rt; of_scan.len() < entries_after.len());
-    assert_eq!(rt; scan.len(), entries_after[of_scan.len()]);
-    assert_eq!(rt; list.len(), entries_after[of_list.len()]);
-    for (k, slot, ticket) in [(0, 0, 0), (1, 1, 1), (2, 2, 2), (5, 0, 3)] {
-        if k < of_scan.len() {
-            assert_eq!(rt; of_scan.get(k), Some(&by_scan(slot, ticket)));
-        }
-    }
+    );
+    let made = of_scan.len();
+    let answer = if made == calls.len() {
+        Ok(true)
+    } else {
+        Err(AllocError)
+    };
+    assert!(rt; made < entries_after.len());
+    assert_eq!(rt;
+        (same, of_list.len(), scan.len(), list.len()),
+        (answer, made, entries_after[made], entries_after[made])
+    );
+    each_add_gave_its_handle(&rt, &of_scan);
     Ok(())
 }

@@ -47,6 +47,18 @@ fn listed_up_to<T: Attached + Copy, R: Registry<T>>(
     Ok(numbers)
 }
 
+/// A new scan and a new free list of service 7, with these places and tickets.
+fn both<T: Attached + Copy>(
+    alloc: Global,
+    role: Role,
+    capacity: usize,
+    tickets: u64,
+) -> Result<(Container<T>, ListContainer<T>), AllocError> {
+    let scan = Container::new(alloc, 7, role, capacity, tickets)?;
+    let list = ListContainer::new(alloc, 7, role, capacity, tickets)?;
+    Ok((scan, list))
+}
+
 fn place(handle: ContainerHandle) -> (usize, u64) {
     (handle.slot(), handle.ticket())
 }
@@ -65,22 +77,34 @@ fn tickets_run_out<R: Registry<UniqueNodeId>>(
     registry: &mut R,
 ) -> Result<(), Fail> {
     let id = node(1, 0, 1)?;
-    let handle = registry.add(id)?;
-    assert_eq!(rt; handle, ContainerHandle::from_parts(7, Role::Node, 0, 0));
-    assert_eq!(rt; (handle.service(), handle.role()), (7, Role::Node));
-    assert_eq!(rt; place(registry.add(id)?), (1, 1));
-    assert_eq!(rt; registry.add(id), OUT_OF_SPACE);
-    assert_eq!(rt; (registry.len(), registry.capacity()), (2, 3));
+    let first = registry.add(id)?;
+    let second = registry.add(id)?;
+    let third = registry.add(id);
+    assert_eq!(rt;
+        (first, place(second), third),
+        (
+            ContainerHandle::from_parts(7, Role::Node, 0, 0),
+            (1, 1),
+            OUT_OF_SPACE
+        )
+    );
+    assert_eq!(rt;
+        (
+            first.service(),
+            first.role(),
+            registry.len(),
+            registry.capacity()
+        ),
+        (7, Role::Node, 2, 3)
+    );
     Ok(())
 }
 
 #[test]
 fn a_third_entry_wants_a_ticket(rt: HostRuntime) -> Result<(), Fail> {
-    tickets_run_out(&rt, &mut Container::new(rt.alloc(), 7, Role::Node, 3, 2)?)?;
-    tickets_run_out(
-        &rt,
-        &mut ListContainer::new(rt.alloc(), 7, Role::Node, 3, 2)?,
-    )
+    let (mut scan, mut list) = both(rt.alloc(), Role::Node, 3, 2)?;
+    tickets_run_out(&rt, &mut scan)?;
+    tickets_run_out(&rt, &mut list)
 }
 
 /// On a registry of three places, where the entries of the lower two leave and one comes.
@@ -93,32 +117,23 @@ fn a_place_is_used_again<R: Registry<UniqueNodeId>>(
     let a = registry.add(id)?;
     let b = registry.add(id)?;
     registry.add(id)?;
-    assert_eq!(rt;
+    let states = [
         registry.remove(a, ReleaseMode::Default)?,
-        ReleaseState::Unlocked
-    );
-    assert_eq!(rt;
         registry.remove(b, ReleaseMode::Default)?,
-        ReleaseState::Unlocked
+    ];
+    let came = registry.add(id)?;
+    assert_eq!(rt;
+        (states, place(came), registry.len()),
+        ([ReleaseState::Unlocked; 2], (slot, 3), 2)
     );
-    assert_eq!(rt; place(registry.add(id)?), (slot, 3));
-    assert_eq!(rt; registry.len(), 2);
     Ok(())
 }
 
 #[test]
 fn the_scan_takes_the_lowest_and_the_list_the_last_freed(rt: HostRuntime) -> Result<(), Fail> {
-    let tickets = u64::MAX;
-    a_place_is_used_again(
-        &rt,
-        &mut Container::new(rt.alloc(), 7, Role::Node, 3, tickets)?,
-        0,
-    )?;
-    a_place_is_used_again(
-        &rt,
-        &mut ListContainer::new(rt.alloc(), 7, Role::Node, 3, tickets)?,
-        1,
-    )
+    let (mut scan, mut list) = both(rt.alloc(), Role::Node, 3, u64::MAX)?;
+    a_place_is_used_again(&rt, &mut scan, 0)?;
+    a_place_is_used_again(&rt, &mut list, 1)
 }
 
 /// On a registry of three places, of which a recovery frees the first and the last.
@@ -126,70 +141,51 @@ fn recovered_places_are_used_again<R: Registry<Port>>(
     rt: &impl Abort,
     alloc: Global,
     registry: &mut R,
-    slots: [usize; 2],
+    places: [(usize, u64); 2],
     listing: [u128; 3],
 ) -> Result<(), Fail> {
     let x = node(1, 0, 1)?;
     let y = node(2, 0, 2)?;
-    registry.add(Port {
-        number: 10,
-        node: x,
-    })?;
-    registry.add(Port {
-        number: 11,
-        node: y,
-    })?;
-    registry.add(Port {
-        number: 12,
-        node: x,
-    })?;
+    for (number, node) in [(10, x), (11, y), (12, x)] {
+        registry.add(Port { number, node })?;
+    }
     let mut all = |_: &Port| true;
     let state = registry.recover(&x, &mut all, ReleaseMode::Default);
-    assert_eq!(rt; state, ReleaseState::Unlocked);
-    assert_eq!(rt; registry.entries_of(&x), 0);
     assert_eq!(rt;
-        place(registry.add(Port {
-            number: 13,
-            node: x
-        })?),
-        (slots[0], 3)
+        (state, registry.entries_of(&x)),
+        (ReleaseState::Unlocked, 0)
     );
-    assert_eq!(rt;
-        place(registry.add(Port {
-            number: 14,
-            node: y
-        })?),
-        (slots[1], 4)
-    );
-    assert_eq!(rt;
-        registry.add(Port {
-            number: 15,
-            node: x
-        }),
-        OUT_OF_SPACE
-    );
-    assert_eq!(rt; registry.entries_of(&y), 2);
+    let of_x = registry.add(Port {
+        number: 13,
+        node: x,
+    })?;
+    let of_y = registry.add(Port {
+        number: 14,
+        node: y,
+    })?;
+    let refused = registry.add(Port {
+        number: 15,
+        node: x,
+    });
     let listed = listed_up_to(alloc, registry, None)?;
-    assert_eq!(rt; listed.as_slice(), listing.as_slice());
+    assert_eq!(rt;
+        (
+            [place(of_x), place(of_y)],
+            refused,
+            registry.entries_of(&y),
+            listed.as_slice()
+        ),
+        (places, OUT_OF_SPACE, 2, listing.as_slice())
+    );
     Ok(())
 }
 
 #[test]
 fn recovery_frees_by_rising_slots(rt: HostRuntime) -> Result<(), Fail> {
-    recovered_places_are_used_again(
-        &rt,
-        rt.alloc(),
-        &mut Container::new(rt.alloc(), 7, Role::Publisher, 3, u64::MAX)?,
-        [0, 2],
-        [13, 11, 14],
-    )?;
-    recovered_places_are_used_again(
-        &rt,
-        rt.alloc(),
-        &mut ListContainer::new(rt.alloc(), 7, Role::Publisher, 3, u64::MAX)?,
-        [2, 0],
-        [14, 11, 13],
-    )
+    let alloc = rt.alloc();
+    let (mut scan, mut list) = both(alloc, Role::Publisher, 3, u64::MAX)?;
+    recovered_places_are_used_again(&rt, alloc, &mut scan, [(0, 3), (2, 4)], [13, 11, 14])?;
+    recovered_places_are_used_again(&rt, alloc, &mut list, [(2, 3), (0, 4)], [14, 11, 13])
 }
 
 /// On a registry of three places, with a live entry in slot 1.
@@ -214,25 +210,22 @@ fn foreign_handles_are_refused<R: Registry<UniqueNodeId>>(
         ContainerHandle::from_parts(7, Role::Listener, 1, 1),
         ContainerHandle::from_parts(8, Role::Node, 1, 1),
     ] {
-        assert_eq!(rt; registry.get(handle), None, "{handle:?}");
-        let answer = registry.remove(handle, ReleaseMode::LockIfLastIndex);
-        assert_eq!(rt; answer, NOT_OWNED, "{handle:?}");
+        let found = registry.get(handle);
+        let removed = registry.remove(handle, ReleaseMode::LockIfLastIndex);
+        assert_eq!(rt; (handle, found, removed), (handle, None, NOT_OWNED));
     }
-    assert_eq!(rt; registry.get(live), Some(id));
-    assert_eq!(rt; (registry.len(), registry.is_locked()), (2, false));
+    assert_eq!(rt;
+        (registry.get(live), registry.len(), registry.is_locked()),
+        (Some(id), 2, false)
+    );
     Ok(())
 }
 
 #[test]
 fn handles_that_do_not_belong(rt: HostRuntime) -> Result<(), Fail> {
-    foreign_handles_are_refused(
-        &rt,
-        &mut Container::new(rt.alloc(), 7, Role::Node, 3, u64::MAX)?,
-    )?;
-    foreign_handles_are_refused(
-        &rt,
-        &mut ListContainer::new(rt.alloc(), 7, Role::Node, 3, u64::MAX)?,
-    )
+    let (mut scan, mut list) = both(rt.alloc(), Role::Node, 3, u64::MAX)?;
+    foreign_handles_are_refused(&rt, &mut scan)?;
+    foreign_handles_are_refused(&rt, &mut list)
 }
 
 /// On two registries of one service number and role.
@@ -241,18 +234,18 @@ fn handles_are_values<A: Registry<UniqueNodeId>, B: Registry<UniqueNodeId>>(
     a: &mut A,
     b: &mut B,
 ) -> Result<(), Fail> {
-    let of_a = a.add(node(1, 0, 1)?)?;
+    let id = node(1, 0, 1)?;
+    let of_a = a.add(id)?;
     let of_b = b.add(node(2, 0, 2)?)?;
-    assert_eq!(rt; a.get(of_b), Some(node(1, 0, 1)?));
+    let found = a.get(of_b);
+    let states = [
+        a.remove(of_b, ReleaseMode::Default),
+        b.remove(of_a, ReleaseMode::Default),
+    ];
     assert_eq!(rt;
-        a.remove(of_b, ReleaseMode::Default)?,
-        ReleaseState::Unlocked
+        (found, states, [a.len(), b.len()]),
+        (Some(id), [Ok(ReleaseState::Unlocked); 2], [0, 0])
     );
-    assert_eq!(rt;
-        b.remove(of_a, ReleaseMode::Default)?,
-        ReleaseState::Unlocked
-    );
-    assert_eq!(rt; (a.len(), b.len()), (0, 0));
     Ok(())
 }
 
@@ -260,16 +253,10 @@ fn handles_are_values<A: Registry<UniqueNodeId>, B: Registry<UniqueNodeId>>(
 fn containers_of_one_service_and_role_accept_each_others_handles(
     rt: HostRuntime,
 ) -> Result<(), Fail> {
-    handles_are_values(
-        &rt,
-        &mut Container::new(rt.alloc(), 7, Role::Node, 1, u64::MAX)?,
-        &mut Container::new(rt.alloc(), 7, Role::Node, 1, u64::MAX)?,
-    )?;
-    handles_are_values(
-        &rt,
-        &mut ListContainer::new(rt.alloc(), 7, Role::Node, 1, u64::MAX)?,
-        &mut ListContainer::new(rt.alloc(), 7, Role::Node, 1, u64::MAX)?,
-    )
+    let (mut scan, mut list) = both(rt.alloc(), Role::Node, 1, u64::MAX)?;
+    let (mut other_scan, mut other_list) = both(rt.alloc(), Role::Node, 1, u64::MAX)?;
+    handles_are_values(&rt, &mut scan, &mut other_scan)?;
+    handles_are_values(&rt, &mut list, &mut other_list)
 }
 
 /// On a registry with two tickets.
@@ -280,10 +267,8 @@ fn recovery_goes_by_the_whole_id<R: Registry<UniqueNodeId>>(
 ) -> Result<(), Fail> {
     let dead = node(1, 1, 5)?;
     let other = node(1, 2, 5)?;
-    assert_eq!(rt; dead.owner_id(), other.owner_id());
     let mut all = |_: &UniqueNodeId| true;
-    let state = registry.recover(&dead, &mut all, ReleaseMode::LockIfLastIndex);
-    assert_eq!(rt; state, ReleaseState::Unlocked);
+    let state_of_none = registry.recover(&dead, &mut all, ReleaseMode::LockIfLastIndex);
     registry.add(dead)?;
     registry.add(other)?;
     let mut asked = Vec::with_capacity(alloc, 2)?;
@@ -292,16 +277,26 @@ fn recovery_goes_by_the_whole_id<R: Registry<UniqueNodeId>>(
         false
     };
     registry.recover(&dead, &mut none, ReleaseMode::LockIfLastIndex);
-    assert_eq!(rt; asked.as_slice(), [dead].as_slice());
     let state = registry.recover(&dead, &mut all, ReleaseMode::LockIfLastIndex);
-    assert_eq!(rt; state, ReleaseState::Unlocked);
+    let left = [registry.entries_of(&dead), registry.entries_of(&other)];
+    let last_state = registry.recover(&other, &mut all, ReleaseMode::LockIfLastIndex);
     assert_eq!(rt;
-        (registry.entries_of(&dead), registry.entries_of(&other)),
-        (0, 1)
+        (dead.owner_id(), asked.as_slice(), left, registry.add(other)),
+        (
+            other.owner_id(),
+            [dead].as_slice(),
+            [0, 1],
+            Err(ContainerAddFailure::IsLocked)
+        )
     );
-    let state = registry.recover(&other, &mut all, ReleaseMode::LockIfLastIndex);
-    assert_eq!(rt; state, ReleaseState::Locked);
-    assert_eq!(rt; registry.add(other), Err(ContainerAddFailure::IsLocked));
+    assert_eq!(rt;
+        [state_of_none, state, last_state],
+        [
+            ReleaseState::Unlocked,
+            ReleaseState::Unlocked,
+            ReleaseState::Locked
+        ]
+    );
     Ok(())
 }
 
@@ -336,16 +331,9 @@ fn a_listing_stops<R: Registry<Port>>(
 
 #[test]
 fn a_listing_stops_at_its_second_entry(rt: HostRuntime) -> Result<(), Fail> {
-    a_listing_stops(
-        &rt,
-        rt.alloc(),
-        &mut Container::new(rt.alloc(), 7, Role::Publisher, 3, u64::MAX)?,
-    )?;
-    a_listing_stops(
-        &rt,
-        rt.alloc(),
-        &mut ListContainer::new(rt.alloc(), 7, Role::Publisher, 3, u64::MAX)?,
-    )
+    let (mut scan, mut list) = both(rt.alloc(), Role::Publisher, 3, u64::MAX)?;
+    a_listing_stops(&rt, rt.alloc(), &mut scan)?;
+    a_listing_stops(&rt, rt.alloc(), &mut list)
 }
 
 /// On a registry with no place or no ticket.
@@ -353,28 +341,23 @@ fn nothing_fits<R: Registry<UniqueNodeId>>(rt: &impl Abort, registry: &mut R) ->
     let id = node(1, 0, 1)?;
     let handle = ContainerHandle::from_parts(7, Role::Node, 0, 0);
     let mut all = |_: &UniqueNodeId| true;
-    assert_eq!(rt; registry.add(id), OUT_OF_SPACE);
-    assert_eq!(rt; registry.get(handle), None);
-    assert_eq!(rt;
-        registry.remove(handle, ReleaseMode::LockIfLastIndex),
-        NOT_OWNED
-    );
+    let added = registry.add(id);
+    let found = registry.get(handle);
+    let removed = registry.remove(handle, ReleaseMode::LockIfLastIndex);
     let state = registry.recover(&id, &mut all, ReleaseMode::LockIfLastIndex);
-    assert_eq!(rt; state, ReleaseState::Unlocked);
+    assert_eq!(rt;
+        (added, found, removed, state),
+        (OUT_OF_SPACE, None, NOT_OWNED, ReleaseState::Unlocked)
+    );
     Ok(())
 }
 
 #[test]
 fn no_place_or_no_ticket(rt: HostRuntime) -> Result<(), Fail> {
     for (capacity, tickets) in [(0, 2), (2, 0)] {
-        nothing_fits(
-            &rt,
-            &mut Container::new(rt.alloc(), 7, Role::Node, capacity, tickets)?,
-        )?;
-        nothing_fits(
-            &rt,
-            &mut ListContainer::new(rt.alloc(), 7, Role::Node, capacity, tickets)?,
-        )?;
+        let (mut scan, mut list) = both(rt.alloc(), Role::Node, capacity, tickets)?;
+        nothing_fits(&rt, &mut scan)?;
+        nothing_fits(&rt, &mut list)?;
     }
     Ok(())
 }
@@ -389,7 +372,6 @@ fn places_that_no_memory_holds(rt: HostRuntime) {
         most,
         1,
     );
-    assert!(rt; scan.is_err());
     let list: Result<ListContainer<Port>, AllocError> = ListContainer::new(
         rt.alloc(),
         7,
@@ -397,8 +379,8 @@ fn places_that_no_memory_holds(rt: HostRuntime) {
         most,
         1,
     );
-    assert!(rt; list.is_err());
-    assert!(rt; Slots::new(rt.alloc(), most, 0u16).is_err());
+    let slots = Slots::new(rt.alloc(), most, 0u16);
+    assert_eq!(rt; [scan.is_err(), list.is_err(), slots.is_err()], [true; 3]);
 }
 
 #[test]

@@ -15,10 +15,11 @@ fn registrations(rt: HostRuntime) -> Result<(), Fail> {
         ),
     ] {
         let command = read_line(rt.alloc(), line.as_bytes())?.ok_or("a command")?;
-        match command {
-            Command::Register(read) => assert_eq!(rt; read.value(), id, "at {line}"),
-            Command::Deregister(_) => assert!(rt; false, "at {line}"),
-        }
+        let read = match command {
+            Command::Register(read) => Some(read.value()),
+            Command::Deregister(_) => None,
+        };
+        assert_eq!(rt; (line, read), (line, Some(id)));
     }
     Ok(())
 }
@@ -31,10 +32,11 @@ fn deregistrations(rt: HostRuntime) -> Result<(), Fail> {
         ("deregister 18446744073709551615", usize::MAX),
     ] {
         let command = read_line(rt.alloc(), line.as_bytes())?.ok_or("a command")?;
-        match command {
-            Command::Register(_) => assert!(rt; false, "at {line}"),
-            Command::Deregister(read) => assert_eq!(rt; read, number, "at {line}"),
-        }
+        let read = match command {
+            Command::Register(_) => None,
+            Command::Deregister(read) => Some(read),
+        };
+        assert_eq!(rt; (line, read), (line, Some(number)));
     }
     Ok(())
 }

@@ -12,8 +12,10 @@ fn gives(rt: &(impl Abort + AllocGlobal), script: &str, lines: &str, bad: Option
         Err(ScriptError::BadLine(line)) => Some(line),
         Err(ScriptError::NoMemory(_)) => Some(0),
     };
-    assert_eq!(rt; end, bad, "at {script}");
-    assert_eq!(rt; out.as_slice(), lines.as_bytes(), "at {script}");
+    assert_eq!(rt;
+        (script, end, out.as_slice()),
+        (script, bad, lines.as_bytes())
+    );
 }
 
 #[test]

@@ -3,6 +3,7 @@ ghost use Rattle.std.specs.Prelude.{◌≤◌};
 
 use super::{LINES, SCRIPT};
 use service_descriptions::replay::run_streams;
+use std::alloc::Global;
 use std::io;
 use std::io::{ErrorKind, Read, Write};
 
@@ -15,11 +16,11 @@ struct Calls {
 }
 
 impl Calls {
-    fn failing_at(failing: Option<u64>) -> Self {
+    fn failing_at(failing: Option<u64>, kind: ErrorKind) -> Self {
         Calls {
             made: 0,
             failing,
-            kind: ErrorKind::Other,
+            kind,
         }
     }
 
@@ -61,11 +62,11 @@ struct Sink {
 }
 
 impl Sink {
-    fn failing_at(failing: Option<u64>) -> Self {
+    fn failing_at(failing: Option<u64>, kind: ErrorKind) -> Self {
         Sink {
             bytes: [0; 200],
             len: 0,
-            calls: Calls::failing_at(failing),
+            calls: Calls::failing_at(failing, kind),
         }
     }
 
@@ -86,6 +87,24 @@ impl Write for Sink {
     fn flush(&mut self) -> io::Result<()> {
         self.calls.next()
     }
+}
+
+/// Runs a script where each stream fails at the call of its own number, and with an error of this kind.
+fn run(
+    alloc: Global,
+    script: &str,
+    failing: [Option<u64>; 3],
+    kind: ErrorKind,
+) -> (u8, [u64; 3], [Sink; 2]) {
+    let mut input = Source {
+        text: script.as_bytes(),
+        calls: Calls::failing_at(failing[0], kind),
+    };
+    let mut output = Sink::failing_at(failing[1], kind);
+    let mut errors = Sink::failing_at(failing[2], kind);
+    let status = run_streams(alloc, &mut input, &mut output, &mut errors);
+    let made = [input.calls.made, output.calls.made, errors.calls.made];
+    (status, made, [output, errors])
 }
 
 #[test]
@@ -122,43 +141,21 @@ fn statuses(rt: HostRuntime) {
         ),
     ];
     for (script, status, lines, error) in rows {
-        let mut input = Source {
-            text: script.as_bytes(),
-            calls: Calls::failing_at(None),
-        };
-        let (mut output, mut errors) = (Sink::failing_at(None), Sink::failing_at(None));
-        assert_eq!(rt;
-            run_streams(rt.alloc(), &mut input, &mut output, &mut errors),
-            status,
-            "at {script}"
-        );
-        assert!(rt; output.holds(lines), "at {script}");
-        assert!(rt; errors.holds(error), "at {script}");
+        let (found, _, [output, errors]) = run(rt.alloc(), script, [None; 3], ErrorKind::Other);
+        let held = [output.holds(lines), errors.holds(error)];
+        assert_eq!(rt; (script, found, held), (script, status, [true; 2]));
     }
 }
+
+const KINDS: [ErrorKind; 2] = [ErrorKind::Other, ErrorKind::Interrupted];
 
 #[test]
 fn a_read_that_fails(rt: HostRuntime) {
     // The script is read in three pieces, and the fourth read finds its end.
     for call in 0..4 {
-        for kind in [ErrorKind::Other, ErrorKind::Interrupted] {
-            let calls = Calls {
-                made: 0,
-                failing: Some(call),
-                kind,
-            };
-            let mut input = Source {
-                text: SCRIPT.as_bytes(),
-                calls,
-            };
-            let (mut output, mut errors) = (Sink::failing_at(None), Sink::failing_at(None));
-            assert_eq!(rt;
-                run_streams(rt.alloc(), &mut input, &mut output, &mut errors),
-                3,
-                "at {call}"
-            );
-            assert_eq!(rt; input.calls.made, call + 1);
-            assert_eq!(rt; (output.calls.made, errors.calls.made), (0, 0), "at {call}");
+        for kind in KINDS {
+            let (status, made, _) = run(rt.alloc(), SCRIPT, [Some(call), None, None], kind);
+            assert_eq!(rt; (status, made), (3, [call + 1, 0, 0]));
         }
     }
 }
@@ -167,23 +164,9 @@ fn a_read_that_fails(rt: HostRuntime) {
 fn a_write_or_flush_of_the_output_that_fails(rt: HostRuntime) {
     // The replies are written in three pieces, and then flushed.
     for call in 0..4 {
-        for kind in [ErrorKind::Other, ErrorKind::Interrupted] {
-            let mut input = Source {
-                text: SCRIPT.as_bytes(),
-                calls: Calls::failing_at(None),
-            };
-            let (mut output, mut errors) = (Sink::failing_at(Some(call)), Sink::failing_at(None));
-            output.calls.kind = kind;
-            assert_eq!(rt;
-                run_streams(rt.alloc(), &mut input, &mut output, &mut errors),
-                3,
-                "at {call}"
-            );
-            assert_eq!(rt;
-                (output.calls.made, errors.calls.made),
-                (call + 1, 0),
-                "at {call}"
-            );
+        for kind in KINDS {
+            let (status, made, _) = run(rt.alloc(), SCRIPT, [None, Some(call), None], kind);
+            assert_eq!(rt; (status, made[1], made[2]), (3, call + 1, 0));
         }
     }
 }
@@ -192,19 +175,9 @@ fn a_write_or_flush_of_the_output_that_fails(rt: HostRuntime) {
 fn a_write_or_flush_of_the_errors_that_fails(rt: HostRuntime) {
     // The number of the bad line is written between two texts, and then flushed.
     for call in 0..4 {
-        for kind in [ErrorKind::Other, ErrorKind::Interrupted] {
-            let mut input = Source {
-                text: b"",
-                calls: Calls::failing_at(None),
-            };
-            let (mut output, mut errors) = (Sink::failing_at(None), Sink::failing_at(Some(call)));
-            errors.calls.kind = kind;
-            assert_eq!(rt;
-                run_streams(rt.alloc(), &mut input, &mut output, &mut errors),
-                3,
-                "at {call}"
-            );
-            assert_eq!(rt; errors.calls.made, call + 1, "at {call}");
+        for kind in KINDS {
+            let (status, made, _) = run(rt.alloc(), "", [None, None, Some(call)], kind);
+            assert_eq!(rt; (status, made[2]), (3, call + 1));
         }
     }
 }

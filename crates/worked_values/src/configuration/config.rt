@@ -6,13 +6,22 @@ use iox2_texts::paths::Path;
 use std::time::Duration;
 
 #[test]
-fn texts_are_those_of_the_table(rt: HostRuntime) {
+fn root_prefix_and_timeout_are_those_of_the_table(rt: HostRuntime) {
     let global = Global::default();
-    let service = &global.service;
-    let node = &global.node;
+    assert_eq!(rt;
+        (
+            global.root_path().as_str(),
+            global.prefix.as_str(),
+            global.creation_timeout.as_millis(),
+        ),
+        ("/tmp/iceoryx2/", "iox2_", 500)
+    );
+}
+
+#[test]
+fn texts_of_services_are_those_of_the_table(rt: HostRuntime) {
+    let service = &Global::default().service;
     for (found, wanted) in [
-        (global.root_path().as_str(), "/tmp/iceoryx2/"),
-        (global.prefix.as_str(), "iox2_"),
         (service.directory.as_str(), "services"),
         (service.data_segment_suffix.as_str(), ".data"),
         (service.static_config_storage_suffix.as_str(), ".service"),
@@ -21,26 +30,42 @@ fn texts_are_those_of_the_table(rt: HostRuntime) {
         (service.event_connection_suffix.as_str(), ".event"),
         (service.blackboard_mgmt_suffix.as_str(), ".blackboard_mgmt"),
         (service.blackboard_data_suffix.as_str(), ".blackboard_data"),
+    ] {
+        assert_eq!(rt; found, wanted);
+    }
+}
+
+#[test]
+fn texts_of_nodes_are_those_of_the_table(rt: HostRuntime) {
+    let node = &Global::default().node;
+    for (found, wanted) in [
         (node.directory.as_str(), "nodes"),
         (node.monitor_suffix.as_str(), ".node_monitor"),
         (node.static_config_suffix.as_str(), ".details"),
         (node.service_tag_suffix.as_str(), ".service_tag"),
         (node.port_tag_suffix.as_str(), ".port_tag"),
         (node.global_mgmt_suffix.as_str(), ".global_mgmt"),
-        (Config::default_config_file_name().as_str(), "iceoryx2.toml"),
-        (
-            Config::default_config_file_path().as_str(),
-            "config/iceoryx2.toml",
-        ),
-        (Config::relative_config_path().as_str(), "iceoryx2"),
-        (
-            Config::default_user_config_file_path().as_str(),
-            "iceoryx2/iceoryx2.toml",
-        ),
     ] {
         assert_eq!(rt; found, wanted);
     }
-    assert_eq!(rt; global.creation_timeout.as_millis(), 500);
+}
+
+#[test]
+fn paths_of_the_file_are_those_of_the_table(rt: HostRuntime) {
+    assert_eq!(rt;
+        [
+            Config::default_config_file_name().as_str(),
+            Config::default_config_file_path().as_str(),
+            Config::relative_config_path().as_str(),
+            Config::default_user_config_file_path().as_str(),
+        ],
+        [
+            "iceoryx2.toml",
+            "config/iceoryx2.toml",
+            "iceoryx2",
+            "iceoryx2/iceoryx2.toml",
+        ]
+    );
 }
 
 #[test]
@@ -83,61 +108,82 @@ fn numbers_are_those_of_the_table(rt: HostRuntime) {
 }
 
 #[test]
-fn choices_are_those_of_the_table(rt: HostRuntime) {
+fn switches_are_on_by_default(rt: HostRuntime) {
     let config = Config::default();
-    let publish_subscribe = &config.defaults.publish_subscribe;
-    let event = &config.defaults.event;
+    let global = &config.global;
     let request_response = &config.defaults.request_response;
-    for found in [
-        config.global.service.cleanup_dead_nodes_on_open,
-        config.global.node.cleanup_dead_nodes_on_creation,
-        config.global.node.cleanup_dead_nodes_on_destruction,
-        publish_subscribe.enable_safe_overflow,
-        request_response.enable_safe_overflow_for_requests,
-        request_response.enable_safe_overflow_for_responses,
-        request_response.enable_fire_and_forget_requests,
-    ] {
-        assert!(rt; found);
-    }
-    for found in [
-        publish_subscribe.backpressure_strategy,
-        request_response.client_backpressure_strategy,
-        request_response.server_backpressure_strategy,
-    ] {
-        assert_eq!(rt; found, BackpressureStrategy::RetryUntilDelivered);
-    }
-    for found in [
-        publish_subscribe.publisher_allocation_strategy,
-        request_response.client_allocation_strategy,
-        request_response.server_allocation_strategy,
-    ] {
-        assert_eq!(rt; found, AllocationStrategy::Static);
-    }
+    assert_eq!(rt;
+        [
+            global.service.cleanup_dead_nodes_on_open,
+            global.node.cleanup_dead_nodes_on_creation,
+            global.node.cleanup_dead_nodes_on_destruction,
+            config.defaults.publish_subscribe.enable_safe_overflow,
+            request_response.enable_safe_overflow_for_requests,
+            request_response.enable_safe_overflow_for_responses,
+            request_response.enable_fire_and_forget_requests,
+        ],
+        [true; 7]
+    );
+}
+
+#[test]
+fn strategies_are_those_of_the_table(rt: HostRuntime) {
+    let defaults = Config::default().defaults;
+    let publish_subscribe = &defaults.publish_subscribe;
+    let request_response = &defaults.request_response;
+    assert_eq!(rt;
+        [
+            publish_subscribe.backpressure_strategy,
+            request_response.client_backpressure_strategy,
+            request_response.server_backpressure_strategy,
+        ],
+        [BackpressureStrategy::RetryUntilDelivered; 3]
+    );
+    assert_eq!(rt;
+        [
+            publish_subscribe.publisher_allocation_strategy,
+            request_response.client_allocation_strategy,
+            request_response.server_allocation_strategy,
+        ],
+        [AllocationStrategy::Static; 3]
+    );
+}
+
+#[test]
+fn events_have_no_deadline_and_tell_nothing_by_default(rt: HostRuntime) {
+    let event = Config::default().defaults.event;
     assert_eq!(rt; event.deadline, None);
-    for found in [
-        event.notifier_created_event,
-        event.notifier_dropped_event,
-        event.notifier_dead_event,
-    ] {
-        assert_eq!(rt; found, None);
-    }
+    assert_eq!(rt;
+        [
+            event.notifier_created_event,
+            event.notifier_dropped_event,
+            event.notifier_dead_event,
+        ],
+        [None; 3]
+    );
 }
 
 #[test]
 fn directories_lie_below_the_root(rt: HostRuntime) {
-    let mut global = Global::default();
+    let global = Global::default();
     let services = global.service_dir().expect(&rt, "a path");
-    assert_eq!(rt; services.as_str(), "/tmp/iceoryx2/services");
-    assert_eq!(rt; services.as_bytes().len(), 22);
     let nodes = global.node_dir().expect(&rt, "a path");
-    assert_eq!(rt; nodes.as_str(), "/tmp/iceoryx2/nodes");
+    assert_eq!(rt;
+        (services.as_str(), services.as_bytes().len(), nodes.as_str()),
+        ("/tmp/iceoryx2/services", 22, "/tmp/iceoryx2/nodes")
+    );
+}
 
+#[test]
+fn nothing_lies_below_the_longest_root(rt: HostRuntime) {
+    let mut global = Global::default();
     let root = Path::new(&[b'a'; 255]).expect(&rt, "a path");
     global.set_root_path(&root);
     assert_eq!(rt; global.root_path().as_str(), root.as_str());
-    for refused in [global.service_dir(), global.node_dir()] {
-        assert!(rt; matches!(refused, Err(SemanticStringError::ExceedsMaximumLength)));
-    }
+    assert_eq!(rt;
+        [global.service_dir().err(), global.node_dir().err()],
+        [Some(SemanticStringError::ExceedsMaximumLength); 2]
+    );
 }
 
 #[test]
@@ -147,6 +193,10 @@ fn copies_are_equal(rt: HostRuntime) {
     let before = config.copied();
     config.defaults.event.deadline = Some(Duration::from_millis(3));
     assert!(rt; config != before);
+}
+
+#[test]
+fn choices_have_values(rt: HostRuntime) {
     assert_eq!(rt; EventId::new(7).as_value(), 7);
     assert!(rt; DataSegmentType::Dynamic != DataSegmentType::Static);
 }

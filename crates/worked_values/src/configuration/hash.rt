@@ -107,6 +107,11 @@ fn pattern_and_name_are_hashed(rt: HostRuntime) {
     ] {
         assert_eq!(rt; hash_input(kind, &name).as_str(), wanted);
     }
+}
+
+#[test]
+fn hash_of_a_service_has_27_letters(rt: HostRuntime) {
+    let name = ServiceName::new("My/Funk/ServiceName").expect(&rt, "a name");
     let event = ServiceHash::new::<Sha1Hasher>(&name, PatternKind::Event).expect(&rt, "a hash");
     assert_eq!(rt; event.as_str().len(), 27);
     assert!(rt; event.copied() == event);
@@ -121,15 +126,26 @@ fn any_hasher_serves(rt: HostRuntime) {
         longest.as_str().len(),
         ServiceHash::max_number_of_characters()
     );
-    for refused in [
-        ServiceHash::new::<Letters<65>>(&name, kind),
-        ServiceHash::new::<Letters<0>>(&name, kind),
-        ServiceHash::new::<Dot>(&name, kind),
-    ] {
-        assert!(rt; matches!(refused, Err(ServiceHashError::IllegalText)));
-    }
-    let failed = ServiceHash::new::<Refusing>(&name, kind);
-    assert!(rt; matches!(failed, Err(ServiceHashError::HasherFailed)));
+}
+
+#[test]
+fn hashers_that_refuse_or_mean_an_illegal_text_are_told(rt: HostRuntime) {
+    let name = ServiceName::new("a").expect(&rt, "a name");
+    let kind = PatternKind::Blackboard;
+    assert_eq!(rt;
+        [
+            ServiceHash::new::<Letters<65>>(&name, kind).err(),
+            ServiceHash::new::<Letters<0>>(&name, kind).err(),
+            ServiceHash::new::<Dot>(&name, kind).err(),
+            ServiceHash::new::<Refusing>(&name, kind).err(),
+        ],
+        [
+            Some(ServiceHashError::IllegalText),
+            Some(ServiceHashError::IllegalText),
+            Some(ServiceHashError::IllegalText),
+            Some(ServiceHashError::HasherFailed),
+        ]
+    );
 }
 
 #[test]

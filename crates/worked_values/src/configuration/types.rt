@@ -34,10 +34,10 @@ fn details<H: ZeroCopySend, U: ZeroCopySend, P: ZeroCopySend>(
     MessageTypeDetails::from::<H, U, P>(TypeVariant::Dynamic).expect(rt, "the names are legal")
 }
 
-fn parts_of<T: ZeroCopySend>(rt: &impl Abort) -> (&'static str, usize, usize) {
+fn is_described<T: ZeroCopySend>(rt: &impl Abort, name: &str, size: usize, alignment: usize) {
     let detail = TypeDetail::new::<T>(TypeVariant::FixedSize).expect(rt, "the name is legal");
-    assert_eq!(rt; detail.type_name().as_str(), T::type_name());
-    (T::type_name(), detail.size(), detail.alignment())
+    assert_eq!(rt; [detail.type_name().as_str(), T::type_name()], [name; 2]);
+    assert_eq!(rt; [detail.size(), detail.alignment()], [size, alignment]);
 }
 
 fn part(rt: &impl Abort, size: usize, alignment: usize) -> TypeDetail {
@@ -63,43 +63,51 @@ fn places(rt: &impl Abort, details: &MessageTypeDetails, header: usize) -> (usiz
 
 #[test]
 fn numbers_are_types(rt: HostRuntime) {
-    for (found, wanted) in [
-        (parts_of::<()>(&rt), ("()", 0, 1)),
-        (parts_of::<bool>(&rt), ("bool", 1, 1)),
-        (parts_of::<i8>(&rt), ("i8", 1, 1)),
-        (parts_of::<i16>(&rt), ("i16", 2, 2)),
-        (parts_of::<i32>(&rt), ("i32", 4, 4)),
-        (parts_of::<i64>(&rt), ("i64", 8, 8)),
-        (parts_of::<u8>(&rt), ("u8", 1, 1)),
-        (parts_of::<u16>(&rt), ("u16", 2, 2)),
-        (parts_of::<u32>(&rt), ("u32", 4, 4)),
-        (parts_of::<u64>(&rt), ("u64", 8, 8)),
-        (parts_of::<isize>(&rt), ("isize", 8, 8)),
-        (parts_of::<usize>(&rt), ("usize", 8, 8)),
-        (parts_of::<Pair>(&rt), ("Pair", 16, 8)),
-    ] {
-        assert_eq!(rt; found, wanted);
-    }
+    is_described::<()>(&rt, "()", 0, 1);
+    is_described::<bool>(&rt, "bool", 1, 1);
+    is_described::<i8>(&rt, "i8", 1, 1);
+    is_described::<i16>(&rt, "i16", 2, 2);
+    is_described::<i32>(&rt, "i32", 4, 4);
+    is_described::<i64>(&rt, "i64", 8, 8);
+    is_described::<u8>(&rt, "u8", 1, 1);
+    is_described::<u16>(&rt, "u16", 2, 2);
+    is_described::<u32>(&rt, "u32", 4, 4);
+    is_described::<u64>(&rt, "u64", 8, 8);
+    is_described::<isize>(&rt, "isize", 8, 8);
+    is_described::<usize>(&rt, "usize", 8, 8);
+    is_described::<Pair>(&rt, "Pair", 16, 8);
+}
+
+fn has_parts(rt: &impl Abort, detail: &TypeDetail, variant: TypeVariant, name: &str, size: usize) {
+    assert_eq!(rt;
+        (
+            detail.variant(),
+            detail.type_name().as_str(),
+            detail.size(),
+            detail.alignment()
+        ),
+        (variant, name, size, size)
+    );
 }
 
 #[test]
 fn details_are_those_of_the_types(rt: HostRuntime) {
     let found = details::<i32, bool, i64>(&rt);
-    for (part, variant, name, size) in [
-        (&found.header, TypeVariant::FixedSize, "i32", 4),
-        (&found.user_header, TypeVariant::FixedSize, "bool", 1),
-        (&found.payload, TypeVariant::Dynamic, "i64", 8),
-    ] {
-        assert_eq!(rt; part.variant(), variant);
-        assert_eq!(rt; part.type_name().as_str(), name);
-        assert_eq!(rt; part.size(), size);
-        assert_eq!(rt; part.alignment(), size);
-    }
-    assert!(rt; found.copied() == found);
+    has_parts(&rt, &found.header, TypeVariant::FixedSize, "i32", 4);
+    has_parts(&rt, &found.user_header, TypeVariant::FixedSize, "bool", 1);
+    has_parts(&rt, &found.payload, TypeVariant::Dynamic, "i64", 8);
+}
+
+#[test]
+fn default_details_have_no_places(rt: HostRuntime) {
+    let found = details::<i32, bool, i64>(&rt);
     let none_given = MessageTypeDetails::default();
+    assert!(rt; found.copied() == found);
     assert!(rt; found != none_given);
-    assert!(rt; !none_given.has_alignments());
-    assert!(rt; !none_given.has_places(0));
+    assert_eq!(rt;
+        [none_given.has_alignments(), none_given.has_places(0)],
+        [false; 2]
+    );
 }
 
 #[test]
@@ -123,63 +131,73 @@ fn parts_are_refused_by_name(rt: HostRuntime) {
 #[test]
 fn rooms_are_as_worked_out(rt: HostRuntime) {
     let longs = details::<i64, i64, i64>(&rt);
-    assert_eq!(rt; room(&rt, &longs, 0), Some((32, 8)));
-    assert_eq!(rt; room(&rt, &longs, 2), Some((48, 8)));
-    assert_eq!(rt;
-        room(&rt, &details::<i64, i64, bool>(&rt), 3),
-        Some((32, 8))
-    );
-    assert_eq!(rt;
-        room(&rt, &details::<i64, i32, bool>(&rt), 11),
-        Some((32, 8))
-    );
-    assert_eq!(rt;
-        room(&rt, &details::<i64, i64, Pair>(&rt), 2),
-        Some((64, 8))
-    );
-    assert_eq!(rt;
-        room(&rt, &details::<i32, bool, i64>(&rt), 1),
-        Some((20, 4))
-    );
-    let bytes = details::<(), (), u8>(&rt);
-    assert_eq!(rt;
-        room(&rt, &bytes, (1 << 63) - 1),
-        Some((9223372036854775807, 1))
-    );
-    assert_eq!(rt; room(&rt, &bytes, 1 << 63), None);
-    assert_eq!(rt;
-        room(&rt, &details::<(), (), ()>(&rt), usize::MAX),
-        Some((0, 1))
-    );
-    assert_eq!(rt; room(&rt, &details::<u64, u64, u64>(&rt), usize::MAX), None);
+    for (found, wanted) in [
+        (room(&rt, &longs, 0), (32, 8)),
+        (room(&rt, &longs, 2), (48, 8)),
+        (room(&rt, &details::<i64, i64, bool>(&rt), 3), (32, 8)),
+        (room(&rt, &details::<i64, i32, bool>(&rt), 11), (32, 8)),
+        (room(&rt, &details::<i64, i64, Pair>(&rt), 2), (64, 8)),
+        (room(&rt, &details::<i32, bool, i64>(&rt), 1), (20, 4)),
+    ] {
+        assert_eq!(rt; found, Some(wanted));
+    }
 }
 
 #[test]
-fn greatest_alignments_are_served(rt: HostRuntime) {
+fn rooms_have_less_than_two_to_the_63_bytes(rt: HostRuntime) {
+    let bytes = details::<(), (), u8>(&rt);
+    assert_eq!(rt;
+        [
+            room(&rt, &bytes, (1 << 63) - 1),
+            room(&rt, &bytes, 1 << 63),
+            room(&rt, &details::<(), (), ()>(&rt), usize::MAX),
+            room(&rt, &details::<u64, u64, u64>(&rt), usize::MAX),
+        ],
+        [Some((9223372036854775807, 1)), None, Some((0, 1)), None]
+    );
+}
+
+#[test]
+fn greatest_alignments_have_rooms(rt: HostRuntime) {
     let mut header = details::<(), (), ()>(&rt);
     header.header = part(&rt, 0, 1 << 63);
-    assert_eq!(rt; room(&rt, &header, 0), Some((0, 1 << 63)));
-    let mut header = details::<(), (), u8>(&rt);
-    header.header = part(&rt, 0, 1 << 63);
-    assert_eq!(rt; room(&rt, &header, 1), None);
+    let mut header_and_byte = details::<(), (), u8>(&rt);
+    header_and_byte.header = part(&rt, 0, 1 << 63);
     let mut payload = details::<(), (), ()>(&rt);
     payload.payload = part(&rt, 0, 1 << 63);
-    assert_eq!(rt; room(&rt, &payload, 1), Some((9223372036854775807, 1)));
+    assert_eq!(rt;
+        [
+            room(&rt, &header, 0),
+            room(&rt, &header_and_byte, 1),
+            room(&rt, &payload, 1),
+        ],
+        [Some((0, 1 << 63)), None, Some((9223372036854775807, 1))]
+    );
+}
+
+#[test]
+fn greatest_alignment_has_places(rt: HostRuntime) {
+    let mut payload = details::<(), (), ()>(&rt);
+    payload.payload = part(&rt, 0, 1 << 63);
     assert_eq!(rt; places(&rt, &payload, 1), (1, 9223372036854775808));
     assert!(rt; !payload.has_places((1 << 63) + 1));
 }
 
 #[test]
 fn places_are_as_worked_out(rt: HostRuntime) {
-    assert_eq!(rt; places(&rt, &details::<i32, i32, i32>(&rt), 0), (4, 8));
-    assert_eq!(rt; places(&rt, &details::<i32, bool, i64>(&rt), 0), (4, 8));
-    assert_eq!(rt; places(&rt, &details::<i64, i32, i64>(&rt), 0), (8, 16));
     let longs = details::<i64, i64, i64>(&rt);
-    assert_eq!(rt; places(&rt, &longs, 0), (8, 16));
-    assert_eq!(rt;
-        places(&rt, &longs, 18446744073709551592),
-        (18446744073709551600, 18446744073709551608)
-    );
+    for (found, wanted) in [
+        (places(&rt, &details::<i32, i32, i32>(&rt), 0), (4, 8)),
+        (places(&rt, &details::<i32, bool, i64>(&rt), 0), (4, 8)),
+        (places(&rt, &details::<i64, i32, i64>(&rt), 0), (8, 16)),
+        (places(&rt, &longs, 0), (8, 16)),
+        (
+            places(&rt, &longs, 18446744073709551592),
+            (18446744073709551600, 18446744073709551608),
+        ),
+    ] {
+        assert_eq!(rt; found, wanted);
+    }
     assert!(rt; !longs.has_places(18446744073709551600));
 }
 
@@ -191,9 +209,14 @@ fn compatible_is_what_is_aligned_as_much(rt: HostRuntime) {
     wider.user_header = aligned.expect(&rt, "a detail");
     let aligned = TypeDetail::from_parts(TypeVariant::Dynamic, "i64", 8, 16);
     wider.payload = aligned.expect(&rt, "a detail");
-    assert!(rt; longs.is_compatible_to(&wider));
-    assert!(rt; !wider.is_compatible_to(&longs));
     let signed = details::<i64, i64, i8>(&rt);
-    assert!(rt; !signed.is_compatible_to(&details::<i64, i64, u8>(&rt)));
-    assert!(rt; !longs.is_compatible_to(&details::<i64, i64, i32>(&rt)));
+    assert_eq!(rt;
+        [
+            longs.is_compatible_to(&wider),
+            wider.is_compatible_to(&longs),
+            signed.is_compatible_to(&details::<i64, i64, u8>(&rt)),
+            longs.is_compatible_to(&details::<i64, i64, i32>(&rt)),
+        ],
+        [true, false, false, false]
+    );
 }

@@ -8,11 +8,10 @@ use iox2_static::static_config::{
 };
 use iox2_texts::service_name::ServiceName;
 use std::hash::DefaultHasher;
-use std::test::Fail;
 use std::time::Duration;
 
 #[test]
-fn laws_can_be_called(rt: HostRuntime) -> Result<(), Fail> {
+fn laws_of_settings_can_be_called(rt: HostRuntime) {
     let config = Config::default();
     let samples = publish_subscribe::StaticConfig::new(&config);
     let requests = request_response::StaticConfig::new(&config);
@@ -22,17 +21,33 @@ fn laws_can_be_called(rt: HostRuntime) -> Result<(), Fail> {
         creation_time: Time::default(),
         value: Duration::from_secs(1),
     };
-    let pattern = MessagingPattern::Event(events);
-    let name = ServiceName::new("a")?;
-    let id = UniqueServiceId::new(0, 0, 0, 0);
-    let service = StaticConfig::new_event::<Sha1Hasher>(&name, &config, id)?;
     let mut hasher = DefaultHasher::new();
-    assert!(rt; publish_subscribes_go_by_fields(&samples, &samples.copied(), &mut hasher));
-    assert!(rt; request_responses_go_by_fields(&requests, &requests.copied(), &mut hasher));
-    assert!(rt; deadlines_go_by_fields(&deadline, &deadline, &mut hasher));
-    assert!(rt; events_go_by_fields(&events, &events, &mut hasher));
-    assert!(rt; blackboards_go_by_fields(&values, &values.copied(), &mut hasher));
-    assert!(rt; patterns_go_by_fields(&pattern, &pattern.copied(), &mut hasher));
-    assert!(rt; descriptions_are_equal_by_fields(&service, &service.copied()));
-    Ok(())
+    assert_eq!(rt;
+        [
+            publish_subscribes_go_by_fields(&samples, &samples.copied(), &mut hasher),
+            request_responses_go_by_fields(&requests, &requests.copied(), &mut hasher),
+            deadlines_go_by_fields(&deadline, &deadline, &mut hasher),
+            events_go_by_fields(&events, &events, &mut hasher),
+            blackboards_go_by_fields(&values, &values.copied(), &mut hasher),
+        ],
+        [true; 5]
+    );
+}
+
+#[test]
+fn laws_of_patterns_and_descriptions_can_be_called(rt: HostRuntime) {
+    let config = Config::default();
+    let pattern = MessagingPattern::Event(event::StaticConfig::new(&config));
+    let name = ServiceName::new("a").expect(&rt, "a name");
+    let id = UniqueServiceId::new(0, 0, 0, 0);
+    let service = StaticConfig::new_event::<Sha1Hasher>(&name, &config, id);
+    let service = service.expect(&rt, "a description");
+    let mut hasher = DefaultHasher::new();
+    assert_eq!(rt;
+        [
+            patterns_go_by_fields(&pattern, &pattern.copied(), &mut hasher),
+            descriptions_are_equal_by_fields(&service, &service.copied()),
+        ],
+        [true; 2]
+    );
 }
