@@ -1,4 +1,3 @@
-use crate::printing::shown;
 use iox2_config::config::Config;
 use iox2_config::hash::{Hash, HashError, HashValue, PatternKind, ServiceHashError, Sha1Hasher};
 use iox2_ids::identifiers::UniqueServiceId;
@@ -79,11 +78,12 @@ fn describes(
     hash: &str,
 ) {
     let pattern = service.messaging_pattern();
+    let shown = format!(in rt.alloc(); "{pattern}").expect(rt, "memory for a text");
     assert_eq!(rt;
         [
             service.name().as_str(),
             service.service_hash().as_str(),
-            shown(rt, pattern).as_str(),
+            shown.as_str(),
         ],
         ["My/Funk/ServiceName", hash, text]
     );
