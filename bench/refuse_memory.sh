@@ -1,8 +1,8 @@
 #!/bin/sh
-# Refuses each request for memory in turn: to the tests of `worked_examples` in modules called `memory`, which say what must
-# hold then and make fewer than 20 requests each, and to `iox2_replay` on its stored run, which must end with status 2,
-# `no memory` and whole first lines of its output, or as without a refusal. The other tests are made for ample memory and
-# are left out. Prints a line for each failure, and how many requests were tried.
+# Refuses each request for memory in turn: to the tests of `worked_container` and `worked_examples` in modules called
+# `memory`, which say what must hold then and make fewer than 20 requests each, and to `iox2_replay` on its stored run,
+# which must end with status 2, `no memory` and whole first lines of its output, or as without a refusal. The other tests
+# are made for ample memory and are left out. Prints a line for each failure, and how many requests were tried.
 set -eu
 crates=$(cd "$(dirname "$0")/../crates" && pwd)
 work=$(mktemp -d)
@@ -26,10 +26,12 @@ while [ "$refused" -lt 20 ]; do
         2) grep -qx "no memory" "$work/errors" || fail "status 2 without its line" ;;
         *) fail "status $status" ;;
     esac
-    cd "$crates/worked_examples"
-    rt try --test --fail-alloc "$refused" -- memory:: > "$work/tests" 2>&1 || fail "a test failed"
-    grep "FAILED$" "$work/tests" || true
-    grep -q "^test .*memory::.* ok$" "$work/tests" || fail "no test of a module memory ran"
+    for tests in worked_container worked_examples; do
+        cd "$crates/$tests"
+        rt try --test --fail-alloc "$refused" -- memory:: > "$work/tests" 2>&1 || fail "a test of $tests failed"
+        grep "FAILED$" "$work/tests" || true
+        grep -q "^test .*memory::.* ok$" "$work/tests" || fail "no test of a module memory of $tests ran"
+    done
 done
 [ "$status" = 0 ] || fail "the program asks for memory more often than that"
 echo "requests tried: $refused, failures: $failures"

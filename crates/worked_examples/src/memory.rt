@@ -1,7 +1,7 @@
 //! Calls that are refused memory. With ample memory they give their full answers; where one request is refused
 //! (`bench/refuse_memory.sh` does that), they give a beginning of these, and the rest when they are called again.
 
-use super::{LINES, SCRIPT};
+use super::stored_run::{LINES, SCRIPT};
 use service_descriptions::container::{ContainerHandle, Role};
 use service_descriptions::dynamic_config::{MessagingPatternSettings, event};
 use service_descriptions::identifiers::UniqueNodeId;

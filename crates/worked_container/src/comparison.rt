@@ -1,7 +1,7 @@
 //! `compare` of a scan and a free list.
-use super::node;
-use service_descriptions::container::*;
-use service_descriptions::identifiers::UniqueNodeId;
+use super::nodes::node;
+use iox2_container::container::*;
+use iox2_ids::identifiers::UniqueNodeId;
 use std::alloc::{AllocError, Global};
 use std::test::Fail;
 

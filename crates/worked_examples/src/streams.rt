@@ -1,7 +1,7 @@
 //! The program on streams of a test's own, which fail at a call that the test names.
 ghost use Rattle.std.specs.Prelude.{◌≤◌};
 
-use super::{LINES, SCRIPT};
+use super::stored_run::{LINES, SCRIPT};
 use service_descriptions::replay::run_streams;
 use std::alloc::Global;
 use std::io;

@@ -1,9 +1,9 @@
 //! `compare` where memory is refused. With ample memory it gives its full answer; where one request is refused
 //! (`bench/refuse_memory.sh` does that), both registries have made the calls of a beginning of it.
 use super::comparison::by_scan;
-use super::node;
-use service_descriptions::container::*;
-use service_descriptions::identifiers::UniqueNodeId;
+use super::nodes::node;
+use iox2_container::container::*;
+use iox2_ids::identifiers::UniqueNodeId;
 use std::alloc::AllocError;
 use std::process::Abort;
 use std::test::Fail;

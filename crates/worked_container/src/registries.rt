@@ -1,8 +1,8 @@
 //! Each of the two registries.
-use super::node;
-use service_descriptions::bounded::CallbackProgression;
-use service_descriptions::container::*;
-use service_descriptions::identifiers::UniqueNodeId;
+use super::nodes::node;
+use iox2_container::container::*;
+use iox2_ids::identifiers::UniqueNodeId;
+use iox2_texts::bounded::CallbackProgression;
 use std::alloc::{AllocError, Global};
 use std::process::Abort;
 use std::test::Fail;

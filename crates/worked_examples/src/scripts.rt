@@ -1,6 +1,6 @@
 //! Worked scripts, and the bad lines of others.
 
-use super::{LINES, SCRIPT};
+use super::stored_run::{LINES, SCRIPT};
 use service_descriptions::replay::{ScriptError, run_script};
 use std::process::Abort;
 

@@ -1,0 +1,12 @@
+//! Worked examples of registries, and of two of them under the same calls. They are tests of what no contract says: worked
+//! rows, and each public call once with ample memory and with memory refused.
+#![tactic(auto)]
+
+#[cfg(test)]
+mod comparison;
+#[cfg(test)]
+mod memory;
+#[cfg(test)]
+mod nodes;
+#[cfg(test)]
+mod registries;

@@ -1,6 +1,0 @@
-//! The configuration, hash texts, and the layout of messages.
-
-mod config;
-mod hash;
-mod laws;
-mod types;
