@@ -1,5 +1,5 @@
 #!/bin/sh
-# Refuses each request for memory in turn: to the tests of `worked_container` and `worked_examples` in modules called
+# Refuses each request for memory in turn: to the tests of `iox2_container_tests` and `service_descriptions_tests` in modules called
 # `memory`, which say what must hold then and make fewer than 20 requests each, and to `iox2_replay` on its stored run,
 # which must end with status 2, `no memory` and whole first lines of its output, or as without a refusal. The other tests
 # are made for ample memory and are left out. Prints a line for each failure, and how many requests were tried.
@@ -26,7 +26,7 @@ while [ "$refused" -lt 20 ]; do
         2) grep -qx "no memory" "$work/errors" || fail "status 2 without its line" ;;
         *) fail "status $status" ;;
     esac
-    for tests in worked_container worked_examples; do
+    for tests in iox2_container_tests iox2_dynamic_tests service_callers_tests service_descriptions_tests; do
         cd "$crates/$tests"
         rt try --test --fail-alloc "$refused" -- memory:: > "$work/tests" 2>&1 || fail "a test of $tests failed"
         grep "FAILED$" "$work/tests" || true

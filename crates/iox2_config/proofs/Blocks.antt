@@ -7,7 +7,7 @@ use Rattle.iox2_texts.proofs.Multiple.{least_multiple-ge, least_multiple-lt, lea
 use Rattle.iox2_config.specs.Blocks.{MayOpen, HoldsMessage, HoldsEverywhere}
 use Rattle.iox2_config.specs.Layout.{user_header_place, payload_place, bound, header_part, user_header_part, payload_part, parts, element, HaveAlignments}
 use Rattle.iox2_config.specs.Parts.{Part, IsAligned, Within, Apart, Holds}
-use Rattle.iox2_config.specs.TypeFacts.{IsAlignment}
+use Rattle.iox2_config.specs.TypeDetailParts.{IsAlignment}
 use Rattle.iox2_config.specs.declared.types.message_details.MessageTypeDetails.{MessageTypeDetails}
 use Rattle.iox2_config.proofs.Powers.{smaller_divides}
 

@@ -2,13 +2,13 @@
 use Rattle.std.proofs.Common.{◌≡◌, ℕ, List, arith, refl, ◌∙◌}
 use Rattle.iox2_config.specs.Compatible.{Suits, IsCompatibleToItself, IsCompatibleThrough, AreEqualBothWays}
 use Rattle.iox2_config.specs.TypeDetails.{detail, message}
-use Rattle.iox2_config.specs.TypeFacts.{TypeFacts}
+use Rattle.iox2_config.specs.TypeDetailParts.{TypeDetailParts}
 use Rattle.iox2_config.specs.declared.types.type_detail.TypeVariant.{TypeVariant}
 
-suits_itself : (t : TypeFacts) → Suits t t
+suits_itself : (t : TypeDetailParts) → Suits t t
 suits_itself t = record { type_name = refl; variant = refl; size = refl; alignment = omega arith }
 
-suits_through : (a b c : TypeFacts) → Suits a b → Suits b c → Suits a c
+suits_through : (a b c : TypeDetailParts) → Suits a b → Suits b c → Suits a c
 suits_through a b c p q = record {
   type_name = p.type_name ∙ q.type_name;
   variant = p.variant ∙ q.variant;
@@ -20,13 +20,13 @@ suits_through a b c p q = record {
 same_facts : (v w : TypeVariant) (m n : List ℕ) (s t a b : ℕ) → v ≡ w → m ≡ n → s ≡ t → a ≡ b → detail v m s a ≡ detail w n t b
 same_facts v w m n s t a b variant type_name size alignment = cc
 
-same_from_suits : (a b : TypeFacts) → Suits a b → Suits b a → a ≡ b
+same_from_suits : (a b : TypeDetailParts) → Suits a b → Suits b a → a ≡ b
 same_from_suits a b p q =
     let first = p.alignment in
     let second = q.alignment in
     same_facts _ _ _ _ _ _ _ _ p.variant p.type_name p.size (omega arith)
 
-same_message : (h i u v p q : TypeFacts) → h ≡ i → u ≡ v → p ≡ q → message h u p ≡ message i v q
+same_message : (h i u v p q : TypeDetailParts) → h ≡ i → u ≡ v → p ≡ q → message h u p ≡ message i v q
 same_message h i u v p q header user_header payload = cc
 
 pub compatible_to_itself : IsCompatibleToItself

@@ -1,10 +1,10 @@
 -- Which openers may use a service's messages.
 use Rattle.std.specs.Prelude.{◌≡◌, ◌≤◌}
-use Rattle.iox2_config.specs.TypeFacts.{TypeFacts}
+use Rattle.iox2_config.specs.TypeDetailParts.{TypeDetailParts}
 use Rattle.iox2_config.specs.declared.types.message_details.MessageTypeDetails.{MessageTypeDetails}
 
 -- one type of an opener suits that of the service: it is the same but for its alignment, which may be smaller
-pub record Suits (opener service : TypeFacts) : Type 0 where
+pub record Suits (opener service : TypeDetailParts) : Type 0 where
   pub type_name : opener.type_name ≡ service.type_name
   pub variant : opener.variant ≡ service.variant
   pub size : opener.size ≡ service.size

@@ -2,7 +2,7 @@
 use Rattle.std.specs.Prelude.{◌++◌, pos}
 use Rattle.std.specs.Hash.{HashWrites, isize, usize}
 use Rattle.iox2_texts.specs.Pair.{text_writes}
-use Rattle.iox2_config.specs.TypeFacts.{TypeFacts}
+use Rattle.iox2_config.specs.TypeDetailParts.{TypeDetailParts}
 use Rattle.iox2_config.specs.declared.types.message_details.MessageTypeDetails.{MessageTypeDetails}
 use Rattle.iox2_config.specs.declared.types.type_detail.TypeVariant.{TypeVariant}
 use Rattle.iox2_config.specs.declared.types.type_detail.TypeVariant.TheVariants.{FixedSize, Dynamic}
@@ -13,7 +13,7 @@ variant_writes FixedSize = isize (pos 0)
 variant_writes Dynamic = isize (pos 1)
 
 -- what a type's details give: each part in turn
-abbrev pub detail_writes : TypeFacts → HashWrites
+abbrev pub detail_writes : TypeDetailParts → HashWrites
 detail_writes d = variant_writes d.variant ++ (text_writes d.type_name ++ (usize d.size ++ usize d.alignment))
 
 -- what a message's details give: those of each of its types in turn

@@ -1,3 +1,5 @@
+-- Promises: what the defaults are, what is hashed of a service, what the parts of types, messages and layouts are, what
+-- their makers answer, where the parts of a message lie and what room holds them, and who may open them.
 pub mod Blocks
 pub mod Compatible
 pub mod DefaultTypes
@@ -7,7 +9,8 @@ pub mod HashWrites
 pub mod Hashing
 pub mod Layout
 pub mod Parts
-pub mod Room
+pub mod SampleLayoutParts
+pub mod TypeDetailParts
 pub mod TypeDetails
-pub mod TypeFacts
+-- An inner fact: what an implementation of `ZeroCopySend` gives for its law.
 pub mod TypeLayouts

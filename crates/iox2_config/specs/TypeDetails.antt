@@ -3,19 +3,19 @@ use Rattle.std.specs.Prelude.{◌≡◌, ℕ, List, [], ◌∷◌, Result, Ok, E
 use Rattle.std.specs.Int.{is_power_of_two}
 use Rattle.iox2_texts.specs.Text.{IsTextUpTo, MakesText}
 use Rattle.iox2_texts.specs.declared.bounded.StringModificationError.{StringModificationError}
-use Rattle.iox2_config.specs.TypeFacts.{TypeFacts, IsTypeLayout}
+use Rattle.iox2_config.specs.TypeDetailParts.{TypeDetailParts, IsTypeLayout}
 use Rattle.iox2_config.specs.declared.types.message_details.MessageTypeDetails.{MessageTypeDetails}
 use Rattle.iox2_config.specs.declared.types.type_detail.TypeDetailError.{TypeDetailError}
 use Rattle.iox2_config.specs.declared.types.type_detail.TypeDetailError.TheVariants.{Name, AlignmentNotPowerOfTwo}
 use Rattle.iox2_config.specs.declared.types.type_detail.TypeVariant.{TypeVariant}
 
 -- the details with these parts
-abbrev pub detail : TypeVariant → List ℕ → ℕ → ℕ → TypeFacts
+abbrev pub detail : TypeVariant → List ℕ → ℕ → ℕ → TypeDetailParts
 detail variant type_name size alignment =
     record { variant = variant; type_name = type_name; size = size; alignment = alignment }
 
 -- the details of a message with these parts
-abbrev pub message : TypeFacts → TypeFacts → TypeFacts → MessageTypeDetails
+abbrev pub message : TypeDetailParts → TypeDetailParts → TypeDetailParts → MessageTypeDetails
 message header user_header payload =
     record { header = header; user_header = user_header; payload = payload }
 
@@ -24,7 +24,7 @@ abbrev pub IsTypeName : List ℕ → Type 0
 IsTypeName name = IsTextUpTo 256 name
 
 -- what the making of details from their parts answers: the name is looked at before the alignment
-abbrev pub MakesDetail : TypeFacts → Result TypeFacts TypeDetailError → Type 0
+abbrev pub MakesDetail : TypeDetailParts → Result TypeDetailParts TypeDetailError → Type 0
 MakesDetail parts (Ok made) =
     (made ≡ parts) × IsTypeName parts.type_name × IsTrue (is_power_of_two parts.alignment)
 MakesDetail parts (Err (Name error)) = MakesText 256 parts.type_name (Err error)
@@ -32,12 +32,12 @@ MakesDetail parts (Err AlignmentNotPowerOfTwo) =
     IsTypeName parts.type_name × (¬ IsTrue (is_power_of_two parts.alignment))
 
 -- a type's details are legal
-pub record IsLegal (parts : TypeFacts) : Type 0 where
+pub record IsLegal (parts : TypeDetailParts) : Type 0 where
   pub type_name : IsTypeName parts.type_name
   pub layout : IsTypeLayout parts.size parts.alignment
 
 -- what the making of a type's details answers: only the name can be refused
-abbrev pub DescribesType : TypeFacts → Result TypeFacts TypeDetailError → Type 0
+abbrev pub DescribesType : TypeDetailParts → Result TypeDetailParts TypeDetailError → Type 0
 DescribesType parts (Ok made) = (made ≡ parts) × IsLegal parts
 DescribesType parts (Err (Name error)) = MakesText 256 parts.type_name (Err error)
 DescribesType parts (Err AlignmentNotPowerOfTwo) = ⊥

@@ -1,10 +1,11 @@
--- Sizes and alignments that types may have.
+-- That sizes and alignments are those that types may have. This proof stands here since a `ghost` member of an
+-- implementation, such as the `lawful` of `ZeroCopySend`, may name `specs` alone.
 use Rattle.std.specs.Prelude.{◌≡◌, ℕ, ◌*◌, ◌^◌, ◌==◌, IsTrue, refl}
 use Rattle.std.specs.Int.Count.{ones}
 use Rattle.std.proofs.Common.{sym, ◌∙◌, ap, subst, add-zero}
 use Rattle.std.proofs.Math.Nat.{dvd-mul_left, one-mul}
 use Rattle.std.proofs.lemmas.Nat.{ones_cat, pow_pos}
-use Rattle.iox2_config.specs.TypeFacts.{IsTypeLayout}
+use Rattle.iox2_config.specs.TypeDetailParts.{IsTypeLayout}
 
 -- a power of two has one bit
 one_bit : (k : ℕ) → ones (2 ^ k) ≡ 1

@@ -1,15 +1,17 @@
 //! Laws of the definitions that the contracts cite, and of comparisons.
-ghost use Rattle.std.specs.Prelude.{◌≡◌, ◌↔◌, IsTrue, fold};
+ghost use Rattle.std.specs.Prelude.{◌≡◌, ◌↔◌, IsTrue, IsOkAnd, fold};
 ghost use Rattle.iox2_texts.specs.Pair.{text_cmp, text_writes};
 ghost use Rattle.iox2_config.specs.Compatible.{IsCompatibleToItself, IsCompatibleThrough, AreEqualBothWays};
-ghost use Rattle.iox2_config.specs.HashWrites.{detail_writes, details_writes};
+ghost use Rattle.iox2_config.specs.HashWrites.{variant_writes, detail_writes, details_writes};
 ghost use Rattle.iox2_config.specs.Hashing.{HashInputsDiffer};
 
 use crate::config::{
-    Blackboard, Config, Defaults, Event, Global, Node, PublishSubscribe, RequestResonse, Service,
+    AllocationStrategy, BackpressureStrategy, Blackboard, Config, DataSegmentType, Defaults, Event,
+    EventId, Global, Node, PublishSubscribe, RequestResonse, Service,
 };
-use crate::hash::ServiceHash;
-use crate::types::{MessageTypeDetails, TypeDetail};
+use crate::hash::{HashError, PatternKind, ServiceHash, ServiceHashError};
+use crate::types::{MessageTypeDetails, SampleLayout, TypeDetail, TypeDetailError, TypeVariant};
+use std::alloc::AllocError;
 use std::cmp::Ordering;
 use std::hash::{Hash, Hasher};
 
@@ -148,4 +150,114 @@ pub fn configurations_are_equal_by_fields(one: &Config, other: &Config) -> bool
     ensures { IsTrue result ↔ (one.now ≡ other.now) }
 {
     one == other
+}
+
+/// Variants of types are equal exactly where they are the same, are hashed by their place, and a clone is the same.
+pub fn type_variants_go_by_variant<H: Hasher>(
+    one: &TypeVariant,
+    other: &TypeVariant,
+    state: &mut H,
+) -> (bool, Result<TypeVariant, AllocError>)
+    ensures equal { IsTrue result.0 ↔ (one.now ≡ other.now) }
+    ensures cloned { IsOkAnd result.1 (λ copy. copy ≡ one.now) }
+    ensures hashed { state.new ≡ fold H.write state.old (variant_writes one.now) }
+{
+    one.hash(state);
+    (one == other, one.clone())
+}
+
+/// Refusals of details are equal exactly where they are the same, and a clone is the same.
+pub fn type_detail_errors_go_by_value(
+    one: &TypeDetailError,
+    other: &TypeDetailError,
+) -> (bool, Result<TypeDetailError, AllocError>)
+    ensures equal { IsTrue result.0 ↔ (one.now ≡ other.now) }
+    ensures cloned { IsOkAnd result.1 (λ copy. copy ≡ one.now) }
+{
+    (one == other, one.clone())
+}
+
+/// Layouts are equal exactly where they are the same, and a clone is the same.
+pub fn sample_layouts_go_by_parts(
+    one: &SampleLayout,
+    other: &SampleLayout,
+) -> (bool, Result<SampleLayout, AllocError>)
+    ensures equal { IsTrue result.0 ↔ (one.now ≡ other.now) }
+    ensures cloned { IsOkAnd result.1 (λ copy. copy ≡ one.now) }
+{
+    (one == other, one.clone())
+}
+
+/// Ids of events are equal exactly where they are the same, and a clone is the same.
+pub fn event_ids_go_by_number(one: &EventId, other: &EventId) -> (bool, Result<EventId, AllocError>)
+    ensures equal { IsTrue result.0 ↔ (one.now ≡ other.now) }
+    ensures cloned { IsOkAnd result.1 (λ copy. copy ≡ one.now) }
+{
+    (one == other, one.clone())
+}
+
+/// Backpressure strategies are equal exactly where they are the same, and a clone is the same.
+pub fn backpressure_strategies_go_by_variant(
+    one: &BackpressureStrategy,
+    other: &BackpressureStrategy,
+) -> (bool, Result<BackpressureStrategy, AllocError>)
+    ensures equal { IsTrue result.0 ↔ (one.now ≡ other.now) }
+    ensures cloned { IsOkAnd result.1 (λ copy. copy ≡ one.now) }
+{
+    (one == other, one.clone())
+}
+
+/// Allocation strategies are equal exactly where they are the same, and a clone is the same.
+pub fn allocation_strategies_go_by_variant(
+    one: &AllocationStrategy,
+    other: &AllocationStrategy,
+) -> (bool, Result<AllocationStrategy, AllocError>)
+    ensures equal { IsTrue result.0 ↔ (one.now ≡ other.now) }
+    ensures cloned { IsOkAnd result.1 (λ copy. copy ≡ one.now) }
+{
+    (one == other, one.clone())
+}
+
+/// Types of data segments are equal exactly where they are the same, and a clone is the same.
+pub fn data_segment_types_go_by_variant(
+    one: &DataSegmentType,
+    other: &DataSegmentType,
+) -> (bool, Result<DataSegmentType, AllocError>)
+    ensures equal { IsTrue result.0 ↔ (one.now ≡ other.now) }
+    ensures cloned { IsOkAnd result.1 (λ copy. copy ≡ one.now) }
+{
+    (one == other, one.clone())
+}
+
+/// Kinds of patterns are equal exactly where they are the same, and a clone is the same.
+pub fn pattern_kinds_go_by_variant(
+    one: &PatternKind,
+    other: &PatternKind,
+) -> (bool, Result<PatternKind, AllocError>)
+    ensures equal { IsTrue result.0 ↔ (one.now ≡ other.now) }
+    ensures cloned { IsOkAnd result.1 (λ copy. copy ≡ one.now) }
+{
+    (one == other, one.clone())
+}
+
+/// Refusals of hashers are equal exactly where they are the same, and a clone is the same.
+pub fn hash_errors_go_by_variant(
+    one: &HashError,
+    other: &HashError,
+) -> (bool, Result<HashError, AllocError>)
+    ensures equal { IsTrue result.0 ↔ (one.now ≡ other.now) }
+    ensures cloned { IsOkAnd result.1 (λ copy. copy ≡ one.now) }
+{
+    (one == other, one.clone())
+}
+
+/// Refusals of hash texts are equal exactly where they are the same, and a clone is the same.
+pub fn service_hash_errors_go_by_variant(
+    one: &ServiceHashError,
+    other: &ServiceHashError,
+) -> (bool, Result<ServiceHashError, AllocError>)
+    ensures equal { IsTrue result.0 ↔ (one.now ≡ other.now) }
+    ensures cloned { IsOkAnd result.1 (λ copy. copy ≡ one.now) }
+{
+    (one == other, one.clone())
 }

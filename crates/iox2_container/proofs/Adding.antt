@@ -8,7 +8,7 @@ use Rattle.iox2_container.specs.Handle.{Handle}
 use Rattle.iox2_container.specs.State.{Entry, RegistryState}
 use Rattle.iox2_container.specs.Steps.{Gains, AddStep}
 use Rattle.iox2_container.specs.Places.{entries_from}
-use Rattle.iox2_container.specs.Kept.{registry_of, IsKept}
+use Rattle.iox2_container.specs.LedgerAndPlaces.{registry_of, AreRegistry}
 use Rattle.iox2_container.proofs.CellEntries.{gains_write, slots_from, below_from, shown_from, room_from}
 use Rattle.iox2_container.proofs.Gaining.{length-Gains}
 use Rattle.iox2_container.proofs.Keeping.{kept_add}
@@ -22,7 +22,7 @@ gains_of_write {T} a cells s slot d free e =
     let x : Entry T = record { slot = slot; ticket = a.used; details = d } in
     subst (λ (cs : List (Option (ℕ × T))). Gains (entries_from 0 cells) (entries_from 0 cs) x) (sym e) (gains_write 0 cells slot x free (omega arith))
 
-pub kept_write : {T : Type 0} (a : Ledger) (cells s : List (Option (ℕ × T))) (slot : ℕ) (d : T) → IsKept a cells → slice_get cells slot ≡ Some None → s ≡ slice_set cells slot (Some (a.used, d)) → a.locked ≡ false → a.used < a.budget → IsKept (record a { count = a.count + 1; used = a.used + 1 }) s
+pub kept_write : {T : Type 0} (a : Ledger) (cells s : List (Option (ℕ × T))) (slot : ℕ) (d : T) → AreRegistry a cells → slice_get cells slot ≡ Some None → s ≡ slice_set cells slot (Some (a.used, d)) → a.locked ≡ false → a.used < a.budget → AreRegistry (record a { count = a.count + 1; used = a.used + 1 }) s
 kept_write {T} a cells s slot d k free e unlocked room =
     let x : Entry T = record { slot = slot; ticket = a.used; details = d } in
     let g : Gains (entries_from 0 cells) (entries_from 0 s) x = gains_of_write a cells s slot d free e in

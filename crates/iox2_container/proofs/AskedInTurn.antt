@@ -1,12 +1,12 @@
 -- Callbacks that are asked in turn.
 use Rattle.std.proofs.Common.{◌≡◌, ℕ, zero, suc, ◌+◌, Option, Some, None, List, [], ◌∷◌, ◌++◌, take, map, refl, sym, ◌∙◌, ap, subst, arith, inl, inr}
-use Rattle.std.specs.Prelude.{All, slice_get}
-use Rattle.std.proofs.lemmas.List.Elements.{All-push}
+use Rattle.std.specs.Prelude.{slice_get}
 use Rattle.iox2_texts.specs.declared.bounded.CallbackProgression.{CallbackProgression}
 use Rattle.iox2_texts.specs.declared.bounded.CallbackProgression.TheVariants.{Continue, Stop}
 use Rattle.iox2_container.specs.State.{Entry}
 use Rattle.iox2_container.specs.Places.{entries_from}
-use Rattle.std.proofs.lemmas.List.{append-nil}
+use Rattle.std.proofs.lemmas.List.{append_assoc}
+use Rattle.iox2_texts.specs.Attribute.{Visits}
 use Rattle.iox2_container.specs.Passes.{AskedOfCell}
 use Rattle.iox2_container.specs.Steps.{Asked, Visit}
 use Rattle.iox2_container.proofs.CellEntries.{same_entry, cell_ticket, cell_details}
@@ -55,10 +55,17 @@ taken_free {T} low (suc i) (Some (t, d) ∷ cells) h =
     ap (λ (l : List (Entry T)). y ∷ l) (taken_free (low + 1) i cells h)
 
 -- so far each answer was `Continue`
-pub record GoesOn {F T : Type 0} (calls : F → T → CallbackProgression → F → Type 0) (f : F) (items : List T) (g : F) : Type 0 where
-  pub answers : List CallbackProgression
-  pub asked : Asked calls f items answers g
-  pub continues : All (λ a. a ≡ Continue) answers
+abbrev pub GoesOn : {F T : Type 0} → (F → T → CallbackProgression → F → Type 0) → F → List T → F → Type 0
+GoesOn calls f [] g = g ≡ f
+GoesOn {F} calls f (item ∷ items) g = (between : F) × calls f item Continue between × GoesOn calls between items g
+
+goes_one_more : {F T : Type 0} (calls : F → T → CallbackProgression → F → Type 0) (f : F) (items : List T) (g : F) (item : T) (h : F) → GoesOn calls f items g → calls g item Continue h → GoesOn calls f (items ++ item ∷ []) h
+goes_one_more {F} calls f [] g item h w c = (h, subst (λ (k : F). calls k item Continue h) w c, refl)
+goes_one_more calls f (x ∷ xs) g item h w c = (w.0, w.1, goes_one_more calls w.0 xs g item h w.2 c)
+
+visits_rest : {F T : Type 0} (calls : F → T → CallbackProgression → F → Type 0) (f : F) (seen : List T) (g : F) (rest : List T) (h : F) → GoesOn calls f seen g → Visits calls g rest h → Visits calls f (seen ++ rest) h
+visits_rest {F} calls f [] g rest h w v = subst (λ (k : F). Visits calls k rest h) w v
+visits_rest calls f (x ∷ xs) g rest h w v = inr (w.0, w.1, visits_rest calls w.0 xs g rest h w.2 v)
 
 details_more : {T : Type 0} (i : ℕ) (cells : List (Option (ℕ × T))) (t : ℕ) (d : T) → slice_get cells i ≡ Some (Some (t, d)) → details_of (entries_from 0 (take (suc i) cells)) ≡ details_of (entries_from 0 (take i cells)) ++ d ∷ []
 details_more {T} i cells t d h =
@@ -71,27 +78,26 @@ goes_on {F} {T} calls f g h cells i None answer is a c w =
     (subst (λ (l : List (Entry T)). GoesOn calls f (details_of l) g) (sym (taken_free 0 i cells is)) w)
 goes_on {F} {T} calls f g h cells i (Some (t, d)) answer is a c w =
     subst (λ (l : List T). GoesOn calls f l h) (sym (details_more i cells t d is))
-    (record {
-      answers = w.answers ++ answer ∷ [];
-      asked = Asked-push calls f (details_of (entries_from 0 (take i cells))) w.answers g d answer h w.asked a;
-      continues = All-push (λ a. a ≡ Continue) w.answers answer w.continues c;
-    })
+    (goes_one_more calls f (details_of (entries_from 0 (take i cells))) g d h w (subst (λ (r : CallbackProgression). calls g d r h) c a))
 
 pub stops : {F T : Type 0} (calls : F → T → CallbackProgression → F → Type 0) (f g h : F) (cells : List (Option (ℕ × T))) (i : ℕ) (cell : Option (ℕ × T)) (answer : CallbackProgression) → slice_get cells i ≡ Some cell → AskedOfCell calls g cell answer h → answer ≡ Stop → GoesOn calls f (details_of (entries_from 0 (take i cells))) g → Visit calls f (details_of (entries_from 0 cells)) h
 stops {F} {T} calls f g h cells i None answer is a c w = (let e : Continue ≡ Stop = sym a.0 ∙ c in cc)
 stops {F} {T} calls f g h cells i (Some (t, d)) answer is a c w =
     let split = entries_split 0 (suc i) cells in
+    let seen : List T = details_of (entries_from 0 (take i cells)) in
+    let rest : List T = details_of split.0 in
+    let all_are : details_of (entries_from 0 cells) ≡ seen ++ d ∷ rest =
+    ap details_of split.1 ∙ (details-append (entries_from 0 (take (suc i) cells)) split.0 ∙ (ap (λ (l : List T). l ++ rest) (details_more i cells t d is) ∙ append_assoc seen (d ∷ []) rest)) in
     record {
-      seen = details_of (entries_from 0 (take i cells)) ++ d ∷ [];
-      rest = details_of split.0;
-      answers = w.answers ++ answer ∷ [];
-      items_are = ap details_of split.1 ∙ (details-append (entries_from 0 (take (suc i) cells)) split.0 ∙ ap (λ (l : List T). l ++ details_of split.0) (details_more i cells t d is));
-      asked = Asked-push calls f (details_of (entries_from 0 (take i cells))) w.answers g d answer h w.asked a;
-      ends = inr (w.answers, w.continues, ap (λ (r : CallbackProgression). w.answers ++ r ∷ []) c);
+      visits = subst (λ (l : List T). Visits calls f l h) (sym all_are) (visits_rest calls f seen g (d ∷ rest) h w (inl (subst (λ (r : CallbackProgression). calls g d r h) c a)));
     }
 
+visits_all : {F T : Type 0} (calls : F → T → CallbackProgression → F → Type 0) (f g : F) (items : List T) → GoesOn calls f items g → Visits calls f items g
+visits_all calls f g [] w = w
+visits_all calls f g (x ∷ xs) w = inr (w.0, w.1, visits_all calls w.0 g xs w.2)
+
 pub ends : {F T : Type 0} (calls : F → T → CallbackProgression → F → Type 0) (f g : F) (items : List T) → GoesOn calls f items g → Visit calls f items g
-ends calls f g items w = record { seen = items; rest = []; answers = w.answers; items_are = sym (append-nil items); asked = w.asked; ends = inl (w.continues, refl) }
+ends calls f g items w = record { visits = visits_all calls f g items w }
 
 pub not_stop : (a : CallbackProgression) → (a ≡ Stop → ⊥) → a ≡ Continue
 not_stop Continue h = refl

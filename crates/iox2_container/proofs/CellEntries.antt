@@ -1,12 +1,12 @@
 -- The entries that stand in cells.
-use Rattle.std.proofs.Common.{◌≡◌, ◌≢◌, ℕ, zero, suc, ◌+◌, ◌<◌, ◌≤◌, Option, Some, None, List, [], ◌∷◌, length, refl, ◌∙◌, ap, arith}
+use Rattle.std.proofs.Common.{◌≡◌, ◌≢◌, ℕ, zero, suc, ◌+◌, ◌<◌, ◌≤◌, Option, Some, None, List, [], ◌∷◌, length, take, refl, ◌∙◌, ap, arith}
 use Rattle.std.specs.Prelude.{All, AllPairs, slice_get, slice_set, replicate}
 use Rattle.std.proofs.lemmas.List.Elements.{All-nil, All-cons, All-weaker}
 use Rattle.std.proofs.lemmas.List.Kept.{AllPairs-cons}
 use Rattle.std.proofs.lemmas.Option.{slice_get_within}
 use Rattle.iox2_container.specs.State.{Entry}
 use Rattle.iox2_container.specs.Steps.{Gains}
-use Rattle.iox2_container.specs.Places.{entries_from}
+use Rattle.iox2_container.specs.Places.{NoneFrom, entries_from}
 
 -- the entry is that of a cell
 pub record Stands {T : Type 0} (low : ℕ) (cells : List (Option (ℕ × T))) (e : Entry T) : Type 0 where
@@ -83,6 +83,19 @@ room_from low (Some (t, d) ∷ cells) = omega (arith, room_from (low + 1) cells)
 pub nothing_stands : {T : Type 0} (low n : ℕ) → entries_from {T = T} low (replicate n None) ≡ []
 nothing_stands low zero = refl
 nothing_stands low (suc n) = nothing_stands (low + 1) n
+
+-- where no entry stands from a place on, all stand before it
+pub all_before : {T : Type 0} (low end : ℕ) (cells : List (Option (ℕ × T))) → NoneFrom cells end → entries_from low (take end cells) ≡ entries_from low cells
+all_before low zero [] free = refl
+all_before low (suc end) [] free = refl
+all_before low zero (None ∷ cells) free =
+    all_before (low + 1) zero cells (λ slot later taken. free (suc slot) (omega arith) taken)
+all_before low zero (Some entry ∷ cells) free = absurd (free zero (omega arith) (entry, refl))
+all_before low (suc end) (None ∷ cells) free =
+    all_before (low + 1) end cells (λ slot later taken. free (suc slot) (omega arith) taken)
+all_before {T} low (suc end) (Some (t, d) ∷ cells) free =
+    let x : Entry T = record { slot = low; ticket = t; details = d } in
+    ap (λ (l : List (Entry T)). x ∷ l) (all_before (low + 1) end cells (λ slot later taken. free (suc slot) (omega arith) taken))
 
 pub below_from : {T : Type 0} (cells : List (Option (ℕ × T))) → All (λ (e : Entry T). e.slot < length cells) (entries_from 0 cells)
 below_from {T} cells =

@@ -1,11 +1,12 @@
 -- How many entries a test holds of.
-use Rattle.std.proofs.Common.{◌≡◌, ℕ, suc, ◌+◌, ◌≤◌, Bool, true, false, Option, Some, None, List, [], ◌∷◌, ◌++◌, length, take, sym, ◌∙◌, ap, arith, add-one}
-use Rattle.std.specs.Prelude.{if◌then◌else◌, slice_get}
+use Rattle.std.proofs.Common.{◌≡◌, ℕ, suc, ◌+◌, ◌≤◌, Bool, true, false, Option, Some, None, List, [], ◌∷◌, ◌++◌, length, take, refl, sym, ◌∙◌, ap, arith, add-one}
+use Rattle.std.specs.Prelude.{All, if◌then◌else◌, slice_get}
 use Rattle.std.proofs.lemmas.List.{append-nil}
+use Rattle.std.proofs.lemmas.List.Elements.{All-nil, All-cons}
 use Rattle.iox2_container.specs.Passes.{cell_is_of}
 use Rattle.iox2_container.specs.Places.{entries_from}
 use Rattle.iox2_container.specs.State.{Entry}
-use Rattle.iox2_container.specs.Steps.{candidates, is_of}
+use Rattle.iox2_container.specs.Steps.{Gains, candidates, is_of, staying, is_true_first, after_first_answer}
 use Rattle.iox2_container.proofs.AskedInTurn.{taken_free, taken_more}
 use Rattle.iox2_container.proofs.Sweeping.{add_zero}
 
@@ -22,7 +23,7 @@ pub counted-cons : {T : Type 0} (p : T → Bool) (e : Entry T) (es : List (Entry
 counted-cons p e es = elim (p e.details) as (λ b. length (if b then e ∷ candidates p es else candidates p es) ≡ one_if b + counted p es) [ true ↦ omega arith | false ↦ omega arith ]
 
 -- the entries round one
-counted-between : {T : Type 0} (p : T → Bool) (xs : List (Entry T)) (x : Entry T) (ys : List (Entry T)) → counted p (xs ++ x ∷ ys) ≡ counted p (xs ++ ys) + one_if (p x.details)
+pub counted-between : {T : Type 0} (p : T → Bool) (xs : List (Entry T)) (x : Entry T) (ys : List (Entry T)) → counted p (xs ++ x ∷ ys) ≡ counted p (xs ++ ys) + one_if (p x.details)
 counted-between p [] x ys = omega (arith, counted-cons p x ys)
 counted-between p (e ∷ xs) x ys =
     omega (arith, counted-cons p e (xs ++ x ∷ ys), counted-cons p e (xs ++ ys), counted-between p xs x ys)
@@ -47,3 +48,37 @@ counted_more node id i n m cells cell b h e em en =
 pub few_more : (n m slot : ℕ) (b : Bool) → m ≡ n + one_if b → n ≤ slot → m ≤ slot + 1
 few_more n m slot true e h = omega arith
 few_more n m slot false e h = omega arith
+
+-- one entry more
+pub counted-Gains : {T : Type 0} (p : T → Bool) (old new : List (Entry T)) (x : Entry T) → Gains old new x → counted p new ≡ counted p old + one_if (p x.details)
+counted-Gains p old new x g =
+    ap (counted p) g.new_is ∙ (counted-between p g.before x g.after ∙ ap (λ es. counted p es + one_if (p x.details)) (sym g.old_is))
+
+-- a recovery leaves entries that are not dead
+pub counted-staying : {T : Type 0} (p is_dead : T → Bool) → ((d : T) → is_dead d ≡ true → p d ≡ false) → (es : List (Entry T)) (answers : List Bool) → counted p (staying is_dead es answers) ≡ counted p es
+counted-staying p is_dead other [] answers = refl
+counted-staying {T} p is_dead other (e ∷ es) answers =
+    let gone : List (Entry T) = staying is_dead es (after_first_answer answers) in
+    let kept : List (Entry T) = staying is_dead es answers in
+    let c = counted-cons p e es in
+    let g = counted-staying p is_dead other es (after_first_answer answers) in
+    let k = counted-staying p is_dead other es answers in
+    (elim (is_dead e.details) as (λ b. (b ≡ true → p e.details ≡ false) → counted p (if b then (if is_true_first answers then gone else e ∷ gone) else e ∷ kept) ≡ counted p (e ∷ es)) [
+      | true ↦ λ o. elim (is_true_first answers) as (λ b. counted p (if b then gone else e ∷ gone) ≡ counted p (e ∷ es)) [
+        | true ↦ let n : one_if (p e.details) ≡ 0 = ap one_if (o refl) in omega (arith, c, g, n)
+        | false ↦ omega (arith, c, g, counted-cons p e gone)
+      ]
+      | false ↦ λ o. omega (arith, c, k, counted-cons p e kept)
+    ]) (other e.details)
+
+not_one : (b : Bool) → one_if b ≡ 0 → b ≡ false
+not_one true h = absurd (omega arith)
+not_one false h = refl
+
+-- where none is counted, each differs
+pub All-other : {T : Type 0} (p : T → Bool) (es : List (Entry T)) → counted p es ≡ 0 → All (λ e. p e.details ≡ false) es
+All-other {T} p [] h = All-nil (λ (e : Entry T). p e.details ≡ false)
+All-other {T} p (e ∷ es) h =
+    All-cons (λ (e : Entry T). p e.details ≡ false) e es
+    (not_one (p e.details) (omega (arith, counted-cons p e es)))
+    (All-other p es (omega (arith, counted-cons p e es)))

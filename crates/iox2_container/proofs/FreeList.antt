@@ -2,15 +2,15 @@
 use Rattle.std.proofs.Common.{◌≡◌, ◌≢◌, ℕ, zero, suc, ◌<◌, Option, Some, None, List, [], ◌∷◌, length, map, refl, sym, ◌∙◌, ap, arith}
 use Rattle.std.specs.Prelude.{All, slice_get, slice_set, replicate}
 use Rattle.std.proofs.lemmas.List.Elements.{All-nil, All-cons, All-head, All-tail, All-weaker}
-use Rattle.iox2_container.specs.Threads.{Linked}
+use Rattle.iox2_container.specs.FreeLinks.{Linked}
 use Rattle.iox2_container.specs.declared.container.cell.Cell.TheVariants.{Taken, Free}
-use Rattle.iox2_container.specs.Shown.{shown}
-use Rattle.iox2_container.specs.Threads.{Threads, IsFreeAt}
+use Rattle.iox2_container.specs.Cells.{shown}
+use Rattle.iox2_container.specs.FreeLinks.{LeadsThrough, IsFreeAt}
 use Rattle.iox2_container.proofs.ListEdits.{get_set_other, get_set_same}
 use Rattle.iox2_container.proofs.ShownCells.{shown_at}
 
 -- each slot of the list is free
-pub threads_free : {T : Type 0} (cells : List (Linked T)) (head : Option ℕ) (free : List ℕ) → Threads cells head free → All (IsFreeAt cells) free
+pub threads_free : {T : Type 0} (cells : List (Linked T)) (head : Option ℕ) (free : List ℕ) → LeadsThrough cells head free → All (IsFreeAt cells) free
 threads_free cells None [] t = All-nil (IsFreeAt cells)
 threads_free cells None (slot ∷ slots) t = absurd t
 threads_free cells (Some head) [] t = absurd t
@@ -18,14 +18,14 @@ threads_free cells (Some head) (slot ∷ slots) t =
     All-cons (IsFreeAt cells) slot slots (t.2.0, t.2.1) (threads_free cells t.2.0 slots t.2.2)
 
 -- a slot that is not free is not in the list
-pub taken_apart : {T : Type 0} (cells : List (Linked T)) (head : Option ℕ) (free : List ℕ) (slot ticket : ℕ) (details : T) → Threads cells head free → slice_get cells slot ≡ Some (Taken ticket details) → All (λ other. other ≢ slot) free
+pub taken_apart : {T : Type 0} (cells : List (Linked T)) (head : Option ℕ) (free : List ℕ) (slot ticket : ℕ) (details : T) → LeadsThrough cells head free → slice_get cells slot ≡ Some (Taken ticket details) → All (λ other. other ≢ slot) free
 taken_apart {T} cells head free slot ticket details t h =
     All-weaker (IsFreeAt cells) (λ other. other ≢ slot)
     (λ other is e. (let z : ◌≡◌ {A = Option (Linked T)} (Some (Free is.0)) (Some (Taken ticket details)) = sym is.1 ∙ (ap (slice_get cells) e ∙ h) in cc))
     free (threads_free cells head free t)
 
 -- a write to another slot leaves the list
-pub threads_kept : {T : Type 0} (cells : List (Linked T)) (head : Option ℕ) (free : List ℕ) (slot : ℕ) (cell : Linked T) → All (λ other. other ≢ slot) free → Threads cells head free → Threads (slice_set cells slot cell) head free
+pub threads_kept : {T : Type 0} (cells : List (Linked T)) (head : Option ℕ) (free : List ℕ) (slot : ℕ) (cell : Linked T) → All (λ other. other ≢ slot) free → LeadsThrough cells head free → LeadsThrough (slice_set cells slot cell) head free
 threads_kept cells None [] slot cell o t = t
 threads_kept cells None (s ∷ slots) slot cell o t = absurd t
 threads_kept cells (Some head) [] slot cell o t = absurd t
@@ -40,7 +40,7 @@ threads_kept cells (Some head) (s ∷ slots) slot cell o t = (
 )
 
 -- a slot is put before the list
-pub threads_freed : {T : Type 0} (cells : List (Linked T)) (head : Option ℕ) (free : List ℕ) (slot : ℕ) → slot < length cells → All (λ other. other ≢ slot) free → Threads cells head free → Threads (slice_set cells slot (Free head)) (Some slot) (slot ∷ free)
+pub threads_freed : {T : Type 0} (cells : List (Linked T)) (head : Option ℕ) (free : List ℕ) (slot : ℕ) → slot < length cells → All (λ other. other ≢ slot) free → LeadsThrough cells head free → LeadsThrough (slice_set cells slot (Free head)) (Some slot) (slot ∷ free)
 threads_freed cells head free slot h o t =
     (refl, o, (head, get_set_same cells slot (Free head) h, threads_kept cells head free slot (Free head) o t))
 

@@ -1,29 +1,16 @@
 -- What a handle names.
-use Rattle.std.proofs.Common.{◌≡◌, ◌≢◌, ℕ, ◌<◌, Bool, true, false, Option, Some, None, List, length, refl, sym, ◌∙◌, ap, arith}
-use Rattle.std.specs.Prelude.{◌↔◌, MatchOption, slice_get, slice_set}
-use Rattle.std.proofs.lemmas.Bool.{iff_false}
+use Rattle.std.proofs.Common.{◌≡◌, ◌≢◌, ℕ, Option, Some, None, List, refl, sym, ◌∙◌, ap, arith}
+use Rattle.std.specs.Prelude.{MatchOption, slice_get, slice_set}
 use Rattle.std.proofs.lemmas.List.Elements.{All-weaker}
 use Rattle.iox2_container.specs.declared.container.ledger.Ledger.{Ledger}
 use Rattle.iox2_container.specs.declared.container.role.Role.{Role}
 use Rattle.iox2_container.specs.Handle.{Handle}
-use Rattle.iox2_container.specs.State.{Entry, handle_of}
+use Rattle.iox2_container.specs.State.{Entry, RegistryState, handle_of}
 use Rattle.iox2_container.specs.Steps.{IsForeign, Stands}
 use Rattle.iox2_container.specs.Places.{Finds, entries_from}
-use Rattle.iox2_container.specs.Kept.{registry_of}
-use Rattle.iox2_container.proofs.CellEntries.{below_from, shown_from, gains_clear}
-
--- the handle is one of this container and of a slot that it has
-abbrev pub MayBeHad : Ledger → Handle → ℕ → Type 0
-MayBeHad a handle capacity = (handle.service ≡ a.service) × (handle.role ≡ a.role) × (handle.slot < capacity)
-
--- any other handle is that of no entry
-pub foreign_by_parts : {T : Type 0} (a : Ledger) (cells : List (Option (ℕ × T))) (handle : Handle) (capacity : ℕ) (may : Bool) → ((may ≡ true) ↔ MayBeHad a handle capacity) → capacity ≡ length cells → may ≡ false → IsForeign (registry_of a cells) handle
-foreign_by_parts {T} a cells handle capacity may h n f =
-    All-weaker (λ (x : Entry T). x.slot < length cells) (λ (x : Entry T). handle ≢ handle_of (registry_of a cells) x)
-    (λ x below q.
-    let slots : handle.slot ≡ x.slot = ap (λ (k : Handle). k.slot) q in
-    iff_false h f (ap (λ (k : Handle). k.service) q, ap (λ (k : Handle). k.role) q, omega arith))
-    (entries_from 0 cells) (below_from cells)
+use Rattle.iox2_container.specs.LedgerAndPlaces.{registry_of}
+use Rattle.iox2_container.proofs.CellEntries.{shown_from, gains_clear}
+use Rattle.iox2_container.proofs.Members.{of_all, gained}
 
 -- what was found in the handle's place, by the names that its calls have
 pub finds : {T : Type 0} (cells : List (Option (ℕ × T))) (handle : Handle) (slot ticket : ℕ) (cell : Option (ℕ × T)) (found : Option T) → slot ≡ handle.slot → ticket ≡ handle.ticket → slice_get cells slot ≡ Some cell → MatchOption found ((d : T) → cell ≢ Some (ticket, d)) (λ d. cell ≡ Some (ticket, d)) → Finds cells handle found
@@ -53,3 +40,8 @@ names a cells handle None hs hr l = foreign_by_ticket a cells handle l
 names {T} a cells handle (Some d) hs hr shown =
     let x : Entry T = record { slot = handle.slot; ticket = handle.ticket; details = d } in
     (x, has_parts a handle hs hr, refl, (entries_from 0 (slice_set cells handle.slot None), gains_clear 0 cells handle.slot x shown (omega arith)))
+
+-- an entry's handle is not a foreign one
+pub not_foreign : {T : Type 0} (r : RegistryState T) (handle : Handle) (d : T) → Stands r handle d → IsForeign r handle → ⊥
+not_foreign {T} r handle d s f =
+    of_all (λ (x : Entry T). handle ≢ handle_of r x) r.entries s.0 f (gained s.3.0 r.entries s.0 s.3.1) s.1

@@ -1,10 +1,14 @@
 -- Which entries stay and which leave in a recovery.
-use Rattle.std.proofs.Common.{◌≡◌, ◌≢◌, ℕ, Bool, true, false, List, [], ◌∷◌, refl, sym, ◌∙◌, ap, inl, inr, ◌⊎◌}
+use Rattle.std.proofs.Common.{◌≡◌, ◌≢◌, ℕ, Bool, true, false, List, [], ◌∷◌, map, refl, sym, ◌∙◌, ap, inl, inr, ◌⊎◌}
 use Rattle.std.specs.Prelude.{if◌then◌else◌}
-use Rattle.iox2_container.specs.State.{Entry}
-use Rattle.iox2_container.specs.Steps.{staying, is_true_first, after_first_answer}
-use Rattle.iox2_container.specs.Histories.{leaving}
+use Rattle.std.proofs.lemmas.List.{length-map}
+use Rattle.iox2_container.specs.declared.container.release.ReleaseMode.{ReleaseMode}
+use Rattle.iox2_container.specs.declared.container.release.ReleaseState.{ReleaseState}
+use Rattle.iox2_container.specs.State.{Entry, RegistryState, handle_of}
+use Rattle.iox2_container.specs.Steps.{RecoverStep, candidates, staying, is_true_first, after_first_answer}
+use Rattle.iox2_container.specs.Histories.{IsRecoveryChange, leaving}
 use Rattle.iox2_container.proofs.Members.{Among, Differ, head_differs, rest_differ, moved}
+use Rattle.iox2_container.proofs.Sweeping.{length-Asked}
 
 -- each item is in the one list or in the other
 abbrev pub Parted : {X : Type 0} → List X → List X → List X → Type 0
@@ -67,3 +71,11 @@ stays_or_leaves is_dead es answers x h = in_either es (staying is_dead es answer
 
 pub stays_apart : {T : Type 0} (n : Entry T → ℕ) (is_dead : T → Bool) (es : List (Entry T)) (answers : List Bool) (x y : Entry T) → Differ n es → Among x (staying is_dead es answers) → Among y (leaving is_dead es answers) → n x ≢ n y
 stays_apart n is_dead es answers x y d h k = in_one_only n es (staying is_dead es answers) (leaving is_dead es answers) x y d (parted is_dead es answers) h k
+
+-- a recovery is a change, with the callback's answers and the handles of the entries that went
+pub recovery_changes : {F T : Type 0} (calls : F → T → Bool → F → Type 0) (is_dead : T → Bool) (old : RegistryState T) (f : F) (mode : ReleaseMode) (state : ReleaseState) (new : RegistryState T) (f' : F) → RecoverStep calls is_dead old f mode state new f' → IsRecoveryChange is_dead old mode state new
+recovery_changes calls is_dead old f mode state new f' r = (
+  r.0,
+  map (handle_of old) (leaving is_dead old.entries r.0),
+  (length-Asked calls f _ r.0 f' r.1 ∙ length-map (candidates is_dead old.entries) (λ e. e.details), r.2, refl),
+)

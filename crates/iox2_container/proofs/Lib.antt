@@ -23,3 +23,5 @@ pub mod Alike
 pub mod Runs
 pub mod Collecting
 pub mod Agreeing
+pub mod Mapped
+pub mod LentCallbacks

@@ -104,3 +104,11 @@ cut_differs n (z ∷ b) a x y p (inr h) s = cut_differs n b a x y (rest_differ n
 pub other_differs : {T : Type 0} (n : Entry T → ℕ) (old new : List (Entry T)) (x y : Entry T) → Gains old new x → Differ n new → Among y old → n y ≢ n x
 other_differs {T} n old new x y g p h =
     cut_differs n g.before g.after x y (subst (λ (l : List (Entry T)). Differ n l) g.new_is p) (moved y old (g.before ++ g.after) g.old_is h)
+
+-- entries of one ticket are one
+pub one_by_ticket : {T : Type 0} (es v w : List (Entry T)) (x y : Entry T) → AllPairs (λ a b. a.ticket ≢ b.ticket) es → Gains v es x → Gains w es y → x.ticket ≡ y.ticket → y ≡ x
+one_by_ticket es v w x y differ gx gy t =
+    elim (among_less v es x y gx (gained w es y gy)) [
+      | inl h ↦ absurd (other_differs (λ e. e.ticket) v es x y gx differ h (sym t))
+      | inr e ↦ e
+    ]

@@ -1,22 +1,16 @@
 -- What a recovery does, and what calls do where nothing stands.
-use Rattle.std.proofs.Common.{◌≡◌, ◌≢◌, ℕ, zero, suc, ◌+◌, ◌-◌, ◌<◌, Bool, Option, List, [], length, refl, sym, ◌∙◌, ap, subst, arith, inl}
+use Rattle.std.proofs.Common.{◌≡◌, ◌≢◌, ℕ, zero, suc, ◌+◌, ◌-◌, ◌<◌, Bool, Option, List, [], length, sym, ap, subst, arith}
 use Rattle.std.specs.Prelude.{All, AllPairs, IsTrue, if◌then◌else◌, nat_lt}
-use Rattle.std.specs.List.{list_any}
 use Rattle.std.proofs.lemmas.Bool.{lt-ltb}
 use Rattle.iox2_container.specs.declared.container.ledger.Ledger.{Ledger}
 use Rattle.iox2_container.specs.declared.container.release.ReleaseMode.{ReleaseMode}
-use Rattle.iox2_container.specs.Places.{entries_from, details_in}
-use Rattle.iox2_container.specs.State.{Entry, RegistryState}
-use Rattle.iox2_container.specs.declared.container.release.ReleaseState.{ReleaseState}
+use Rattle.iox2_container.specs.Places.{entries_from}
+use Rattle.iox2_container.specs.State.{Entry}
 use Rattle.iox2_container.specs.Passes.{Swept}
-use Rattle.iox2_container.specs.Steps.{Asked, RecoverStep, Visit, candidates, lock_after, release_state, staying}
-use Rattle.iox2_texts.specs.declared.bounded.CallbackProgression.{CallbackProgression}
-use Rattle.iox2_texts.specs.declared.bounded.CallbackProgression.TheVariants.{Continue}
-use Rattle.std.proofs.lemmas.List.Elements.{All-nil}
-use Rattle.iox2_container.specs.Kept.{registry_of, IsKept}
+use Rattle.iox2_container.specs.Steps.{lock_after}
+use Rattle.iox2_container.specs.LedgerAndPlaces.{AreRegistry}
 use Rattle.iox2_container.proofs.CellEntries.{slots_from, below_from}
 use Rattle.iox2_container.proofs.Removing.{nothing_left, lock_is_last}
-use Rattle.iox2_container.proofs.AskedInTurn.{details_of}
 use Rattle.iox2_container.proofs.Sweeping.{All-staying, AllPairs-staying}
 
 -- a locked registry is one with nothing left
@@ -27,7 +21,7 @@ still_empty old new (suc gone) count mode was empty n k t =
     let left : count - suc gone ≡ 0 = lock_is_last mode (count - suc gone) was (subst (λ b. IsTrue (if b then lock_after mode (count - suc gone) was else was)) (lt-ltb 0 (suc gone) (omega arith)) t) was_open in
     nothing_left new (omega arith)
 
-pub kept_recover : {F T : Type 0} (calls : F → T → Bool → F → Type 0) (is_dead : T → Bool) (f h : F) (a : Ledger) (cells s : List (Option (ℕ × T))) (gone : ℕ) (mode : ReleaseMode) (locked : Bool) → IsKept a cells → Swept calls is_dead f (entries_from 0 cells) h (entries_from 0 s) gone → locked ≡ (if nat_lt 0 gone then lock_after mode (a.count - gone) a.locked else a.locked) → IsKept (record a { count = a.count - gone; locked = locked }) s
+pub kept_recover : {F T : Type 0} (calls : F → T → Bool → F → Type 0) (is_dead : T → Bool) (f h : F) (a : Ledger) (cells s : List (Option (ℕ × T))) (gone : ℕ) (mode : ReleaseMode) (locked : Bool) → AreRegistry a cells → Swept calls is_dead f (entries_from 0 cells) h (entries_from 0 s) gone → locked ≡ (if nat_lt 0 gone then lock_after mode (a.count - gone) a.locked else a.locked) → AreRegistry (record a { count = a.count - gone; locked = locked }) s
 kept_recover {F} {T} calls is_dead f h a cells s gone mode locked k w l = (
   record {
     slots_rise = slots_from 0 s;
@@ -39,36 +33,3 @@ kept_recover {F} {T} calls is_dead f h a cells s gone mode locked k w l = (
   },
   omega (arith, k.1, w.gone_is),
 )
-
-pub recover_step : {F T : Type 0} (calls : F → T → Bool → F → Type 0) (is_dead : T → Bool) (f h : F) (a : Ledger) (cells s : List (Option (ℕ × T))) (gone : ℕ) (mode : ReleaseMode) (locked : Bool) (state : ReleaseState) → IsKept a cells → Swept calls is_dead f (entries_from 0 cells) h (entries_from 0 s) gone → length s ≡ length cells → locked ≡ (if nat_lt 0 gone then lock_after mode (a.count - gone) a.locked else a.locked) → state ≡ release_state locked → RecoverStep calls is_dead (registry_of a cells) f mode state (registry_of (record a { count = a.count - gone; locked = locked }) s) h
-recover_step {F} {T} calls is_dead f h a cells s gone mode locked state k w same l st =
-    let new : RegistryState T = registry_of (record a { count = a.count - gone; locked = locked }) s in
-    let left : a.count - gone ≡ length (entries_from 0 s) = omega (arith, k.1, w.gone_is) in
-    let make : ℕ → List (Entry T) → Bool → RegistryState T = λ n es b. record new { capacity = n; entries = es; locked = b } in (
-      w.answers,
-      w.asked,
-      (
-        ap (λ n. make n (entries_from 0 s) locked) same
-            ∙ (ap (λ es. make (length cells) es locked) w.left_is
-            ∙ ap (make (length cells) (staying is_dead (entries_from 0 cells) w.answers))
-            (l ∙ (ap (λ b. if b then lock_after mode (a.count - gone) a.locked else a.locked) (sym w.any_is)
-            ∙ ap (λ n. if list_any (λ goes. goes) w.answers then lock_after mode n a.locked else a.locked) left))),
-        st,
-      ),
-    )
-
--- where nothing stands, there is nothing to ask about
-pub recover_none : {F T : Type 0} (calls : F → T → Bool → F → Type 0) (is_dead : T → Bool) (f : F) (a : Ledger) (cells : List (Option (ℕ × T))) (mode : ReleaseMode) (state : ReleaseState) → IsKept a cells → a.count ≡ 0 → state ≡ release_state a.locked → RecoverStep calls is_dead (registry_of a cells) f mode state (registry_of a cells) f
-recover_none {F} {T} calls is_dead f a cells mode state k n st =
-    let none : entries_from 0 cells ≡ [] = nothing_left (entries_from 0 cells) (omega (arith, k.1)) in
-    let make : List (Entry T) → RegistryState T = λ es. record (registry_of a cells) { entries = es } in (
-      [],
-      subst (λ es. Asked calls f (details_of (candidates is_dead es)) [] f) (sym none) refl,
-      (ap make (subst (λ es. es ≡ staying is_dead es []) (sym none) refl), st),
-    )
-
--- nor to visit
-pub visit_none : {F T : Type 0} (calls : F → T → CallbackProgression → F → Type 0) (f : F) (a : Ledger) (cells : List (Option (ℕ × T))) → IsKept a cells → a.count ≡ 0 → Visit calls f (details_in cells) f
-visit_none calls f a cells k n =
-    let none : entries_from 0 cells ≡ [] = nothing_left (entries_from 0 cells) (omega (arith, k.1)) in
-    subst (λ es. Visit calls f (details_of es) f) (sym none) (record { seen = []; rest = []; answers = []; items_are = refl; asked = refl; ends = inl (All-nil (λ a. a ≡ Continue), refl) })

@@ -11,7 +11,7 @@ use Rattle.iox2_container.specs.Handle.{Handle}
 use Rattle.iox2_container.specs.State.{Entry, RegistryState}
 use Rattle.iox2_container.specs.Steps.{Gains, IsForeign, RemoveStep, lock_after, release_state}
 use Rattle.iox2_container.specs.Places.{Finds, IsTakenAt, entries_from}
-use Rattle.iox2_container.specs.Kept.{registry_of, IsKept}
+use Rattle.iox2_container.specs.LedgerAndPlaces.{registry_of, AreRegistry}
 use Rattle.iox2_container.proofs.CellEntries.{gains_clear, below_from}
 use Rattle.iox2_container.proofs.Gaining.{length-Gains}
 use Rattle.iox2_container.proofs.Handles.{has_parts}
@@ -46,11 +46,11 @@ gains_of_clear {T} cells s handle d shown e =
     subst (λ (cs : List (Option (ℕ × T))). Gains (entries_from 0 cs) (entries_from 0 cells) (entry_at handle d)) (sym e) (gains_clear 0 cells handle.slot (entry_at handle d) shown (omega arith))
 
 -- an entry goes, so there was one
-pub some_stood : {T : Type 0} (a : Ledger) (cells s : List (Option (ℕ × T))) (handle : Handle) (d : T) → IsKept a cells → Finds cells handle (Some d) → s ≡ slice_set cells handle.slot None → a.count ≡ length (entries_from 0 s) + 1
+pub some_stood : {T : Type 0} (a : Ledger) (cells s : List (Option (ℕ × T))) (handle : Handle) (d : T) → AreRegistry a cells → Finds cells handle (Some d) → s ≡ slice_set cells handle.slot None → a.count ≡ length (entries_from 0 s) + 1
 some_stood a cells s handle d k shown e =
     k.1 ∙ length-Gains (entries_from 0 s) (entries_from 0 cells) (entry_at handle d) (gains_of_clear cells s handle d shown e)
 
-pub kept_clear : {T : Type 0} (a : Ledger) (cells s : List (Option (ℕ × T))) (handle : Handle) (d : T) (mode : ReleaseMode) (locked : Bool) → IsKept a cells → Finds cells handle (Some d) → s ≡ slice_set cells handle.slot None → locked ≡ lock_after mode (a.count - 1) a.locked → IsKept (record a { count = a.count - 1; locked = locked }) s
+pub kept_clear : {T : Type 0} (a : Ledger) (cells s : List (Option (ℕ × T))) (handle : Handle) (d : T) (mode : ReleaseMode) (locked : Bool) → AreRegistry a cells → Finds cells handle (Some d) → s ≡ slice_set cells handle.slot None → locked ≡ lock_after mode (a.count - 1) a.locked → AreRegistry (record a { count = a.count - 1; locked = locked }) s
 kept_clear {T} a cells s handle d mode locked k shown e l =
     let one : a.count ≡ length (entries_from 0 s) + 1 = some_stood a cells s handle d k shown e in
     let was_open : IsTrue a.locked → ⊥ = λ t. (let z : length (entries_from 0 cells) ≡ 0 = ap length (k.0.locked_is_empty t) in omega (arith, k.1)) in
@@ -60,7 +60,7 @@ kept_clear {T} a cells s handle d mode locked k shown e l =
       left,
     )
 
-pub remove_step : {T : Type 0} (a : Ledger) (cells s : List (Option (ℕ × T))) (handle : Handle) (d : T) (mode : ReleaseMode) (locked : Bool) (state : ReleaseState) → IsKept a cells → handle.service ≡ a.service → handle.role ≡ a.role → Finds cells handle (Some d) → s ≡ slice_set cells handle.slot None → locked ≡ lock_after mode (a.count - 1) a.locked → state ≡ release_state locked → RemoveStep (registry_of a cells) handle mode (Ok state) (registry_of (record a { count = a.count - 1; locked = locked }) s)
+pub remove_step : {T : Type 0} (a : Ledger) (cells s : List (Option (ℕ × T))) (handle : Handle) (d : T) (mode : ReleaseMode) (locked : Bool) (state : ReleaseState) → AreRegistry a cells → handle.service ≡ a.service → handle.role ≡ a.role → Finds cells handle (Some d) → s ≡ slice_set cells handle.slot None → locked ≡ lock_after mode (a.count - 1) a.locked → state ≡ release_state locked → RemoveStep (registry_of a cells) handle mode (Ok state) (registry_of (record a { count = a.count - 1; locked = locked }) s)
 remove_step {T} a cells s handle d mode locked state k hs hr shown e l st =
     let new : RegistryState T = registry_of (record a { count = a.count - 1; locked = locked }) s in
     let same : length s ≡ length cells = ap length e ∙ length-set cells handle.slot None in

@@ -6,7 +6,7 @@ use Rattle.std.proofs.lemmas.List.{map-set}
 use Rattle.std.proofs.lemmas.Option.{slice_get-map}
 use Rattle.iox2_container.specs.declared.container.cell.Cell.{Cell}
 use Rattle.iox2_container.specs.declared.container.cell.Cell.TheVariants.{Free}
-use Rattle.iox2_container.specs.Shown.{shown}
+use Rattle.iox2_container.specs.Cells.{shown}
 
 -- a cell is written
 pub shown_set : {T N : Type 0} (cells s : List (Cell T N)) (slot : ℕ) (cell : Cell T N) → s ≡ slice_set cells slot cell → map shown s ≡ slice_set (map shown cells) slot (shown cell)

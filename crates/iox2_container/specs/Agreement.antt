@@ -1,5 +1,6 @@
 -- When replies agree by the `==` of the details, of which only an equivalence is known.
-use Rattle.std.specs.Prelude.{◌≡◌, ⊤, Bool, List, All, length, count_by}
+use Rattle.std.specs.Prelude.{◌≡◌, ⊤, Bool, IsTrue, List, All, length, count_by}
+use Rattle.std.specs.Cmp.Lexicographic.{pointwise}
 use Rattle.iox2_container.specs.declared.container.calls.RegistryReply.{RegistryReply}
 use Rattle.iox2_container.specs.declared.container.calls.RegistryReply.TheVariants as Reply
 
@@ -13,3 +14,8 @@ abbrev pub AgreesBy : {T : Type 0} → (T → T → Bool) → RegistryReply T �
 AgreesBy eq (Reply.Handle one) (Reply.Handle other) = ⊤
 AgreesBy eq (Reply.Entries one) (Reply.Entries other) = EquallyMany eq one.items other.items
 AgreesBy eq one other = one ≡ other
+
+-- the same reply, where details are compared in turn by `==`
+abbrev pub IsSameReplyBy : {T : Type 0} → (T → T → Bool) → RegistryReply T → RegistryReply T → Type 0
+IsSameReplyBy eq (Reply.Entries one) (Reply.Entries other) = IsTrue (pointwise eq one.items other.items)
+IsSameReplyBy eq one other = one ≡ other

@@ -32,6 +32,11 @@ ChangeStep old (Recovering is_dead answers went mode state) new =
     × Recovers is_dead answers old mode state new
     × (went ≡ map (handle_of old) (leaving is_dead old.entries answers))
 
+-- some change `Recovering` leads from the old state to the new one
+abbrev pub IsRecoveryChange : {T : Type 0} → (T → Bool) → RegistryState T → ReleaseMode → ReleaseState → RegistryState T → Type 0
+IsRecoveryChange is_dead old mode state new =
+    (answers : List Bool) × (went : List Handle) × ChangeStep old (Recovering is_dead answers went mode state) new
+
 -- one change after another; each state is that of a registry
 abbrev pub History : {T : Type 0} → RegistryState T → List (Change T) → RegistryState T → Type 0
 History old [] new = new ≡ old

@@ -1,14 +1,18 @@
+-- What contracts of this crate promise to others
 pub mod Handle
 pub mod State
 pub mod Steps
-pub mod Held
-pub mod Cells
-pub mod Places
-pub mod Passes
-pub mod Shown
-pub mod Kept
-pub mod Threads
-pub mod Threaded
+pub mod ContainerState
+pub mod Mapped
+pub mod Changes
 pub mod Histories
 pub mod Calls
 pub mod Agreement
+-- What contracts see of slots, which others may use by themselves
+pub mod Cells
+-- Inner facts, which no other crate needs: places, passes over them, the ledger, and the free list
+pub mod Places
+pub mod Passes
+pub mod LedgerAndPlaces
+pub mod FreeLinks
+pub mod FreeList

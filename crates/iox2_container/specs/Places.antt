@@ -1,5 +1,5 @@
 -- What stands in numbered places.
-use Rattle.std.specs.Prelude.{◌≡◌, ◌≢◌, ℕ, ◌+◌, Option, Some, None, List, [], ◌∷◌, map, slice_get}
+use Rattle.std.specs.Prelude.{◌≡◌, ◌≢◌, ℕ, ◌+◌, ◌≤◌, Option, Some, None, List, [], ◌∷◌, map, slice_get}
 use Rattle.iox2_container.specs.Handle.{Handle}
 use Rattle.iox2_container.specs.State.{Entry}
 
@@ -17,6 +17,10 @@ details_in cells = map (λ e. e.details) (entries_from 0 cells)
 -- something stands in the cell
 abbrev pub IsTakenAt : {T : Type 0} → List (Option (ℕ × T)) → ℕ → Type 0
 IsTakenAt {T} cells slot = (entry : ℕ × T) × (slice_get cells slot ≡ Some (Some entry))
+
+-- no entry stands in this place, nor in a later one
+abbrev pub NoneFrom : {T : Type 0} → List (Option (ℕ × T)) → ℕ → Type 0
+NoneFrom cells end = (slot : ℕ) → end ≤ slot → IsTakenAt cells slot → ⊥
 
 -- the details in the handle's place, if they have its ticket
 abbrev pub Finds : {T : Type 0} → List (Option (ℕ × T)) → Handle → Option T → Type 0

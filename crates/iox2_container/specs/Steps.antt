@@ -1,8 +1,8 @@
 -- What the calls on a registry do.
 use Rattle.std.specs.Prelude.{◌≡◌, ◌≢◌, ℕ, zero, suc, ◌+◌, ◌<◌, ◌≤◌, ◌==◌, ◌⊎◌, Bool, true, false, if◌then◌else◌, Result, Ok, Err, List, [], ◌∷◌, ◌++◌, length, map, filter, All}
 use Rattle.std.specs.List.{list_any}
+use Rattle.iox2_texts.specs.Attribute.{Visits}
 use Rattle.iox2_texts.specs.declared.bounded.CallbackProgression.{CallbackProgression}
-use Rattle.iox2_texts.specs.declared.bounded.CallbackProgression.TheVariants.{Continue, Stop}
 use Rattle.iox2_container.specs.declared.container.refusal.ContainerAddFailure.{ContainerAddFailure}
 use Rattle.iox2_container.specs.declared.container.refusal.ContainerAddFailure.TheVariants.{IsLocked, OutOfSpace}
 use Rattle.iox2_container.specs.declared.container.refusal.ContainerRemoveError.{ContainerRemoveError}
@@ -85,20 +85,10 @@ Asked {F} calls f (item ∷ items) (answer ∷ answers) f' =
 abbrev pub listed : {T : Type 0} → RegistryState T → List T
 listed r = map (λ e. e.details) r.entries
 
--- a callback goes on after each of these answers but a last `Stop`, which it need not give where nothing is left
-abbrev pub EndsWell : {A : Type 0} → List CallbackProgression → List A → Type 0
-EndsWell answers rest =
-    (All (λ a. a ≡ Continue) answers × (rest ≡ []))
-    ⊎ ((front : List CallbackProgression) × All (λ a. a ≡ Continue) front × (answers ≡ front ++ Stop ∷ []))
-
--- a callback was asked about the items in order, up to and with the first answer `Stop`, or about all
+-- a callback was asked about the items in order, up to and with the first answer `Stop`, or about all. It is a record, so
+-- that a proof finds the calls in it
 pub record Visit {F A : Type 0} (calls : F → A → CallbackProgression → F → Type 0) (f : F) (items : List A) (f' : F) : Type 0 where
-  pub seen : List A
-  pub rest : List A
-  pub answers : List CallbackProgression
-  pub items_are : items ≡ seen ++ rest
-  pub asked : Asked calls f seen answers f'
-  pub ends : EndsWell answers rest
+  pub visits : Visits calls f items f'
 
 -- whether details are those of the node
 abbrev pub is_of : {T : Type 0} → (T → ℕ) → ℕ → T → Bool

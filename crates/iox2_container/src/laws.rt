@@ -1,21 +1,121 @@
-//! What holds of a container over every list of changes, from a new one on.
-ghost use Rattle.std.specs.Prelude.{◌↔◌, ◌≢◌, List, AllPairs, Any};
+//! What holds of a container over every list of changes, from a new one on, and how `==`, hashing and `clone` see the
+//! values that it takes and gives.
+ghost use Rattle.std.specs.Prelude.{◌≡◌, ◌↔◌, ◌≢◌, IsTrue, IsOkAnd, List, AllPairs, Any, fold};
 ghost use Rattle.iox2_container.specs.Handle.{Handle};
 ghost use Rattle.iox2_container.specs.State.{RegistryState};
-ghost use Rattle.iox2_container.specs.Steps.{Stands};
-ghost use Rattle.iox2_container.specs.Histories.{Change, History, IsNew, IsRefused, Remains, TakesOut, handles_given};
+ghost use Rattle.iox2_container.specs.Steps.{Stands, is_of};
+ghost use Rattle.iox2_container.specs.Histories.{Change, History, IsNew, IsRecoveryChange};
+ghost use Rattle.iox2_container.specs.Histories.{IsRefused, Remains, TakesOut, handles_given};
+ghost use Rattle.iox2_container.specs.Agreement.{IsSameReplyBy};
+
+use crate::container::{
+    Attached, ContainerAddFailure, ContainerHandle, ContainerRemoveError, Registry, RegistryReply,
+    ReleaseMode, ReleaseState, Role,
+};
+use iox2_ids::identifiers::UniqueNodeId;
+use std::alloc::AllocError;
+
+/// A recovery is one of the changes, with its callback's answers and the handles of the entries that went.
+pub fn recoveries_are_changes<T: Attached + Copy, R: Registry<T>, F: FnMut(&T) -> bool>(
+    registry: &mut R,
+    dead: &UniqueNodeId,
+    f: &mut F,
+    mode: ReleaseMode,
+) -> ReleaseState
+    requires { F.IsAlwaysCallable f.old }
+    ensures { IsRecoveryChange (is_of T.node dead.now)
+        (R.state registry.old) mode result (R.state registry.new) }
+{
+    registry.recover(dead, f, mode)
+}
 
 /// A handle that was removed or recovered is refused for good, whatever changes follow.
 pub fn gone_handles_are_refused<T>()
-    ensures { (start now : RegistryState T) (changes : List (Change T)) (handle : Handle) → IsNew start → History start changes now → Any (TakesOut handle) changes → IsRefused now handle }
+    ensures { (start now : RegistryState T) (changes : List (Change T)) (handle : Handle)
+        → IsNew start → History start changes now
+        → Any (TakesOut handle) changes → IsRefused now handle }
 {}
 
 /// The entries are exactly those that were added and not since removed or recovered.
 pub fn entries_are_what_remains<T>()
-    ensures { (start now : RegistryState T) (changes : List (Change T)) (handle : Handle) (details : T) → IsNew start → History start changes now → Stands now handle details ↔ Remains changes handle details }
+    ensures { (start now : RegistryState T) (changes : List (Change T))
+        (handle : Handle) (details : T)
+        → IsNew start → History start changes now
+        → Stands now handle details ↔ Remains changes handle details }
 {}
 
 /// No two adds give the same handle.
 pub fn handles_are_not_reused<T>()
-    ensures { (start now : RegistryState T) (changes : List (Change T)) → History start changes now → AllPairs ◌≢◌ (handles_given changes) }
+    ensures { (start now : RegistryState T) (changes : List (Change T))
+        → History start changes now → AllPairs ◌≢◌ (handles_given changes) }
 {}
+
+/// Handles are equal exactly where service, role, slot and ticket are, and a clone is the same.
+pub fn handles_go_by_fields(
+    one: &ContainerHandle,
+    other: &ContainerHandle,
+) -> (bool, Result<ContainerHandle, AllocError>)
+    ensures equal { IsTrue result.0 ↔ (one.now ≡ other.now) }
+    ensures cloned { IsOkAnd result.1 (λ copy. copy ≡ one.now) }
+{
+    (one == other, one.clone())
+}
+
+/// Roles are equal exactly where they are the same, and a clone is the same.
+pub fn roles_go_by_variant(one: &Role, other: &Role) -> (bool, Result<Role, AllocError>)
+    ensures equal { IsTrue result.0 ↔ (one.now ≡ other.now) }
+    ensures cloned { IsOkAnd result.1 (λ copy. copy ≡ one.now) }
+{
+    (one == other, one.clone())
+}
+
+/// Modes of release are equal exactly where they are the same, and a clone is the same.
+pub fn release_modes_go_by_variant(
+    one: &ReleaseMode,
+    other: &ReleaseMode,
+) -> (bool, Result<ReleaseMode, AllocError>)
+    ensures equal { IsTrue result.0 ↔ (one.now ≡ other.now) }
+    ensures cloned { IsOkAnd result.1 (λ copy. copy ≡ one.now) }
+{
+    (one == other, one.clone())
+}
+
+/// States after a release are equal exactly where they are the same, and a clone is the same.
+pub fn release_states_go_by_variant(
+    one: &ReleaseState,
+    other: &ReleaseState,
+) -> (bool, Result<ReleaseState, AllocError>)
+    ensures equal { IsTrue result.0 ↔ (one.now ≡ other.now) }
+    ensures cloned { IsOkAnd result.1 (λ copy. copy ≡ one.now) }
+{
+    (one == other, one.clone())
+}
+
+/// Refusals of an add are equal exactly where they are the same, and a clone is the same.
+pub fn add_failures_go_by_variant(
+    one: &ContainerAddFailure,
+    other: &ContainerAddFailure,
+) -> (bool, Result<ContainerAddFailure, AllocError>)
+    ensures equal { IsTrue result.0 ↔ (one.now ≡ other.now) }
+    ensures cloned { IsOkAnd result.1 (λ copy. copy ≡ one.now) }
+{
+    (one == other, one.clone())
+}
+
+/// Refusals of a removal are equal, since there is but one, and a clone is the same.
+pub fn remove_errors_go_by_variant(
+    one: &ContainerRemoveError,
+    other: &ContainerRemoveError,
+) -> (bool, Result<ContainerRemoveError, AllocError>)
+    ensures equal { IsTrue result.0 ↔ (one.now ≡ other.now) }
+    ensures cloned { IsOkAnd result.1 (λ copy. copy ≡ one.now) }
+{
+    (one == other, one.clone())
+}
+
+/// Replies are equal by variant and what is in them, details by their own `==`.
+pub fn replies_go_by_fields<T: Copy + Eq>(one: &RegistryReply<T>, other: &RegistryReply<T>) -> bool
+    ensures { IsTrue result ↔ IsSameReplyBy T.eq one.now other.now }
+{
+    one == other
+}

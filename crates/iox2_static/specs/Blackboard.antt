@@ -1,6 +1,6 @@
 -- Static configurations of blackboard services.
 use Rattle.iox2_config.specs.declared.config.blackboard.Blackboard.{Blackboard}
-use Rattle.iox2_config.specs.DefaultTypes.{default_detail}
+use Rattle.iox2_config.specs.TypeDetailParts.{default_detail}
 use Rattle.iox2_static.specs.declared.static_config.blackboard.StaticConfig.{StaticConfig}
 
 -- what is made of the defaults of a configuration

@@ -1,11 +1,12 @@
 //! Laws of static configurations: two of one type are equal exactly where all their fields are, and each gives its
 //! fields in turn to a hasher, so `==` and hashing agree.
-ghost use Rattle.std.specs.Prelude.{◌≡◌, ◌↔◌, IsTrue, fold};
+ghost use Rattle.std.specs.Prelude.{◌≡◌, ◌↔◌, IsTrue, IsOkAnd, fold};
 ghost use Rattle.iox2_static.specs.HashWrites.{publish_subscribe_writes, request_response_writes, deadline_writes};
 ghost use Rattle.iox2_static.specs.HashWrites.{event_writes, blackboard_writes, pattern_writes};
 
 use crate::static_config::messaging_pattern::MessagingPattern;
 use crate::static_config::{StaticConfig, blackboard, event, publish_subscribe, request_response};
+use std::alloc::AllocError;
 use std::hash::{Hash, Hasher};
 
 /// Configurations of publish-subscribe services are equal and hashed by their fields.
@@ -36,31 +37,33 @@ pub fn request_responses_go_by_fields<H: Hasher>(
     one == other
 }
 
-/// Deadlines are equal and hashed by their fields.
+/// Deadlines are equal and hashed by their fields, and a clone is the same.
 pub fn deadlines_go_by_fields<H: Hasher>(
     one: &event::Deadline,
     other: &event::Deadline,
     state: &mut H,
-) -> bool
-    ensures equal { IsTrue result ↔ (one.now ≡ other.now) }
+) -> (bool, Result<event::Deadline, AllocError>)
+    ensures equal { IsTrue result.0 ↔ (one.now ≡ other.now) }
+    ensures cloned { IsOkAnd result.1 (λ copy. copy ≡ one.now) }
     ensures hashed { state.new ≡ fold H.write state.old (deadline_writes one.now) }
 {
     one.hash(state);
-    one == other
+    (one == other, one.clone())
 }
 
-/// Configurations of event services are equal and hashed by their fields.
+/// Configurations of event services are equal and hashed by their fields, and a clone is the same.
 #[tactic(auto, using(crate::proofs::Equality::events_decide))]
 pub fn events_go_by_fields<H: Hasher>(
     one: &event::StaticConfig,
     other: &event::StaticConfig,
     state: &mut H,
-) -> bool
-    ensures equal { IsTrue result ↔ (one.now ≡ other.now) }
+) -> (bool, Result<event::StaticConfig, AllocError>)
+    ensures equal { IsTrue result.0 ↔ (one.now ≡ other.now) }
+    ensures cloned { IsOkAnd result.1 (λ copy. copy ≡ one.now) }
     ensures hashed { state.new ≡ fold H.write state.old (event_writes one.now) }
 {
     one.hash(state);
-    one == other
+    (one == other, one.clone())
 }
 
 /// Configurations of blackboard services are equal and hashed by their fields.

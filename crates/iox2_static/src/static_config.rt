@@ -65,7 +65,8 @@ impl StaticConfig {
         unique_service_id: UniqueServiceId,
         messaging_pattern: MessagingPattern,
     ) -> Result<Self, ServiceHashError>
-        ensures { Describes H.meaning H.may_refuse service_name.now unique_service_id messaging_pattern result }
+        ensures { Describes H.meaning H.may_refuse service_name.now unique_service_id
+            messaging_pattern result }
     {
         let service_hash = ServiceHash::new::<H>(service_name, messaging_pattern.kind())?;
         Ok(StaticConfig {
@@ -87,7 +88,8 @@ impl StaticConfig {
         unique_service_id: UniqueServiceId,
     ) -> Result<Self, ServiceHashError>
         ensures { Describes H.meaning H.may_refuse service_name.now unique_service_id
-            (MessagingPattern.RequestResponse (request_response_of config.now.defaults.request_response)) result }
+            (MessagingPattern.RequestResponse
+            (request_response_of config.now.defaults.request_response)) result }
     {
         let settings = request_response::StaticConfig::new(config);
         Self::describe::<H>(
@@ -125,7 +127,8 @@ impl StaticConfig {
         unique_service_id: UniqueServiceId,
     ) -> Result<Self, ServiceHashError>
         ensures { Describes H.meaning H.may_refuse service_name.now unique_service_id
-            (MessagingPattern.PublishSubscribe (publish_subscribe_of config.now.defaults.publish_subscribe)) result }
+            (MessagingPattern.PublishSubscribe
+            (publish_subscribe_of config.now.defaults.publish_subscribe)) result }
     {
         let settings = publish_subscribe::StaticConfig::new(config);
         Self::describe::<H>(

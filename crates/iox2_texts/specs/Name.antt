@@ -1,6 +1,7 @@
 -- Texts with an illegal content beside a greatest length.
 use Rattle.std.specs.Prelude.{ℕ, ◌<◌, ◌≤◌, List, length, Result, Ok, Err, ◌≡◌, MatchBool, nat_eq}
 use Rattle.std.specs.List.{starts_with}
+use Rattle.std.specs.Result.{result_map_both}
 use lib.Chars.{codes}
 use Rattle.iox2_texts.specs.Text.{IsTextUpTo}
 use Rattle.iox2_texts.specs.declared.bounded.SemanticStringError.{SemanticStringError}
@@ -27,11 +28,14 @@ MakesLegal Legal n bytes (Err InvalidContent) = (length bytes ≤ n) × (¬ (Leg
 abbrev pub MakesName : ℕ → List ℕ → Result (List ℕ) SemanticStringError → Type 0
 MakesName n bytes r = MakesLegal (IsName n) n bytes r
 
--- what making a service name answers, with its own errors
+-- the error of a semantic string that tells the same
+abbrev pub semantic_of : ServiceNameError → SemanticStringError
+semantic_of name.ExceedsMaximumLength = ExceedsMaximumLength
+semantic_of name.InvalidContent = InvalidContent
+
+-- what making a service name answers: the same, with its own errors
 abbrev pub MakesServiceName : List ℕ → Result (List ℕ) ServiceNameError → Type 0
-MakesServiceName bytes (Ok text) = (text ≡ bytes) × IsName 255 bytes
-MakesServiceName bytes (Err name.ExceedsMaximumLength) = 255 < length bytes
-MakesServiceName bytes (Err name.InvalidContent) = (length bytes ≤ 255) × (¬ (IsName 255 bytes))
+MakesServiceName bytes r = MakesName 255 bytes (result_map_both (λ text. text) semantic_of r)
 
 -- the same for a name from outside, which may not begin with `iox2://`
 abbrev pub MakesPublicName : List ℕ → Result (List ℕ) ServiceNameError → Type 0

@@ -45,9 +45,3 @@ abbrev pub MakesJoined : List ℕ → List ℕ → Result (List ℕ) SemanticStr
 MakesJoined path entry (Ok joined) = (joined ≡ join path entry) × (length (join path entry) ≤ 255)
 MakesJoined path entry (Err ExceedsMaximumLength) = 255 < length (join path entry)
 MakesJoined path entry (Err InvalidContent) = ⊥
-
--- what joining an entry to the path `old` answers and leaves
-abbrev pub JoinsTo : List ℕ → List ℕ → Result (Unit {0}) SemanticStringError → List ℕ → Type 0
-JoinsTo old entry (Ok _) new = (new ≡ join old entry) × (length (join old entry) ≤ 255)
-JoinsTo old entry (Err ExceedsMaximumLength) new = (new ≡ old) × (255 < length (join old entry))
-JoinsTo old entry (Err InvalidContent) new = ⊥

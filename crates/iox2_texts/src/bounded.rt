@@ -135,6 +135,7 @@ impl<const N: usize> StaticString<N> {
         ensures value { self.new ≡ self.old ++ more.now }
         ensures legal { IsTextUpTo N self.new }
     {
+        // Never refused: the caller leaves room for all of it.
         let _fits = self.bytes.try_extend_from_slice(more);
     }
 

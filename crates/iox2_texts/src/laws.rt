@@ -1,14 +1,24 @@
 //! Laws of texts, sets of attributes and least multiples that no single call carries.
 //!
 //! Texts of each type are equal, ordered and hashed by their bytes, so `==`, `cmp` and hashing agree.
-ghost use Rattle.std.specs.Prelude.{◌≡◌, ◌↔◌, IsTrue, IsPermutation, fold};
+ghost use Rattle.std.specs.Prelude.{◌≡◌, ◌↔◌, IsTrue, IsOkAnd, IsPermutation, fold};
 ghost use Rattle.iox2_texts.specs.Laws.{ListingsAreUnique, ValuesAreCounted, LeastMultiplesAreUnique};
-ghost use Rattle.iox2_texts.specs.Name.{MakesName};
+ghost use Rattle.iox2_texts.specs.Name.{IsAllowed, MakesLegal, MakesName};
+ghost use Rattle.iox2_texts.specs.Path.{IsPlain, EndsPlain, IsRestricted};
 ghost use Rattle.iox2_texts.specs.Pair.{text_cmp, text_writes, pair_cmp};
+ghost use Rattle.iox2_texts.specs.Text.{IsTextUpTo};
 
-use crate::attribute::{Attribute, AttributeKey, AttributeSet, AttributeValue};
-use crate::bounded::{Content, SemanticString, SemanticStringError, StaticString};
-use crate::service_name::ServiceName;
+use crate::attribute::{
+    Attribute, AttributeDefinitionError, AttributeKey, AttributeSet, AttributeValue,
+    AttributeVerificationError,
+};
+use crate::bounded::{
+    CallbackProgression, Content, SemanticString, SemanticStringError, StaticString,
+    StringModificationError,
+};
+use crate::paths::{FileName, FilePath, Path, RestrictedFileName};
+use crate::service_name::{ServiceName, ServiceNameError};
+use std::alloc::AllocError;
 use std::cmp::Ordering;
 use std::hash::{Hash, Hasher};
 
@@ -22,6 +32,7 @@ pub fn sets_are_equal_by_pairs(one: &AttributeSet, other: &AttributeSet) -> bool
     ensures equal { IsTrue result ↔ (one.now ≡ other.now) }
     ensures pairs { IsTrue result ↔ IsPermutation one.now other.now }
 {
+    // Read for what they promise alone: a set's pairs rise.
     let _rises = one.as_slice();
     let _rises = other.as_slice();
     one == other
@@ -93,10 +104,105 @@ pub fn values_have_up_to_256_bytes(bytes: &[u8]) -> Result<AttributeValue, Seman
     AttributeValue::new(bytes)
 }
 
+/// Paths have up to 255 bytes.
+pub fn paths_have_up_to_255_bytes(bytes: &[u8]) -> Result<Path, SemanticStringError>
+    ensures { MakesLegal (IsTextUpTo 255) 255 bytes.now result }
+{
+    Path::new(bytes)
+}
+
+/// Names of files have 1 to 255 bytes.
+pub fn file_names_have_up_to_255_bytes(bytes: &[u8]) -> Result<FileName, SemanticStringError>
+    ensures { MakesLegal (IsAllowed IsPlain 255) 255 bytes.now result }
+{
+    FileName::new(bytes)
+}
+
+/// Paths of files have 1 to 255 bytes.
+pub fn file_paths_have_up_to_255_bytes(bytes: &[u8]) -> Result<FilePath, SemanticStringError>
+    ensures { MakesLegal (IsAllowed EndsPlain 255) 255 bytes.now result }
+{
+    FilePath::new(bytes)
+}
+
+/// Restricted names have 1 to `N` bytes.
+pub fn restricted_names_have_up_to_n_bytes<const N: usize>(
+    bytes: &[u8],
+) -> Result<RestrictedFileName<N>, SemanticStringError>
+    ensures { MakesLegal (IsAllowed IsRestricted N) N bytes.now result }
+{
+    RestrictedFileName::<N>::new(bytes)
+}
+
 /// Attributes are equal by key and value, and ordered by the key's bytes and then the value's.
 pub fn attributes_go_by_bytes(one: &Attribute, other: &Attribute) -> (bool, Ordering)
     ensures equal { IsTrue result.0 ↔ (one.now ≡ other.now) }
     ensures ordered { result.1 ≡ pair_cmp one.now other.now }
 {
     (one == other, one.cmp(other))
+}
+
+/// Answers of callbacks are equal exactly where they are the same, and a clone is the same.
+pub fn callback_progressions_go_by_variant(
+    one: &CallbackProgression,
+    other: &CallbackProgression,
+) -> (bool, Result<CallbackProgression, AllocError>)
+    ensures equal { IsTrue result.0 ↔ (one.now ≡ other.now) }
+    ensures cloned { IsOkAnd result.1 (λ copy. copy ≡ one.now) }
+{
+    (one == other, one.clone())
+}
+
+/// Errors of changing texts are equal exactly where they are the same, and a clone is the same.
+pub fn string_modification_errors_go_by_variant(
+    one: &StringModificationError,
+    other: &StringModificationError,
+) -> (bool, Result<StringModificationError, AllocError>)
+    ensures equal { IsTrue result.0 ↔ (one.now ≡ other.now) }
+    ensures cloned { IsOkAnd result.1 (λ copy. copy ≡ one.now) }
+{
+    (one == other, one.clone())
+}
+
+/// Errors of semantic strings are equal exactly where they are the same, and a clone is the same.
+pub fn semantic_string_errors_go_by_variant(
+    one: &SemanticStringError,
+    other: &SemanticStringError,
+) -> (bool, Result<SemanticStringError, AllocError>)
+    ensures equal { IsTrue result.0 ↔ (one.now ≡ other.now) }
+    ensures cloned { IsOkAnd result.1 (λ copy. copy ≡ one.now) }
+{
+    (one == other, one.clone())
+}
+
+/// Errors of service names are equal exactly where they are the same, and a clone is the same.
+pub fn service_name_errors_go_by_variant(
+    one: &ServiceNameError,
+    other: &ServiceNameError,
+) -> (bool, Result<ServiceNameError, AllocError>)
+    ensures equal { IsTrue result.0 ↔ (one.now ≡ other.now) }
+    ensures cloned { IsOkAnd result.1 (λ copy. copy ≡ one.now) }
+{
+    (one == other, one.clone())
+}
+
+/// Errors of defining attributes are equal exactly where they are the same, and a clone is the same.
+pub fn attribute_definition_errors_go_by_variant(
+    one: &AttributeDefinitionError,
+    other: &AttributeDefinitionError,
+) -> (bool, Result<AttributeDefinitionError, AllocError>)
+    ensures equal { IsTrue result.0 ↔ (one.now ≡ other.now) }
+    ensures cloned { IsOkAnd result.1 (λ copy. copy ≡ one.now) }
+{
+    (one == other, one.clone())
+}
+
+/// Faults of a set of attributes are equal exactly where their variant, key and value are.
+pub fn attribute_verification_errors_go_by_bytes(
+    one: &AttributeVerificationError,
+    other: &AttributeVerificationError,
+) -> bool
+    ensures { IsTrue result ↔ (one.now ≡ other.now) }
+{
+    one == other
 }

@@ -7,11 +7,12 @@
 mod file_name;
 mod file_path;
 mod joining;
+mod path;
 mod restricted;
 
 pub use file_name::{FileName, FileNameContent};
 pub use file_path::{FilePath, FilePathContent};
-pub use joining::{Path, PathContent};
+pub use path::{Path, PathContent};
 pub use restricted::{RestrictedFileName, RestrictedFileNameContent};
 
 /// The greatest number of bytes of a path and of a file name.

@@ -1,9 +1,15 @@
+pub mod Appending
 pub mod CommandLines
 pub mod Fronts
+pub mod Growing
 pub mod Kept
-pub mod Known
-pub mod OneReading
+pub mod Ids
+pub mod Moves
+pub mod Noting
 pub mod Numerals
+pub mod OneReading
 pub mod Runs
 pub mod Scripts
 pub mod Services
+pub mod Words
+pub mod SameReply

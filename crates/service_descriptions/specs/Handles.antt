@@ -1,7 +1,8 @@
 -- The handles that a service has given.
-use Rattle.std.specs.Prelude.{◌≡◌, ◌≢◌, ℕ, ◌<◌, List, Option, Some, None, All, AllPairs, map, slice_get}
+use Rattle.std.specs.Prelude.{◌≡◌, ◌≢◌, ℕ, ◌<◌, ◌⊎◌, List, Option, Some, None, All, AllPairs, map, slice_get}
 use Rattle.iox2_container.specs.Handle.{Handle}
 use Rattle.iox2_container.specs.State.{RegistryState}
+use Rattle.iox2_dynamic.specs.Service.{Service}
 use Rattle.service_descriptions.specs.declared.replay.earlier.Earlier.{Earlier}
 use Rattle.service_descriptions.specs.declared.replay.earlier.Earlier.TheVariants as earlier
 
@@ -22,14 +23,14 @@ Differ _ _ = Unit {0}
 abbrev pub GivenBy : {T : Type 0} → RegistryState T → Handle → Type 0
 GivenBy r h = (h.service ≡ r.service) × (h.role ≡ r.role) × (h.ticket < r.used)
 
--- the registry has given the handle, if there is one
-abbrev pub IsGiven : {T : Type 0} → RegistryState T → Option Handle → Type 0
-IsGiven r None = Unit {0}
-IsGiven r (Some h) = GivenBy r h
+-- a registry of the service has given the handle, if there is one
+abbrev pub IsGiven : Service → Option Handle → Type 0
+IsGiven s None = Unit {0}
+IsGiven s (Some h) = GivenBy s.nodes.registry h ⊎ GivenBy s.ports.first.registry h ⊎ GivenBy s.ports.second.registry h
 
--- the registry has given these handles, and no two of them are equal
-pub record KeepsHandles {T : Type 0} (r : RegistryState T) (handles : List (Option Handle)) : Type 0 where
-  pub given : All (IsGiven r) handles
+-- the service has given these handles, and no two of them are equal
+pub record KeepsHandles (s : Service) (handles : List (Option Handle)) : Type 0 where
+  pub given : All (IsGiven s) handles
   pub differ : AllPairs Differ handles
 
 -- the handle that is kept without the number of its service

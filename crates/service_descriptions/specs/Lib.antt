@@ -1,7 +1,10 @@
+pub mod Cleanups
+pub mod Descriptions
+pub mod Fields
 pub mod Handles
-pub mod Inner
 pub mod Laws
 pub mod Lines
+pub mod Listings
 pub mod Pattern
 pub mod Reading
 pub mod Replies

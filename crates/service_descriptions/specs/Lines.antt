@@ -1,10 +1,21 @@
 -- How ids, commands and services are spelled in a script.
-use Rattle.std.specs.Prelude.{ℕ, ◌<◌, ◌^◌, List, [], ◌∷◌, ◌++◌, codes}
+use Rattle.std.specs.Prelude.{◌≡◌, ◌≢◌, ℕ, ◌<◌, ◌^◌, List, [], ◌∷◌, ◌++◌, codes, get_or, map, Option, Some, None}
 use Rattle.std.specs.Fmt.{decimal}
-use Rattle.std.specs.List.{join_with_byte}
-use Rattle.iox2_ids.specs.Packing.{process_of, seconds_of, nanoseconds_of, counter_of, owner_of}
+use Rattle.std.specs.List.{AllByRecursion, join_with_byte}
+use Rattle.iox2_ids.specs.Packing.{packed, process_of, seconds_of, nanoseconds_of, counter_of, owner_of}
+use Rattle.iox2_ids.specs.PortId.{port_value}
+use Rattle.iox2_config.specs.declared.config.choices.DataSegmentType.TheVariants.{Static}
+use Rattle.iox2_container.specs.declared.container.role.Role.{Role}
+use Rattle.iox2_container.specs.declared.container.role.Role.TheVariants as role
+use Rattle.iox2_dynamic.specs.declared.dynamic_config.port_details.PortDetails.{PortDetails}
+use Rattle.iox2_dynamic.specs.declared.dynamic_config.port_details.PortDetails.TheVariants as of
+use Rattle.iox2_dynamic.specs.Details.{role_of, node_of, port_of}
+use Rattle.service_descriptions.specs.declared.replay.command.Cleanup.TheVariants.{ByPort}
 use Rattle.service_descriptions.specs.declared.replay.command.Command.{Command}
 use Rattle.service_descriptions.specs.declared.replay.command.Command.TheVariants as command
+use Rattle.service_descriptions.specs.declared.replay.id.Parts.{Parts}
+use Rattle.service_descriptions.specs.declared.replay.line_command.LineCommand.{LineCommand}
+use Rattle.service_descriptions.specs.declared.replay.line_command.LineCommand.TheVariants as spelled
 use Rattle.service_descriptions.specs.Reading.{EndsNumber}
 
 -- the four parts of an id, joined by dots
@@ -12,14 +23,82 @@ abbrev pub id_text : ℕ → List ℕ
 id_text id =
     join_with_byte 46 (decimal (process_of id) ∷ decimal (seconds_of id) ∷ decimal (nanoseconds_of id) ∷ decimal (counter_of id) ∷ [])
 
--- the number of a node's id: four parts of 32 bits, of which process or counter is not 0
+-- the number of an id: four parts of 32 bits
+abbrev pub IsId : ℕ → Type 0
+IsId id = id < 2 ^ 128
+
+-- the number of a node's id: process or counter is not 0
 abbrev pub IsNodeId : ℕ → Type 0
-IsNodeId id = (id < 2 ^ 128) × (0 < owner_of id)
+IsNodeId id = IsId id × (0 < owner_of id)
+
+-- the word for ports of a role. Nodes are not named by it
+abbrev pub role_word : Role → List ℕ
+role_word role.Publisher = codes "publisher"
+role_word role.Subscriber = codes "subscriber"
+role_word role.Listener = codes "listener"
+role_word role.Notifier = codes "notifier"
+role_word role.Server = codes "server"
+role_word role.Client = codes "client"
+role_word role.Reader = codes "reader"
+role_word role.Writer = codes "writer"
+role_word role.Node = []
+
+-- the details that a script gives a port of this role, id and node
+abbrev pub plain : Role → ℕ → ℕ → PortDetails
+plain role.Publisher port node = of.Publisher (record {
+  publisher_id = port;
+  node_id = node;
+  number_of_samples = 0;
+  max_slice_len = 0;
+  data_segment_type = Static;
+  max_number_of_segments = 1;
+})
+plain role.Subscriber port node = of.Subscriber (record { subscriber_id = port; node_id = node; buffer_size = 0 })
+plain role.Listener port node = of.Listener (record { listener_id = port; node_id = node })
+plain role.Notifier port node = of.Notifier (record { notifier_id = port; node_id = node })
+plain role.Server port node = of.Server (record {
+  server_id = port;
+  node_id = node;
+  request_buffer_size = 0;
+  number_of_responses = 0;
+  max_slice_len = 0;
+  data_segment_type = Static;
+  max_number_of_segments = 1;
+})
+plain role.Client port node = of.Client (record {
+  client_id = port;
+  node_id = node;
+  number_of_requests = 0;
+  response_buffer_size = 0;
+  max_slice_len = 0;
+  data_segment_type = Static;
+  max_number_of_segments = 1;
+})
+plain role.Writer port node = of.Writer (record { writer_id = port; node_id = node })
+plain _ port node = of.Reader (record { reader_id = port; node_id = node })
+
+-- details as a script gives them
+pub record IsPlain (d : PortDetails) : Type 0 where
+  pub port : IsId (port_value (port_of d))
+  pub node : IsNodeId (node_of d)
+  pub others : d ≡ plain (role_of d) (port_value (port_of d)) (node_of d)
+
+-- the words for the ports that stay
+abbrev pub skip_words : List ℕ → List (List ℕ)
+skip_words [] = []
+skip_words (port ∷ ports) = codes "skip" ∷ id_text port ∷ map id_text ports
 
 -- the words of a command's line
 abbrev pub words_of : Command → List (List ℕ)
 words_of (command.Register id) = codes "register" ∷ id_text id ∷ []
 words_of (command.Deregister k) = codes "deregister" ∷ decimal k ∷ []
+words_of command.Nodes = codes "nodes" ∷ []
+words_of (command.Add d) = codes "add" ∷ role_word (role_of d) ∷ id_text (port_value (port_of d)) ∷ id_text (node_of d) ∷ []
+words_of (command.Release k) = codes "release" ∷ decimal k ∷ []
+words_of (command.List r) = codes "list" ∷ role_word r ∷ []
+words_of (command.Count r) = codes "count" ∷ role_word r ∷ []
+words_of (command.Dead id (ByPort kept)) = codes "dead" ∷ id_text id ∷ skip_words kept.items
+words_of _ = []
 
 -- the line of a command without its newline: its words, with one space between two
 abbrev pub line_of : Command → List ℕ
@@ -29,18 +108,103 @@ line_of c = join_with_byte 32 (words_of c)
 abbrev pub IsCommand : Command → Type 0
 IsCommand (command.Register id) = IsNodeId id
 IsCommand (command.Deregister k) = k < 2 ^ 64
+IsCommand command.Nodes = Unit {0}
+IsCommand (command.Add d) = IsPlain d
+IsCommand (command.Release k) = k < 2 ^ 64
+IsCommand (command.List r) = r ≢ role.Node
+IsCommand (command.Count r) = r ≢ role.Node
+IsCommand (command.Dead id (ByPort kept)) = IsNodeId id × AllByRecursion IsId kept.items
+-- the others have none
+IsCommand _ = ⊥
 
 -- an id, and what follows it
 abbrev pub IsIdFront : ℕ × List ℕ → Type 0
-IsIdFront front = IsNodeId front.0 × EndsNumber front.1
+IsIdFront front = IsId front.0 × EndsNumber front.1
+
+-- a node's id, and what follows it
+abbrev pub IsNodeFront : ℕ × List ℕ → Type 0
+IsNodeFront front = IsNodeId front.0 × EndsNumber front.1
 
 -- their text
 abbrev pub id_front : ℕ × List ℕ → List ℕ
 id_front front = id_text front.0 ++ front.1
 
+-- a role, and what follows it
+abbrev pub IsRoleFront : Role × List ℕ → Type 0
+IsRoleFront front = front.0 ≢ role.Node
+
+-- their text
+abbrev pub role_front : Role × List ℕ → List ℕ
+role_front front = role_word front.0 ++ front.1
+
+-- what follows these ports does not go on with them
+abbrev pub EndsPorts : List ℕ → List ℕ → Type 0
+EndsPorts [] rest = (tail : List ℕ) → rest ≢ codes " skip " ++ tail
+EndsPorts (port ∷ ports) rest = get_or rest 0 0 ≢ 32
+
+-- ports that stay, and what follows them
+abbrev pub IsSkipFront : List ℕ × List ℕ → Type 0
+IsSkipFront front = AllByRecursion IsId front.0 × EndsPorts front.0 front.1 × EndsNumber front.1
+
+-- a word, and a space before it
+abbrev pub spaced : List ℕ → List ℕ → List ℕ
+spaced word rest = 32 ∷ (word ++ rest)
+
+-- the text of the ports that stay after the word for them, each with a space before it
+abbrev pub ports_then : List ℕ → List ℕ → List ℕ
+ports_then [] rest = rest
+ports_then (port ∷ ports) rest = spaced (id_text port) (ports_then ports rest)
+
+-- their text
+abbrev pub skip_front : List ℕ × List ℕ → List ℕ
+skip_front ([], rest) = rest
+skip_front (port ∷ ports, rest) = codes " skip" ++ ports_then (port ∷ ports) rest
+
+-- a dead node, the ports that stay, and what follows them
+abbrev pub IsDeadFront : ℕ × List ℕ × List ℕ → Type 0
+IsDeadFront front = IsNodeId front.0 × IsSkipFront (front.1, front.2)
+
+-- their text
+abbrev pub dead_front : ℕ × List ℕ × List ℕ → List ℕ
+dead_front front = id_text front.0 ++ skip_front (front.1, front.2)
+
+-- Ports were read after others, and what is left does not go on with them. Where nothing is left to tell, the bytes
+-- have no such ports at their front.
+abbrev pub GoesOn : List ℕ → List ℕ → Option (List ℕ) → List ℕ → Type 0
+GoesOn before bytes (Some rest) after =
+    (ports : List ℕ) × (after ≡ before ++ ports) × AllByRecursion IsId ports × (bytes ≡ ports_then ports rest) × (get_or rest 0 0 ≢ 32) × EndsNumber rest
+GoesOn before bytes None after =
+    (ports : List ℕ) (rest : List ℕ) → AllByRecursion IsId ports → get_or rest 0 0 ≢ 32 → EndsNumber rest → bytes ≢ ports_then ports rest
+
+-- the number that the parts of an id make
+abbrev pub value_of : Parts → ℕ
+value_of p = packed p.process p.seconds p.nanoseconds p.counter
+
+-- the details of a port, and what follows them
+abbrev pub IsPlainFront : PortDetails × List ℕ → Type 0
+IsPlainFront front = IsPlain front.0 × EndsNumber front.1
+
+-- their text
+abbrev pub plain_front : PortDetails × List ℕ → List ℕ
+plain_front front = role_word (role_of front.0) ++ spaced (id_text (port_value (port_of front.0))) (spaced (id_text (node_of front.0)) front.1)
+
+-- what follows a command does not go on with it
+abbrev pub EndsCommand : Command → List ℕ → Type 0
+EndsCommand (command.Register id) rest = EndsNumber rest
+EndsCommand (command.Deregister k) rest = EndsNumber rest
+EndsCommand (command.Add d) rest = EndsNumber rest
+EndsCommand (command.Release k) rest = EndsNumber rest
+EndsCommand (command.Dead id (ByPort kept)) rest = EndsPorts kept.items rest × EndsNumber rest
+EndsCommand _ rest = Unit {0}
+
+-- commands with one line: the same command, with the same list in it
+abbrev pub SameCommand : Command → Command → Type 0
+SameCommand (command.Dead a (ByPort kept)) (command.Dead b (ByPort other)) = (a ≡ b) × (kept.items ≡ other.items)
+SameCommand c d = c ≡ d
+
 -- a command, and what follows it
 abbrev pub IsCommandFront : Command × List ℕ → Type 0
-IsCommandFront front = IsCommand front.0 × EndsNumber front.1
+IsCommandFront front = IsCommand front.0 × EndsCommand front.0 front.1
 
 -- their text
 abbrev pub command_front : Command × List ℕ → List ℕ
@@ -53,3 +217,14 @@ IsLine line = IsCommand line.0
 -- the text of a command, its newline and what follows it
 abbrev pub line_text : Command × List ℕ → List ℕ
 line_text line = line_of line.0 ++ 10 ∷ line.1
+
+-- the command that is spelled
+abbrev pub command_of : LineCommand → Command
+command_of (spelled.Register id) = command.Register id
+command_of (spelled.Deregister k) = command.Deregister k
+command_of spelled.Nodes = command.Nodes
+command_of (spelled.Add details) = command.Add details
+command_of (spelled.Release k) = command.Release k
+command_of (spelled.List role) = command.List role
+command_of (spelled.Count role) = command.Count role
+command_of (spelled.Dead node cleanup) = command.Dead node cleanup

@@ -1,9 +1,9 @@
 -- What a script is, and what it gives.
-use Rattle.std.specs.Prelude.{◌≡◌, ◌≢◌, ℕ, ◌+◌, ◌^◌, ◌<◌, List, [], ◌∷◌, ◌++◌, codes, Result, Ok, Err, ◌⊎◌, length}
+use Rattle.std.specs.Prelude.{◌≡◌, ◌≢◌, ℕ, ◌+◌, ◌^◌, ◌<◌, List, [], ◌∷◌, ◌++◌, codes, Option, Some, None, Result, Ok, Err, ◌⊎◌, length}
 use Rattle.std.specs.Fmt.{decimal}
 use Rattle.std.specs.List.{flat_map, join_with_byte, AllByRecursion}
-use Rattle.service_descriptions.specs.declared.dynamic_config.MessagingPatternSettings.{MessagingPatternSettings}
-use Rattle.service_descriptions.specs.declared.dynamic_config.MessagingPatternSettings.TheVariants as settings
+use Rattle.iox2_dynamic.specs.declared.dynamic_config.settings.MessagingPatternSettings.{MessagingPatternSettings}
+use Rattle.iox2_dynamic.specs.declared.dynamic_config.settings.MessagingPatternSettings.TheVariants as settings
 use Rattle.service_descriptions.specs.declared.replay.command.Command.{Command}
 use Rattle.service_descriptions.specs.declared.replay.reply.Reply.{Reply}
 use Rattle.service_descriptions.specs.declared.replay.script.ScriptError.{ScriptError}
@@ -11,7 +11,7 @@ use Rattle.service_descriptions.specs.declared.replay.script.ScriptError.TheVari
 use Rattle.service_descriptions.specs.declared.replay.service_line.ServiceLine.{ServiceLine}
 use Rattle.service_descriptions.specs.Lines.{line_of, IsCommand}
 use Rattle.service_descriptions.specs.Replies.{reply_line}
-use Rattle.service_descriptions.specs.Steps.{State, new_state, Run}
+use Rattle.service_descriptions.specs.Steps.{State, ServiceStep, new_state, Run}
 
 -- the word for a pattern
 abbrev pub pattern_name : MessagingPatternSettings → List ℕ
@@ -104,3 +104,12 @@ Scripted script (Err (error.BadLine k)) text =
 Scripted script (Err (error.NoMemory why)) text =
     (text ≡ [])
     ⊎ ((service : ServiceLine) × (commands : List Command) × (rest : List ℕ) × Begins script service commands rest × Replied service commands text)
+
+-- The first of the lines was run, and its reply line appended; the rest follows it. Where nothing is told to follow, no
+-- command's line begins the lines, and nothing changed.
+abbrev pub RanLine : State → List ℕ → List ℕ → Option (List ℕ) → State → List ℕ → Type 0
+RanLine old lines before (Some rest) new after =
+    (command : Command) × (reply : Reply) × IsCommand command × (lines ≡ line_of command ++ 10 ∷ rest)
+    × ServiceStep old command reply new × (after ≡ before ++ reply_line reply)
+RanLine old lines before None new after =
+    ((command : Command) (rest : List ℕ) → IsCommand command → lines ≢ line_of command ++ 10 ∷ rest) × (new ≡ old) × (after ≡ before)

@@ -1,21 +1,25 @@
 //! Scripts of commands on one service, and the replies to them.
 
+mod cleanup;
 mod command;
+mod description;
 mod earlier;
-mod inner;
+mod id;
 mod line;
+mod line_command;
+mod line_reply;
+mod listing;
 mod number;
 mod reply;
 mod reply_line;
 mod script;
 mod serve;
-mod service;
 mod service_line;
 mod state;
 mod streams;
 mod word;
 
-pub use command::Command;
+pub use command::{Cleanup, Command, MessagePart};
 pub use line::read_line;
 pub use reply::Reply;
 pub use reply_line::write_reply;

@@ -29,9 +29,21 @@ impl Model for Global {
 
     ghost Value = { GlobalSettings };
 
-    ghost view = { λ global. record { root_path = global.root_path; prefix = global.prefix; service = global.service; node = global.node; creation_timeout = global.creation_timeout } };
+    ghost view = { λ global. record {
+      root_path = global.root_path;
+      prefix = global.prefix;
+      service = global.service;
+      node = global.node;
+      creation_timeout = global.creation_timeout;
+    } };
 
-    ghost inverse = { λ settings. record { root_path = settings.root_path; prefix = settings.prefix; service = settings.service; node = settings.node; creation_timeout = settings.creation_timeout } };
+    ghost inverse = { λ settings. record {
+      root_path = settings.root_path;
+      prefix = settings.prefix;
+      service = settings.service;
+      node = settings.node;
+      creation_timeout = settings.creation_timeout;
+    } };
 }
 
 impl Default for Global {

@@ -9,7 +9,7 @@ pub struct RequestResonse {
     pub enable_safe_overflow_for_requests: bool,
     /// Whether a new response takes the oldest one's place where a client's buffer is full.
     pub enable_safe_overflow_for_responses: bool,
-    /// How many requests of one client may be without an end of their responses.
+    /// How many requests of one client may be open at each server at once.
     pub max_active_requests_per_client: usize,
     /// How many responses to one request a client's buffer has room for.
     pub max_response_buffer_size: usize,

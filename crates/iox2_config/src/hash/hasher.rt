@@ -30,6 +30,7 @@ pub trait Hash: Drop {
 
     /// The text that is meant by the input, or a refusal, which comes only for inputs that may be refused.
     fn value(&self) -> Result<HashValue, HashError>
-        ensures ok { (input : List ℕ) → takes self.now input → IfOk result (λ text. text ≡ meaning input) }
+        ensures ok { (input : List ℕ) → takes self.now input
+            → IfOk result (λ text. text ≡ meaning input) }
         ensures err { (input : List ℕ) → takes self.now input → OnErr result (may_refuse input) };
 }

@@ -25,6 +25,7 @@ pub fn hash_input(kind: PatternKind, name: &ServiceName) -> StaticString<256>
 {
     let mut bytes: ArrayVec<u8, 256> = ArrayVec::new();
     bytes.push(b'0' + kind as u8);
+    // Never refused: one digit and at most 255 bytes fit 256.
     let _fits = bytes.try_extend_from_slice(name.as_str().as_bytes());
     match StaticString::from_bytes(bytes.as_slice()) {
         Ok(text) => text,

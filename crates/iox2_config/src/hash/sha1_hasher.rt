@@ -40,6 +40,7 @@ impl Hash for Sha1Hasher {
 
     fn value(&self) -> Result<HashValue, HashError> {
         let mut text = [0u8; 27];
+        // Always 27, the length of the text.
         let _length = URL_SAFE_NO_PAD.encode_slice(&self.digest, &mut text);
         match HashValue::new(&text) {
             Some(value) => Ok(value),

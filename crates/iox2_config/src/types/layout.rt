@@ -75,10 +75,11 @@ impl MessageTypeDetails {
     #[tactic(auto, using(iox2_texts::proofs::Multiple::multiples))]
     pub fn sample_layout(&self, n: usize) -> Option<SampleLayout>
         requires { HaveAlignments self.now }
-        ensures some { IfSome result (λ room. room ≡ record { size = bound self.now n; alignment = self.now.header.alignment }) }
-        ensures limit { IfSome result (λ room. room.size < 2 ^ 63) }
+        ensures some { IfSome result (λ layout.
+            layout ≡ record { size = bound self.now n; alignment = self.now.header.alignment }) }
+        ensures limit { IfSome result (λ layout. layout.size < 2 ^ 63) }
         ensures none { IfNone result (2 ^ 63 ≤ bound self.now n) }
-        ensures holds { IfSome result (λ room. HoldsEverywhere self.now n room.size) }
+        ensures holds { IfSome result (λ layout. HoldsEverywhere self.now n layout.size) }
     {
         let elements = self.payload.size().checked_mul(n)?;
         let with_header = elements.checked_add(self.header.size())?;

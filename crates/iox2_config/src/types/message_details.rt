@@ -40,7 +40,8 @@ impl MessageTypeDetails {
     pub fn from<Header: ZeroCopySend, UserHeader: ZeroCopySend, Payload: ZeroCopySend>(
         payload_variant: TypeVariant,
     ) -> Result<Self, TypeDetailError>
-        ensures { DescribesMessage (message (detail FixedSize Header.type_name Header.SIZE Header.ALIGNMENT)
+        ensures { DescribesMessage (message
+            (detail FixedSize Header.type_name Header.SIZE Header.ALIGNMENT)
             (detail FixedSize UserHeader.type_name UserHeader.SIZE UserHeader.ALIGNMENT)
             (detail payload_variant Payload.type_name Payload.SIZE Payload.ALIGNMENT)) result }
     {

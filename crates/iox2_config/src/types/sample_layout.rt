@@ -1,5 +1,7 @@
 //! The room that a message needs.
-ghost use Rattle.std.specs.Prelude.{◌≡◌};
+ghost use Rattle.std.specs.Prelude.{◌≡◌, ◌<◌, ◌^◌, IsTrue};
+ghost use Rattle.std.specs.Int.{is_power_of_two};
+ghost use Rattle.iox2_config.specs.SampleLayoutParts.{IsSampleLayout};
 
 use std::marker::Model;
 
@@ -11,18 +13,21 @@ pub struct SampleLayout {
 }
 
 impl Model for SampleLayout {
-    ghost use Rattle.iox2_config.specs.Room.{Room};
+    ghost use Rattle.iox2_config.specs.SampleLayoutParts.{SampleLayoutParts, IsSampleLayout};
 
-    ghost Value = { Room };
+    ghost Value = { SampleLayoutParts };
 
     ghost view = { λ layout. record { size = layout.size; alignment = layout.alignment } };
 
-    ghost inverse = { λ room. record { size = room.size; alignment = room.alignment } };
+    ghost invariant = { λ layout. IsSampleLayout layout.size layout.alignment };
+
+    ghost inverse = { λ parts. record { size = parts.size; alignment = parts.alignment } };
 }
 
 impl SampleLayout {
     /// The room of so many bytes at a multiple of the alignment.
     pub(super) fn new(size: usize, alignment: usize) -> Self
+        requires { IsSampleLayout size alignment }
         ensures { result ≡ record { size = size; alignment = alignment } }
     {
         SampleLayout { size, alignment }
@@ -30,14 +35,16 @@ impl SampleLayout {
 
     /// How many bytes the message needs, at most 2^63 - 1.
     pub fn size(&self) -> usize
-        ensures { result ≡ self.now.size }
+        ensures value { result ≡ self.now.size }
+        ensures bound { result < 2 ^ 63 }
     {
         self.size
     }
 
     /// The number of which the place of the message is a multiple, a power of two.
     pub fn align(&self) -> usize
-        ensures { result ≡ self.now.alignment }
+        ensures value { result ≡ self.now.alignment }
+        ensures power { IsTrue (is_power_of_two result) }
     {
         self.alignment
     }

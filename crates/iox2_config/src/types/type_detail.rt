@@ -55,20 +55,35 @@ pub struct TypeDetail {
 }
 
 impl Model for TypeDetail {
-    ghost use Rattle.iox2_config.specs.TypeFacts.{TypeFacts, IsAlignment};
+    ghost use Rattle.iox2_config.specs.TypeDetailParts.{TypeDetailParts, IsTypeDetail};
 
-    ghost Value = { TypeFacts };
+    ghost Value = { TypeDetailParts };
 
-    ghost view = { λ d. record { variant = d.variant; type_name = d.type_name; size = d.size; alignment = d.alignment } };
+    ghost view = { λ d. record {
+      variant = d.variant;
+      type_name = d.type_name;
+      size = d.size;
+      alignment = d.alignment;
+    } };
 
-    ghost invariant = { λ d. IsAlignment d.alignment };
+    ghost invariant = { λ d. IsTypeDetail (record {
+      variant = d.variant;
+      type_name = d.type_name;
+      size = d.size;
+      alignment = d.alignment;
+    }) };
 
-    ghost inverse = { λ facts. record { variant = facts.variant; type_name = facts.type_name; size = facts.size; alignment = facts.alignment } };
+    ghost inverse = { λ parts. record {
+      variant = parts.variant;
+      type_name = parts.type_name;
+      size = parts.size;
+      alignment = parts.alignment;
+    } };
 }
 
 impl Default for TypeDetail {
     ghost use Rattle.std.specs.Prelude.{◌≡◌};
-    ghost use Rattle.iox2_config.specs.DefaultTypes.{default_detail};
+    ghost use Rattle.iox2_config.specs.TypeDetailParts.{default_detail};
 
     ghost is_default = { λ d. d ≡ default_detail };
 
@@ -83,7 +98,7 @@ impl Default for TypeDetail {
 }
 
 impl TypeDetail {
-    ghost use Rattle.iox2_config.specs.TypeFacts.{IsAlignment};
+    ghost use Rattle.iox2_config.specs.TypeDetailParts.{IsTypeDetail, IsAlignment};
     ghost use Rattle.iox2_config.specs.TypeDetails.{detail, MakesDetail, DescribesType};
 
     /// The details of the type `T`.
@@ -146,6 +161,7 @@ impl TypeDetail {
     pub fn alignment(&self) -> usize
         ensures value { result ≡ self.now.alignment }
         ensures power { IsAlignment result }
+        ensures legal { IsTypeDetail self.now }
     {
         self.alignment
     }

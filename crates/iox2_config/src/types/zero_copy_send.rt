@@ -1,7 +1,7 @@
 //! Types that may be sent without a copy.
 ghost use Rattle.std.specs.Prelude.{◌≡◌, List, ℕ};
 ghost use lib.Chars.{codes};
-ghost use Rattle.iox2_config.specs.TypeFacts.{IsTypeLayout};
+ghost use Rattle.iox2_config.specs.TypeDetailParts.{IsTypeLayout};
 ghost use Rattle.iox2_config.specs.TypeLayouts.{units};
 
 /// A type whose values may lie in memory that processes share.

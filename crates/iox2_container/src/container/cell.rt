@@ -1,9 +1,9 @@
 //! What is in a slot of a container.
 ghost use Rattle.std.specs.Prelude.{◌≡◌};
-ghost use Rattle.iox2_container.specs.Shown.{shown};
+ghost use Rattle.iox2_container.specs.Cells.{shown};
 
 /// A slot's cell. A free one keeps what its container finds free slots by.
-#[derive(Clone, Copy)]
+#[derive(Clone, Copy, Debug)]
 pub enum Cell<T: Copy, N: Copy> {
     Free(N),
     Taken { ticket: u64, details: T },

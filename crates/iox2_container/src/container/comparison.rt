@@ -3,7 +3,8 @@ ghost use Rattle.std.specs.Prelude.{◌≡◌, ◌<◌, [], IsTrue, IfOk, OnErr,
 ghost use Rattle.iox2_container.specs.State.{IsRegistry};
 ghost use Rattle.iox2_container.specs.Steps.{is_of, listed};
 ghost use Rattle.iox2_container.specs.Histories.{IsNew};
-ghost use Rattle.iox2_container.specs.Calls.{handle_given, Answered, CallStep, Made, RecoversBut, SameKind};
+ghost use Rattle.iox2_container.specs.Calls.{Answered, CallStep, Made, RecoversBut, SameKind};
+ghost use Rattle.iox2_container.specs.Calls.{handle_given};
 
 use super::agreement::is_same_kind;
 use super::attached::Attached;
@@ -24,15 +25,12 @@ fn list<T: Attached + Copy, R: Registry<T>>(
 {
     let mut items = Vec::with_capacity(alloc, registry.len())?;
     let mut push = |details: &T| {
+        // Cannot fail, since there is room for all.
         let _ = items.push(*details);
         CallbackProgression::Continue
     };
     registry.for_each(&mut push);
-    if items.len() == registry.len() {
-        Ok(items)
-    } else {
-        Err(AllocError)
-    }
+    Ok(items)
 }
 
 /// The handle that call `k` gave.
@@ -52,7 +50,8 @@ fn recover_but<T: Attached + Copy, R: Registry<T>>(
     keys: &[u128],
     mode: ReleaseMode,
 ) -> ReleaseState
-    ensures step { RecoversBut (is_of T.node dead.now) T.number keys.now (R.state registry.old) mode result (R.state registry.new) }
+    ensures step { RecoversBut (is_of T.node dead.now) T.number keys.now
+        (R.state registry.old) mode result (R.state registry.new) }
     ensures kept { IsRegistry (R.state registry.new) }
 {
     let mut goes = |details: &T| !keys.contains(&details.key());
@@ -67,9 +66,11 @@ fn serve<T: Attached + Copy, R: Registry<T>>(
     call: &RegistryCall<T>,
 ) -> Result<RegistryReply<T>, AllocError>
     requires { IsRegistry (R.state registry.old) }
-    ensures step { IfOk result (λ reply. CallStep T.node T.number (R.state registry.old) earlier.now call.now reply (R.state registry.new)) }
+    ensures step { IfOk result (λ reply. CallStep T.node T.number
+        (R.state registry.old) earlier.now call.now reply (R.state registry.new)) }
     ensures kept { IsRegistry (R.state registry.new) }
-    ensures err { OnErr result ((R.state registry.new ≡ R.state registry.old) × (call.now ≡ RegistryCall.List)) }
+    ensures err { OnErr result
+        ((R.state registry.new ≡ R.state registry.old) × (call.now ≡ RegistryCall.List)) }
 {
     match call {
         RegistryCall::Add(details) => match registry.add(*details) {
@@ -105,10 +106,14 @@ fn serve_both<T: Attached + Copy, A: Registry<T>, B: Registry<T>>(
     replies_b: &mut Vec<RegistryReply<T>>,
 ) -> Result<(), AllocError>
     requires { IsRegistry (A.state a.old) × IsRegistry (B.state b.old) }
-    ensures ok_a { OnOk result (Answered T.node T.number (A.state a.old) replies_a.old.items call.now replies_a.new.items (A.state a.new)) }
-    ensures ok_b { OnOk result (Answered T.node T.number (B.state b.old) replies_b.old.items call.now replies_b.new.items (B.state b.new)) }
-    ensures err_a { OnErr result ((A.state a.new ≡ A.state a.old) × (replies_a.new.items ≡ replies_a.old.items)) }
-    ensures err_b { OnErr result ((B.state b.new ≡ B.state b.old) × (replies_b.new.items ≡ replies_b.old.items)) }
+    ensures ok_a { OnOk result (Answered T.node T.number
+        (A.state a.old) replies_a.old.items call.now replies_a.new.items (A.state a.new)) }
+    ensures ok_b { OnOk result (Answered T.node T.number
+        (B.state b.old) replies_b.old.items call.now replies_b.new.items (B.state b.new)) }
+    ensures err_a { OnErr result
+        ((A.state a.new ≡ A.state a.old) × (replies_a.new.items ≡ replies_a.old.items)) }
+    ensures err_b { OnErr result
+        ((B.state b.new ≡ B.state b.old) × (replies_b.new.items ≡ replies_b.old.items)) }
 {
     replies_a.reserve(1)?;
     replies_b.reserve(1)?;
@@ -137,12 +142,16 @@ pub fn compare<T: Attached + Copy + Eq, A: Registry<T>, B: Registry<T>>(
     requires same_capacity { (A.state a.old).capacity ≡ (B.state b.old).capacity }
     requires same_budget { (A.state a.old).budget ≡ (B.state b.old).budget }
     requires empty { (replies_a.old.items ≡ []) × (replies_b.old.items ≡ []) }
-    ensures made_a { Made T.node T.number (A.state a.old) calls.now replies_a.new.items (A.state a.new) }
-    ensures made_b { Made T.node T.number (B.state b.old) calls.now replies_b.new.items (B.state b.new) }
+    ensures made_a { Made T.node T.number
+        (A.state a.old) calls.now replies_a.new.items (A.state a.new) }
+    ensures made_b { Made T.node T.number
+        (B.state b.old) calls.now replies_b.new.items (B.state b.new) }
     ensures same_kind { SameKind replies_a.new.items replies_b.new.items }
     ensures answer { IfOk result IsTrue }
-    ensures all { OnOk result ((length replies_a.new.items ≡ length calls.now) × (length replies_b.new.items ≡ length calls.now)) }
-    ensures some { OnErr result ((length replies_a.new.items ≡ length replies_b.new.items) × (length replies_a.new.items < length calls.now)) }
+    ensures all { OnOk result ((length replies_a.new.items ≡ length calls.now)
+        × (length replies_b.new.items ≡ length calls.now)) }
+    ensures some { OnErr result ((length replies_a.new.items ≡ length replies_b.new.items)
+        × (length replies_a.new.items < length calls.now)) }
 {
     for call in calls {
         serve_both(alloc, a, b, call, replies_a, replies_b)?;

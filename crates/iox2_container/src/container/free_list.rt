@@ -1,6 +1,6 @@
 //! Places of which the one that was freed last is taken. The free ones are in a list that is threaded through the cells.
 ghost use Rattle.std.specs.Prelude.{◌≡◌, ◌+◌, ◌≤◌, ◌<◌, ◌^◌, None, length};
-ghost use Rattle.iox2_container.specs.Threads.{HasFree, TakesFirst};
+ghost use Rattle.iox2_container.specs.FreeLinks.{HasFree, TakesFirst};
 
 use super::cell::Cell;
 use super::places::Places;
@@ -12,7 +12,7 @@ use std::marker::Model;
 type Linked<T> = Cell<T, Option<usize>>;
 
 /// Places, and where their free ones are.
-#[derive(Drop)]
+#[derive(Debug, Drop)]
 pub struct FreeList<T: Copy> {
     slots: Slots<Linked<T>>,
     // The slot that was freed last, of those that are free again.
@@ -24,15 +24,15 @@ pub struct FreeList<T: Copy> {
 impl<T: Copy> Model for FreeList<T> {
     ghost use Rattle.std.specs.Prelude.{Option, ℕ, map};
     ghost use Rattle.iox2_container.specs.Cells.{Cells};
-    ghost use Rattle.iox2_container.specs.Shown.{shown};
+    ghost use Rattle.iox2_container.specs.Cells.{shown};
 
     ghost Value = { Cells (Option (ℕ × T)) };
 
-    ghost use Rattle.iox2_container.specs.Threaded.{IsThreaded};
+    ghost use Rattle.iox2_container.specs.FreeList.{IsFreeList};
 
     ghost view = { λ l. record { cells = map shown l.slots.cells; touches = l.slots.touches } };
 
-    ghost invariant = { λ l. IsThreaded l };
+    ghost invariant = { λ l. IsFreeList l };
 }
 
 /// Takes the slot that was freed last, or else the first that was never used.
@@ -81,6 +81,10 @@ impl<T: Copy> Places<T> for FreeList<T> {
 
     fn capacity(&self) -> usize {
         self.slots.len()
+    }
+
+    fn end(&self) -> usize {
+        self.fresh
     }
 
     fn look(&mut self, slot: usize) -> Option<(u64, T)> {

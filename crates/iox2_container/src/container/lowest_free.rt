@@ -1,7 +1,7 @@
 //! Places of which the lowest free one is taken, found by reading them from the first on.
 ghost use Rattle.std.specs.Prelude.{◌≡◌, ◌≢◌, ◌+◌, ◌≤◌, ◌<◌, ℕ, Some, None, IfSome, IfNone, length, map, slice_get};
 ghost use Rattle.iox2_container.specs.Places.{entries_from};
-ghost use Rattle.iox2_container.specs.Shown.{shown};
+ghost use Rattle.iox2_container.specs.Cells.{shown};
 
 use super::cell::Cell;
 use super::places::Places;
@@ -14,8 +14,10 @@ fn lowest_free<T: Copy>(slots: &mut Slots<Cell<T, ()>>) -> Option<usize>
     ensures touched { slots.new.touches ≤ slots.old.touches + length slots.old.cells }
     ensures counted { slots.old.touches ≤ slots.new.touches }
     ensures free { IfSome result (λ i. slice_get (map shown slots.old.cells) i ≡ Some None) }
-    ensures lowest { IfSome result (λ i. (k : ℕ) → k < i → slice_get (map shown slots.old.cells) k ≢ Some None) }
-    ensures full { IfNone result (length slots.old.cells ≤ length (entries_from 0 (map shown slots.old.cells))) }
+    ensures lowest { IfSome result (λ i. (k : ℕ) → k < i
+        → slice_get (map shown slots.old.cells) k ≢ Some None) }
+    ensures full { IfNone result
+        (length slots.old.cells ≤ length (entries_from 0 (map shown slots.old.cells))) }
 {
     for slot in 0..slots.len() {
         if slots.look(slot).is_none() {
@@ -37,6 +39,10 @@ impl<T: Copy> Places<T> for Slots<Cell<T, ()>> {
     }
 
     fn capacity(&self) -> usize {
+        self.len()
+    }
+
+    fn end(&self) -> usize {
         self.len()
     }
 

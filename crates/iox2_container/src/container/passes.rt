@@ -44,7 +44,7 @@ pub(super) fn visit<T: Copy, P: Places<T>, F: FnMut(&T) -> CallbackProgression>(
     ensures visit { Visit (CalledAt F.FnMut) f.old (details_in (P.cells places.now)) f.new }
     ensures callable { F.IsAlwaysCallable f.new }
 {
-    for slot in 0..places.capacity() {
+    for slot in 0..places.end() {
         if let CallbackProgression::Stop = show(places.peek_at(slot), f) {
             return;
         }
@@ -63,10 +63,11 @@ fn stands_for<T: Attached + Copy>(cell: Option<(u64, T)>, node: &UniqueNodeId) -
 
 /// How many entries are those of the node.
 pub(super) fn count_of<T: Attached + Copy, P: Places<T>>(places: &P, node: &UniqueNodeId) -> usize
-    ensures { result ≡ length (candidates (is_of T.node node.now) (entries_from 0 (P.cells places.now))) }
+    ensures { result ≡
+        length (candidates (is_of T.node node.now) (entries_from 0 (P.cells places.now))) }
 {
     let mut count = 0;
-    for slot in 0..places.capacity() {
+    for slot in 0..places.end() {
         if stands_for(places.peek_at(slot), node) {
             count += 1;
         }
@@ -128,14 +129,15 @@ pub(super) fn sweep<T: Attached + Copy, P: Places<T>, F: FnMut(&T) -> bool>(
 ) -> usize
     requires { F.IsAlwaysCallable f.old }
     ensures callable { F.IsAlwaysCallable f.new }
-    ensures swept { Swept (CalledAt F.FnMut) (is_of T.node dead.now) f.old (entries_from 0 (P.cells places.old))
-        f.new (entries_from 0 (P.cells places.new)) result }
+    ensures swept { Swept (CalledAt F.FnMut) (is_of T.node dead.now)
+        f.old (entries_from 0 (P.cells places.old)) f.new (entries_from 0 (P.cells places.new)) result }
     ensures len { length (P.cells places.new) ≡ length (P.cells places.old) }
-    ensures touched { P.touches places.new ≤ P.touches places.old + 2 * length (P.cells places.old) }
+    ensures touched { P.touches places.new ≤
+        P.touches places.old + 2 * length (P.cells places.old) }
     ensures counted { P.touches places.old ≤ P.touches places.new }
 {
     let mut gone = 0;
-    for slot in 0..places.capacity() {
+    for slot in 0..places.end() {
         if sweep_place(places, slot, dead, f) {
             gone += 1;
         }

@@ -1,7 +1,7 @@
 //! Numbered places for entries, whatever finds the free ones.
 ghost use Rattle.std.specs.Prelude.{◌≡◌, ◌≢◌, ◌+◌, ◌*◌, ◌≤◌, ◌<◌, ℕ, Option, Some, None, IfNone, IfOk, IfSome};
 ghost use Rattle.std.specs.Prelude.{List, MatchOption, length, replicate, slice_get, slice_set};
-ghost use Rattle.iox2_container.specs.Places.{Finds, IsTakenAt, entries_from};
+ghost use Rattle.iox2_container.specs.Places.{Finds, IsTakenAt, NoneFrom, entries_from};
 
 use super::handle::ContainerHandle;
 use std::alloc::{AllocError, Global};
@@ -26,6 +26,11 @@ pub trait Places<T: Copy>: Drop {
     fn capacity(&self) -> usize
         ensures { result ≡ length (cells self.now) };
 
+    /// A place from which on none is taken, so that a pass may end there.
+    fn end(&self) -> usize
+        ensures within { result ≤ length (cells self.now) }
+        ensures free { NoneFrom (cells self.now) result };
+
     /// What stands in a place.
     fn look(&mut self, slot: usize) -> Option<(u64, T)>
         requires { slot < length (cells self.old) }
@@ -37,7 +42,8 @@ pub trait Places<T: Copy>: Drop {
     fn put(&mut self, ticket: u64, details: T) -> usize
         requires { length (entries_from 0 (cells self.old)) < length (cells self.old) }
         ensures free { slice_get (cells self.old) result ≡ Some None }
-        ensures cells { cells self.new ≡ slice_set (cells self.old) result (Some (ticket, details)) }
+        ensures cells { cells self.new ≡
+            slice_set (cells self.old) result (Some (ticket, details)) }
         ensures touched { touches self.new ≤ touches self.old + 2 * length (cells self.old) }
         ensures few { touches self.new ≤ touches self.old + most_for_put (length (cells self.old)) }
         ensures counted { touches self.old ≤ touches self.new };
@@ -83,7 +89,8 @@ pub(super) fn find<T: Copy, P: Places<T>>(places: &P, handle: ContainerHandle) -
 pub(super) fn take_out<T: Copy, P: Places<T>>(places: &mut P, handle: ContainerHandle) -> Option<T>
     requires { handle.slot < length (P.cells places.old) }
     ensures found { Finds (P.cells places.old) handle result }
-    ensures gone { IfSome result (λ _. P.cells places.new ≡ slice_set (P.cells places.old) handle.slot None) }
+    ensures gone { IfSome result (λ _.
+        P.cells places.new ≡ slice_set (P.cells places.old) handle.slot None) }
     ensures kept { IfNone result (P.cells places.new ≡ P.cells places.old) }
     ensures touched { P.touches places.new ≤ P.touches places.old + 2 }
     ensures counted { P.touches places.old ≤ P.touches places.new }

@@ -27,6 +27,7 @@ pub trait Registry<T: Attached + Copy> {
     /// slot is taken or every ticket was handed out.
     fn add(&mut self, details: T) -> Result<ContainerHandle, ContainerAddFailure>
         ensures step { AddStep (state self.old) details result (state self.new) }
+        ensures known { IsRegistry (state self.old) }
         ensures kept { IsRegistry (state self.new) }
         ensures touched { touches self.new ≤ touches self.old + 2 * (state self.old).capacity }
         ensures counted { touches self.old ≤ touches self.new };
@@ -39,6 +40,7 @@ pub trait Registry<T: Attached + Copy> {
         mode: ReleaseMode,
     ) -> Result<ReleaseState, ContainerRemoveError>
         ensures step { RemoveStep (state self.old) handle mode result (state self.new) }
+        ensures known { IsRegistry (state self.old) }
         ensures kept { IsRegistry (state self.new) }
         ensures touched { touches self.new ≤ touches self.old + 2 * (state self.old).capacity }
         ensures counted { touches self.old ≤ touches self.new };
@@ -54,6 +56,7 @@ pub trait Registry<T: Attached + Copy> {
         requires { F.IsAlwaysCallable f.old }
         ensures step { RecoverStep (CalledAt F.FnMut) (is_of T.node dead.now)
             (state self.old) f.old mode result (state self.new) f.new }
+        ensures known { IsRegistry (state self.old) }
         ensures kept { IsRegistry (state self.new) }
         ensures callable { F.IsAlwaysCallable f.new }
         ensures touched { touches self.new ≤ touches self.old + 2 * (state self.old).capacity }
@@ -68,7 +71,8 @@ pub trait Registry<T: Attached + Copy> {
 
     /// The details of the entry with this handle, or `None` where no entry has it.
     fn get(&self, handle: ContainerHandle) -> Option<T>
-        ensures details { MatchOption result (IsForeign (state self.now) handle) (Stands (state self.now) handle) }
+        ensures details { MatchOption result
+            (IsForeign (state self.now) handle) (Stands (state self.now) handle) }
         ensures kept { IsRegistry (state self.now) };
 
     /// How many entries are those of the node.

@@ -1,5 +1,5 @@
 //! How entries leave, and what that does to the lock.
-ghost use Rattle.std.specs.Prelude.{◌≡◌, if◌then◌else◌};
+ghost use Rattle.std.specs.Prelude.{◌≡◌};
 ghost use Rattle.iox2_container.specs.Steps.{lock_after, release_state};
 
 /// Whether a container is locked when its last entry leaves.
@@ -12,12 +12,12 @@ pub enum ReleaseMode {
 }
 
 impl ReleaseMode {
-    /// The lock after a call that let some entries go or none, and after which there are so many.
-    pub(super) fn lock_where(self, some_went: bool, count: usize, locked: bool) -> bool
-        ensures { result ≡ (if some_went then lock_after self count locked else locked) }
+    /// The lock after some entry went, where so many are left.
+    pub(super) fn lock_after(self, left: usize, locked: bool) -> bool
+        ensures { result ≡ lock_after self left locked }
     {
         match self {
-            ReleaseMode::LockIfLastIndex => some_went && count == 0 || locked,
+            ReleaseMode::LockIfLastIndex => left == 0 || locked,
             ReleaseMode::Default => locked,
         }
     }

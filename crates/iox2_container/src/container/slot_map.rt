@@ -1,6 +1,6 @@
 //! The one container, whatever finds its free slots.
 ghost use Rattle.std.specs.Prelude.{◌≡◌, ◌+◌, ◌*◌, ◌≤◌, IfOk};
-ghost use Rattle.iox2_container.specs.Held.{fresh};
+ghost use Rattle.iox2_container.specs.ContainerState.{fresh};
 ghost use Rattle.iox2_container.specs.State.{IsRegistry};
 ghost use Rattle.iox2_container.specs.Steps.{AddStep, RemoveStep};
 
@@ -9,7 +9,8 @@ use super::cell::Cell;
 use super::free_list::FreeList;
 use super::handle::ContainerHandle;
 use super::ledger::Ledger;
-use super::places::Places;
+use super::passes::{count_of, sweep, visit};
+use super::places::{Places, find, take_out};
 use super::refusal::{ContainerAddFailure, ContainerRemoveError};
 use super::registry::Registry;
 use super::release::{ReleaseMode, ReleaseState};
@@ -30,7 +31,7 @@ pub type ListContainer<T> = SlotMap<T, FreeList<T>>;
 
 /// A registry whose places find the free slots. An add touches slots at most as often as `most_for_put` of its places
 /// says, a removal at most twice.
-#[derive(Drop)]
+#[derive(Debug, Drop)]
 pub struct SlotMap<T: Copy, P: Places<T>> {
     ledger: Ledger,
     places: P,
@@ -38,14 +39,14 @@ pub struct SlotMap<T: Copy, P: Places<T>> {
 }
 
 impl<T: Copy, P: Places<T>> Model for SlotMap<T, P> {
-    ghost use Rattle.iox2_container.specs.Held.{Held};
-    ghost use Rattle.iox2_container.specs.Kept.{registry_of, IsKept};
+    ghost use Rattle.iox2_container.specs.ContainerState.{ContainerState};
+    ghost use Rattle.iox2_container.specs.LedgerAndPlaces.{registry_of, AreRegistry};
 
-    ghost Value = { Held T };
+    ghost Value = { ContainerState T };
 
     ghost view = { λ m. record { registry = registry_of m.ledger (P.cells m.places); touches = P.touches m.places } };
 
-    ghost invariant = { λ m. IsKept m.ledger (P.cells m.places) };
+    ghost invariant = { λ m. AreRegistry m.ledger (P.cells m.places) };
 }
 
 impl<T: Copy, P: Places<T>> SlotMap<T, P> {
@@ -76,12 +77,22 @@ impl<T: Attached + Copy, P: Places<T>> Registry<T> for SlotMap<T, P> {
 
     fn add(&mut self, details: T) -> Result<ContainerHandle, ContainerAddFailure>
         ensures step { AddStep self.old.registry details result self.new.registry }
+        ensures known { IsRegistry self.old.registry }
         ensures kept { IsRegistry self.new.registry }
         ensures touched { self.new.touches ≤ self.old.touches + 2 * self.old.registry.capacity }
-        ensures few { self.new.touches ≤ self.old.touches + P.most_for_put self.old.registry.capacity }
+        ensures few { self.new.touches ≤
+            self.old.touches + P.most_for_put self.old.registry.capacity }
         ensures counted { self.old.touches ≤ self.new.touches }
     {
-        self.ledger.add(&mut self.places, details)
+        if self.ledger.is_locked() {
+            return Err(ContainerAddFailure::IsLocked);
+        }
+        if !self.ledger.has_ticket() || self.ledger.count() == self.places.capacity() {
+            return Err(ContainerAddFailure::OutOfSpace);
+        }
+        let ticket = self.ledger.enter();
+        let slot = self.places.put(ticket, details);
+        Ok(self.ledger.handle(slot, ticket))
     }
 
     fn remove(
@@ -90,12 +101,20 @@ impl<T: Attached + Copy, P: Places<T>> Registry<T> for SlotMap<T, P> {
         mode: ReleaseMode,
     ) -> Result<ReleaseState, ContainerRemoveError>
         ensures step { RemoveStep self.old.registry handle mode result self.new.registry }
+        ensures known { IsRegistry self.old.registry }
         ensures kept { IsRegistry self.new.registry }
         ensures touched { self.new.touches ≤ self.old.touches + 2 * self.old.registry.capacity }
         ensures few { self.new.touches ≤ self.old.touches + 2 }
         ensures counted { self.old.touches ≤ self.new.touches }
     {
-        self.ledger.remove(&mut self.places, handle, mode)
+        let refused = Err(ContainerRemoveError::ContainerHandleNotOwnedByContainer);
+        if !self.ledger.may_have(handle, self.places.capacity()) {
+            return refused;
+        }
+        match take_out(&mut self.places, handle) {
+            Some(_) => Ok(self.ledger.leave(1, mode)),
+            None => refused,
+        }
     }
 
     fn recover<F: FnMut(&T) -> bool>(
@@ -104,19 +123,31 @@ impl<T: Attached + Copy, P: Places<T>> Registry<T> for SlotMap<T, P> {
         f: &mut F,
         mode: ReleaseMode,
     ) -> ReleaseState {
-        self.ledger.recover(&mut self.places, dead, f, mode)
+        if self.ledger.count() == 0 {
+            return ReleaseState::of(self.ledger.is_locked());
+        }
+        let gone = sweep(&mut self.places, dead, f);
+        self.ledger.leave(gone, mode)
     }
 
     fn for_each<F: FnMut(&T) -> CallbackProgression>(&self, f: &mut F) {
-        self.ledger.for_each(&self.places, f);
+        if self.ledger.count() > 0 {
+            visit(&self.places, f);
+        }
     }
 
     fn get(&self, handle: ContainerHandle) -> Option<T> {
-        self.ledger.get(&self.places, handle)
+        if !self.ledger.may_have(handle, self.places.capacity()) {
+            return None;
+        }
+        find(&self.places, handle)
     }
 
     fn entries_of(&self, node: &UniqueNodeId) -> usize {
-        self.ledger.entries_of(&self.places, node)
+        if self.ledger.count() == 0 {
+            return 0;
+        }
+        count_of(&self.places, node)
     }
 
     fn len(&self) -> usize {

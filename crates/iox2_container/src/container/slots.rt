@@ -8,7 +8,7 @@ use std::marker::Model;
 /// A fixed number of slots, each with a cell in it.
 ///
 /// Contracts see the cells and how often one was read or written. The count takes no bytes.
-#[derive(Drop)]
+#[derive(Debug, Drop)]
 pub struct Slots<C: Copy> {
     cells: Vec<C>,
     touches: Touches,

@@ -5,7 +5,7 @@ ghost use Rattle.std.specs.Borrow.{ftrue};
 use std::marker::Model;
 
 /// How often slots were read or written.
-#[derive(Drop)]
+#[derive(Debug, Drop)]
 pub(super) struct Touches {
     pub(super) ghost count: { ℕ },
 }

@@ -2,16 +2,18 @@
 ghost use Rattle.std.specs.Prelude.{◌≡◌, ◌<◌, ◌+◌, IfSome, IsNone, Some, ◌↔◌};
 ghost use Rattle.iox2_ids.specs.Packing.{packed, process_of, time_of, owner_of, hexadecimal};
 
-use super::hexadecimal::Hexadecimal;
-use super::packing::{creation_time_of, pack, pid_of};
 use super::time::{ProcessId, Time};
+use super::unique_id::UniqueId;
 use std::fmt;
 use std::marker::Model;
+
+/// The kind of the id in a [`UniqueNodeId`].
+enum NodeKind {}
 
 /// The id of a node. Its process or its counter is not 0.
 #[derive(Clone, Copy, Debug, PartialEq, Eq, PartialOrd, Ord, Hash)]
 pub struct UniqueNodeId {
-    value: u128,
+    id: UniqueId<NodeKind>,
 }
 
 impl Model for UniqueNodeId {
@@ -20,11 +22,11 @@ impl Model for UniqueNodeId {
 
     ghost Value = { ℕ };
 
-    ghost view = { λ id. id.value };
+    ghost view = { λ node. node.id };
 
-    ghost invariant = { λ id. 0 < owner_of id.value };
+    ghost invariant = { λ node. 0 < owner_of node.id };
 
-    ghost inverse = { λ n. record { value = n } };
+    ghost inverse = { λ n. record { id = n } };
 }
 
 /// The number in lower-case hexadecimal digits without leading zeros.
@@ -32,7 +34,7 @@ impl fmt::Display for UniqueNodeId {
     ghost output = { λ id. Some (hexadecimal id) };
 
     fn fmt<W: fmt::Write>(&self, f: &mut fmt::Formatter<W>) -> fmt::Result {
-        f.pad(Hexadecimal::new(self.value).as_str())
+        self.id.fmt(f)
     }
 }
 
@@ -46,7 +48,7 @@ impl UniqueNodeId {
             return None;
         }
         Some(UniqueNodeId {
-            value: pack(process, seconds, nanoseconds, counter),
+            id: UniqueId::new(process, seconds, nanoseconds, counter),
         })
     }
 
@@ -55,21 +57,21 @@ impl UniqueNodeId {
     pub fn value(&self) -> u128
         ensures { result ≡ self.now }
     {
-        self.value
+        self.id.value()
     }
 
     /// The process that created it.
     pub fn pid(&self) -> ProcessId
         ensures { result ≡ process_of self.now }
     {
-        pid_of(self.value)
+        self.id.pid()
     }
 
     /// When it was created.
     pub fn creation_time(&self) -> Time
         ensures { result ≡ time_of self.now }
     {
-        creation_time_of(self.value)
+        self.id.creation_time()
     }
 
     /// The process and the counter in one number, process * 2^32 + counter, which is never 0.
@@ -79,6 +81,7 @@ impl UniqueNodeId {
         ensures value { result ≡ owner_of self.now }
         ensures never_zero { 0 < result }
     {
-        ((self.value >> 96) << 32) as u64 + (self.value % (1 << 32)) as u64
+        let value = self.id.value();
+        ((value >> 96) << 32) as u64 + (value % (1 << 32)) as u64
     }
 }

@@ -8,7 +8,8 @@ ghost use Rattle.iox2_static.specs.Chunks.{TellsGreatest};
 /// Only the final number is compared with the greatest `usize`: no holders beside a huge `for_each` are no refusal.
 #[tactic(auto, using(crate::proofs::Greatest::tells))]
 pub(super) fn amount_of_chunks(holders: u128, for_each: u128, others: u128) -> Option<usize>
-    ensures { (limits : List ℕ) → sum limits ≡ holders * for_each + others → TellsGreatest limits result }
+    ensures { (limits : List ℕ) → sum limits ≡ holders * for_each + others
+        → TellsGreatest limits result }
 {
     let total = holders.checked_mul(for_each)?.checked_add(others)?;
     usize::try_from(total).ok()

@@ -31,7 +31,7 @@ pub struct StaticConfig {
     pub notifier_created_event: Option<usize>,
     /// The number of the event that tells that a notifier went, if it is told.
     pub notifier_dropped_event: Option<usize>,
-    /// The number of the event that tells that a notifier's process died, if it is told.
+    /// The number of the event that tells of a notifier whose node died, if it is told.
     pub notifier_dead_event: Option<usize>,
 }
 
@@ -110,7 +110,7 @@ impl StaticConfig {
         self.notifier_dropped_event.map(EventId::new)
     }
 
-    /// The event that tells that a notifier's process died, if it is told.
+    /// The event that tells of a notifier whose node died, if it is told.
     pub fn notifier_dead_event(&self) -> Option<EventId>
         ensures { result ≡ self.now.notifier_dead_event }
     {

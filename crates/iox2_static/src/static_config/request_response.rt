@@ -14,7 +14,7 @@ pub struct StaticConfig {
     pub enable_safe_overflow_for_responses: bool,
     /// Whether a client may send a request for which it takes no response.
     pub enable_fire_and_forget_requests: bool,
-    /// How many requests a client has open at each server at most.
+    /// How many requests of one client may be open at each server at once.
     pub max_active_requests_per_client: usize,
     /// How many requests a client loans at once at most, to be written.
     pub max_loaned_requests: usize,
@@ -136,7 +136,7 @@ impl StaticConfig {
         self.max_borrowed_responses_per_pending_response
     }
 
-    /// How many requests a client has open at each server at most.
+    /// How many requests of one client may be open at each server at once.
     pub fn max_active_requests_per_client(&self) -> usize
         ensures { result ≡ self.now.max_active_requests_per_client }
     {

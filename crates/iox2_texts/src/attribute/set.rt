@@ -74,7 +74,8 @@ impl AttributeSet {
         value: &AttributeValue,
     ) -> Result<(), AttributeDefinitionError>
         ensures variant { IsOk result ↔ (length self.old < 16) }
-        ensures added { OnOk result (IsListing (record { key = key.now; value = value.now } ∷ self.old) self.new) }
+        ensures added { OnOk result
+            (IsListing (record { key = key.now; value = value.now } ∷ self.old) self.new) }
         ensures full { OnErr result (self.new ≡ self.old) }
         ensures len { OnOk result (length self.new ≡ length self.old + 1) }
         ensures bound { length self.new ≤ 16 }
@@ -148,7 +149,8 @@ impl AttributeSet {
         callback: &mut F,
     )
         requires { F.IsAlwaysCallable callback.old }
-        ensures visit { Visits (CalledAt F.FnMut) callback.old (values_of self.now key.now) callback.new }
+        ensures visit { Visits (CalledAt F.FnMut)
+            callback.old (values_of self.now key.now) callback.new }
         ensures callable { F.IsAlwaysCallable callback.new }
     {
         for attribute in self.attributes.as_slice() {

@@ -38,7 +38,8 @@ impl AttributeSpecifier {
         value: &AttributeValue,
     ) -> Result<Self, AttributeDefinitionError>
         ensures variant { IsOk result ↔ (length self < 16) }
-        ensures added { IfOk result (λ s. IsListing (record { key = key.now; value = value.now } ∷ self) s) }
+        ensures added { IfOk result
+            (λ s. IsListing (record { key = key.now; value = value.now } ∷ self) s) }
     {
         let mut specifier = self;
         specifier.attributes.add(key, value)?;

@@ -112,7 +112,8 @@ impl AttributeVerifier {
         value: &AttributeValue,
     ) -> Result<Self, AttributeDefinitionError>
         ensures variant { IsOk result ↔ (length self.pairs + length self.keys < 16) }
-        ensures pairs { IfOk result (λ v. IsListing (record { key = key.now; value = value.now } ∷ self.pairs) v.pairs) }
+        ensures pairs { IfOk result
+            (λ v. IsListing (record { key = key.now; value = value.now } ∷ self.pairs) v.pairs) }
         ensures keys { IfOk result (λ v. v.keys ≡ self.keys) }
     {
         let mut verifier = self;
@@ -127,7 +128,8 @@ impl AttributeVerifier {
     /// spent.
     pub fn require_key(self, key: &AttributeKey) -> Result<Self, AttributeDefinitionError>
         ensures variant { IsOk result ↔ (length self.pairs + length self.keys < 16) }
-        ensures added { IfOk result (λ v. v ≡ record { pairs = self.pairs; keys = self.keys ++ key.now ∷ [] }) }
+        ensures added { IfOk result
+            (λ v. v ≡ record { pairs = self.pairs; keys = self.keys ++ key.now ∷ [] }) }
     {
         let mut verifier = self;
         if verifier.is_full() {

@@ -5,7 +5,8 @@ ghost use Rattle.iox2_texts.specs.Path.{MakesJoined, is_slash};
 
 use super::MAX_PATH_LENGTH;
 use super::file_name::{FileName, FileNameContent};
-use super::joining::{Path, joined};
+use super::joining::joined;
+use super::path::Path;
 use crate::bounded::{Content, SemanticString, SemanticStringError};
 
 /// The path of a file: 1 to 255 bytes, of which those after the last `/` are a file name. Where there is no `/`,

@@ -1,11 +1,13 @@
 //! Scripts.
-ghost use Rattle.std.specs.Prelude.{◌≡◌, ◌∷◌, ◌++◌, List, ℕ};
+ghost use Rattle.std.specs.Prelude.{◌≡◌, ◌∷◌, ◌++◌, IfOk, List, OnErr, ℕ};
+ghost use Rattle.std.specs.Option.{option_map};
 ghost use Rattle.service_descriptions.specs.declared.replay.script.ScriptError.TheVariants.{NoMemory};
-ghost use Rattle.service_descriptions.specs.Script.{Scripted, service_line, IsServiceLine};
+ghost use Rattle.service_descriptions.specs.declared.replay.service_line.ServiceLine.{ServiceLine};
+ghost use Rattle.service_descriptions.specs.Script.{RanLine, Scripted, first_state, service_line, IsServiceLine};
 
 use super::line::next_command;
-use super::reply_line::write_reply;
-use super::service_line::{ServiceLine, service_before};
+use super::reply_line::write_line;
+use super::service_line::service_before;
 use super::state::ServiceState;
 use std::alloc::{AllocError, Global};
 use thiserror::Error;
@@ -30,26 +32,42 @@ impl From<AllocError> for ScriptError {
     }
 }
 
-/// Runs the lines after the service line.
+/// Runs the first line, and gives the lines after it. `None` where it is no command's line.
+#[inline(always)]
+fn run_line<'a>(
+    alloc: Global,
+    state: &mut ServiceState,
+    lines: &'a [u8],
+    out: &mut Vec<u8>,
+) -> Result<Option<&'a [u8]>, AllocError>
+    ensures ok { IfOk result (λ found. RanLine state.old lines.now out.old.items (option_map (λ rest. rest.now) found) state.new out.new.items) }
+    ensures err { OnErr result (out.new.items ≡ out.old.items) }
+{
+    let Some((command, rest)) = next_command(alloc, lines)? else {
+        return Ok(None);
+    };
+    let reply = state.serve_line(alloc, &command)?;
+    write_line(&reply, out)?;
+    Ok(Some(rest))
+}
+
+/// Runs the lines after the service line, on a new service of that line.
 fn run_lines(
     alloc: Global,
-    service: &ServiceLine,
+    state: &mut ServiceState,
     lines: &[u8],
     out: &mut Vec<u8>,
 ) -> Result<(), ScriptError>
-    requires { IsServiceLine service.now }
-    ensures { (text : List ℕ) × (out.new.items ≡ out.old.items ++ text)
-        × Scripted (service_line service.now ++ 10 ∷ lines.now) result text }
+    ensures { (service : ServiceLine) → IsServiceLine service → state.old ≡ first_state service
+        → (text : List ℕ) × (out.new.items ≡ out.old.items ++ text)
+        × Scripted (service_line service ++ 10 ∷ lines.now) result text }
 {
-    let mut state = ServiceState::new(alloc, &service.settings, service.max_nodes, service.number)?;
     let mut rest = lines;
     let mut count = 0;
     while rest.len() > 0 {
-        let Some((command, tail)) = next_command(rest) else {
+        let Some(tail) = run_line(alloc, state, rest, out)? else {
             return Err(ScriptError::BadLine(count + 2));
         };
-        let reply = state.serve(&command)?;
-        write_reply(&reply, out)?;
         rest = tail;
         count += 1;
     }
@@ -71,5 +89,6 @@ pub fn run_script(alloc: Global, script: &[u8], out: &mut Vec<u8>) -> Result<(),
     let Some((service, lines)) = service_before(script) else {
         return Err(ScriptError::BadLine(1));
     };
-    run_lines(alloc, &service, lines, out)
+    let mut state = ServiceState::new(alloc, &service.settings, service.max_nodes, service.number)?;
+    run_lines(alloc, &mut state, lines, out)
 }

@@ -1,16 +1,28 @@
 //! The reply to one command.
-ghost use Rattle.std.specs.Prelude.{◌≡◌, IfSome, IfNone};
+ghost use Rattle.std.specs.Prelude.{◌≡◌, IfOk, IfSome, IfNone, OnErr};
+ghost use Rattle.iox2_dynamic.specs.Service.{IsService};
 ghost use Rattle.service_descriptions.specs.Handles.{Gave, GaveNone, handles_in};
-ghost use Rattle.service_descriptions.specs.Inner.{service_of};
-ghost use Rattle.service_descriptions.specs.Steps.{Serves};
+ghost use Rattle.service_descriptions.specs.Lines.{command_of};
+ghost use Rattle.service_descriptions.specs.Replies.{reply_of};
+ghost use Rattle.service_descriptions.specs.Steps.{Acts, Serves};
 ghost use Rattle.service_descriptions.specs.declared.replay.command.Command.TheVariants as commands;
 
-use super::command::Command;
+use super::cleanup::clean_up;
+use super::command::{Cleanup, Command};
+use super::description::{compatible, layout, places, verify};
 use super::earlier::Earlier;
+use super::line_command::LineCommand;
+use super::line_reply::LineReply;
+use super::listing::{nodes_of, ports_of};
 use super::reply::Reply;
-use super::service::Service;
-use iox2_container::container::{ContainerAddFailure, ContainerHandle, ReleaseState};
+use iox2_container::container::{ContainerHandle, Role};
+use iox2_dynamic::dynamic_config::{
+    AttachError, DeregisterError, DeregisterNodeState, DynamicConfig, PortDetails,
+    RegisterNodeResult,
+};
 use iox2_ids::identifiers::UniqueNodeId;
+use iox2_static::static_config::StaticConfig;
+use std::alloc::{AllocError, Global};
 
 /// The handle that an earlier command was answered with.
 fn named(number: u64, earlier: &[Earlier], k: usize) -> Option<ContainerHandle>
@@ -25,43 +37,193 @@ fn named(number: u64, earlier: &[Earlier], k: usize) -> Option<ContainerHandle>
     }
 }
 
-fn register(service: &mut Service, number: u64, earlier: &[Earlier], id: UniqueNodeId) -> Reply
-    ensures { Serves (service_of service.old) (handles_in number earlier.now)
-        (commands.Register id) result (service_of service.new) }
+fn register(
+    service: &mut DynamicConfig,
+    number: u64,
+    earlier: &[Earlier],
+    id: UniqueNodeId,
+) -> LineReply
+    ensures acts { Acts service.old (handles_in number earlier.now)
+        (commands.Register id) (reply_of result) service.new }
+    ensures kept { IsService service.new }
 {
     match service.register_node_id(id) {
-        Ok(handle) => Reply::Handle(handle),
-        Err(ContainerAddFailure::IsLocked) => Reply::Locked,
-        Err(ContainerAddFailure::OutOfSpace) => Reply::Full,
+        Ok(handle) => LineReply::Handle(handle),
+        Err(RegisterNodeResult::MarkedForDestruction) => LineReply::Locked,
+        Err(RegisterNodeResult::ExceedsMaxNumberOfNodes) => LineReply::Full,
     }
 }
 
-fn deregister(service: &mut Service, number: u64, earlier: &[Earlier], k: usize) -> Reply
-    ensures { Serves (service_of service.old) (handles_in number earlier.now)
-        (commands.Deregister k) result (service_of service.new) }
+fn deregister(service: &mut DynamicConfig, number: u64, earlier: &[Earlier], k: usize) -> LineReply
+    requires { IsService service.old }
+    ensures acts { Acts service.old (handles_in number earlier.now)
+        (commands.Deregister k) (reply_of result) service.new }
+    ensures kept { IsService service.new }
 {
     let Some(handle) = named(number, earlier, k) else {
-        return Reply::NoHandle;
+        return LineReply::NoHandle;
     };
     match service.deregister_node_id(handle) {
-        Ok(ReleaseState::Unlocked) => Reply::HasOwners,
-        Ok(ReleaseState::Locked) => Reply::NoMoreOwners,
-        Err(_) => Reply::NotOwned,
+        Ok(DeregisterNodeState::HasOwners) => LineReply::HasOwners,
+        Ok(DeregisterNodeState::NoMoreOwners) => LineReply::NoMoreOwners,
+        Err(DeregisterError::ContainerHandleNotOwnedByContainer) => LineReply::NotOwned,
+        Err(DeregisterError::PortsStillAttached) => LineReply::PortsAttached,
     }
 }
 
-/// The reply to a command on a service of this number, where earlier commands were answered so.
+fn nodes(
+    alloc: Global,
+    service: &DynamicConfig,
+    number: u64,
+    earlier: &[Earlier],
+) -> Result<LineReply, AllocError>
+    ensures { IfOk result (λ reply. Acts service.now (handles_in number earlier.now)
+        commands.Nodes (reply_of reply) service.now) }
+{
+    match nodes_of(alloc, service) {
+        Ok(ids) => Ok(LineReply::Nodes(ids)),
+        Err(error) => Err(error),
+    }
+}
+
+fn add(
+    service: &mut DynamicConfig,
+    number: u64,
+    earlier: &[Earlier],
+    details: PortDetails,
+) -> LineReply
+    requires { IsService service.old }
+    ensures acts { Acts service.old (handles_in number earlier.now)
+        (commands.Add details) (reply_of result) service.new }
+    ensures kept { IsService service.new }
+{
+    if !service.has_role(details.role()) {
+        return LineReply::WrongPattern;
+    }
+    match service.attach(details) {
+        Ok(handle) => LineReply::Handle(handle),
+        Err(AttachError::ServiceIsLocked) => LineReply::Locked,
+        Err(AttachError::NodeNotRegistered) => LineReply::NotRegistered,
+        Err(AttachError::OutOfSpace) => LineReply::Full,
+    }
+}
+
+fn release(service: &mut DynamicConfig, number: u64, earlier: &[Earlier], k: usize) -> LineReply
+    requires { IsService service.old }
+    ensures acts { Acts service.old (handles_in number earlier.now)
+        (commands.Release k) (reply_of result) service.new }
+    ensures kept { IsService service.new }
+{
+    let Some(handle) = named(number, earlier, k) else {
+        return LineReply::NoHandle;
+    };
+    match service.release_port(handle) {
+        Ok(()) => LineReply::Released,
+        Err(_) => LineReply::NotOwned,
+    }
+}
+
+fn list(
+    alloc: Global,
+    service: &DynamicConfig,
+    number: u64,
+    earlier: &[Earlier],
+    role: Role,
+) -> Result<LineReply, AllocError>
+    ensures { IfOk result (λ reply. Acts service.now (handles_in number earlier.now)
+        (commands.List role) (reply_of reply) service.now) }
+{
+    match ports_of(alloc, service, role) {
+        Ok(found) => match found {
+            Some(ports) => Ok(LineReply::Ports(ports)),
+            None => Ok(LineReply::WrongPattern),
+        },
+        Err(error) => Err(error),
+    }
+}
+
+fn count(service: &DynamicConfig, number: u64, earlier: &[Earlier], role: Role) -> LineReply
+    ensures { Acts service.now (handles_in number earlier.now)
+        (commands.Count role) (reply_of result) service.now }
+{
+    match service.count_ports(role) {
+        Some(n) => LineReply::Count(n),
+        None => LineReply::WrongPattern,
+    }
+}
+
+fn dead(
+    service: &mut DynamicConfig,
+    number: u64,
+    earlier: &[Earlier],
+    node: &UniqueNodeId,
+    cleanup: &Cleanup,
+) -> LineReply
+    ensures acts { Acts service.old (handles_in number earlier.now)
+        (commands.Dead node.now cleanup.now) (reply_of result) service.new }
+    ensures kept { IsService service.new }
+{
+    match clean_up(service, node, cleanup) {
+        DeregisterNodeState::HasOwners => LineReply::HasOwners,
+        DeregisterNodeState::NoMoreOwners => LineReply::NoMoreOwners,
+    }
+}
+
+/// The reply to a command that has a line.
+#[inline(always)]
+pub(super) fn serve_line(
+    alloc: Global,
+    service: &mut DynamicConfig,
+    number: u64,
+    earlier: &[Earlier],
+    command: &LineCommand,
+) -> Result<LineReply, AllocError>
+    requires { IsService service.old }
+    ensures ok { IfOk result (λ reply. Acts service.old (handles_in number earlier.now)
+        (command_of command.now) (reply_of reply) service.new) }
+    ensures err { OnErr result (service.new ≡ service.old) }
+    ensures kept { IsService service.new }
+{
+    match command {
+        LineCommand::Register(id) => Ok(register(service, number, earlier, *id)),
+        LineCommand::Deregister(k) => Ok(deregister(service, number, earlier, *k)),
+        LineCommand::Nodes => nodes(alloc, service, number, earlier),
+        LineCommand::Add(details) => Ok(add(service, number, earlier, *details)),
+        LineCommand::Release(k) => Ok(release(service, number, earlier, *k)),
+        LineCommand::List(role) => list(alloc, service, number, earlier, *role),
+        LineCommand::Count(role) => Ok(count(service, number, earlier, *role)),
+        LineCommand::Dead(node, cleanup) => Ok(dead(service, number, earlier, node, cleanup)),
+    }
+}
+
+/// The reply to a command on a service of this number, where earlier commands were answered so. All memory that it
+/// needs is taken before the service changes.
 pub(super) fn serve_command(
-    service: &mut Service,
+    alloc: Global,
+    service: &mut DynamicConfig,
+    about: &Option<StaticConfig>,
     number: u64,
     earlier: &[Earlier],
     command: &Command,
-) -> Reply
-    ensures { Serves (service_of service.old) (handles_in number earlier.now)
-        command.now result (service_of service.new) }
+) -> Result<Reply, AllocError>
+    requires { IsService service.old }
+    ensures ok { IfOk result (λ reply. Serves service.old about.now (handles_in number earlier.now)
+        command.now reply service.new) }
+    ensures err { OnErr result (service.new ≡ service.old) }
+    ensures kept { IsService service.new }
 {
     match command {
-        Command::Register(id) => register(service, number, earlier, *id),
-        Command::Deregister(k) => deregister(service, number, earlier, *k),
+        Command::Register(id) => Ok(register(service, number, earlier, *id).reply()),
+        Command::Deregister(k) => Ok(deregister(service, number, earlier, *k).reply()),
+        Command::Nodes => Ok(nodes(alloc, service, number, earlier)?.reply()),
+        Command::Add(details) => Ok(add(service, number, earlier, *details).reply()),
+        Command::Release(k) => Ok(release(service, number, earlier, *k).reply()),
+        Command::List(role) => Ok(list(alloc, service, number, earlier, *role)?.reply()),
+        Command::Count(role) => Ok(count(service, number, earlier, *role).reply()),
+        Command::Dead(node, cleanup) => Ok(dead(service, number, earlier, node, cleanup).reply()),
+        Command::Verify(required) => Ok(verify(about, required)),
+        Command::Layout(part, n) => Ok(layout(about, *part, *n)),
+        Command::Places(part, header) => Ok(places(about, *part, *header)),
+        Command::Compatible(part, opener) => Ok(compatible(about, *part, opener)),
     }
 }

@@ -7,7 +7,7 @@ ghost use Rattle.service_descriptions.specs.Script.{IsServiceFront, service_fron
 
 use super::number::number_then;
 use super::word::after_word;
-use crate::dynamic_config::{
+use iox2_dynamic::dynamic_config::{
     MessagingPatternSettings, blackboard, event, publish_subscribe, request_response,
 };
 
@@ -91,16 +91,16 @@ pub(super) fn service_before(bytes: &[u8]) -> Option<(ServiceLine, &[u8])>
     let Some((pattern, rest)) = pattern_before(rest) else {
         return None;
     };
-    let Some((number, rest)) = number_then(rest, b' ') else {
+    let Some((number, rest)) = number_then(rest, u64::MAX, b' ') else {
         return None;
     };
-    let Some((max_nodes, rest)) = number_then(rest, b' ') else {
+    let Some((max_nodes, rest)) = number_then(rest, u64::MAX, b' ') else {
         return None;
     };
-    let Some((first, rest)) = number_then(rest, b' ') else {
+    let Some((first, rest)) = number_then(rest, u64::MAX, b' ') else {
         return None;
     };
-    let Some((second, rest)) = number_then(rest, b'\n') else {
+    let Some((second, rest)) = number_then(rest, u64::MAX, b'\n') else {
         return None;
     };
     let service = ServiceLine {

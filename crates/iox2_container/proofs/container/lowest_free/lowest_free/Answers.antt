@@ -1,6 +1,6 @@
 use Rattle.std.proofs.Common.{arith, map}
 use Rattle.std.proofs.lemmas.List.{length-map}
-use Rattle.iox2_container.specs.Shown.{shown}
+use Rattle.iox2_container.specs.Cells.{shown}
 use Rattle.iox2_container.proofs.CellEntries.{full_from}
 use Rattle.iox2_container.proofs.container.lowest_free.lowest_free.Goals as goal
 

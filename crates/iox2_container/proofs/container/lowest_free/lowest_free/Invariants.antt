@@ -1,6 +1,6 @@
 use Rattle.std.proofs.Common.{◌≡◌, ◌≢◌, ℕ, ◌+◌, ◌<◌, Some, None, map}
 use Rattle.std.specs.Prelude.{slice_get}
-use Rattle.iox2_container.specs.Shown.{shown}
+use Rattle.iox2_container.specs.Cells.{shown}
 use Rattle.iox2_container.proofs.container.lowest_free.lowest_free.Given as goal
 
 abbrev pub invariant-loop-slot : goal.invariant-loop-slot

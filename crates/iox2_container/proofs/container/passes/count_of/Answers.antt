@@ -1,7 +1,6 @@
-use Rattle.std.proofs.Common.{◌≡◌, ◌+◌, length, take, sym, ◌∙◌, ap, arith}
-use Rattle.std.proofs.Math.Seq.{take-length}
-use Rattle.iox2_container.specs.Places.{entries_from}
+use Rattle.std.proofs.Common.{◌≡◌, ◌+◌, sym, ◌∙◌, ap, arith}
 use Rattle.iox2_container.specs.Steps.{is_of}
+use Rattle.iox2_container.proofs.CellEntries.{all_before}
 use Rattle.iox2_container.proofs.Counting.{counted, counted_more, few_more, one_if}
 use Rattle.iox2_container.proofs.Sweeping.{add_zero}
 use Rattle.iox2_container.proofs.container.passes.count_of.Goals as goal
@@ -10,8 +9,8 @@ use Rattle.iox2_container.proofs.container.passes.count_of.Goals.{then-stands_fo
 pub returns : goal.returns
 returns g c =
     let cells = g.P.Places.cells c.args.places.now in
-    let all : c.loop-slot.slot ≡ length cells = omega (arith, c.capacity-slot-end.ensures, c.loop-slot.auto.slot-end, c.loop-slot-test.false) in
-    c.loop-slot.invariant.count ∙ ap (λ cs. counted (is_of g.T.Attached.node c.args.node.now) (entries_from 0 cs)) (ap (λ n. take n cells) all ∙ take-length cells)
+    c.loop-slot.invariant.count
+    ∙ ap (counted (is_of g.T.Attached.node c.args.node.now)) (all_before 0 c.loop-slot.slot cells (λ slot later. c.end-slot-end.ensures.free slot (omega arith)))
 
 pub loop-slot-preserved : goal.loop-slot-preserved
 loop-slot-preserved g c =

@@ -1,7 +1,10 @@
-use Rattle.std.proofs.Common.{◌≡◌, ◌+◌, refl, sym, ◌∙◌, ap, arith}
+use Rattle.std.proofs.Common.{◌≡◌, ◌+◌, take, refl, sym, ◌∙◌, ap, subst, arith}
 use Rattle.std.specs.Prelude.{if◌then◌else◌}
 use Rattle.std.specs.Fn.{CalledAt}
+use Rattle.iox2_container.specs.Passes.{Swept}
+use Rattle.iox2_container.specs.Places.{NoneFrom, entries_from}
 use Rattle.iox2_container.specs.Steps.{is_of}
+use Rattle.iox2_container.proofs.CellEntries.{all_before}
 use Rattle.iox2_container.proofs.Sweeping.{swept_none, sweeps_more, cells_swept, later_kept, length_kept, few_gone, add_zero}
 use Rattle.iox2_container.proofs.container.passes.sweep.Goals as goal
 use Rattle.iox2_container.proofs.container.passes.sweep.Goals.{then-sweep_place, else-sweep_place}
@@ -34,3 +37,13 @@ loop-slot-preserved g c =
       touched = omega (arith, c.sweep_place.ensures.touched, c.loop-slot.invariant.touched);
       counted = omega (arith, c.sweep_place.ensures.counted, c.loop-slot.invariant.counted);
     }
+
+pub returns-clause-swept : goal.returns-clause-swept
+returns-clause-swept g c =
+    let so_far = c.loop-slot.invariant in
+    let old = g.P.Places.cells c.args.places.now in
+    let new = g.P.Places.cells c.loop-slot.places in
+    let none_old : NoneFrom old c.loop-slot.slot = λ slot later. c.end-slot-end.ensures.free slot (omega arith) in
+    let none_new : NoneFrom new c.loop-slot.slot = λ slot later taken. none_old slot later (taken.0, sym (so_far.later slot later) ∙ taken.1) in
+    subst (λ es. Swept (CalledAt g.F.FnMut) (is_of g.T.Attached.node c.args.dead.now) c.args.f.now es c.loop-slot.f (entries_from 0 new) c.loop-slot.gone) (all_before 0 c.loop-slot.slot old none_old)
+    (subst (λ es. Swept (CalledAt g.F.FnMut) (is_of g.T.Attached.node c.args.dead.now) c.args.f.now (entries_from 0 (take c.loop-slot.slot old)) c.loop-slot.f es c.loop-slot.gone) (all_before 0 c.loop-slot.slot new none_new) so_far.swept)

@@ -1,7 +1,7 @@
-use Rattle.std.proofs.Common.{◌≡◌, ℕ, length, take, arith, add-one, sym, ◌∙◌, subst, ap}
-use Rattle.std.proofs.Math.Seq.{take-length}
+use Rattle.std.proofs.Common.{◌≡◌, ℕ, take, arith, add-one, sym, subst}
 use Rattle.std.specs.Fn.{CalledAt}
 use Rattle.iox2_container.specs.Places.{entries_from}
+use Rattle.iox2_container.proofs.CellEntries.{all_before}
 use Rattle.iox2_container.proofs.AskedInTurn.{details_of, GoesOn, goes_on, stops, ends, not_stop}
 use Rattle.iox2_container.proofs.container.passes.visit.Goals as goal
 
@@ -22,6 +22,6 @@ loop-slot-preserved g c =
 pub returns-clause-visit : goal.returns-clause-visit
 returns-clause-visit g c =
     let cells = g.P.Places.cells c.args.places.now in
-    let all : c.loop-slot.slot ≡ length cells = omega (arith, c.capacity-slot-end.ensures, c.loop-slot.auto.slot-end, c.loop-slot-test.false) in
+    let all : entries_from 0 (take c.loop-slot.slot cells) ≡ entries_from 0 cells = all_before 0 c.loop-slot.slot cells (λ slot later. c.end-slot-end.ensures.free slot (omega arith)) in
     ends (CalledAt g.F.FnMut) c.args.f.now c.loop-slot.f (details_of (entries_from 0 cells))
-    (subst (λ cs. GoesOn (CalledAt g.F.FnMut) c.args.f.now (details_of (entries_from 0 cs)) c.loop-slot.f) (ap (λ n. take n cells) all ∙ take-length cells) c.loop-slot.invariant.asked)
+    (subst (λ es. GoesOn (CalledAt g.F.FnMut) c.args.f.now (details_of es) c.loop-slot.f) all c.loop-slot.invariant.asked)

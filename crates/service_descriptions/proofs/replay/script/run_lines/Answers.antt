@@ -1,35 +1,43 @@
-use Rattle.std.proofs.Common.{arith, sym, ap, subst, length, inr, ◌+◌, ◌<◌}
+use Rattle.std.proofs.Common.{◌∙◌, arith, sym, ap, subst, length, inr, ◌+◌, ◌<◌}
 use Rattle.std.specs.List.{flat_map}
+use Rattle.service_descriptions.specs.Lines.{line_of}
 use Rattle.service_descriptions.specs.Replies.{reply_line}
 use Rattle.service_descriptions.specs.Steps.{State}
-use Rattle.service_descriptions.proofs.Scripts.{SoFar, start, more, replied, some_left}
+use Rattle.service_descriptions.proofs.Scripts.{SoFar, start, more, replied, shorter, some_left}
 use Rattle.service_descriptions.proofs.replay.script.run_lines.Goals as goal
 
 pub loop-rest-init : goal.loop-rest-init
-loop-rest-init c =
-    subst (λ (s : State). SoFar c.args.service.now c.args.lines.now c.args.lines.now c.args.out.now.items c.args.out.now.items 0 s) (sym c.in_ok-state.ensures)
-    (start c.args.service.now c.args.lines.now c.args.out.now.items c.requires)
+loop-rest-init c = (
+  omega arith,
+  λ service fits is.
+      subst (λ (s : State). SoFar service c.args.lines.now c.args.lines.now c.args.out.now.items c.args.out.now.items 0 s) (sym is)
+      (start service c.args.lines.now c.args.out.now.items fits),
+)
 
 pub returns-in_default : goal.returns-in_default
-returns-in_default c =
-    let so = c.loop-rest.invariant in
+returns-in_default c service fits is =
+    let so = c.loop-rest.invariant.1 service fits is in
     let some : 0 < length c.loop-rest.rest.now = omega arith in
-    let text = flat_map reply_line so.replies in (
-      text,
-      so.appended,
+    let bad = rw c.in_default.is at c.in_ok-tail.ensures.ok in (
+      flat_map reply_line so.replies,
+      bad.2 ∙ so.appended,
       inr (
-        c.args.service.now,
+        service,
         so.commands,
         c.loop-rest.rest.now,
         ap (λ n. n + 2) (sym so.counted),
         so.begins,
-        (some_left _ some, λ command tail fits e. c.in_default.ensures (command, tail) fits e),
-        replied c.args.service.now c.args.lines.now c.loop-rest.rest.now c.args.out.now.items c.loop-rest.out.items c.loop-rest.count c.loop-rest.state so,
+        (some_left _ some, bad.0),
+        replied service c.args.lines.now c.loop-rest.rest.now c.args.out.now.items c.loop-rest.out.items c.loop-rest.count c.loop-rest.state so,
       ),
     )
 
 pub loop-rest-preserved : goal.loop-rest-preserved
 loop-rest-preserved c =
-    let so = c.loop-rest.invariant in
-    more c.args.service.now c.args.lines.now c.loop-rest.rest.now c.args.out.now.items c.loop-rest.out.items c.in-Some.tail.now _ c.loop-rest.count
-    c.loop-rest.state _ c.in-Some.command c.in_ok-reply.reply so c.in-Some.ensures.0 c.in-Some.ensures.1 c.in_ok-reply.ensures.ok c.in_ok-write_reply.ensures.ok
+    let ran = rw c.in-Some.is at c.in_ok-tail.ensures.ok in
+    let room = shorter (line_of ran.0) c.in-Some.tail.now c.loop-rest.rest.now ran.3 in (
+      omega (arith, room, c.loop-rest.invariant.0),
+      λ service fits is.
+          more service c.args.lines.now c.loop-rest.rest.now c.args.out.now.items c.loop-rest.out.items c.in-Some.tail.now _ c.loop-rest.count
+          c.loop-rest.state _ ran.0 ran.1 (c.loop-rest.invariant.1 service fits is) ran.2 ran.3 ran.4 ran.5,
+    )

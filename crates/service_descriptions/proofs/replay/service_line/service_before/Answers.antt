@@ -1,8 +1,8 @@
 use Rattle.std.proofs.Common.{◌≡◌, ◌∷◌, ◌++◌, sym, ◌∙◌, subst}
-use Rattle.service_descriptions.specs.declared.dynamic_config.MessagingPatternSettings.{MessagingPatternSettings}
+use Rattle.iox2_dynamic.specs.declared.dynamic_config.settings.MessagingPatternSettings.{MessagingPatternSettings}
 use Rattle.service_descriptions.specs.declared.replay.service_line.ServiceLine.{ServiceLine}
 use Rattle.service_descriptions.specs.Script.{first_capacity, second_capacity, service_line, IsServiceLine}
-use Rattle.service_descriptions.proofs.Numerals.{same_then}
+use Rattle.service_descriptions.proofs.Numerals.{below_64, same_then, within_64}
 use Rattle.service_descriptions.proofs.Services.{no_space, pattern_of, same_pattern, after_service, spelled}
 use Rattle.service_descriptions.proofs.replay.service_line.service_before.Goals as goal
 
@@ -16,31 +16,31 @@ pub returns-in_default-number_then : goal.returns-in_default-number_then
 returns-in_default-number_then c a fits e =
     let all = after_service a.0 c.in-Some.rest.now a.1 c.args.bytes.now c.in-Some.ensures.some e in
     let pattern = same_pattern c.in-Some-pattern_before.pattern (pattern_of a.0.settings) _ _ (sym c.in-Some-pattern_before.ensures.1 ∙ all) in
-    c.in_default-number_then.ensures (a.0.number, _) fits.number pattern.1
+    c.in_default-number_then.ensures (a.0.number, _) (within_64 fits.number) pattern.1
 
 pub returns-in_default-number_then-2 : goal.returns-in_default-number_then-2
 returns-in_default-number_then-2 c a fits e =
     let all = after_service a.0 c.in-Some.rest.now a.1 c.args.bytes.now c.in-Some.ensures.some e in
     let pattern = same_pattern c.in-Some-pattern_before.pattern (pattern_of a.0.settings) _ _ (sym c.in-Some-pattern_before.ensures.1 ∙ all) in
-    let number = same_then 32 no_space c.in-Some-number_then.number (a.0.number) _ _ c.in-Some-number_then.ensures.0 fits.number (sym c.in-Some-number_then.ensures.1 ∙ pattern.1) in
-    c.in_default-number_then-2.ensures (a.0.max_nodes, _) fits.max_nodes number.1
+    let number = same_then 32 no_space c.in-Some-number_then.number (a.0.number) _ _ (below_64 c.in-Some-number_then.ensures.0) (fits.number) (sym c.in-Some-number_then.ensures.1 ∙ pattern.1) in
+    c.in_default-number_then-2.ensures (a.0.max_nodes, _) (within_64 fits.max_nodes) number.1
 
 pub returns-in_default-number_then-3 : goal.returns-in_default-number_then-3
 returns-in_default-number_then-3 c a fits e =
     let all = after_service a.0 c.in-Some.rest.now a.1 c.args.bytes.now c.in-Some.ensures.some e in
     let pattern = same_pattern c.in-Some-pattern_before.pattern (pattern_of a.0.settings) _ _ (sym c.in-Some-pattern_before.ensures.1 ∙ all) in
-    let number = same_then 32 no_space c.in-Some-number_then.number (a.0.number) _ _ c.in-Some-number_then.ensures.0 fits.number (sym c.in-Some-number_then.ensures.1 ∙ pattern.1) in
-    let nodes = same_then 32 no_space c.in-Some-number_then-2.max_nodes (a.0.max_nodes) _ _ c.in-Some-number_then-2.ensures.0 fits.max_nodes (sym c.in-Some-number_then-2.ensures.1 ∙ number.1) in
-    c.in_default-number_then-3.ensures (first_capacity a.0.settings, _) fits.first nodes.1
+    let number = same_then 32 no_space c.in-Some-number_then.number (a.0.number) _ _ (below_64 c.in-Some-number_then.ensures.0) (fits.number) (sym c.in-Some-number_then.ensures.1 ∙ pattern.1) in
+    let nodes = same_then 32 no_space c.in-Some-number_then-2.max_nodes (a.0.max_nodes) _ _ (below_64 c.in-Some-number_then-2.ensures.0) (fits.max_nodes) (sym c.in-Some-number_then-2.ensures.1 ∙ number.1) in
+    c.in_default-number_then-3.ensures (first_capacity a.0.settings, _) (within_64 fits.first) nodes.1
 
 pub returns-in_default-number_then-4 : goal.returns-in_default-number_then-4
 returns-in_default-number_then-4 c a fits e =
     let all = after_service a.0 c.in-Some.rest.now a.1 c.args.bytes.now c.in-Some.ensures.some e in
     let pattern = same_pattern c.in-Some-pattern_before.pattern (pattern_of a.0.settings) _ _ (sym c.in-Some-pattern_before.ensures.1 ∙ all) in
-    let number = same_then 32 no_space c.in-Some-number_then.number (a.0.number) _ _ c.in-Some-number_then.ensures.0 fits.number (sym c.in-Some-number_then.ensures.1 ∙ pattern.1) in
-    let nodes = same_then 32 no_space c.in-Some-number_then-2.max_nodes (a.0.max_nodes) _ _ c.in-Some-number_then-2.ensures.0 fits.max_nodes (sym c.in-Some-number_then-2.ensures.1 ∙ number.1) in
-    let first = same_then 32 no_space c.in-Some-number_then-3.first (first_capacity a.0.settings) _ _ c.in-Some-number_then-3.ensures.0 fits.first (sym c.in-Some-number_then-3.ensures.1 ∙ nodes.1) in
-    c.in_default-number_then-4.ensures (second_capacity a.0.settings, a.1) fits.second first.1
+    let number = same_then 32 no_space c.in-Some-number_then.number (a.0.number) _ _ (below_64 c.in-Some-number_then.ensures.0) (fits.number) (sym c.in-Some-number_then.ensures.1 ∙ pattern.1) in
+    let nodes = same_then 32 no_space c.in-Some-number_then-2.max_nodes (a.0.max_nodes) _ _ (below_64 c.in-Some-number_then-2.ensures.0) (fits.max_nodes) (sym c.in-Some-number_then-2.ensures.1 ∙ number.1) in
+    let first = same_then 32 no_space c.in-Some-number_then-3.first (first_capacity a.0.settings) _ _ (below_64 c.in-Some-number_then-3.ensures.0) (fits.first) (sym c.in-Some-number_then-3.ensures.1 ∙ nodes.1) in
+    c.in_default-number_then-4.ensures (second_capacity a.0.settings, a.1) (within_64 fits.second) first.1
 
 pub returns : goal.returns
 returns c =
@@ -51,7 +51,7 @@ returns c =
     let second = c.in-Some-number_then-4 in
     let read = spelled word.pattern number.number nodes.max_nodes first.first second.second
     c.in-Some.rest.now word.rest.now number.rest.now nodes.rest.now first.rest.now second.rest.now c.args.bytes.now
-    number.ensures.0 nodes.ensures.0 first.ensures.0 second.ensures.0
+    (below_64 number.ensures.0) (below_64 nodes.ensures.0) (below_64 first.ensures.0) (below_64 second.ensures.0)
     c.in-Some.ensures.some word.ensures.1 number.ensures.1 nodes.ensures.1 first.ensures.1 second.ensures.1 in
     subst (λ (s : MessagingPatternSettings). let l : ServiceLine = record { settings = s; number = number.number; max_nodes = nodes.max_nodes } in
     IsServiceLine l × (c.args.bytes.now ≡ service_line l ++ 10 ∷ second.rest.now))

@@ -3,7 +3,7 @@ use Rattle.std.specs.Prelude.{slice_set}
 use Rattle.iox2_container.specs.declared.container.cell.Cell.TheVariants.{Free}
 use Rattle.iox2_container.specs.Cells.{Cells}
 use Rattle.iox2_container.specs.Places.{IsTakenAt}
-use Rattle.iox2_container.specs.Shown.{shown}
+use Rattle.iox2_container.specs.Cells.{shown}
 use Rattle.iox2_container.proofs.ShownCells.{shown_set}
 use Rattle.iox2_container.proofs.FreeSlots.{threaded_clear, taken_within}
 use Rattle.iox2_container.proofs.container.free_list.FreeListPlaces.clear.Goals as goal

@@ -1,10 +1,10 @@
 use Rattle.std.proofs.Common.{◌≡◌, ℕ, ◌<◌, List, Option, Some, None, length, map, sym, ◌∙◌, ap, subst}
 use Rattle.std.specs.Prelude.{slice_get, slice_set}
-use Rattle.iox2_container.specs.Threads.{Linked}
+use Rattle.iox2_container.specs.FreeLinks.{Linked}
 use Rattle.iox2_container.specs.declared.container.cell.Cell.TheVariants.{Taken}
 use Rattle.iox2_container.specs.Cells.{Cells}
 use Rattle.iox2_container.specs.Places.{entries_from}
-use Rattle.iox2_container.specs.Shown.{shown}
+use Rattle.iox2_container.specs.Cells.{shown}
 use Rattle.iox2_container.proofs.FreeList.{shown_free}
 use Rattle.iox2_container.proofs.ShownCells.{shown_set}
 use Rattle.iox2_container.proofs.FreeSlots.{took, has_free, threaded_put}

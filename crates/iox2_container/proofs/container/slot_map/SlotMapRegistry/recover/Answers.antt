@@ -1,0 +1,17 @@
+use Rattle.std.proofs.Common.{refl, sym, subst}
+use Rattle.std.specs.Fn.{CalledAt}
+use Rattle.iox2_container.specs.declared.container.ledger.Ledger.{Ledger}
+use Rattle.iox2_container.specs.LedgerAndPlaces.{AreRegistry}
+use Rattle.iox2_container.specs.Steps.{is_of}
+use Rattle.iox2_container.proofs.Recovering.{kept_recover}
+use Rattle.iox2_container.proofs.container.slot_map.SlotMapRegistry.recover.Goals as goal
+
+pub invariant_of-self : goal.invariant_of-self
+invariant_of-self g c =
+    let old = c.self.inside.ledger in
+    let new = g.P.Places.cells c.sweep-gone.new.places in
+    subst (λ (a : Ledger). AreRegistry a new) (sym c.leave.ensures.left)
+    (kept_recover (CalledAt g.F.FnMut) (is_of g.T.Attached.node c.args.dead.now) c.args.f.now c.sweep-gone.new.f old (g.P.Places.cells c.self.inside.places) new c.sweep-gone.result c.args.mode _ c.self.invariant c.sweep-gone.ensures.swept refl)
+
+pub returns-clause-kept : goal.returns-clause-kept
+returns-clause-kept g c = (invariant_of-self g c).0

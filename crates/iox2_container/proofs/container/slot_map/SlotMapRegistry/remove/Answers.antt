@@ -1,0 +1,42 @@
+use Rattle.std.proofs.Common.{◌-◌, Ok, Err, refl, sym, ◌∙◌, ap, subst, arith}
+use Rattle.iox2_container.specs.declared.container.ledger.Ledger.{Ledger}
+use Rattle.iox2_container.specs.declared.container.refusal.ContainerRemoveError.TheVariants.{ContainerHandleNotOwnedByContainer}
+use Rattle.iox2_container.specs.ContainerState.{ContainerState}
+use Rattle.iox2_container.specs.LedgerAndPlaces.{registry_of, AreRegistry}
+use Rattle.iox2_container.specs.Steps.{RemoveStep, lock_after, release_state}
+use Rattle.iox2_container.proofs.Handles.{foreign_by_ticket}
+use Rattle.iox2_container.proofs.Removing.{some_stood, kept_clear, remove_step, refused_step}
+use Rattle.iox2_container.proofs.container.slot_map.SlotMapRegistry.remove.Goals as goal
+
+pub leave-requires : goal.leave-requires
+leave-requires g c =
+    omega (arith, some_stood c.self.inside.ledger (g.P.Places.cells c.self.inside.places) (g.P.Places.cells c.take_out.new.places) c.args.handle c.in-Some.field-0 c.self.invariant c.in-Some.ensures.found c.in-Some.ensures.gone)
+
+pub invariant_of-self : goal.invariant_of-self
+invariant_of-self g c =
+    let old = c.self.inside.ledger in
+    let new = g.P.Places.cells c.take_out.new.places in
+    subst (λ (a : Ledger). AreRegistry a new) (sym c.leave.ensures.left)
+    (kept_clear old (g.P.Places.cells c.self.inside.places) new c.args.handle c.in-Some.field-0 c.args.mode (lock_after c.args.mode (old.count - 1) old.locked) c.self.invariant c.in-Some.ensures.found c.in-Some.ensures.gone refl)
+
+pub returns-in-Some-clause-step : goal.returns-in-Some-clause-step
+returns-in-Some-clause-step g c =
+    let old = c.self.inside.ledger in
+    let cells = g.P.Places.cells c.self.inside.places in
+    let new = g.P.Places.cells c.take_out.new.places in
+    let parts = c.may_have.ensures.0 c.if-not-may_have.false in
+    let state_is = c.leave.ensures.state ∙ ap (λ (a : Ledger). release_state a.locked) c.leave.ensures.left in
+    subst (λ (v : ContainerState g.row.T.Denot). RemoveStep v.registry c.args.handle c.args.mode (Ok c.leave.result) (registry_of c.leave.new.self new)) c.self.view_is
+    (subst (λ (a : Ledger). RemoveStep (registry_of old cells) c.args.handle c.args.mode (Ok c.leave.result) (registry_of a new)) (sym c.leave.ensures.left)
+    (remove_step old cells new c.args.handle c.in-Some.field-0 c.args.mode (lock_after c.args.mode (old.count - 1) old.locked) c.leave.result c.self.invariant parts.0 parts.1 c.in-Some.ensures.found c.in-Some.ensures.gone refl state_is))
+
+pub returns-in-Some-clause-kept : goal.returns-in-Some-clause-kept
+returns-in-Some-clause-kept g c = (invariant_of-self g c).0
+
+pub returns-in-None-clause-step : goal.returns-in-None-clause-step
+returns-in-None-clause-step g c =
+    let old = c.self.inside.ledger in
+    let cells = g.P.Places.cells c.self.inside.places in
+    let new = g.P.Places.cells c.take_out.new.places in
+    subst (λ (v : ContainerState g.row.T.Denot). RemoveStep v.registry c.args.handle c.args.mode (Err ContainerHandleNotOwnedByContainer) (registry_of old new)) c.self.view_is
+    (refused_step old cells new c.args.handle c.args.mode ContainerHandleNotOwnedByContainer (foreign_by_ticket old cells c.args.handle c.in-None.ensures.found) c.in-None.ensures.kept)

@@ -1,0 +1,33 @@
+-- Free slots in a list that is threaded through their cells.
+use Rattle.std.specs.Prelude.{◌≡◌, ◌≢◌, ℕ, ◌+◌, ◌<◌, Option, Some, None, List, [], ◌∷◌, length, slice_get, All, ⊤}
+use Rattle.iox2_container.specs.declared.container.cell.Cell.{Cell}
+use Rattle.iox2_container.specs.declared.container.cell.Cell.TheVariants.{Free}
+
+-- a cell that names the next free slot, where it is free
+abbrev pub Linked : Type 0 → Type 0
+Linked T = Cell T (Option ℕ)
+
+-- who follows the head through the cells visits these slots, and each once
+abbrev pub LeadsThrough : {T : Type 0} → List (Linked T) → Option ℕ → List ℕ → Type 0
+LeadsThrough cells None [] = ⊤
+LeadsThrough cells None (slot ∷ slots) = ⊥
+LeadsThrough cells (Some head) [] = ⊥
+LeadsThrough {T} cells (Some head) (slot ∷ slots) =
+    (head ≡ slot)
+    × All (λ later. later ≢ slot) slots
+    × ((next : Option ℕ) × (slice_get cells slot ≡ Some (Free next)) × LeadsThrough cells next slots)
+
+-- the cell is free, and names the next one
+abbrev pub IsFreeAt : {T : Type 0} → List (Linked T) → ℕ → Type 0
+IsFreeAt cells slot = (next : Option ℕ) × (slice_get cells slot ≡ Some (Free next))
+
+-- there is a slot to take
+abbrev pub HasFree : {T : Type 0} → List (Linked T) → Option ℕ → ℕ → Type 0
+HasFree cells (Some head) fresh = IsFreeAt cells head
+HasFree cells None fresh = fresh < length cells
+
+-- the first slot of the list was taken, or the first fresh one where the list is empty
+abbrev pub TakesFirst : {T : Type 0} → List (Linked T) → Option ℕ → ℕ → ℕ → Option ℕ → ℕ → Type 0
+TakesFirst cells (Some head) fresh slot head' fresh' =
+    (slot ≡ head) × (slice_get cells head ≡ Some (Free head')) × (fresh' ≡ fresh)
+TakesFirst cells None fresh slot head' fresh' = (slot ≡ fresh) × (head' ≡ None) × (fresh' ≡ fresh + 1)

@@ -1,0 +1,21 @@
+-- What a ledger and places say together.
+use Rattle.std.specs.Prelude.{◌≡◌, ℕ, Option, List, length}
+use Rattle.iox2_container.specs.declared.container.ledger.Ledger.{Ledger}
+use Rattle.iox2_container.specs.State.{RegistryState, IsRegistry}
+use Rattle.iox2_container.specs.Places.{entries_from}
+
+-- the registry that they stand for
+abbrev pub registry_of : {T : Type 0} → Ledger → List (Option (ℕ × T)) → RegistryState T
+registry_of a cells = record {
+  service = a.service;
+  role = a.role;
+  capacity = length cells;
+  budget = a.budget;
+  entries = entries_from 0 cells;
+  locked = a.locked;
+  used = a.used;
+}
+
+-- they fit together
+abbrev pub AreRegistry : {T : Type 0} → Ledger → List (Option (ℕ × T)) → Type 0
+AreRegistry a cells = IsRegistry (registry_of a cells) × (a.count ≡ length (entries_from 0 cells))

@@ -1,0 +1,16 @@
+//! Worked examples of registries, and of two of them under the same calls. They are tests of what no contract says: worked
+//! rows, and each public call once with ample memory and with memory refused.
+#![tactic(auto)]
+
+#[cfg(test)]
+mod comparison;
+#[cfg(test)]
+mod laws;
+#[cfg(test)]
+mod memory;
+#[cfg(test)]
+mod nodes;
+#[cfg(test)]
+mod registries;
+#[cfg(test)]
+mod sizes;

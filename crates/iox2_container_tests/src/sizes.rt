@@ -1,0 +1,34 @@
+//! What a free list costs is told by what stands in it, and not by its capacity.
+use super::nodes::node;
+use iox2_container::container::*;
+use iox2_ids::identifiers::UniqueNodeId;
+use iox2_texts::bounded::CallbackProgression;
+use std::test::Fail;
+
+/// Passes over all places, a million each time, would take minutes.
+#[test]
+fn a_million_places_with_three_entries(rt: HostRuntime) -> Result<(), Fail> {
+    let id = node(1, 0, 1)?;
+    let other = node(2, 0, 1)?;
+    let mut list = ListContainer::new(rt.alloc(), 7, Role::Node, 1_000_000, u64::MAX)?;
+    for added in [id, other, id] {
+        list.add(added)?;
+    }
+    let mut seen = 0u64;
+    let mut asked = 0u64;
+    let mut count = |_: &UniqueNodeId| {
+        seen = seen.wrapping_add(1);
+        CallbackProgression::Continue
+    };
+    let mut keep = |_: &UniqueNodeId| {
+        asked = asked.wrapping_add(1);
+        false
+    };
+    for _ in 0..100_000 {
+        list.for_each(&mut count);
+        list.recover(&id, &mut keep, ReleaseMode::LockIfLastIndex);
+        assert_eq!(rt; list.entries_of(&id), 2);
+    }
+    assert_eq!(rt; (seen, asked, list.len()), (300_000, 200_000, 3));
+    Ok(())
+}

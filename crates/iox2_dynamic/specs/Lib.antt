@@ -1,0 +1,9 @@
+pub mod Details
+pub mod Recoveries
+pub mod Answers
+pub mod PortsState
+pub mod Ports
+pub mod Service
+pub mod Steps
+pub mod Patterns
+pub mod Fields

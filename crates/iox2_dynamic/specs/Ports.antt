@@ -1,0 +1,80 @@
+-- The ports of a service, and what the calls on them do.
+use Rattle.std.specs.Prelude.{◌≡◌, ◌≢◌, ℕ, nat_lt, ◌||◌, ◌⊎◌, Bool, true, false, Option, Some, None, Result, Err, length}
+use Rattle.iox2_texts.specs.declared.bounded.CallbackProgression.{CallbackProgression}
+use Rattle.iox2_ids.specs.declared.identifiers.port_id.UniquePortId.{UniquePortId}
+use Rattle.iox2_container.specs.declared.container.refusal.ContainerAddFailure.{ContainerAddFailure}
+use Rattle.iox2_container.specs.declared.container.refusal.ContainerRemoveError.{ContainerRemoveError}
+use Rattle.iox2_container.specs.declared.container.refusal.ContainerRemoveError.TheVariants.{ContainerHandleNotOwnedByContainer}
+use Rattle.iox2_container.specs.declared.container.release.ReleaseMode.TheVariants.{Default}
+use Rattle.iox2_container.specs.declared.container.release.ReleaseState.{ReleaseState}
+use Rattle.iox2_container.specs.declared.container.role.Role.{Role}
+use Rattle.iox2_container.specs.Handle.{Handle}
+use Rattle.iox2_container.specs.ContainerState.{fresh}
+use Rattle.iox2_container.specs.Steps.{Visit, entries_of, listed}
+use Rattle.iox2_dynamic.specs.declared.dynamic_config.cleanup.PortCleanupAction.{PortCleanupAction}
+use Rattle.iox2_dynamic.specs.declared.dynamic_config.port_details.PortDetails.{PortDetails}
+use Rattle.iox2_container.specs.Changes.{Adds, Removes}
+use Rattle.iox2_dynamic.specs.Recoveries.{RecoversPorts}
+use Rattle.iox2_dynamic.specs.Details.{role_of, node_of}
+use Rattle.iox2_container.specs.Mapped.{container_as}
+use Rattle.iox2_dynamic.specs.PortsState.{PortsState}
+
+-- the ports of a service, whatever their kinds
+abbrev pub Ports : Type 0
+Ports = PortsState PortDetails PortDetails
+
+-- the same ports, as details of ports of any kind
+abbrev pub ports_as : {A B : Type 0} → (A → PortDetails) → (B → PortDetails) → PortsState A B → Ports
+ports_as f g p = record { first = container_as f p.first; second = container_as g p.second }
+
+-- no port yet, for so many of the first kind and so many of the second
+abbrev pub empty_ports : {A B : Type 0} → Role → Role → ℕ → ℕ → ℕ → ℕ → PortsState A B
+empty_ports a b service first second tickets = record {
+  first = fresh service a first tickets;
+  second = fresh service b second tickets;
+}
+
+-- the role is one of these two
+abbrev pub IsEither : Role → Role → Role → Type 0
+IsEither a b role = (role ≡ a) ⊎ (role ≡ b)
+
+-- the role is none of these two
+abbrev pub IsNeither : Role → Role → Role → Type 0
+IsNeither a b role = (role ≢ a) × (role ≢ b)
+
+-- whether some port has the node
+abbrev pub has_ports_of : ℕ → Ports → Bool
+has_ports_of id p =
+    nat_lt 0 (entries_of node_of id p.first.registry) || nat_lt 0 (entries_of node_of id p.second.registry)
+
+-- what adding a port does, where these are the roles of the ports
+abbrev pub AddsTo : Role → Role → Ports → PortDetails → Result Handle ContainerAddFailure → Ports → Type 0
+AddsTo a b old details answer new =
+    ((role_of details ≡ a) × Adds old.first details answer new.first × (new ≡ record old { first = new.first }))
+    ⊎ ((role_of details ≡ b) × Adds old.second details answer new.second × (new ≡ record old { second = new.second }))
+
+-- what removing a port does, where these are the roles of the ports
+abbrev pub RemovesFrom : Role → Role → Ports → Handle → Result ReleaseState ContainerRemoveError → Ports → Type 0
+RemovesFrom a b old handle answer new =
+    ((handle.role ≡ a) × Removes old.first handle Default answer new.first × (new ≡ record old { first = new.first }))
+    ⊎ ((handle.role ≡ b) × Removes old.second handle Default answer new.second × (new ≡ record old { second = new.second }))
+    ⊎ (IsNeither a b handle.role × (answer ≡ Err ContainerHandleNotOwnedByContainer) × (new ≡ old))
+
+-- the ports of a dead node, the first and then the second, by one callback on port ids
+abbrev pub RecoversBoth : {F : Type 0} → (F → UniquePortId → PortCleanupAction → F → Type 0) → ℕ → Ports → F → Ports → F → Type 0
+RecoversBoth {F} calls dead old f new f' =
+    (between : F)
+    × RecoversPorts calls dead old.first f new.first between
+    × RecoversPorts calls dead old.second between new.second f'
+
+-- how many ports of a role there are; none is told for another role
+abbrev pub CountsIn : Role → Role → Ports → Role → Option ℕ → Type 0
+CountsIn a b p role None = IsNeither a b role
+CountsIn a b p role (Some n) =
+    ((role ≡ a) × (n ≡ length p.first.registry.entries)) ⊎ ((role ≡ b) × (n ≡ length p.second.registry.entries))
+
+-- a callback was shown the ports of a role, if there are such ports
+abbrev pub ListsIn : {F : Type 0} → (F → PortDetails → CallbackProgression → F → Type 0) → Role → Role → Ports → Role → F → Bool → F → Type 0
+ListsIn calls a b p role f false f' = IsNeither a b role × (f' ≡ f)
+ListsIn calls a b p role f true f' =
+    ((role ≡ a) × Visit calls f (listed p.first.registry) f') ⊎ ((role ≡ b) × Visit calls f (listed p.second.registry) f')

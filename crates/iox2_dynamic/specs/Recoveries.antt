@@ -1,0 +1,32 @@
+-- What becomes of the ports and the nodes of a dead node.
+use Rattle.std.specs.Prelude.{Bool, true, false, ◌≡◌, ℕ}
+use Rattle.iox2_ids.specs.declared.identifiers.port_id.UniquePortId.{UniquePortId}
+use Rattle.iox2_container.specs.declared.container.release.ReleaseMode.TheVariants.{Default, LockIfLastIndex}
+use Rattle.iox2_container.specs.declared.container.release.ReleaseState.{ReleaseState}
+use Rattle.iox2_container.specs.Changes.{RecoversBy}
+use Rattle.iox2_container.specs.ContainerState.{ContainerState}
+use Rattle.iox2_container.specs.Steps.{is_of}
+use Rattle.iox2_dynamic.specs.declared.dynamic_config.cleanup.PortCleanupAction.{PortCleanupAction}
+use Rattle.iox2_dynamic.specs.declared.dynamic_config.cleanup.PortCleanupAction.TheVariants.{RemovePort, SkipPort}
+use Rattle.iox2_dynamic.specs.declared.dynamic_config.port_details.PortDetails.{PortDetails}
+use Rattle.iox2_dynamic.specs.Details.{node_of, port_of}
+
+-- whether a port goes
+abbrev pub removes : PortCleanupAction → Bool
+removes RemovePort = true
+removes SkipPort = false
+
+-- a callback was asked about a port, and its answer says whether the port goes
+abbrev pub AskedToGo : {F : Type 0} → (F → UniquePortId → PortCleanupAction → F → Type 0) → F → UniquePortId → Bool → F → Type 0
+AskedToGo calls f port goes f' =
+    (action : PortCleanupAction) × calls f port action f' × (goes ≡ removes action)
+
+-- a callback was asked once about each port of the dead node, by rising slot, and exactly those go that it removes
+abbrev pub RecoversPorts : {F : Type 0} → (F → UniquePortId → PortCleanupAction → F → Type 0) → ℕ → ContainerState PortDetails → F → ContainerState PortDetails → F → Type 0
+RecoversPorts calls dead old f new f' =
+    (state : ReleaseState) × RecoversBy (λ g d goes h. AskedToGo calls g (port_of d) goes h) (is_of node_of dead) old f Default state new f'
+
+-- all entries of the dead node go
+abbrev pub RecoversNodes : ℕ → ContainerState ℕ → ReleaseState → ContainerState ℕ → Type 0
+RecoversNodes dead old state new =
+    RecoversBy {F = Unit {0}} (λ _ _ goes _. goes ≡ true) (is_of (λ id. id) dead) old tt LockIfLastIndex state new tt

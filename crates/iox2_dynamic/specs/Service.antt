@@ -1,0 +1,95 @@
+-- What a service is.
+use Rattle.std.specs.Prelude.{◌≡◌, ◌<◌, ℕ, false, List, [], All}
+use Rattle.iox2_config.specs.declared.hash.input.PatternKind.{PatternKind}
+use Rattle.iox2_config.specs.declared.hash.input.PatternKind.TheVariants as kind
+use Rattle.iox2_container.specs.declared.container.role.Role.{Role}
+use Rattle.iox2_container.specs.declared.container.role.Role.TheVariants as role
+use Rattle.iox2_container.specs.ContainerState.{ContainerState, fresh}
+use Rattle.iox2_container.specs.State.{Entry, RegistryState, IsRegistry}
+use Rattle.iox2_container.specs.Steps.{entries_of}
+use Rattle.iox2_dynamic.specs.declared.dynamic_config.port_details.PortDetails.{PortDetails}
+use Rattle.iox2_dynamic.specs.declared.dynamic_config.settings.MessagingPatternSettings.{MessagingPatternSettings}
+use Rattle.iox2_dynamic.specs.declared.dynamic_config.settings.MessagingPatternSettings.TheVariants as settings
+use Rattle.iox2_dynamic.specs.Details.{node_of}
+use Rattle.iox2_dynamic.specs.Ports.{Ports, IsEither, empty_ports}
+
+-- the nodes of a service and the ports of its pattern
+pub record Service : Type 0 where
+  pub pattern : PatternKind
+  pub ports : Ports
+  pub nodes : ContainerState ℕ
+
+-- what the first ports of a pattern are
+abbrev pub first_role : PatternKind → Role
+first_role kind.PublishSubscribe = role.Publisher
+first_role kind.Event = role.Listener
+first_role kind.RequestResponse = role.Server
+first_role kind.Blackboard = role.Reader
+
+-- what the second ports of a pattern are
+abbrev pub second_role : PatternKind → Role
+second_role kind.PublishSubscribe = role.Subscriber
+second_role kind.Event = role.Notifier
+second_role kind.RequestResponse = role.Client
+second_role kind.Blackboard = role.Writer
+
+-- the pattern has ports of the role
+abbrev pub HasRole : PatternKind → Role → Type 0
+HasRole pattern role = IsEither (first_role pattern) (second_role pattern) role
+
+-- the pattern of settings
+abbrev pub pattern_in : MessagingPatternSettings → PatternKind
+pattern_in (settings.PublishSubscribe s) = kind.PublishSubscribe
+pattern_in (settings.Event s) = kind.Event
+pattern_in (settings.RequestResponse s) = kind.RequestResponse
+pattern_in (settings.Blackboard s) = kind.Blackboard
+
+-- no port yet, for as many as settings say
+abbrev pub fresh_ports : MessagingPatternSettings → ℕ → ℕ → Ports
+fresh_ports (settings.PublishSubscribe s) service tickets =
+    empty_ports role.Publisher role.Subscriber service s.number_of_publishers s.number_of_subscribers tickets
+fresh_ports (settings.Event s) service tickets =
+    empty_ports role.Listener role.Notifier service s.number_of_listeners s.number_of_notifiers tickets
+fresh_ports (settings.RequestResponse s) service tickets =
+    empty_ports role.Server role.Client service s.number_of_servers s.number_of_clients tickets
+fresh_ports (settings.Blackboard s) service tickets =
+    empty_ports role.Reader role.Writer service s.number_of_readers s.number_of_writers tickets
+
+-- a new service
+abbrev pub fresh_service : MessagingPatternSettings → ℕ → ℕ → ℕ → Service
+fresh_service s max_nodes service tickets = record {
+  pattern = pattern_in s;
+  ports = fresh_ports s service tickets;
+  nodes = fresh service role.Node max_nodes tickets;
+}
+
+-- how many entries a node has
+abbrev pub entries_of_node : ℕ → RegistryState ℕ → ℕ
+entries_of_node id nodes = entries_of (λ i. i) id nodes
+
+-- the node of each of these ports is registered
+abbrev pub Registered : RegistryState ℕ → List (Entry PortDetails) → Type 0
+Registered nodes ports = All (λ e. 0 < entries_of_node (node_of e.details) nodes) ports
+
+-- a registry of ports of this role: it has the number of the nodes' registry, it is not locked, and the node of each port is registered
+pub record IsPortRegistry (nodes : RegistryState ℕ) (role : Role) (ports : RegistryState PortDetails) : Type 0 where
+  pub is_registry : IsRegistry ports
+  pub number_is : ports.service ≡ nodes.service
+  pub role_is : ports.role ≡ role
+  pub is_open : ports.locked ≡ false
+  pub registered : Registered nodes ports.entries
+
+-- the two registries of ports of a pattern
+pub record ArePorts (nodes : RegistryState ℕ) (pattern : PatternKind) (p : Ports) : Type 0 where
+  pub first : IsPortRegistry nodes (first_role pattern) p.first.registry
+  pub second : IsPortRegistry nodes (second_role pattern) p.second.registry
+
+-- what is true of every service
+pub record IsService (s : Service) : Type 0 where
+  pub nodes_are : IsRegistry s.nodes.registry
+  pub role_is : s.nodes.registry.role ≡ role.Node
+  pub ports_are : ArePorts s.nodes.registry s.pattern s.ports
+
+-- there is no port
+abbrev pub HasNoPort : Ports → Type 0
+HasNoPort p = (p.first.registry.entries ≡ []) × (p.second.registry.entries ≡ [])

@@ -1,0 +1,87 @@
+-- What the calls on a service do.
+use Rattle.std.specs.Prelude.{◌≡◌, ◌<◌, ℕ, nat_eq, ◌&&◌, Bool, true, false, Result, Ok, Err}
+use Rattle.iox2_ids.specs.declared.identifiers.port_id.UniquePortId.{UniquePortId}
+use Rattle.iox2_container.specs.declared.container.refusal.ContainerAddFailure.TheVariants as container
+use Rattle.iox2_container.specs.declared.container.refusal.ContainerAddFailure.{ContainerAddFailure}
+use Rattle.iox2_container.specs.declared.container.refusal.ContainerRemoveError.{ContainerRemoveError}
+use Rattle.iox2_container.specs.declared.container.release.ReleaseMode.TheVariants.{LockIfLastIndex}
+use Rattle.iox2_container.specs.declared.container.release.ReleaseState.{ReleaseState}
+use Rattle.iox2_container.specs.Handle.{Handle}
+use Rattle.iox2_container.specs.ContainerState.{ContainerState}
+use Rattle.iox2_container.specs.Steps.{IsForeign, Stands, release_state}
+use Rattle.iox2_dynamic.specs.declared.dynamic_config.answers.AttachError.{AttachError}
+use Rattle.iox2_dynamic.specs.declared.dynamic_config.answers.AttachError.TheVariants.{ServiceIsLocked, NodeNotRegistered, OutOfSpace}
+use Rattle.iox2_dynamic.specs.declared.dynamic_config.answers.DeregisterError.{DeregisterError}
+use Rattle.iox2_dynamic.specs.declared.dynamic_config.answers.DeregisterError.TheVariants.{ContainerHandleNotOwnedByContainer, PortsStillAttached}
+use Rattle.iox2_dynamic.specs.declared.dynamic_config.answers.DeregisterNodeState.{DeregisterNodeState}
+use Rattle.iox2_dynamic.specs.declared.dynamic_config.answers.RegisterNodeResult.{RegisterNodeResult}
+use Rattle.iox2_dynamic.specs.declared.dynamic_config.cleanup.PortCleanupAction.{PortCleanupAction}
+use Rattle.iox2_dynamic.specs.declared.dynamic_config.port_details.PortDetails.{PortDetails}
+use Rattle.iox2_dynamic.specs.Answers.{answer_of, state_of}
+use Rattle.iox2_container.specs.Changes.{Adds, Removes}
+use Rattle.iox2_dynamic.specs.Recoveries.{RecoversNodes}
+use Rattle.iox2_dynamic.specs.Details.{node_of}
+use Rattle.iox2_dynamic.specs.Ports.{AddsTo, RemovesFrom, RecoversBoth, has_ports_of}
+use Rattle.iox2_dynamic.specs.Service.{Service, entries_of_node, first_role, second_role}
+
+-- what registering a node does
+abbrev pub RegisterStep : Service → ℕ → Result Handle RegisterNodeResult → Service → Type 0
+RegisterStep old id answer new =
+    Adds old.nodes id (answer_of answer) new.nodes × (new ≡ record old { nodes = new.nodes })
+
+-- whether the node has one entry, and some port has the node
+abbrev pub is_last_of_ports : ℕ → Service → Bool
+is_last_of_ports id s = nat_eq (entries_of_node id s.nodes.registry) 1 && has_ports_of id s.ports
+
+-- what deregistering a node does
+abbrev pub DeregisterStep : Service → Handle → Result DeregisterNodeState DeregisterError → Service → Type 0
+DeregisterStep old handle (Err ContainerHandleNotOwnedByContainer) new =
+    IsForeign old.nodes.registry handle × (new ≡ old)
+DeregisterStep old handle (Err PortsStillAttached) new =
+    (id : ℕ) × Stands old.nodes.registry handle id × (is_last_of_ports id old ≡ true) × (new ≡ old)
+DeregisterStep old handle (Ok state) new =
+    (id : ℕ) × Stands old.nodes.registry handle id × (is_last_of_ports id old ≡ false)
+    × Removes old.nodes handle LockIfLastIndex (Ok (state_of state)) new.nodes
+    × (new ≡ record old { nodes = new.nodes })
+
+-- the service is not locked, and the node is registered
+abbrev pub IsOpenFor : Service → ℕ → Type 0
+IsOpenFor s id = (s.nodes.registry.locked ≡ false) × (0 < entries_of_node id s.nodes.registry)
+
+-- what adding a port of one of the pattern's roles does
+abbrev pub AddsPort : Service → PortDetails → Result Handle ContainerAddFailure → Service → Type 0
+AddsPort old details answer new =
+    AddsTo (first_role old.pattern) (second_role old.pattern) old.ports details answer new.ports
+    × (new ≡ record old { ports = new.ports })
+
+-- what attaching a port of one of the pattern's roles does
+abbrev pub AttachStep : Service → PortDetails → Result Handle AttachError → Service → Type 0
+AttachStep old details (Err ServiceIsLocked) new = (old.nodes.registry.locked ≡ true) × (new ≡ old)
+AttachStep old details (Err NodeNotRegistered) new =
+    (old.nodes.registry.locked ≡ false) × (entries_of_node (node_of details) old.nodes.registry ≡ 0) × (new ≡ old)
+AttachStep old details (Err OutOfSpace) new =
+    IsOpenFor old (node_of details) × AddsPort old details (Err container.OutOfSpace) new
+AttachStep old details (Ok handle) new = IsOpenFor old (node_of details) × AddsPort old details (Ok handle) new
+
+-- what removing a port does
+abbrev pub RemovesPort : Service → Handle → Result ReleaseState ContainerRemoveError → Service → Type 0
+RemovesPort old handle answer new =
+    RemovesFrom (first_role old.pattern) (second_role old.pattern) old.ports handle answer new.ports
+    × (new ≡ record old { ports = new.ports })
+
+-- what releasing a port does
+abbrev pub ReleaseStep : Service → Handle → Result (Unit {0}) ContainerRemoveError → Service → Type 0
+ReleaseStep old handle (Ok _) new = (state : ReleaseState) × RemovesPort old handle (Ok state) new
+ReleaseStep old handle (Err why) new = RemovesPort old handle (Err why) new
+
+-- the nodes, after the ports of the dead node were asked about: where one of them is left, nothing goes
+abbrev pub NodesAfter : ℕ → Bool → ContainerState ℕ → ReleaseState → ContainerState ℕ → Type 0
+NodesAfter dead true old state new = (state ≡ release_state old.registry.locked) × (new ≡ old)
+NodesAfter dead false old state new = RecoversNodes dead old state new
+
+-- the ports of the node, the first and then the second, and then all its entries if none of its ports is left
+abbrev pub DeadStep : {F : Type 0} → (F → UniquePortId → PortCleanupAction → F → Type 0) → Service → F → ℕ → DeregisterNodeState → Service → F → Type 0
+DeadStep calls old f dead answer new f' =
+    RecoversBoth calls dead old.ports f new.ports f'
+    × NodesAfter dead (has_ports_of dead new.ports) old.nodes (state_of answer) new.nodes
+    × (new ≡ record old { ports = new.ports; nodes = new.nodes })

@@ -1,0 +1,29 @@
+//! The nodes and the ports of a service. A port stands only on a registered node of an unlocked service, and a node
+//! cannot leave its ports behind.
+
+mod answers;
+pub mod blackboard;
+mod cleanup;
+mod details;
+pub mod event;
+mod listing;
+mod pattern;
+mod port_details;
+mod port_kind;
+mod port_registries;
+pub mod publish_subscribe;
+mod recovery;
+pub mod request_response;
+mod service;
+mod settings;
+
+pub use answers::{AttachError, DeregisterError, DeregisterNodeState, RegisterNodeResult};
+pub use cleanup::PortCleanupAction;
+pub use details::{
+    ClientDetails, ListenerDetails, NotifierDetails, PublisherDetails, ReaderDetails,
+    ServerDetails, SubscriberDetails, WriterDetails,
+};
+pub use pattern::MessagingPattern;
+pub use port_details::PortDetails;
+pub use service::DynamicConfig;
+pub use settings::MessagingPatternSettings;

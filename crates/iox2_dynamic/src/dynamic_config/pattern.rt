@@ -1,0 +1,223 @@
+//! The ports of a service, by its pattern.
+ghost use Rattle.std.specs.Prelude.{◌≡◌, ◌↔◌, IfOk, IsTrue};
+ghost use Rattle.std.specs.Fn.{CalledAt};
+ghost use Rattle.iox2_dynamic.specs.Details.{role_of};
+ghost use Rattle.iox2_dynamic.specs.Patterns.{kind_of, ports_of};
+ghost use Rattle.iox2_dynamic.specs.Ports.{AddsTo, RemovesFrom, RecoversBoth, CountsIn, ListsIn};
+ghost use Rattle.iox2_dynamic.specs.Ports.{has_ports_of};
+ghost use Rattle.iox2_dynamic.specs.Service.{HasRole, first_role, second_role, pattern_in, fresh_ports};
+
+use super::cleanup::PortCleanupAction;
+use super::port_details::PortDetails;
+use super::port_registries::PortRegistries;
+use super::settings::MessagingPatternSettings;
+use super::{blackboard, event, publish_subscribe, request_response};
+use iox2_config::hash::PatternKind;
+use iox2_container::container::{
+    ContainerAddFailure, ContainerHandle, ContainerRemoveError, ReleaseState, Role,
+};
+use iox2_ids::identifiers::{UniqueNodeId, UniquePortId};
+use iox2_texts::bounded::CallbackProgression;
+use std::alloc::{AllocError, Global};
+
+/// The messaging pattern of a service, with its ports.
+#[derive(Debug, Drop)]
+pub enum MessagingPattern {
+    /// Clients send requests, and servers respond.
+    RequestResponse(request_response::DynamicConfig),
+    /// Publishers send samples to all subscribers.
+    PublishSubscribe(publish_subscribe::DynamicConfig),
+    /// Notifiers wake listeners.
+    Event(event::DynamicConfig),
+    /// Writers update values that readers look up.
+    Blackboard(blackboard::DynamicConfig),
+}
+
+impl MessagingPattern {
+    /// A pattern without ports.
+    pub(super) fn with_tickets(
+        alloc: Global,
+        settings: &MessagingPatternSettings,
+        service_number: u64,
+        tickets: u64,
+    ) -> Result<Self, AllocError>
+        ensures kind { IfOk result (λ p. kind_of p ≡ pattern_in settings.now) }
+        ensures ports { IfOk result (λ p.
+            ports_of p ≡ fresh_ports settings.now service_number tickets) }
+    {
+        match settings {
+            MessagingPatternSettings::RequestResponse(s) => Ok(MessagingPattern::RequestResponse(
+                PortRegistries::with_capacities(
+                    alloc,
+                    service_number,
+                    s.number_of_servers,
+                    s.number_of_clients,
+                    tickets,
+                )?,
+            )),
+            MessagingPatternSettings::PublishSubscribe(s) => Ok(
+                MessagingPattern::PublishSubscribe(PortRegistries::with_capacities(
+                    alloc,
+                    service_number,
+                    s.number_of_publishers,
+                    s.number_of_subscribers,
+                    tickets,
+                )?),
+            ),
+            MessagingPatternSettings::Event(s) => Ok(MessagingPattern::Event(
+                PortRegistries::with_capacities(
+                    alloc,
+                    service_number,
+                    s.number_of_listeners,
+                    s.number_of_notifiers,
+                    tickets,
+                )?,
+            )),
+            MessagingPatternSettings::Blackboard(s) => Ok(MessagingPattern::Blackboard(
+                PortRegistries::with_capacities(
+                    alloc,
+                    service_number,
+                    s.number_of_readers,
+                    s.number_of_writers,
+                    tickets,
+                )?,
+            )),
+        }
+    }
+
+    /// Which pattern it is.
+    pub(super) fn kind(&self) -> PatternKind
+        ensures { result ≡ kind_of self.now }
+    {
+        match self {
+            MessagingPattern::RequestResponse(_) => PatternKind::RequestResponse,
+            MessagingPattern::PublishSubscribe(_) => PatternKind::PublishSubscribe,
+            MessagingPattern::Event(_) => PatternKind::Event,
+            MessagingPattern::Blackboard(_) => PatternKind::Blackboard,
+        }
+    }
+
+    /// Whether the pattern has ports of the role.
+    pub(super) fn has_role(&self, role: Role) -> bool
+        ensures { IsTrue result ↔ HasRole (kind_of self.now) role }
+    {
+        match self {
+            MessagingPattern::RequestResponse(ports) => ports.has_role(role),
+            MessagingPattern::PublishSubscribe(ports) => ports.has_role(role),
+            MessagingPattern::Event(ports) => ports.has_role(role),
+            MessagingPattern::Blackboard(ports) => ports.has_role(role),
+        }
+    }
+
+    /// Whether some port has the node.
+    pub(super) fn has_ports_of(&self, id: &UniqueNodeId) -> bool
+        ensures { result ≡ has_ports_of id.now (ports_of self.now) }
+    {
+        match self {
+            MessagingPattern::RequestResponse(ports) => ports.has_ports_of(id),
+            MessagingPattern::PublishSubscribe(ports) => ports.has_ports_of(id),
+            MessagingPattern::Event(ports) => ports.has_ports_of(id),
+            MessagingPattern::Blackboard(ports) => ports.has_ports_of(id),
+        }
+    }
+
+    /// Adds a port of one of the pattern's roles.
+    pub(super) fn add(
+        &mut self,
+        details: PortDetails,
+    ) -> Result<ContainerHandle, ContainerAddFailure>
+        requires { HasRole (kind_of self.old) (role_of details) }
+        ensures added { AddsTo (first_role (kind_of self.old)) (second_role (kind_of self.old))
+            (ports_of self.old) details result (ports_of self.new) }
+        ensures kind { kind_of self.new ≡ kind_of self.old }
+    {
+        match (self, details) {
+            (MessagingPattern::RequestResponse(ports), PortDetails::Server(port)) =>
+                ports.add_first(port),
+            (MessagingPattern::RequestResponse(ports), PortDetails::Client(port)) =>
+                ports.add_second(port),
+            (MessagingPattern::PublishSubscribe(ports), PortDetails::Publisher(port)) =>
+                ports.add_first(port),
+            (MessagingPattern::PublishSubscribe(ports), PortDetails::Subscriber(port)) =>
+                ports.add_second(port),
+            (MessagingPattern::Event(ports), PortDetails::Listener(port)) => ports.add_first(port),
+            (MessagingPattern::Event(ports), PortDetails::Notifier(port)) => ports.add_second(port),
+            (MessagingPattern::Blackboard(ports), PortDetails::Reader(port)) => ports.add_first(
+                port,
+            ),
+            (MessagingPattern::Blackboard(ports), PortDetails::Writer(port)) => ports.add_second(
+                port,
+            ),
+            _ => unreachable!(),
+        }
+    }
+
+    /// Removes the port with this handle.
+    pub(super) fn remove(
+        &mut self,
+        handle: ContainerHandle,
+    ) -> Result<ReleaseState, ContainerRemoveError>
+        ensures removed { RemovesFrom (first_role (kind_of self.old)) (second_role (kind_of self.old))
+            (ports_of self.old) handle result (ports_of self.new) }
+        ensures kind { kind_of self.new ≡ kind_of self.old }
+    {
+        match self {
+            MessagingPattern::RequestResponse(ports) => ports.remove(handle),
+            MessagingPattern::PublishSubscribe(ports) => ports.remove(handle),
+            MessagingPattern::Event(ports) => ports.remove(handle),
+            MessagingPattern::Blackboard(ports) => ports.remove(handle),
+        }
+    }
+
+    /// Asks about each port of a dead node whether it goes.
+    pub(super) fn recover<F: FnMut(UniquePortId) -> PortCleanupAction>(
+        &mut self,
+        dead: &UniqueNodeId,
+        f: &mut F,
+    )
+        requires { F.IsAlwaysCallable f.old }
+        ensures recovered { RecoversBoth F.step dead.now
+            (ports_of self.old) f.old (ports_of self.new) f.new }
+        ensures kind { kind_of self.new ≡ kind_of self.old }
+        ensures callable { F.IsAlwaysCallable f.new }
+    {
+        match self {
+            MessagingPattern::RequestResponse(ports) => ports.recover(dead, f),
+            MessagingPattern::PublishSubscribe(ports) => ports.recover(dead, f),
+            MessagingPattern::Event(ports) => ports.recover(dead, f),
+            MessagingPattern::Blackboard(ports) => ports.recover(dead, f),
+        }
+    }
+
+    /// How many ports of the role there are; `None` where the pattern has no such ports.
+    pub(super) fn count(&self, role: Role) -> Option<usize>
+        ensures { CountsIn (first_role (kind_of self.now)) (second_role (kind_of self.now))
+            (ports_of self.now) role result }
+    {
+        match self {
+            MessagingPattern::RequestResponse(ports) => ports.count(role),
+            MessagingPattern::PublishSubscribe(ports) => ports.count(role),
+            MessagingPattern::Event(ports) => ports.count(role),
+            MessagingPattern::Blackboard(ports) => ports.count(role),
+        }
+    }
+
+    /// Shows the ports of the role; `false` where the pattern has no such ports.
+    pub(super) fn list<F: FnMut(&PortDetails) -> CallbackProgression>(
+        &self,
+        role: Role,
+        f: &mut F,
+    ) -> bool
+        requires { F.IsAlwaysCallable f.old }
+        ensures visit { ListsIn (CalledAt F.FnMut) (first_role (kind_of self.now))
+            (second_role (kind_of self.now)) (ports_of self.now) role f.old result f.new }
+        ensures callable { F.IsAlwaysCallable f.new }
+    {
+        match self {
+            MessagingPattern::RequestResponse(ports) => ports.list(role, f),
+            MessagingPattern::PublishSubscribe(ports) => ports.list(role, f),
+            MessagingPattern::Event(ports) => ports.list(role, f),
+            MessagingPattern::Blackboard(ports) => ports.list(role, f),
+        }
+    }
+}

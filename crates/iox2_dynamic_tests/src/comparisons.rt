@@ -1,0 +1,80 @@
+//! How details, settings and answers are compared and copied.
+use super::services::*;
+use iox2_config::hash::PatternKind;
+use iox2_dynamic::dynamic_config::*;
+use iox2_dynamic::laws;
+use std::test::Fail;
+
+/// Details of each kind against themselves, another port, another node, and another kind.
+#[test]
+fn details_are_compared_by_all_they_tell(rt: HostRuntime) -> Result<(), Fail> {
+    let (a, b) = (node(1, 5)?, node(2, 5)?);
+    for (_, first, second, other) in PATTERNS {
+        for role in [first, second] {
+            let details = port(role, 9, a)?;
+            let others = [
+                details,
+                port(role, 10, a)?,
+                port(role, 9, b)?,
+                port(other, 9, a)?,
+            ];
+            let equal = others.map(|other| laws::details_go_by_fields(&details, &other).0);
+            let copy = laws::details_go_by_fields(&details, &details).1;
+            assert_eq!(rt; (equal, copy), ([true, false, false, false], Ok(details)));
+        }
+    }
+    Ok(())
+}
+
+#[test]
+fn answers_are_compared_by_what_they_tell(rt: HostRuntime) {
+    let one = (
+        RegisterNodeResult::MarkedForDestruction,
+        DeregisterNodeState::HasOwners,
+        DeregisterError::PortsStillAttached,
+        AttachError::OutOfSpace,
+        PortCleanupAction::SkipPort,
+    );
+    let others = [
+        one,
+        (
+            RegisterNodeResult::ExceedsMaxNumberOfNodes,
+            one.1,
+            one.2,
+            one.3,
+            one.4,
+        ),
+        (
+            one.0,
+            DeregisterNodeState::NoMoreOwners,
+            one.2,
+            one.3,
+            one.4,
+        ),
+        (
+            one.0,
+            one.1,
+            DeregisterError::ContainerHandleNotOwnedByContainer,
+            one.3,
+            one.4,
+        ),
+        (one.0, one.1, one.2, AttachError::NodeNotRegistered, one.4),
+        (one.0, one.1, one.2, one.3, PortCleanupAction::RemovePort),
+    ];
+    let equal = others.map(|other| laws::answers_go_by_variant(&one, &other).0);
+    let cloned = laws::answers_go_by_variant(&one, &one).1.is_ok();
+    assert_eq!(rt;
+        (equal, cloned),
+        ([true, false, false, false, false, false], true)
+    );
+}
+
+#[test]
+fn laws_hold(rt: HostRuntime) {
+    laws::locked_services_have_no_port();
+    laws::skipped_ports_are_left();
+    let copy = laws::settings_are_cloned(&settings(PatternKind::Event, 3, 5));
+    assert!(rt;
+        matches!(copy, Ok(MessagingPatternSettings::Event(places)) if places.number_of_notifiers == 5)
+    );
+}

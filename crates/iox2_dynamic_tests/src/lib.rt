@@ -1,0 +1,22 @@
+//! Worked examples of services whose nodes and ports come and go, on each of the four patterns. They are tests of what no
+//! contract says: worked rows, and each public call once with ample memory and with memory refused.
+#![tactic(auto)]
+
+#[cfg(test)]
+mod attaching;
+#[cfg(test)]
+mod comparisons;
+#[cfg(test)]
+mod dead_nodes;
+#[cfg(test)]
+mod handles;
+#[cfg(test)]
+mod leaving;
+#[cfg(test)]
+mod listings;
+#[cfg(test)]
+mod many_places;
+#[cfg(test)]
+mod memory;
+#[cfg(test)]
+mod services;

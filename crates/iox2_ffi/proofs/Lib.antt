@@ -1,0 +1,4 @@
+pub mod Heap
+pub mod Obeying
+pub mod Steps
+pub mod There

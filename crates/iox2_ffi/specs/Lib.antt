@@ -1,0 +1,11 @@
+pub mod Chunks
+pub mod Details
+pub mod Heap
+pub mod Layouts
+pub mod Names
+pub mod Scripts
+pub mod Services
+pub mod Sessions
+pub mod Slots
+pub mod Status
+pub mod Texts

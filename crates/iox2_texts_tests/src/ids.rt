@@ -1,0 +1,183 @@
+//! Ids.
+use crate::printing::shown;
+use iox2_ids::identifiers::*;
+use iox2_ids::laws::*;
+use std::cmp::Ordering;
+use std::hash::DefaultHasher;
+use std::process::Abort;
+
+#[test]
+fn node_ids_have_parts_and_a_text(rt: HostRuntime) {
+    let id = UniqueNodeId::new(1, 2, 3, 4).expect(&rt, "an id");
+    assert_eq!(rt;
+        (
+            id.value(),
+            id.pid().value(),
+            id.creation_time(),
+            id.owner_id(),
+            shown(&rt, &id).as_str(),
+            Hexadecimal::new(id.value()).as_bytes()
+        ),
+        (
+            0x1_00000002_00000003_00000004u128,
+            1,
+            Time::new(2, 3),
+            4294967300,
+            "1000000020000000300000004",
+            b"1000000020000000300000004".as_slice(),
+        )
+    );
+}
+
+#[test]
+fn node_ids_have_an_owner(rt: HostRuntime) {
+    assert!(rt; UniqueNodeId::new(0, 5, 6, 0).is_none());
+    assert!(rt; UniqueNodeId::new(0, 0, 0, 1).is_some());
+    assert!(rt; UniqueNodeId::new(1, 0, 0, 0).is_some());
+}
+
+#[test]
+fn parts_at_their_edges_stay_apart(rt: HostRuntime) {
+    let most = u32::MAX;
+    for ((process, seconds, nanoseconds, counter), number, text) in [
+        ((0, 0, 0, 0), 0, "0"),
+        ((0, 0, 0, most), 0xffffffff, "ffffffff"),
+        ((0, 0, most, 0), 0xffffffff00000000, "ffffffff00000000"),
+        (
+            (0, most, 0, 0),
+            0xffffffff_00000000_00000000,
+            "ffffffff0000000000000000",
+        ),
+        (
+            (most, 0, 0, 0),
+            0xffffffff_00000000_00000000_00000000,
+            "ffffffff000000000000000000000000",
+        ),
+        (
+            (most, most, most, most),
+            u128::MAX,
+            "ffffffffffffffffffffffffffffffff",
+        ),
+    ] {
+        let id = UniquePublisherId::new(process, seconds, nanoseconds, counter);
+        let time = id.creation_time();
+        assert_eq!(rt;
+            (
+                id.value(),
+                id.pid().value(),
+                time.seconds(),
+                time.nanoseconds(),
+                shown(&rt, &id).as_str()
+            ),
+            (number, process, seconds as u64, nanoseconds, text)
+        );
+    }
+}
+
+fn has_the_number(rt: &impl Abort, port: UniquePortId) {
+    assert_eq!(rt; port.value(), 0x1_00000002_00000003_00000004u128);
+}
+
+#[test]
+fn a_port_id_has_the_number_of_its_id(rt: HostRuntime) {
+    has_the_number(
+        &rt,
+        UniquePortId::Publisher(UniquePublisherId::new(1, 2, 3, 4)),
+    );
+    has_the_number(
+        &rt,
+        UniquePortId::Subscriber(UniqueSubscriberId::new(1, 2, 3, 4)),
+    );
+    has_the_number(
+        &rt,
+        UniquePortId::Notifier(UniqueNotifierId::new(1, 2, 3, 4)),
+    );
+    has_the_number(
+        &rt,
+        UniquePortId::Listener(UniqueListenerId::new(1, 2, 3, 4)),
+    );
+    has_the_number(&rt, UniquePortId::Client(UniqueClientId::new(1, 2, 3, 4)));
+    has_the_number(&rt, UniquePortId::Server(UniqueServerId::new(1, 2, 3, 4)));
+    has_the_number(&rt, UniquePortId::Reader(UniqueReaderId::new(1, 2, 3, 4)));
+    has_the_number(&rt, UniquePortId::Writer(UniqueWriterId::new(1, 2, 3, 4)));
+}
+
+#[test]
+fn laws_of_ids(rt: HostRuntime) {
+    parts_are_packed();
+    packed_is_whole();
+    let state = &mut DefaultHasher::new();
+    let one = UniqueServiceId::new(0, 0, 1, 0);
+    let other = UniqueServiceId::new(0, 0, 0, 9);
+    assert_eq!(rt;
+        [
+            ids_go_by_value(&one, &other, state),
+            ids_go_by_value(&other, &one, state),
+            ids_go_by_value(&one, &one, state),
+        ],
+        [
+            (false, Ordering::Greater, Ok(one)),
+            (false, Ordering::Less, Ok(other)),
+            (true, Ordering::Equal, Ok(one)),
+        ]
+    );
+}
+
+#[test]
+fn laws_of_node_ids(rt: HostRuntime) {
+    let state = &mut DefaultHasher::new();
+    let one = UniqueNodeId::new(1, 0, 0, 0).expect(&rt, "an id");
+    let later = UniqueNodeId::new(1, 1, 0, 0).expect(&rt, "an id");
+    assert_eq!(rt;
+        [
+            node_ids_go_by_value(&one, &later, state),
+            node_ids_go_by_value(&one, &one, state)
+        ],
+        [
+            (false, Ordering::Less, Ok(one)),
+            (true, Ordering::Equal, Ok(one))
+        ]
+    );
+}
+
+#[test]
+fn laws_of_port_ids(rt: HostRuntime) {
+    let publisher = UniquePortId::Publisher(UniquePublisherId::new(1, 2, 3, 4));
+    let later = UniquePortId::Publisher(UniquePublisherId::new(1, 2, 3, 5));
+    let subscriber = UniquePortId::Subscriber(UniqueSubscriberId::new(1, 2, 3, 4));
+    assert_eq!(rt;
+        [
+            port_ids_go_by_kind_and_value(&publisher, &later),
+            port_ids_go_by_kind_and_value(&publisher, &subscriber),
+            port_ids_go_by_kind_and_value(&publisher, &publisher),
+        ],
+        [
+            (false, Ok(publisher)),
+            (false, Ok(publisher)),
+            (true, Ok(publisher))
+        ]
+    );
+}
+
+#[test]
+fn laws_of_processes_and_times(rt: HostRuntime) {
+    let state = &mut DefaultHasher::new();
+    let process = ProcessId::new(1);
+    let time = Time::new(1, 2);
+    assert_eq!(rt;
+        [
+            processes_go_by_number(&process, &ProcessId::new(2)),
+            processes_go_by_number(&process, &process),
+        ],
+        [(false, Ok(process)), (true, Ok(process))]
+    );
+    assert_eq!(rt;
+        [
+            times_go_by_fields(&time, &Time::new(1, 3), state),
+            times_go_by_fields(&time, &Time::new(2, 2), state),
+            times_go_by_fields(&time, &time, state),
+        ],
+        [(false, Ok(time)), (false, Ok(time)), (true, Ok(time))]
+    );
+    assert_eq!(rt; default_time_is_zero(), Time::new(0, 0));
+}

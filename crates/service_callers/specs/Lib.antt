@@ -1,0 +1,5 @@
+pub mod Unchanged
+pub mod Opening
+pub mod Publishing
+pub mod Removal
+pub mod Members

@@ -1,0 +1,45 @@
+-- Who is attached to a service.
+use Rattle.std.specs.Prelude.{◌≡◌, ℕ, List, [], ◌∷◌, ◌++◌, map, Bool, true, false, IsPermutation}
+use Rattle.std.specs.List.Sorted.{IsNonDecreasingBy, IsStableByKey}
+use Rattle.std.specs.Ordering.{nat_cmp}
+use Rattle.iox2_texts.specs.declared.bounded.CallbackProgression.{CallbackProgression}
+use Rattle.iox2_texts.specs.declared.bounded.CallbackProgression.TheVariants.{Continue, Stop}
+use Rattle.iox2_container.specs.ContainerState.{ContainerState}
+use Rattle.iox2_container.specs.Steps.{listed}
+use Rattle.iox2_dynamic.specs.declared.dynamic_config.port_details.PortDetails.{PortDetails}
+use Rattle.iox2_dynamic.specs.Details.{node_of}
+use Rattle.iox2_dynamic.specs.Service.{Service}
+use Rattle.service_callers.specs.declared.discovery.Member.{Member}
+use Rattle.service_callers.specs.declared.discovery.Member.TheVariants.{Node, Port}
+
+-- the node, or that of the port
+abbrev pub node_of_member : Member → ℕ
+node_of_member (Node id) = id
+node_of_member (Port details) = node_of details
+
+-- each entry of a node
+abbrev pub nodes_in : Service → List Member
+nodes_in s = map Node (listed s.nodes.registry)
+
+-- each port of one kind
+abbrev pub ports_in : ContainerState PortDetails → List Member
+ports_in ports = map Port (listed ports.registry)
+
+-- each entry of a node, and each port of both kinds
+abbrev pub members_of : Service → List Member
+members_of s = nodes_in s ++ ports_in s.ports.first ++ ports_in s.ports.second
+
+-- each of them once, and nobody else, by rising node; those of one node stand as they do above, so the node comes first
+pub record IsRoster (s : Service) (members : List Member) : Type 0 where
+  pub each_once : IsPermutation (members_of s) members
+  pub by_node : IsNonDecreasingBy node_of_member members
+  pub in_turn : IsStableByKey node_of_member nat_cmp (members_of s) members
+
+-- an item was noted, or memory for it was refused
+abbrev pub Noted : {A : Type 0} → List A × Bool → A → CallbackProgression → List A × Bool → Type 0
+Noted before item Continue after = (after.0 ≡ before.0 ++ item ∷ []) × (after.1 ≡ before.1)
+Noted before item Stop after = after.1 ≡ true
+
+-- unless memory was refused, now or before, all these items were noted
+abbrev pub NotesAll : {A : Type 0} → List A → List A × Bool → List A × Bool → Type 0
+NotesAll items before after = after.1 ≡ false → (before.1 ≡ false) × (after.0 ≡ before.0 ++ items)

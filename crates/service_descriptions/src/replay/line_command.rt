@@ -1,0 +1,39 @@
+//! Commands that have a line.
+ghost use Rattle.std.specs.Prelude.{◌≡◌};
+ghost use Rattle.service_descriptions.specs.Lines.{command_of};
+
+use super::command::{Cleanup, Command};
+use iox2_container::container::Role;
+use iox2_dynamic::dynamic_config::PortDetails;
+use iox2_ids::identifiers::UniqueNodeId;
+
+/// A command that a line can spell. It is small, where a [`Command`] has room for what a verifier requires.
+#[derive(Drop)]
+pub(super) enum LineCommand {
+    Register(UniqueNodeId),
+    Deregister(usize),
+    Nodes,
+    Add(PortDetails),
+    Release(usize),
+    List(Role),
+    Count(Role),
+    Dead(UniqueNodeId, Cleanup),
+}
+
+impl LineCommand {
+    /// The command itself.
+    pub(super) fn command(self) -> Command
+        ensures { result ≡ command_of self }
+    {
+        match self {
+            LineCommand::Register(id) => Command::Register(id),
+            LineCommand::Deregister(k) => Command::Deregister(k),
+            LineCommand::Nodes => Command::Nodes,
+            LineCommand::Add(details) => Command::Add(details),
+            LineCommand::Release(k) => Command::Release(k),
+            LineCommand::List(role) => Command::List(role),
+            LineCommand::Count(role) => Command::Count(role),
+            LineCommand::Dead(node, cleanup) => Command::Dead(node, cleanup),
+        }
+    }
+}

@@ -1,0 +1,22 @@
+//! Worked examples of commands on a service, of scripts and of streams. They are tests of what no contract says: worked rows,
+//! each public call once with ample memory and with memory refused, and streams that fail.
+#![tactic(auto)]
+
+#[cfg(test)]
+mod descriptions;
+#[cfg(test)]
+mod lines;
+#[cfg(test)]
+mod memory;
+#[cfg(test)]
+mod modules;
+#[cfg(test)]
+mod runs;
+#[cfg(test)]
+mod scripts;
+#[cfg(test)]
+mod stored_run;
+#[cfg(test)]
+mod streams;
+#[cfg(test)]
+mod worked;

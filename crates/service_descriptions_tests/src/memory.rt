@@ -1,0 +1,180 @@
+//! Calls that are refused memory. With ample memory they give their full answers; where one request is refused
+//! (`bench/refuse_memory.sh` does that), they give a beginning of these, and the rest when they are called again.
+
+use super::stored_run;
+use super::worked::SKIPPED;
+use service_descriptions::dynamic_config::PortCleanupAction::{RemovePort, SkipPort};
+use service_descriptions::dynamic_config::{
+    MessagingPatternSettings, PortCleanupAction, publish_subscribe,
+};
+use service_descriptions::identifiers::UniqueNodeId;
+use service_descriptions::replay::{
+    Cleanup, Command, Reply, ScriptError, ServiceState, read_line, replay, run_script, write_reply,
+};
+use std::alloc::{AllocError, Global};
+use std::test::Fail;
+
+const SETTINGS: MessagingPatternSettings = MessagingPatternSettings::PublishSubscribe(
+    publish_subscribe::DynamicConfigSettings {
+        number_of_subscribers: 2,
+        number_of_publishers: 2,
+    },
+);
+
+/// The lines of commands. After the fifth a node dies whose ports are answered in order.
+const COMMANDS: [&str; 8] = [
+    "register 1.0.0.1",
+    "add publisher 1.0.0.11 1.0.0.1",
+    "add publisher 1.0.0.12 1.0.0.1",
+    "add subscriber 1.0.0.13 1.0.0.1",
+    "add subscriber 1.0.0.14 1.0.0.1",
+    "list publisher",
+    "list subscriber",
+    "nodes",
+];
+
+const LINES: &str =
+    "handle 0 0\nhandle 0 0\nhandle 1 1\nhandle 0 0\nhandle 1 1\nhas-owners\nlist 100000000000000000000000c\nlist 100000000000000000000000d\nlist 1000000000000000000000001\n";
+
+/// The commands of the lines, and one that tells of a dead node.
+fn commands(alloc: Global, dead: UniqueNodeId) -> Result<Vec<Command>, AllocError> {
+    let actions: [PortCleanupAction; 3] = [RemovePort, SkipPort, SkipPort];
+    let mut commands = Vec::new(alloc);
+    for (i, line) in COMMANDS.iter().enumerate() {
+        if i == 5 {
+            let cleanup = Cleanup::ByOrder(Vec::from_array(alloc, actions)?);
+            commands.push(Command::Dead(dead, cleanup))?;
+        }
+        if let Some(command) = read_line(alloc, line.as_bytes())? {
+            commands.push(command)?;
+        }
+    }
+    Ok(commands)
+}
+
+/// The lines of replies.
+fn lines(alloc: Global, replies: &[Reply]) -> Result<Vec<u8>, AllocError> {
+    let mut out = Vec::new(alloc);
+    for reply in replies {
+        write_reply(reply, &mut out)?;
+    }
+    Ok(out)
+}
+
+/// Gives the commands to the service, and the rest again where memory was refused.
+fn run(
+    alloc: Global,
+    state: &mut ServiceState,
+    commands: &[Command],
+    replies: &mut Vec<Reply>,
+) -> Result<(), AllocError> {
+    match replay(alloc, state, commands, replies) {
+        Ok(()) => Ok(()),
+        Err(_) => {
+            let rest = commands.get(replies.len()..).unwrap_or(&[]);
+            replay(alloc, state, rest, replies)
+        }
+    }
+}
+
+/// The lines of a run of the commands.
+fn lines_of(
+    alloc: Global,
+    state: &mut ServiceState,
+    commands: &[Command],
+) -> Result<Vec<u8>, AllocError> {
+    let mut replies = Vec::new(alloc);
+    run(alloc, state, commands, &mut replies)?;
+    match lines(alloc, &replies) {
+        Ok(text) => Ok(text),
+        Err(_) => lines(alloc, &replies),
+    }
+}
+
+/// The commands, made again where memory was refused.
+fn commands_at_last(alloc: Global, dead: UniqueNodeId) -> Result<Vec<Command>, AllocError> {
+    match commands(alloc, dead) {
+        Ok(commands) => Ok(commands),
+        Err(_) => commands(alloc, dead),
+    }
+}
+
+/// The service, made again where memory was refused.
+fn state_at_last(alloc: Global) -> Result<ServiceState, AllocError> {
+    match ServiceState::new(alloc, &SETTINGS, 2, 9) {
+        Ok(state) => Ok(state),
+        Err(_) => ServiceState::new(alloc, &SETTINGS, 2, 9),
+    }
+}
+
+/// The lines of a run of the commands on a new service.
+fn run_lines(alloc: Global, commands: &[Command]) -> Result<Vec<u8>, AllocError> {
+    let mut state = state_at_last(alloc)?;
+    lines_of(alloc, &mut state, commands)
+}
+
+#[test]
+fn a_run_goes_on_where_it_was_refused(rt: HostRuntime) -> Result<(), Fail> {
+    let node = UniqueNodeId::new(1, 0, 0, 1).ok_or("an id")?;
+    let commands = commands_at_last(rt.alloc(), node)?;
+    let text = run_lines(rt.alloc(), &commands)?;
+    assert_eq!(rt; text.as_slice(), LINES.as_bytes());
+    Ok(())
+}
+
+#[test]
+fn a_script_gives_whole_lines(rt: HostRuntime) {
+    for (script, lines) in [(stored_run::SCRIPT, stored_run::LINES), SKIPPED] {
+        let mut out = Vec::new(rt.alloc());
+        match run_script(rt.alloc(), script.as_bytes(), &mut out) {
+            Ok(()) => assert_eq!(rt; out.as_slice(), lines.as_bytes()),
+            Err(ScriptError::BadLine(line)) => assert!(rt; false, "bad line {line}"),
+            Err(ScriptError::NoMemory(_)) => {
+                let whole = out.is_empty() || out.ends_with(b"\n");
+                assert!(rt; whole && lines.as_bytes().starts_with(&out));
+            }
+        }
+    }
+}
+
+#[test]
+fn a_reply_is_written_whole_or_not_at_all(rt: HostRuntime) -> Result<(), Fail> {
+    let alloc = rt.alloc();
+    let node = UniqueNodeId::new(1, 0, 0, 1).ok_or("an id")?;
+    let nodes = match vec![in alloc; node, node] {
+        Ok(nodes) => nodes,
+        Err(_) => vec![in alloc; node, node]?,
+    };
+    let listing = Reply::Nodes(nodes);
+    let mut out = Vec::new(alloc);
+    for _ in 0..20 {
+        let before = out.len();
+        let line = match write_reply(&listing, &mut out) {
+            Ok(()) => "list 1000000000000000000000001 1000000000000000000000001\n",
+            Err(_) => "",
+        };
+        assert_eq!(rt; &out[before..], line.as_bytes());
+    }
+    Ok(())
+}
+
+#[test]
+fn a_line_wants_memory_for_its_list_alone(rt: HostRuntime) {
+    let rows = [
+        ("register 1.0.0.1", true),
+        ("add listener 1.0.0.9 1.0.0.1", true),
+        ("dead 1.0.0.1", true),
+        ("dead 1.0.0.1 skip 1.0.0.9", false),
+    ];
+    for (line, sure) in rows {
+        match read_line(rt.alloc(), line.as_bytes()) {
+            Ok(found) => assert!(rt; found.is_some(), "at {line}"),
+            Err(_) => assert!(rt; !sure, "at {line}"),
+        }
+    }
+}
+
+#[test]
+fn no_service_has_room_for_all_nodes(rt: HostRuntime) {
+    assert!(rt; ServiceState::new(rt.alloc(), &SETTINGS, usize::MAX, 7).is_err());
+}

@@ -1,0 +1,21 @@
+-- Where the parts of a message end.
+use Rattle.std.proofs.Common.{◌≡◌, ℕ, ◌+◌, ◌*◌, ◌^◌, ◌<◌, ◌≤◌, arith}
+use Rattle.std.proofs.Math.Nat.{mul-le-mul_right}
+use Rattle.std.proofs.lemmas.Nat.Gcd.{dvd-zero}
+use Rattle.iox2_config.specs.Blocks.{HoldsEverywhere, HoldsMessage}
+use Rattle.iox2_config.specs.Layout.{user_header_place, payload_place}
+use Rattle.iox2_config.specs.declared.types.message_details.MessageTypeDetails.{MessageTypeDetails}
+
+-- the parts of a message at the place 0 end within its room
+pub ends_inside : (d : MessageTypeDetails) (n size : ℕ) → HoldsEverywhere d n size → size < 2 ^ 63
+    → (user_header_place d 0 + d.user_header.size ≤ size) × (payload_place d 0 + d.payload.size * n ≤ size)
+ends_inside d n size h limit =
+    let first : HoldsMessage d n size 0 = h.alone 0 (dvd-zero _) (omega arith) in
+    (omega (arith, first.own.inside.1.0.1), omega (arith, first.own.inside.1.1.0.1))
+
+-- an element ends where the payload does, or before
+pub element_inside : (start element elements i end : ℕ) → end ≡ start + element * elements → i < elements
+    → start + i * element + element ≤ end
+element_inside start element elements i end is there =
+    let more : i + 1 ≤ elements = omega arith in
+    omega (arith, is, mul-le-mul_right element more)

@@ -1,0 +1,98 @@
+-- The settings of services, by their numbers.
+use Rattle.std.specs.Prelude.{◌≡◌, ℕ, List, [], ◌∷◌, ◌++◌, codes, Some, None, true, false, slice_get, slice_set}
+use Rattle.std.specs.Fmt.{decimal}
+use Rattle.std.specs.Duration.{as_nanos}
+use Rattle.iox2_config.specs.declared.config.choices.BackpressureStrategy.TheVariants.{RetryUntilDelivered, DiscardData}
+use Rattle.iox2_config.specs.declared.config.choices.AllocationStrategy.TheVariants.{BestFit, PowerOfTwo, Static}
+use Rattle.iox2_config.specs.declared.config.blackboard.Blackboard.{Blackboard}
+use Rattle.iox2_config.specs.declared.config.event.Event.{Event}
+use Rattle.iox2_config.specs.declared.config.publish_subscribe.PublishSubscribe.{PublishSubscribe}
+use Rattle.iox2_config.specs.declared.config.request_response.RequestResonse.{RequestResonse}
+use Rattle.service_drawing.specs.declared.settings.value.Value.{Value}
+use Rattle.service_drawing.specs.declared.settings.value.Value.TheVariants.{Number, Switch, Perhaps, Deadline, Backpressure, Allocation}
+
+-- how a value is spelled
+abbrev pub value_text : Value → List ℕ
+value_text (Number n) = decimal n
+value_text (Switch true) = codes "true"
+value_text (Switch false) = codes "false"
+value_text (Perhaps (Some n)) = decimal n
+value_text (Perhaps None) = codes "none"
+value_text (Deadline (Some time)) = decimal (as_nanos time)
+value_text (Deadline None) = codes "none"
+value_text (Backpressure RetryUntilDelivered) = codes "RetryUntilDelivered"
+value_text (Backpressure DiscardData) = codes "DiscardData"
+value_text (Allocation BestFit) = codes "BestFit"
+value_text (Allocation PowerOfTwo) = codes "PowerOfTwo"
+value_text (Allocation Static) = codes "Static"
+
+-- the names of the settings of a publish-subscribe service
+abbrev pub publish_subscribe_names : List (List ℕ)
+publish_subscribe_names =
+    codes "max_subscribers" ∷ codes "max_publishers" ∷ codes "max_nodes" ∷ codes "subscriber_max_buffer_size"
+    ∷ codes "subscriber_max_borrowed_samples" ∷ codes "publisher_max_loaned_samples" ∷ codes "publisher_history_size"
+    ∷ codes "enable_safe_overflow" ∷ codes "backpressure_strategy" ∷ codes "subscriber_expired_connection_buffer"
+    ∷ codes "publisher_allocation_strategy" ∷ []
+
+-- the values of a publish-subscribe service
+abbrev pub publish_subscribe_values : PublishSubscribe → List Value
+publish_subscribe_values s =
+    Number s.max_subscribers ∷ Number s.max_publishers ∷ Number s.max_nodes ∷ Number s.subscriber_max_buffer_size
+    ∷ Number s.subscriber_max_borrowed_samples ∷ Number s.publisher_max_loaned_samples ∷ Number s.publisher_history_size
+    ∷ Switch s.enable_safe_overflow ∷ Backpressure s.backpressure_strategy ∷ Number s.subscriber_expired_connection_buffer
+    ∷ Allocation s.publisher_allocation_strategy ∷ []
+
+-- the names of the settings of an event service
+abbrev pub event_names : List (List ℕ)
+event_names =
+    codes "max_listeners" ∷ codes "max_notifiers" ∷ codes "max_nodes" ∷ codes "event_id_max_value" ∷ codes "deadline"
+    ∷ codes "notifier_created_event" ∷ codes "notifier_dropped_event" ∷ codes "notifier_dead_event" ∷ []
+
+-- the values of an event service
+abbrev pub event_values : Event → List Value
+event_values s =
+    Number s.max_listeners ∷ Number s.max_notifiers ∷ Number s.max_nodes ∷ Number s.event_id_max_value
+    ∷ Deadline s.deadline ∷ Perhaps s.notifier_created_event ∷ Perhaps s.notifier_dropped_event
+    ∷ Perhaps s.notifier_dead_event ∷ []
+
+-- the names of the settings of a request-response service
+abbrev pub request_response_names : List (List ℕ)
+request_response_names =
+    codes "enable_safe_overflow_for_requests" ∷ codes "enable_safe_overflow_for_responses"
+    ∷ codes "max_active_requests_per_client" ∷ codes "max_response_buffer_size" ∷ codes "max_servers"
+    ∷ codes "max_clients" ∷ codes "max_nodes" ∷ codes "max_borrowed_responses_per_pending_response"
+    ∷ codes "max_loaned_requests" ∷ codes "server_max_loaned_responses_per_request"
+    ∷ codes "client_backpressure_strategy" ∷ codes "server_backpressure_strategy"
+    ∷ codes "client_expired_connection_buffer" ∷ codes "server_expired_connection_buffer"
+    ∷ codes "enable_fire_and_forget_requests" ∷ codes "client_allocation_strategy"
+    ∷ codes "server_allocation_strategy" ∷ []
+
+-- the values of a request-response service
+abbrev pub request_response_values : RequestResonse → List Value
+request_response_values s =
+    Switch s.enable_safe_overflow_for_requests ∷ Switch s.enable_safe_overflow_for_responses
+    ∷ Number s.max_active_requests_per_client ∷ Number s.max_response_buffer_size ∷ Number s.max_servers
+    ∷ Number s.max_clients ∷ Number s.max_nodes ∷ Number s.max_borrowed_responses_per_pending_response
+    ∷ Number s.max_loaned_requests ∷ Number s.server_max_loaned_responses_per_request
+    ∷ Backpressure s.client_backpressure_strategy ∷ Backpressure s.server_backpressure_strategy
+    ∷ Number s.client_expired_connection_buffer ∷ Number s.server_expired_connection_buffer
+    ∷ Switch s.enable_fire_and_forget_requests ∷ Allocation s.client_allocation_strategy
+    ∷ Allocation s.server_allocation_strategy ∷ []
+
+-- the names of the settings of a blackboard service
+abbrev pub blackboard_names : List (List ℕ)
+blackboard_names =
+    codes "max_readers" ∷ codes "max_nodes" ∷ []
+
+-- the values of a blackboard service
+abbrev pub blackboard_values : Blackboard → List Value
+blackboard_values s = Number s.max_readers ∷ Number s.max_nodes ∷ []
+
+-- the text names one of the settings and a value, and that setting alone has got that value
+pub record Sets (names : List (List ℕ)) (old : List Value) (text : List ℕ) (new : List Value) : Type 0 where
+  pub index : ℕ
+  pub name : List ℕ
+  pub value : Value
+  pub named : slice_get names index ≡ Some name
+  pub spelled : text ≡ name ++ 32 ∷ value_text value
+  pub changed : new ≡ slice_set old index value

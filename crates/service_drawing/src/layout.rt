@@ -1,0 +1,140 @@
+//! Where the parts of one message lie.
+ghost use Rattle.std.specs.Prelude.{◌≡◌, ◌^◌, ◌+◌, ◌*◌, ◌<◌, ◌≤◌, IfSome, IfNone, MatchOption};
+ghost use Rattle.iox2_config.specs.Compatible.{Compatible};
+ghost use Rattle.iox2_config.specs.Layout.{HaveAlignments, bound};
+ghost use Rattle.service_drawing.specs.Layout.{IsLayoutOf, IsWhole, IsPartAt, Clashes, span};
+
+use super::span::Span;
+use iox2_config::types::MessageTypeDetails;
+
+/// Where the parts of a message lie, counted from its header, and the room that it is given.
+#[derive(Clone, Copy)]
+pub(crate) struct MessageLayout {
+    pub(crate) header: Span,
+    /// Nothing lies between the header and the user header.
+    pub(crate) first_gap: Span,
+    pub(crate) user_header: Span,
+    /// Nothing lies between the user header and the payload.
+    pub(crate) second_gap: Span,
+    pub(crate) payload: Span,
+    /// Nothing lies behind the payload.
+    pub(crate) spare: Span,
+    /// How many bytes an element of the payload takes.
+    pub(crate) element: usize,
+    /// How many elements there are.
+    pub(crate) elements: usize,
+    /// How many bytes the message is given.
+    pub(crate) size: usize,
+}
+
+/// What lies at a byte of a message.
+#[derive(Clone, Copy)]
+pub(crate) enum Part {
+    Header,
+    UserHeader,
+    /// The element of this number, from 0 on.
+    Element(usize),
+    /// Nothing: the next part begins at a later multiple of its alignment.
+    Gap,
+    /// Nothing: the message is given more room than it takes.
+    Spare,
+}
+
+impl MessageLayout {
+    /// The layout of a message of so many elements, or `None` where it would pass 2^63 - 1 bytes.
+    #[tactic(auto, using(crate::proofs::Inside::ends_inside, iox2_texts::proofs::Multiple::multiples))]
+    pub(crate) fn of(details: &MessageTypeDetails, elements: usize) -> Option<Self>
+        ensures some { IfSome result (λ layout. IsLayoutOf layout details.now elements) }
+        ensures inside { IfSome result (λ layout. IsWhole layout) }
+        ensures none { IfNone result (HaveAlignments details.now → 2 ^ 63 ≤ bound details.now elements) }
+    {
+        if !details.has_alignments() {
+            return None;
+        }
+        let Some(room) = details.sample_layout(elements) else {
+            return None;
+        };
+        let header_end = details.header.size();
+        let user_header = details.user_header_ptr_from_header(0);
+        let user_header_end = user_header + details.user_header.size();
+        let payload = details.payload_ptr_from_header(0);
+        let element = details.payload.size();
+        let payload_end = payload + element * elements;
+        Some(MessageLayout {
+            header: Span::new(0, header_end),
+            first_gap: Span::new(header_end, user_header),
+            user_header: Span::new(user_header, user_header_end),
+            second_gap: Span::new(user_header_end, payload),
+            payload: Span::new(payload, payload_end),
+            spare: Span::new(payload_end, room.size()),
+            element,
+            elements,
+            size: room.size(),
+        })
+    }
+
+    /// Where the element of this number lies.
+    #[tactic(auto, using(crate::proofs::Inside::element_inside))]
+    pub(crate) fn element(&self, i: usize) -> Span
+        requires whole { IsWhole self.now }
+        requires there { i < self.now.elements }
+        ensures { result ≡ span (self.now.payload.start + i * self.now.element) self.now.element }
+    {
+        let start = self.payload.start() + i * self.element;
+        Span::new(start, start + self.element)
+    }
+
+    /// What lies at the byte of this offset.
+    pub(crate) fn part_at(&self, offset: usize) -> Part
+        requires { IsWhole self.now }
+        ensures { IsPartAt self.now offset result }
+    {
+        if self.header.has(offset) {
+            Part::Header
+        } else if self.user_header.has(offset) {
+            Part::UserHeader
+        } else if offset < self.payload.start() {
+            Part::Gap
+        } else if offset < self.payload.end() {
+            Part::Element((offset - self.payload.start()) / self.element)
+        } else {
+            Part::Spare
+        }
+    }
+
+    /// How many bytes so many messages take, or `None` where that passes 2^64 - 1.
+    pub(crate) fn memory(&self, chunks: usize) -> Option<usize>
+        ensures { MatchOption result (2 ^ 64 ≤ chunks * self.now.size) (λ bytes. bytes ≡ chunks * self.now.size) }
+    {
+        chunks.checked_mul(self.size)
+    }
+}
+
+/// Why an opener may not use a service's messages.
+#[derive(Clone, Copy)]
+pub(crate) enum Clash {
+    /// The headers differ.
+    Header,
+    /// The user header of the opener has the greater alignment.
+    UserHeader,
+    /// Neither is so. For an opener of the same types its payload has the greater alignment.
+    Payload,
+}
+
+/// The first cause for which an opener may not use a service's messages, or `None` exactly where it may.
+pub(crate) fn first_clash(
+    opener: &MessageTypeDetails,
+    service: &MessageTypeDetails,
+) -> Option<Clash>
+    ensures { MatchOption result (Compatible opener.now service.now) (λ why. Clashes why opener.now service.now) }
+{
+    if opener.is_compatible_to(service) {
+        None
+    } else if opener.header != service.header {
+        Some(Clash::Header)
+    } else if opener.user_header.alignment() > service.user_header.alignment() {
+        Some(Clash::UserHeader)
+    } else {
+        Some(Clash::Payload)
+    }
+}

@@ -1,0 +1,20 @@
+//! What a service is, for a person to look at: its name and its files, its settings, where the parts of its messages lie,
+//! how much memory its ports take, and whether its attributes are what an opener requires.
+//!
+//! Every number comes from a call whose contract says what it is; how it is laid out as text or as a picture is only
+//! tested.
+#![tactic(auto)]
+
+mod description;
+mod files;
+mod layout;
+mod reading;
+mod segments;
+mod sentences;
+mod settings;
+mod span;
+mod streams;
+mod svg;
+mod text;
+
+pub use streams::describe_streams;

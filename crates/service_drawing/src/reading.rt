@@ -1,0 +1,96 @@
+//! Descriptions as lines.
+
+mod attributes;
+mod message;
+mod service;
+mod settings;
+mod wanted;
+pub(crate) mod words;
+
+use crate::description::{Description, Exchange};
+use attributes::{attributes_before, required_before};
+use iox2_config::config::Config;
+use iox2_config::hash::PatternKind;
+use iox2_config::types::{TypeDetail, TypeVariant};
+use message::{line_after, message_before, type_in};
+use service::service_before;
+use settings::settings_before;
+pub(crate) use wanted::Wanted;
+
+/// The lines of the settings, with which the configuration is changed.
+fn configuration_before(bytes: &[u8], kind: PatternKind) -> Result<(Config, &[u8]), Wanted<'_>> {
+    let usual = Config::default().defaults;
+    let mut config = Config::default();
+    let defaults = &mut config.defaults;
+    let rest = match kind {
+        PatternKind::PublishSubscribe => settings_before(
+            bytes,
+            &mut defaults.publish_subscribe,
+            &usual.publish_subscribe,
+        ),
+        PatternKind::Event => settings_before(bytes, &mut defaults.event, &usual.event),
+        PatternKind::RequestResponse => settings_before(
+            bytes,
+            &mut defaults.request_response,
+            &usual.request_response,
+        ),
+        PatternKind::Blackboard => {
+            settings_before(bytes, &mut defaults.blackboard, &usual.blackboard)
+        }
+    }?;
+    Ok((config, rest))
+}
+
+/// The line of a blackboard's keys.
+fn key_type_before(bytes: &[u8]) -> Result<(TypeDetail, &[u8]), Wanted<'_>> {
+    if let Some((text, rest)) = line_after(bytes, "", "key ") {
+        if let Some(detail) = type_in(text, TypeVariant::FixedSize) {
+            return Ok((detail, rest));
+        }
+    }
+    Err(Wanted::plain(
+        bytes,
+        "key SIZE ALIGNMENT NAME: two numbers, the second a power of two, and 1 to 256 bytes",
+    ))
+}
+
+/// The lines of what the ports exchange.
+fn exchange_before(bytes: &[u8], kind: PatternKind) -> Result<(Exchange, &[u8]), Wanted<'_>> {
+    match kind {
+        PatternKind::PublishSubscribe => {
+            let (message, rest) = message_before(bytes, "")?;
+            Ok((Exchange::PublishSubscribe(message), rest))
+        }
+        PatternKind::Event => Ok((Exchange::Event, bytes)),
+        PatternKind::RequestResponse => {
+            let (request, rest) = message_before(bytes, "request-")?;
+            let (response, rest) = message_before(rest, "response-")?;
+            Ok((Exchange::RequestResponse(request, response), rest))
+        }
+        PatternKind::Blackboard => {
+            let (key, rest) = key_type_before(bytes)?;
+            Ok((Exchange::Blackboard(key), rest))
+        }
+    }
+}
+
+/// The service that the lines describe, or what was expected in the place of the first bad one.
+pub(crate) fn read_description(bytes: &[u8]) -> Result<Description, Wanted<'_>> {
+    let (service, rest) = service_before(bytes)?;
+    let (config, rest) = configuration_before(rest, service.kind)?;
+    let (exchange, rest) = exchange_before(rest, service.kind)?;
+    let (attributes, rest) = attributes_before(rest)?;
+    let (required, rest) = required_before(rest)?;
+    if !rest.is_empty() {
+        return Err(Wanted::plain(rest, "the end, or a line that may follow the one before it"));
+    }
+    Ok(Description {
+        name: service.name,
+        kind: service.kind,
+        hash: service.hash,
+        config,
+        exchange,
+        attributes,
+        required,
+    })
+}

@@ -1,0 +1,92 @@
+//! The lines of attributes.
+ghost use Rattle.std.specs.Prelude.{◌≡◌, ◌∷◌, ◌++◌, IfSome};
+
+use super::message::line_after;
+use super::wanted::Wanted;
+use super::words::{after_word, split_word};
+use iox2_texts::attribute::{AttributeKey, AttributeSet, AttributeValue, AttributeVerifier};
+
+/// The key and the value that a text spells. The key has no space.
+fn pair_in(text: &str) -> Option<(AttributeKey, AttributeValue)>
+    ensures { IfSome result (λ pair. text.now ≡ pair.0 ++ 32 ∷ pair.1) }
+{
+    let Some((key, value)) = split_word(text) else {
+        return None;
+    };
+    let Ok(key) = AttributeKey::try_from(key) else {
+        return None;
+    };
+    match AttributeValue::try_from(value) {
+        Ok(value) => Some((key, value)),
+        Err(_) => None,
+    }
+}
+
+/// The key that a text spells. It has no space.
+fn key_in(text: &str) -> Option<AttributeKey>
+    ensures { IfSome result (λ key. text.now ≡ key) }
+{
+    if text.contains(' ') {
+        return None;
+    }
+    match AttributeKey::try_from(text) {
+        Ok(key) => Some(key),
+        Err(_) => None,
+    }
+}
+
+/// The lines of the attributes that the service has, at most 16.
+pub(super) fn attributes_before(bytes: &[u8]) -> Result<(AttributeSet, &[u8]), Wanted<'_>> {
+    let mut attributes = AttributeSet::new();
+    let mut rest = bytes;
+    while let Some((text, tail)) = line_after(rest, "", "attribute ") {
+        let wanted = Wanted::plain(
+            rest,
+            "attribute KEY VALUE: 1 to 64 bytes without a space, and 1 to 256 bytes, at most 16 times",
+        );
+        let Some((key, value)) = pair_in(text) else {
+            return Err(wanted);
+        };
+        if attributes.add(&key, &value).is_err() {
+            return Err(wanted);
+        }
+        rest = tail;
+    }
+    Ok((attributes, rest))
+}
+
+/// The lines of the attributes that an opener requires, at most 16.
+pub(super) fn required_before(bytes: &[u8]) -> Result<(AttributeVerifier, &[u8]), Wanted<'_>> {
+    let mut required = AttributeVerifier::new();
+    let mut rest = bytes;
+    while let Some((text, tail)) = line_after(rest, "", "require") {
+        let wanted = Wanted::plain(
+            rest,
+            "require KEY VALUE or require-key KEY: 1 to 64 bytes without a space, and 1 to 256 bytes, at most 16 times",
+        );
+        let Some(more) = requiring(required, text) else {
+            return Err(wanted);
+        };
+        required = more;
+        rest = tail;
+    }
+    Ok((required, rest))
+}
+
+/// The verifier that requires also what a text spells after `require`.
+fn requiring(required: AttributeVerifier, text: &str) -> Option<AttributeVerifier> {
+    if let Some(text) = after_word(text, " ") {
+        let Some((key, value)) = pair_in(text) else {
+            return None;
+        };
+        required.require(&key, &value).ok()
+    } else {
+        let Some(text) = after_word(text, "-key ") else {
+            return None;
+        };
+        let Some(key) = key_in(text) else {
+            return None;
+        };
+        required.require_key(&key).ok()
+    }
+}

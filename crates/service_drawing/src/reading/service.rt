@@ -1,0 +1,66 @@
+//! The first line.
+ghost use Rattle.std.specs.Prelude.{◌≡◌, ◌++◌, IfSome, IfOk};
+ghost use Rattle.service_drawing.specs.Lines.{pattern_word, service_front, IsHashed};
+
+use super::wanted::Wanted;
+use super::words::{after_word, next_line};
+use iox2_config::hash::{PatternKind, ServiceHash, Sha1Hasher};
+use iox2_texts::service_name::ServiceName;
+
+/// The pattern that begins the line, and the name after it.
+fn pattern_in(line: &str) -> Option<(PatternKind, &str)>
+    ensures { IfSome result (λ found. line.now ≡ pattern_word found.0 ++ found.1.now) }
+{
+    if let Some(name) = after_word(line, "publish-subscribe ") {
+        Some((PatternKind::PublishSubscribe, name))
+    } else if let Some(name) = after_word(line, "event ") {
+        Some((PatternKind::Event, name))
+    } else if let Some(name) = after_word(line, "request-response ") {
+        Some((PatternKind::RequestResponse, name))
+    } else if let Some(name) = after_word(line, "blackboard ") {
+        Some((PatternKind::Blackboard, name))
+    } else {
+        None
+    }
+}
+
+/// What the first line says of a service.
+#[derive(Drop)]
+pub(super) struct Service {
+    pub(super) kind: PatternKind,
+    pub(super) name: ServiceName,
+    pub(super) hash: ServiceHash,
+}
+
+/// The service that a line spells.
+fn service_in(line: &str) -> Option<Service>
+    ensures spelled { IfSome result (λ service. line.now ≡ pattern_word service.kind ++ service.name) }
+    ensures hash { IfSome result IsHashed }
+{
+    let Some((kind, name)) = pattern_in(line) else {
+        return None;
+    };
+    let Ok(name) = ServiceName::new(name) else {
+        return None;
+    };
+    match ServiceHash::new::<Sha1Hasher>(&name, kind) {
+        Ok(hash) => Some(Service { kind, name, hash }),
+        Err(_) => None,
+    }
+}
+
+/// The line of a service.
+pub(super) fn service_before(bytes: &[u8]) -> Result<(Service, &[u8]), Wanted<'_>>
+    ensures spelled { IfOk result (λ found. bytes.now ≡ service_front found.0 found.1.now) }
+    ensures hash { IfOk result (λ found. IsHashed found.0) }
+{
+    if let Some((line, rest)) = next_line(bytes) {
+        if let Some(service) = service_in(line) {
+            return Ok((service, rest));
+        }
+    }
+    Err(Wanted::plain(
+        bytes,
+        "PATTERN NAME: publish-subscribe, event, request-response or blackboard, and the name of a service, 1 to 255 bytes",
+    ))
+}

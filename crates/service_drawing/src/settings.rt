@@ -1,0 +1,32 @@
+//! The settings of a service, by their own names.
+ghost use Rattle.std.specs.Prelude.{◌≡◌, ℕ, List, IsTrue, false, slice_get, slice_set};
+ghost use Rattle.std.specs.Option.{option_map};
+ghost use Rattle.service_drawing.specs.declared.settings.value.Value.{Value};
+
+mod blackboard;
+mod event;
+mod publish_subscribe;
+mod request_response;
+mod value;
+
+pub(crate) use value::Value;
+
+/// Settings that have numbers, from 0 on, and names.
+pub(crate) trait Settings {
+    /// The names by their numbers.
+    ghost names: { List (List ℕ) };
+
+    /// The values by their numbers.
+    ghost values: { Self → List Value };
+
+    /// The name and the value of the setting of this number, if there is one.
+    fn row(&self, index: usize) -> Option<(&'static str, Value)>
+        ensures name { option_map (λ row. row.0.now) result ≡ slice_get names index }
+        ensures value { option_map (λ row. row.1) result ≡ slice_get (values self.now) index };
+
+    /// Sets the setting of this number. Refused is a number that no setting has, and a value of another kind than the
+    /// setting's.
+    fn set(&mut self, index: usize, value: Value) -> bool
+        ensures set { IsTrue result → values self.new ≡ slice_set (values self.old) index value }
+        ensures kept { result ≡ false → self.new ≡ self.old };
+}

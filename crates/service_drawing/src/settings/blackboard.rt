@@ -1,0 +1,29 @@
+//! The settings of blackboard services.
+
+use super::{Settings, Value};
+use iox2_config::config::Blackboard;
+
+impl Settings for Blackboard {
+    ghost use Rattle.service_drawing.specs.Settings.{blackboard_names, blackboard_values};
+
+    ghost names = { blackboard_names };
+
+    ghost values = { blackboard_values };
+
+    fn row(&self, index: usize) -> Option<(&'static str, Value)> {
+        match index {
+            0 => Some(("max_readers", Value::Number(self.max_readers))),
+            1 => Some(("max_nodes", Value::Number(self.max_nodes))),
+            _ => None,
+        }
+    }
+
+    fn set(&mut self, index: usize, value: Value) -> bool {
+        match (index, value) {
+            (0, Value::Number(n)) => self.max_readers = n,
+            (1, Value::Number(n)) => self.max_nodes = n,
+            _ => return false,
+        }
+        true
+    }
+}

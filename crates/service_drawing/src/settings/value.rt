@@ -1,0 +1,114 @@
+//! The values of settings.
+ghost use Rattle.std.specs.Prelude.{◌≡◌, IfSome, Some};
+ghost use Rattle.service_drawing.specs.Settings.{value_text};
+ghost use Rattle.service_drawing.specs.declared.settings.value.Value.TheVariants.{Switch, Perhaps, Deadline, Backpressure, Allocation};
+
+use crate::reading::words::number;
+use iox2_config::config::{AllocationStrategy, BackpressureStrategy};
+use std::fmt;
+use std::time::Duration;
+
+/// The value of a setting.
+#[derive(Clone, Copy, PartialEq, Eq)]
+pub(crate) enum Value {
+    Number(usize),
+    Switch(bool),
+    /// A number, or none.
+    Perhaps(Option<usize>),
+    /// A time in nanoseconds, or none.
+    Deadline(Option<Duration>),
+    Backpressure(BackpressureStrategy),
+    Allocation(AllocationStrategy),
+}
+
+impl fmt::Display for Value {
+    ghost output = { λ value. Some (value_text value) };
+
+    fn fmt<W: fmt::Write>(&self, f: &mut fmt::Formatter<W>) -> fmt::Result {
+        match self {
+            Value::Number(n) => write!(f, "{n}"),
+            Value::Switch(on) => write!(f, "{on}"),
+            Value::Perhaps(Some(n)) => write!(f, "{n}"),
+            Value::Deadline(Some(time)) => write!(f, "{}", time.as_nanos()),
+            Value::Perhaps(None) | Value::Deadline(None) => f.write_str("none"),
+            Value::Backpressure(BackpressureStrategy::RetryUntilDelivered) => f.write_str(
+                "RetryUntilDelivered",
+            ),
+            Value::Backpressure(BackpressureStrategy::DiscardData) => f.write_str("DiscardData"),
+            Value::Allocation(AllocationStrategy::BestFit) => f.write_str("BestFit"),
+            Value::Allocation(AllocationStrategy::PowerOfTwo) => f.write_str("PowerOfTwo"),
+            Value::Allocation(AllocationStrategy::Static) => f.write_str("Static"),
+        }
+    }
+}
+
+impl Value {
+    /// The value of the same kind that the text spells.
+    pub(crate) fn of_kind(self, text: &str) -> Option<Value>
+        ensures { IfSome result (λ value. text.now ≡ value_text value) }
+    {
+        match self {
+            Value::Number(_) => number(text).map(Value::Number),
+            Value::Switch(_) => switch(text).map(Value::Switch),
+            Value::Perhaps(_) => perhaps(text).map(Value::Perhaps),
+            Value::Deadline(_) => deadline(text).map(Value::Deadline),
+            Value::Backpressure(_) => backpressure(text).map(Value::Backpressure),
+            Value::Allocation(_) => allocation(text).map(Value::Allocation),
+        }
+    }
+}
+
+fn switch(text: &str) -> Option<bool>
+    ensures { IfSome result (λ on. text.now ≡ value_text (Switch on)) }
+{
+    match text {
+        "true" => Some(true),
+        "false" => Some(false),
+        _ => None,
+    }
+}
+
+fn perhaps(text: &str) -> Option<Option<usize>>
+    ensures { IfSome result (λ n. text.now ≡ value_text (Perhaps n)) }
+{
+    if text == "none" {
+        return Some(None);
+    }
+    let Some(n) = number(text) else {
+        return None;
+    };
+    Some(Some(n))
+}
+
+fn deadline(text: &str) -> Option<Option<Duration>>
+    ensures { IfSome result (λ time. text.now ≡ value_text (Deadline time)) }
+{
+    if text == "none" {
+        return Some(None);
+    }
+    let Some(n) = number(text) else {
+        return None;
+    };
+    Some(Some(Duration::from_nanos(n as u64)))
+}
+
+fn backpressure(text: &str) -> Option<BackpressureStrategy>
+    ensures { IfSome result (λ strategy. text.now ≡ value_text (Backpressure strategy)) }
+{
+    match text {
+        "RetryUntilDelivered" => Some(BackpressureStrategy::RetryUntilDelivered),
+        "DiscardData" => Some(BackpressureStrategy::DiscardData),
+        _ => None,
+    }
+}
+
+fn allocation(text: &str) -> Option<AllocationStrategy>
+    ensures { IfSome result (λ strategy. text.now ≡ value_text (Allocation strategy)) }
+{
+    match text {
+        "BestFit" => Some(AllocationStrategy::BestFit),
+        "PowerOfTwo" => Some(AllocationStrategy::PowerOfTwo),
+        "Static" => Some(AllocationStrategy::Static),
+        _ => None,
+    }
+}

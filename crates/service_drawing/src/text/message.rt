@@ -1,0 +1,163 @@
+//! The layout of a message as text.
+ghost use Rattle.service_drawing.specs.Layout.{IsWhole};
+
+use crate::description::Message;
+use crate::layout::{MessageLayout, Part};
+use crate::segments::Segment;
+use crate::sentences::{opener_sentence, write_memory};
+use crate::span::Span;
+use std::alloc::AllocError;
+
+/// The greatest number of characters of a bar.
+const WIDTH: usize = 64;
+
+/// How many elements are listed one by one.
+const LISTED: usize = 4;
+
+/// Appends the layout of a message, and the memory of a port that sends it.
+pub(super) fn write_message(out: &mut String, segment: Segment<'_>) -> Result<(), AllocError> {
+    let title = segment.title;
+    let message = segment.message;
+    let Some(layout) = MessageLayout::of(&message.details, message.elements) else {
+        return writeln!(
+            out,
+            "\n{title}: no layout, since it would pass 9223372036854775807 bytes"
+        );
+    };
+    let size = layout.size;
+    let alignment = message.details.header.alignment();
+    writeln!(out, "\n{title}: {size} bytes at multiples of {alignment}\n")?;
+    write_bar(out, &layout)?;
+    write_table(out, message, &layout)?;
+    if let Some(sentence) = opener_sentence(message) {
+        writeln!(out, "  {sentence}")?;
+    }
+    write!(out, "  ")?;
+    write_memory(out, segment, &layout)?;
+    writeln!(out)
+}
+
+/// The character for what lies at a byte.
+fn letter(part: Part) -> char {
+    match part {
+        Part::Header => 'H',
+        Part::UserHeader => 'U',
+        Part::Element(i) => (b'0' + (i % 10) as u8) as char,
+        Part::Gap => '.',
+        Part::Spare => '-',
+    }
+}
+
+/// Appends a drawing to scale: each character is what lies at the first of as many bytes.
+fn write_bar(out: &mut String, layout: &MessageLayout) -> Result<(), AllocError>
+    requires { IsWhole layout.now }
+{
+    let scale = layout.size.div_ceil(WIDTH).max(1);
+    write!(out, "  ")?;
+    let mut offset = 0;
+    while offset < layout.size {
+        out.push(letter(layout.part_at(offset)))?;
+        offset += scale;
+    }
+    match scale {
+        1 => writeln!(out, "\n  a character for each byte\n"),
+        _ => writeln!(
+            out,
+            "\n  a character for each {scale} bytes, which tells what lies at the first\n"
+        ),
+    }
+}
+
+/// Appends the columns of numbers of a row.
+fn write_columns(
+    out: &mut String,
+    span: Span,
+    alignment: Option<usize>,
+    opener: Option<usize>,
+) -> Result<(), AllocError> {
+    let offset = span.start();
+    let size = span.len();
+    write!(out, "{offset:>10} {size:>10}")?;
+    for cell in [alignment, opener] {
+        match cell {
+            Some(n) => write!(out, " {n:>10}")?,
+            None => write!(out, "           ")?,
+        }
+    }
+    Ok(())
+}
+
+/// Appends the row of bytes at which nothing lies, if there are any.
+fn write_empty(out: &mut String, span: Span, what: &str) -> Result<(), AllocError> {
+    if span.len() == 0 {
+        return Ok(());
+    }
+    write_columns(out, span, None, None)?;
+    writeln!(out, "  {what}")
+}
+
+/// Appends a row for each part of a message, for the gaps between them and for the first elements of the payload.
+fn write_table(
+    out: &mut String,
+    message: &Message,
+    layout: &MessageLayout,
+) -> Result<(), AllocError>
+    requires { IsWhole layout.now }
+{
+    let types = &message.details;
+    let opener = message.opener.as_ref();
+    writeln!(
+        out,
+        "    offset       size  alignment {:>10}  part",
+        if opener.is_some() { "opener's" } else { "" }
+    )?;
+    let [header, user_header, payload] = match opener {
+        Some(o) => [
+            Some(o.header.alignment()),
+            Some(o.user_header.alignment()),
+            Some(o.payload.alignment()),
+        ],
+        None => [None; 3],
+    };
+    write_columns(out, layout.header, Some(types.header.alignment()), header)?;
+    writeln!(out, "  H header {}", types.header.type_name())?;
+    write_empty(out, layout.first_gap, ". gap")?;
+    write_columns(
+        out,
+        layout.user_header,
+        Some(types.user_header.alignment()),
+        user_header,
+    )?;
+    writeln!(out, "  U user header {}", types.user_header.type_name())?;
+    write_empty(out, layout.second_gap, ". gap")?;
+    write_columns(
+        out,
+        layout.payload,
+        Some(types.payload.alignment()),
+        payload,
+    )?;
+    writeln!(
+        out,
+        "    payload {} of {}",
+        layout.elements,
+        types.payload.type_name()
+    )?;
+    write_elements(out, layout)?;
+    write_empty(out, layout.spare, "- spare")?;
+    writeln!(out, "{:>10} {:>32}    end", layout.size, "")
+}
+
+/// Appends a row for each of the first elements, and one that tells of the others.
+fn write_elements(out: &mut String, layout: &MessageLayout) -> Result<(), AllocError>
+    requires { IsWhole layout.now }
+{
+    for i in 0..layout.elements.min(LISTED) {
+        write_columns(out, layout.element(i), None, None)?;
+        writeln!(out, "  {i}   element {i}")?;
+    }
+    if layout.elements > LISTED {
+        let others = layout.elements - LISTED;
+        writeln!(out, "{:>43}      and {others} more", "")?;
+    }
+    Ok(())
+}

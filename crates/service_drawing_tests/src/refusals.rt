@@ -1,0 +1,141 @@
+//! Refused arguments and lines.
+
+use super::running::run;
+use std::alloc::Global;
+use std::process::Abort;
+use std::test::Fail;
+
+/// A service, its types and what may follow them.
+const GOOD: &str =
+    "publish-subscribe A\nheader 8 8 u64\nuser-header 0 1 ()\npayload fixed 4 4 u32\n";
+
+const SERVICE: &str =
+    "PATTERN NAME: publish-subscribe, event, request-response or blackboard, and the name of a service, 1 to 255 bytes";
+
+const SETTING: &str =
+    "set NAME VALUE: a setting of the pattern, once, and another value than its default";
+
+const HEADER: &str =
+    "header SIZE ALIGNMENT NAME: two numbers, the second a power of two, and 1 to 256 bytes";
+
+const USER_HEADER: &str =
+    "user-header SIZE ALIGNMENT NAME: two numbers, the second a power of two, and 1 to 256 bytes";
+
+const PAYLOAD: &str =
+    "payload VARIANT SIZE ALIGNMENT NAME: fixed or dynamic, two numbers, the second a power of two, and 1 to 256 bytes";
+
+const OPENER: &str = "opener HEADER USER-HEADER PAYLOAD: three alignments, each a power of two";
+
+const ATTRIBUTE: &str =
+    "attribute KEY VALUE: 1 to 64 bytes without a space, and 1 to 256 bytes, at most 16 times";
+
+const REQUIRE: &str =
+    "require KEY VALUE or require-key KEY: 1 to 64 bytes without a space, and 1 to 256 bytes, at most 16 times";
+
+const END: &str = "the end, or a line that may follow the one before it";
+
+/// Each line after a good start is refused for its own cause, with the number of the line and what was expected there.
+#[test]
+fn bad_lines(rt: HostRuntime) -> Result<(), Fail> {
+    for (begin, rest, line, expected) in [
+        ("", "", 1, SERVICE),
+        ("", "publish-subscribe A", 1, SERVICE),
+        ("", "publish-subscribe \n", 1, SERVICE),
+        ("", "publish-subscribe iox2://A\n", 1, SERVICE),
+        ("", "publish-subscribe A\tB\n", 1, SERVICE),
+        ("", "Event A\n", 1, SERVICE),
+        ("event A\n", "set max_nodes 36\n", 2, SETTING),
+        ("event A\n", "set max_nodes 036\n", 2, SETTING),
+        ("event A\n", "set max_readers 3\n", 2, SETTING),
+        (
+            "event A\nset max_nodes 3\n",
+            "set max_nodes 4\n",
+            3,
+            SETTING,
+        ),
+        ("event A\n", "set deadline true\n", 2, SETTING),
+        ("event A\n", "header 8 8 u64\n", 2, END),
+        ("publish-subscribe A\n", "", 2, HEADER),
+        ("publish-subscribe A\n", "header 8 3 u64\n", 2, HEADER),
+        ("publish-subscribe A\n", "header +8 8 u64\n", 2, HEADER),
+        ("publish-subscribe A\n", "header 8 8 \n", 2, HEADER),
+        (
+            "publish-subscribe A\nheader 8 8 u64\n",
+            "payload fixed 4 4 u32\n",
+            3,
+            USER_HEADER,
+        ),
+        (
+            "publish-subscribe A\nheader 8 8 u64\nuser-header 0 1 ()\n",
+            "payload 4 4 u32\n",
+            4,
+            PAYLOAD,
+        ),
+        (GOOD, "elements 1\n", 5, END),
+        (GOOD, "opener 8 1 3\n", 5, OPENER),
+        (GOOD, "opener 8 1\n", 5, OPENER),
+        (GOOD, "attribute a\n", 5, ATTRIBUTE),
+        (GOOD, "attribute a \n", 5, ATTRIBUTE),
+        (GOOD, "require-key a b\n", 5, REQUIRE),
+        (GOOD, "requires a b\n", 5, REQUIRE),
+        (GOOD, "require a b\nattribute a b\n", 6, END),
+        (GOOD, "\n", 5, END),
+    ] {
+        let input = format!(in rt.alloc(); "{begin}{rest}")?;
+        let (status, output, errors) = run(&rt, rt.alloc(), &["iox2-describe"], input.as_str());
+        let error = format!(in rt.alloc(); "bad line {line}: expected {expected}\n")?;
+        assert_eq!(rt;
+            (status, output.len(), errors.as_slice()),
+            (1, 0, error.as_bytes()),
+            "{input}"
+        );
+    }
+    Ok(())
+}
+
+/// Asserts that a run is refused with this error, and draws nothing.
+fn assert_refused(rt: &impl Abort, alloc: Global, words: &[&str], input: &str, error: &str) {
+    let (status, output, errors) = run(rt, alloc, words, input);
+    assert_eq!(rt;
+        (status, output.len(), errors.as_slice()),
+        (1, 0, error.as_bytes())
+    );
+}
+
+/// A dynamic payload wants its number of elements, and a 17th attribute is refused.
+#[test]
+fn missing_and_spare_lines(rt: HostRuntime) -> Result<(), Fail> {
+    let mut many = String::from_str(rt.alloc(), GOOD)?;
+    for i in 0..17 {
+        writeln!(many, "attribute k {i}")?;
+    }
+    assert_refused(
+        &rt,
+        rt.alloc(),
+        &["iox2-describe"],
+        many.as_str(),
+        "bad line 21: expected attribute KEY VALUE: 1 to 64 bytes without a space, and 1 to 256 bytes, at most 16 times\n",
+    );
+    assert_refused(
+        &rt,
+        rt.alloc(),
+        &["iox2-describe"],
+        "request-response A\nrequest-header 8 8 u64\nrequest-user-header 0 1 ()\nrequest-payload dynamic 4 4 u32\n",
+        "bad line 5: expected request-elements NUMBER\n",
+    );
+    Ok(())
+}
+
+#[test]
+fn bad_arguments(rt: HostRuntime) {
+    let error = "bad argument: expected svg, or no argument\n";
+    let alloc = rt.alloc();
+    assert_refused(&rt, alloc, &["iox2-describe", "SVG"], "event A\n", error);
+    assert_refused(
+        &rt,
+        alloc,
+        &["iox2-describe", "svg", "svg"],
+        "event A\n",
+        error,
+    );
+}

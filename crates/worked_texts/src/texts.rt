@@ -1,6 +1,0 @@
-//! Names, keys, values and paths, and sets of attributes.
-
-mod attributes;
-mod bounded;
-mod paths;
-mod service_names;

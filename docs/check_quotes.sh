@@ -1,0 +1,30 @@
+#!/bin/sh
+# Fails where a page quotes code that does not stand so, line by line, in the file that it names. A quote is a block of code below a line
+# `<!-- quote FILE -->`, where FILE is a path from the top of the repository. Prints each such quote, and how many there are.
+set -eu
+cd "$(dirname "$0")/.."
+awk '
+    function text_of(file,   line, text) {
+        text = ""
+        while ((getline line < file) > 0) text = text line "\n"
+        close(file)
+        return text
+    }
+    /^<!-- quote .* -->$/ { file = $3; next }
+    /^```/ && file != "" && !inside { inside = 1; quote = ""; next }
+    /^```/ && inside {
+        quotes++
+        if (quote == "" || index("\n" text_of(file), "\n" quote) == 0) {
+            print FILENAME ":" FNR ": no such lines in " file
+            wrong++
+        }
+        inside = 0
+        file = ""
+        next
+    }
+    inside { quote = quote $0 "\n" }
+    END {
+        print quotes + 0 " quotes, " wrong + 0 " wrong"
+        exit quotes == 0 || wrong > 0
+    }
+' README.md docs/*.md
