@@ -1,4 +1,3 @@
 pub mod Heap
-pub mod Obeying
 pub mod Steps
 pub mod There

@@ -6,7 +6,7 @@ ghost use Rattle.service_descriptions.specs.Steps.{new_state};
 use crate::status::Status;
 use crate::texts::{TextAnswer, refuse, write};
 use service_descriptions::dynamic_config::MessagingPatternSettings;
-use service_descriptions::replay::{Reply, ServiceState, read_line, replay, write_reply};
+use service_descriptions::replay::{Reply, ServiceState, replay_line, write_reply};
 use std::alloc::{AllocError, Global};
 
 /// A service, and the reply to the last call with a command, if it was carried out.
@@ -37,14 +37,9 @@ impl Session {
         ensures { Obeys self.old line.now self.new result }
     {
         self.replies.clear();
-        let Ok(found) = read_line(alloc, line) else {
-            return Status::NoMemory;
-        };
-        let Some(command) = found else {
-            return Status::BadLine;
-        };
-        match replay(alloc, &mut self.state, &[command], &mut self.replies) {
-            Ok(()) => Status::Done,
+        match replay_line(alloc, &mut self.state, line, &mut self.replies) {
+            Ok(true) => Status::Done,
+            Ok(false) => Status::BadLine,
             Err(_) => Status::NoMemory,
         }
     }
