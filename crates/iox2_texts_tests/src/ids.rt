@@ -74,6 +74,24 @@ fn parts_at_their_edges_stay_apart(rt: HostRuntime) {
     }
 }
 
+#[test]
+fn numbers_are_written_in_hexadecimal(rt: HostRuntime) {
+    for (number, text) in [
+        (0, "0"),
+        (15, "f"),
+        (16, "10"),
+        (0xffffffffffffffff, "ffffffffffffffff"),
+        (0x1_0000000000000000, "10000000000000000"),
+        (
+            0x01020304050607_08090a0b0c0d0e00,
+            "102030405060708090a0b0c0d0e00",
+        ),
+        (u128::MAX, "ffffffffffffffffffffffffffffffff"),
+    ] {
+        assert_eq!(rt; Hexadecimal::new(number).as_str(), text);
+    }
+}
+
 fn has_the_number(rt: &impl Abort, port: UniquePortId) {
     assert_eq!(rt; port.value(), 0x1_00000002_00000003_00000004u128);
 }

@@ -1,29 +1,32 @@
-use Rattle.std.proofs.Common.{arith, refl, ◌∙◌, ◌+◌, ◌-◌, ◌<◌, ◌≡◌, length, add-one}
+use Rattle.std.proofs.Common.{◌≡◌, ◌-◌, ◌/◌, ◌%◌, ◌^◌, ◌∙◌, refl, ap, arith, List, ℕ, get_or}
+use Rattle.std.proofs.lemmas.Str.{IsAscii-drop}
 use Rattle.std.proofs.Math.ListN.{length-set}
-use Rattle.iox2_ids.proofs.Hex.{hex_all, hex_step, hex_end, two_fit, pow_more, ascii_step}
+use Rattle.iox2_ids.proofs.Hex.{byte_none, byte_there, byte_more, written}
 use Rattle.iox2_ids.proofs.identifiers.hexadecimal.Hexadecimal.new.Goals as goal
 
-pub loop-rest-init : goal.loop-rest-init
-loop-rest-init c = record { room = omega arith; len = refl; fits = omega arith; ascii = λ i. omega arith; same = hex_all c.args.value }
+pub loop-i-init : goal.loop-i-init
+loop-i-init c = record { len = refl; same = byte_none (c.args.value / 256 ^ 16) }
 
-pub loop-rest-preserved : goal.loop-rest-preserved
-loop-rest-preserved c =
-    let start = c.loop-rest.start in
-    let digits = c.loop-rest.digits in
-    let some = two_fit start c.loop-rest.rest c.loop-rest.invariant.fits c.loop-rest-test.true in
-    let within : start < length digits = omega (arith, c.loop-rest.invariant.room, c.loop-rest.invariant.len) in
-    let back : start - 1 + 1 ≡ start = omega (arith, some) in
+pub loop-i-preserved : goal.loop-i-preserved
+loop-i-preserved c =
+    let i = c.loop-i.i in
+    let digits = c.loop-i.digits in
+    let byte : get_or c.to_be_bytes.result i 0 ≡ c.args.value / 256 ^ (15 - i) % 256 =
+    ap (λ (bytes : List ℕ). get_or bytes i 0) c.to_be_bytes.ensures ∙ byte_there 16 (15 - i) i c.args.value (omega arith) in
     record {
-      room = omega (arith, c.loop-rest.invariant.room);
-      len = length-set _ _ _ ∙ c.loop-rest.invariant.len;
-      fits = rw back (pow_more start c.loop-rest.rest (rw add-one at c.loop-rest.invariant.fits));
-      ascii = ascii_step start c.glyph.result digits some within c.glyph.ensures.ascii c.loop-rest.invariant.ascii;
-      same = hex_step start c.loop-rest.rest c.glyph.result digits some within c.loop-rest-test.true c.glyph.ensures.value
-          ∙ c.loop-rest.invariant.same;
+      len = length-set _ _ _ ∙ length-set _ _ _ ∙ c.loop-i.invariant.len;
+      same = byte_more i c.args.value c.glyph.result c.glyph-in-loop-i.result digits c.loop-i-test.true c.loop-i.invariant.len c.loop-i.invariant.same
+          (rw byte at c.glyph.ensures) (rw byte at c.glyph-in-loop-i.ensures);
     }
+
+pub invariant_of-result : goal.invariant_of-result
+invariant_of-result c =
+    let all = written c.args.value c.loop-i.i c.min-start.result c.loop-i.digits (omega arith) c.loop-i-test.false c.loop-i.auto.i-end
+    c.loop-i.invariant.len c.loop-i.invariant.same c.min-start.ensures in
+    (omega (arith, all.0), IsAscii-drop _ _ all.1)
 
 pub returns : goal.returns
 returns c =
-    let within : c.loop-rest.start < length c.loop-rest.digits = omega (arith, c.loop-rest.invariant.room, c.loop-rest.invariant.len) in
-    hex_end c.loop-rest.start c.loop-rest.rest c.glyph-2.result c.loop-rest.digits within c.loop-rest-test.false c.glyph-2.ensures.value
-    ∙ c.loop-rest.invariant.same
+    let all = written c.args.value c.loop-i.i c.min-start.result c.loop-i.digits (omega arith) c.loop-i-test.false c.loop-i.auto.i-end
+    c.loop-i.invariant.len c.loop-i.invariant.same c.min-start.ensures in
+    all.2
