@@ -1,5 +1,6 @@
 -- Calls on a registry as values, and when the replies of two registries are of one kind.
-use Rattle.std.specs.Prelude.{◌≡◌, ℕ, ◌==◌, Bool, not, ⊤, Option, Some, None, Result, Ok, Err, List, [], ◌∷◌, ◌++◌, length, map, take, slice_get}
+use Rattle.std.specs.Prelude.{◌≡◌, ℕ, ◌==◌, Bool, not, ⊤, Option, Some, None, Result, Ok, Err}
+use Rattle.std.specs.Prelude.{List, [], ◌∷◌, ◌++◌, length, map, take, slice_get}
 use Rattle.std.specs.Global.{Vec}
 use Rattle.std.specs.List.{list_any, AllZip}
 use Rattle.std.specs.List.Sorted.{IsPermutation}
@@ -29,7 +30,8 @@ abbrev pub is_outside : {T : Type 0} → (T → ℕ) → List ℕ → T → Bool
 is_outside number keys details = not (list_any (λ key. key == number details) keys)
 
 -- a recovery that keeps the candidates with these keys
-abbrev pub RecoversBut : {T : Type 0} → (T → Bool) → (T → ℕ) → List ℕ → RegistryState T → ReleaseMode → ReleaseState → RegistryState T → Type 0
+abbrev pub RecoversBut : {T : Type 0} → (T → Bool) → (T → ℕ) → List ℕ
+    → RegistryState T → ReleaseMode → ReleaseState → RegistryState T → Type 0
 RecoversBut is_dead number keys old mode state new =
     Recovers is_dead (map (λ e. is_outside number keys e.details) (candidates is_dead old.entries)) old mode state new
 
@@ -50,7 +52,8 @@ RemoveGiven old (Some handle) mode reply new =
     (result : Result ReleaseState ContainerRemoveError) × RemoveStep old handle mode result new × (reply ≡ reply_of_remove result)
 
 -- what a registry may reply to a call, after it gave the earlier replies
-abbrev pub CallStep : {T : Type 0} → (T → ℕ) → (T → ℕ) → RegistryState T → List (RegistryReply T) → RegistryCall T → RegistryReply T → RegistryState T → Type 0
+abbrev pub CallStep : {T : Type 0} → (T → ℕ) → (T → ℕ)
+    → RegistryState T → List (RegistryReply T) → RegistryCall T → RegistryReply T → RegistryState T → Type 0
 CallStep node number old earlier (Call.Add details) reply new =
     (result : Result Handle ContainerAddFailure) × AddStep old details result new × (reply ≡ reply_of_add result)
 CallStep node number old earlier (Call.Remove k mode) reply new = RemoveGiven old (handle_given earlier k) mode reply new
@@ -61,14 +64,16 @@ CallStep {T} node number old earlier Call.List reply new =
 CallStep node number old earlier Call.Len reply new = (reply ≡ Reply.Count (length old.entries)) × (new ≡ old)
 
 -- a registry was called, and its reply put after the earlier ones
-pub record Answered {T : Type 0} (node number : T → ℕ) (old : RegistryState T) (earlier : List (RegistryReply T)) (call : RegistryCall T) (replies : List (RegistryReply T)) (new : RegistryState T) : Type 0 where
+pub record Answered {T : Type 0} (node number : T → ℕ) (old : RegistryState T) (earlier : List (RegistryReply T))
+    (call : RegistryCall T) (replies : List (RegistryReply T)) (new : RegistryState T) : Type 0 where
   pub reply : RegistryReply T
   pub step : CallStep node number old earlier call reply new
   pub kept : IsRegistry new
   pub put : replies ≡ earlier ++ reply ∷ []
 
 -- replies to calls in turn, after the earlier ones
-abbrev pub CallRun : {T : Type 0} → (T → ℕ) → (T → ℕ) → RegistryState T → List (RegistryReply T) → List (RegistryCall T) → List (RegistryReply T) → RegistryState T → Type 0
+abbrev pub CallRun : {T : Type 0} → (T → ℕ) → (T → ℕ)
+    → RegistryState T → List (RegistryReply T) → List (RegistryCall T) → List (RegistryReply T) → RegistryState T → Type 0
 CallRun node number old earlier [] [] new = new ≡ old
 CallRun {T} node number old earlier (call ∷ calls) (reply ∷ replies) new =
     (mid : RegistryState T) × CallStep node number old earlier call reply mid × IsRegistry mid
@@ -77,7 +82,8 @@ CallRun node number old earlier [] (reply ∷ replies) new = ⊥
 CallRun node number old earlier (call ∷ calls) [] new = ⊥
 
 -- a registry made as many of the calls as there are replies, and these are the replies
-pub record Made {T : Type 0} (node number : T → ℕ) (old : RegistryState T) (calls : List (RegistryCall T)) (replies : List (RegistryReply T)) (new : RegistryState T) : Type 0 where
+pub record Made {T : Type 0} (node number : T → ℕ) (old : RegistryState T) (calls : List (RegistryCall T))
+    (replies : List (RegistryReply T)) (new : RegistryState T) : Type 0 where
   pub run : CallRun node number old [] (take (length replies) calls) replies new
 
 -- the same reply, but for handles and the order of listings

@@ -18,11 +18,13 @@ abbrev pub Adds : {T : Type 0} → ContainerState T → T → Result Handle Cont
 Adds old details answer new = AddStep old.registry details answer new.registry × StaysRegistry old new
 
 -- what removing an entry may do
-abbrev pub Removes : {T : Type 0} → ContainerState T → Handle → ReleaseMode → Result ReleaseState ContainerRemoveError → ContainerState T → Type 0
+abbrev pub Removes : {T : Type 0} → ContainerState T → Handle → ReleaseMode
+    → Result ReleaseState ContainerRemoveError → ContainerState T → Type 0
 Removes old handle mode answer new =
     RemoveStep old.registry handle mode answer new.registry × StaysRegistry old new
 
 -- what recovering entries may do, where `calls` are the calls of the callback
-abbrev pub RecoversBy : {F T : Type 0} → (F → T → Bool → F → Type 0) → (T → Bool) → ContainerState T → F → ReleaseMode → ReleaseState → ContainerState T → F → Type 0
+abbrev pub RecoversBy : {F T : Type 0} → (F → T → Bool → F → Type 0) → (T → Bool)
+    → ContainerState T → F → ReleaseMode → ReleaseState → ContainerState T → F → Type 0
 RecoversBy calls is_dead old f mode state new f' =
     RecoverStep calls is_dead old.registry f mode state new.registry f' × StaysRegistry old new

@@ -11,6 +11,7 @@ pub record IsFreeList {T : Type 0} (c : Inside T) : Type 0 where
   pub free : List ℕ
   pub threads : LeadsThrough c.slots.cells c.head free
   pub used_before : All (λ slot. slot < c.fresh) free
-  pub fresh_are_free : (slot : ℕ) → c.fresh ≤ slot → (ticket : ℕ) → (details : T) → slice_get c.slots.cells slot ≢ Some (Taken ticket details)
+  pub fresh_are_free : (slot : ℕ) → c.fresh ≤ slot → (ticket : ℕ) → (details : T)
+      → slice_get c.slots.cells slot ≢ Some (Taken ticket details)
   pub all_counted : length (entries_from 0 (map shown c.slots.cells)) + length free ≡ c.fresh
   pub fresh_within : c.fresh ≤ length c.slots.cells

@@ -1,5 +1,6 @@
 -- What holds over every list of changes of a registry.
-use Rattle.std.specs.Prelude.{◌≡◌, ◌++◌, Bool, false, if◌then◌else◌, Option, Some, None, Result, Ok, Err, List, [], ◌∷◌, length, map, All, Contains, filter_map}
+use Rattle.std.specs.Prelude.{◌≡◌, Bool, false, if◌then◌else◌, Option, Some, None, Result, Ok, Err}
+use Rattle.std.specs.Prelude.{List, [], ◌∷◌, ◌++◌, length, map, All, Contains, filter_map}
 use Rattle.iox2_container.specs.declared.container.refusal.ContainerAddFailure.{ContainerAddFailure}
 use Rattle.iox2_container.specs.declared.container.refusal.ContainerRemoveError.{ContainerRemoveError}
 use Rattle.iox2_container.specs.declared.container.refusal.ContainerRemoveError.TheVariants.{ContainerHandleNotOwnedByContainer}
@@ -13,15 +14,15 @@ use Rattle.iox2_container.specs.Steps.{AddStep, RemoveStep, Recovers, Stands, ca
 abbrev pub leaving : {T : Type 0} → (T → Bool) → List (Entry T) → List Bool → List (Entry T)
 leaving is_dead [] answers = []
 leaving is_dead (e ∷ es) answers =
-    if is_dead e.details
-    then (if is_true_first answers then e ∷ leaving is_dead es (after_first_answer answers) else leaving is_dead es (after_first_answer answers))
-    else leaving is_dead es answers
+    let others = leaving is_dead es (after_first_answer answers) in
+    if is_dead e.details then (if is_true_first answers then e ∷ others else others) else leaving is_dead es answers
 
 -- a change that was asked for, and what came of it
 pub data Change (T : Type 0) : Type 0 where
   Adding : T → Result Handle ContainerAddFailure → Change T
   Removing : Handle → ReleaseMode → Result ReleaseState ContainerRemoveError → Change T
-  Recovering : (T → Bool) → List Bool → List Handle → ReleaseMode → ReleaseState → Change T  -- with the answers, and the handles of the entries that went
+  -- with the answers, and the handles of the entries that went
+  Recovering : (T → Bool) → List Bool → List Handle → ReleaseMode → ReleaseState → Change T
 
 -- the change leads from the old state to the new one
 abbrev pub ChangeStep : {T : Type 0} → RegistryState T → Change T → RegistryState T → Type 0
@@ -63,7 +64,8 @@ pub record Remains {T : Type 0} (changes : List (Change T)) (handle : Handle) (d
 
 -- a removal by the handle is refused, and no entry has it
 pub record IsRefused {T : Type 0} (r : RegistryState T) (handle : Handle) : Type 0 where
-  pub removal : (mode : ReleaseMode) (result : Result ReleaseState ContainerRemoveError) (new : RegistryState T) → RemoveStep r handle mode result new → result ≡ Err ContainerHandleNotOwnedByContainer
+  pub removal : (mode : ReleaseMode) (result : Result ReleaseState ContainerRemoveError) (new : RegistryState T)
+      → RemoveStep r handle mode result new → result ≡ Err ContainerHandleNotOwnedByContainer
   pub nothing : (details : T) → Stands r handle details → ⊥
 
 -- the handle that the change gave

@@ -24,7 +24,8 @@ SweptCell calls is_dead f (Some (ticket, details)) goes f' =
     MatchBool (is_dead details) (calls f details goes f') ((goes ≡ false) × (f' ≡ f))
 
 -- so many entries went, as the callback said of the candidates in turn
-pub record Swept {F T : Type 0} (calls : F → T → Bool → F → Type 0) (is_dead : T → Bool) (f : F) (old : List (Entry T)) (f' : F) (new : List (Entry T)) (gone : ℕ) : Type 0 where
+pub record Swept {F T : Type 0} (calls : F → T → Bool → F → Type 0) (is_dead : T → Bool)
+    (f : F) (old : List (Entry T)) (f' : F) (new : List (Entry T)) (gone : ℕ) : Type 0 where
   pub answers : List Bool
   pub asked : Asked calls f (map (λ e. e.details) (candidates is_dead old)) answers f'
   pub left_is : new ≡ staying is_dead old answers

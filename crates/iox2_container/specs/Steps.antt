@@ -1,5 +1,6 @@
 -- What the calls on a registry do.
-use Rattle.std.specs.Prelude.{◌≡◌, ◌≢◌, ℕ, zero, suc, ◌+◌, ◌<◌, ◌≤◌, ◌==◌, ◌⊎◌, Bool, true, false, if◌then◌else◌, Result, Ok, Err, List, [], ◌∷◌, ◌++◌, length, map, filter, All}
+use Rattle.std.specs.Prelude.{◌≡◌, ◌≢◌, ℕ, zero, suc, ◌+◌, ◌<◌, ◌≤◌, ◌==◌, ◌⊎◌, Bool, true, false, if◌then◌else◌}
+use Rattle.std.specs.Prelude.{Result, Ok, Err, List, [], ◌∷◌, ◌++◌, length, map, filter, All}
 use Rattle.std.specs.List.{list_any}
 use Rattle.iox2_texts.specs.Attribute.{Visits}
 use Rattle.iox2_texts.specs.declared.bounded.CallbackProgression.{CallbackProgression}
@@ -64,7 +65,8 @@ abbrev pub IsForeign : {T : Type 0} → RegistryState T → Handle → Type 0
 IsForeign r handle = All (λ x. handle ≢ handle_of r x) r.entries
 
 -- what `remove` may do
-abbrev pub RemoveStep : {T : Type 0} → RegistryState T → Handle → ReleaseMode → Result ReleaseState ContainerRemoveError → RegistryState T → Type 0
+abbrev pub RemoveStep : {T : Type 0} → RegistryState T → Handle → ReleaseMode
+    → Result ReleaseState ContainerRemoveError → RegistryState T → Type 0
 RemoveStep old handle mode (Ok state) new = Leaves old handle mode new × (state ≡ release_state new.locked)
 RemoveStep old handle mode (Err e) new = IsForeign old handle × (new ≡ old)
 
@@ -114,9 +116,8 @@ after_first_answer (answer ∷ answers) = answers
 abbrev pub staying : {T : Type 0} → (T → Bool) → List (Entry T) → List Bool → List (Entry T)
 staying is_dead [] answers = []
 staying is_dead (e ∷ es) answers =
-    if is_dead e.details
-    then (if is_true_first answers then staying is_dead es (after_first_answer answers) else e ∷ staying is_dead es (after_first_answer answers))
-    else e ∷ staying is_dead es answers
+    let others = staying is_dead es (after_first_answer answers) in
+    if is_dead e.details then (if is_true_first answers then others else e ∷ others) else e ∷ staying is_dead es answers
 
 -- the candidates were answered so, in order
 abbrev pub Recovers : {T : Type 0} → (T → Bool) → List Bool → RegistryState T → ReleaseMode → ReleaseState → RegistryState T → Type 0
@@ -128,7 +129,8 @@ Recovers is_dead answers old mode state new =
     × (state ≡ release_state new.locked)
 
 -- what `recover` may do, where `calls` are the calls of its callback
-abbrev pub RecoverStep : {T F : Type 0} → (F → T → Bool → F → Type 0) → (T → Bool) → RegistryState T → F → ReleaseMode → ReleaseState → RegistryState T → F → Type 0
+abbrev pub RecoverStep : {T F : Type 0} → (F → T → Bool → F → Type 0) → (T → Bool)
+    → RegistryState T → F → ReleaseMode → ReleaseState → RegistryState T → F → Type 0
 RecoverStep calls is_dead old f mode state new f' =
     (answers : List Bool)
     × Asked calls f (map (λ e. e.details) (candidates is_dead old.entries)) answers f'

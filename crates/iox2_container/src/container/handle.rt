@@ -19,9 +19,19 @@ impl Model for ContainerHandle {
 
     ghost Value = { Handle };
 
-    ghost view = { λ h. record { service = h.service; role = h.role; slot = h.slot; ticket = h.ticket } };
+    ghost view = { λ h. record {
+      service = h.service;
+      role = h.role;
+      slot = h.slot;
+      ticket = h.ticket;
+    } };
 
-    ghost inverse = { λ h. record { service = h.service; role = h.role; slot = h.slot; ticket = h.ticket } };
+    ghost inverse = { λ h. record {
+      service = h.service;
+      role = h.role;
+      slot = h.slot;
+      ticket = h.ticket;
+    } };
 }
 
 impl ContainerHandle {

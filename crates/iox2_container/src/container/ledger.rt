@@ -1,5 +1,6 @@
 //! What a container knows beside its places.
-ghost use Rattle.std.specs.Prelude.{◌≡◌, ◌+◌, ◌-◌, ◌≤◌, ◌<◌, ◌^◌, ◌↔◌, IsTrue, false, if◌then◌else◌, nat_lt};
+ghost use Rattle.std.specs.Prelude.{◌≡◌, ◌+◌, ◌-◌, ◌≤◌, ◌<◌, ◌^◌, ◌↔◌};
+ghost use Rattle.std.specs.Prelude.{IsTrue, false, if◌then◌else◌, nat_lt};
 ghost use Rattle.iox2_container.specs.Steps.{lock_after, release_state};
 
 use super::handle::ContainerHandle;

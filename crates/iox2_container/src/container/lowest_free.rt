@@ -1,5 +1,6 @@
 //! Places of which the lowest free one is taken, found by reading them from the first on.
-ghost use Rattle.std.specs.Prelude.{◌≡◌, ◌≢◌, ◌+◌, ◌≤◌, ◌<◌, ℕ, Some, None, IfSome, IfNone, length, map, slice_get};
+ghost use Rattle.std.specs.Prelude.{◌≡◌, ◌≢◌, ◌+◌, ◌≤◌, ◌<◌, ℕ, Some, None, IfSome, IfNone};
+ghost use Rattle.std.specs.Prelude.{length, map, slice_get};
 ghost use Rattle.iox2_container.specs.Places.{entries_from};
 ghost use Rattle.iox2_container.specs.Cells.{shown};
 

@@ -130,7 +130,8 @@ pub(super) fn sweep<T: Attached + Copy, P: Places<T>, F: FnMut(&T) -> bool>(
     requires { F.IsAlwaysCallable f.old }
     ensures callable { F.IsAlwaysCallable f.new }
     ensures swept { Swept (CalledAt F.FnMut) (is_of T.node dead.now)
-        f.old (entries_from 0 (P.cells places.old)) f.new (entries_from 0 (P.cells places.new)) result }
+        f.old (entries_from 0 (P.cells places.old))
+        f.new (entries_from 0 (P.cells places.new)) result }
     ensures len { length (P.cells places.new) ≡ length (P.cells places.old) }
     ensures touched { P.touches places.new ≤
         P.touches places.old + 2 * length (P.cells places.old) }

@@ -1,6 +1,7 @@
 //! Numbered places for entries, whatever finds the free ones.
-ghost use Rattle.std.specs.Prelude.{◌≡◌, ◌≢◌, ◌+◌, ◌*◌, ◌≤◌, ◌<◌, ℕ, Option, Some, None, IfNone, IfOk, IfSome};
-ghost use Rattle.std.specs.Prelude.{List, MatchOption, length, replicate, slice_get, slice_set};
+ghost use Rattle.std.specs.Prelude.{◌≡◌, ◌≢◌, ◌+◌, ◌*◌, ◌≤◌, ◌<◌, ℕ, Option, Some, None, List};
+ghost use Rattle.std.specs.Prelude.{IfNone, IfOk, IfSome, MatchOption};
+ghost use Rattle.std.specs.Prelude.{length, replicate, slice_get, slice_set};
 ghost use Rattle.iox2_container.specs.Places.{Finds, IsTakenAt, NoneFrom, entries_from};
 
 use super::handle::ContainerHandle;

@@ -44,7 +44,10 @@ impl<T: Copy, P: Places<T>> Model for SlotMap<T, P> {
 
     ghost Value = { ContainerState T };
 
-    ghost view = { λ m. record { registry = registry_of m.ledger (P.cells m.places); touches = P.touches m.places } };
+    ghost view = { λ m. record {
+      registry = registry_of m.ledger (P.cells m.places);
+      touches = P.touches m.places;
+    } };
 
     ghost invariant = { λ m. AreRegistry m.ledger (P.cells m.places) };
 }

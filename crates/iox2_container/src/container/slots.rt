@@ -1,5 +1,6 @@
 //! Numbered slots.
-ghost use Rattle.std.specs.Prelude.{◌≡◌, ◌+◌, ◌<◌, Some, length, slice_get, slice_set, replicate, IfOk};
+ghost use Rattle.std.specs.Prelude.{◌≡◌, ◌+◌, ◌<◌, Some, IfOk};
+ghost use Rattle.std.specs.Prelude.{length, replicate, slice_get, slice_set};
 
 use super::touches::Touches;
 use std::alloc::{AllocError, Global};
