@@ -39,12 +39,12 @@ turned a b l = record { capacity = sym l.capacity; budget = sym l.budget; used =
 alike_still : {T : Type 0} (a b a' b' : RegistryState T) → a' ≡ a → b' ≡ b → Alike a b → Alike a' b'
 alike_still {T} a b a' b' ea eb l = subst (λ (r : RegistryState T). Alike r b') (sym ea) (subst (λ (r : RegistryState T). Alike a r) (sym eb) l)
 
--- what a change leaves of the bounds
-record Kept {T : Type 0} (old new : RegistryState T) : Type 0 where
+-- one capacity and one ticket budget
+record SameBounds {T : Type 0} (old new : RegistryState T) : Type 0 where
   pub capacity : new.capacity ≡ old.capacity
   pub budget : new.budget ≡ old.budget
 
-alike_after : {T : Type 0} (a b a' b' : RegistryState T) → Alike a b → Kept a a' → Kept b b' → a'.used ≡ b'.used → a'.locked ≡ b'.locked → Within a'.entries b'.entries → Within b'.entries a'.entries → Alike a' b'
+alike_after : {T : Type 0} (a b a' b' : RegistryState T) → Alike a b → SameBounds a a' → SameBounds b b' → a'.used ≡ b'.used → a'.locked ≡ b'.locked → Within a'.entries b'.entries → Within b'.entries a'.entries → Alike a' b'
 alike_after a b a' b' l ka kb used locked there back = record {
   capacity = ka.capacity ∙ (l.capacity ∙ sym kb.capacity);
   budget = ka.budget ∙ (l.budget ∙ sym kb.budget);
@@ -54,7 +54,7 @@ alike_after a b a' b' l ka kb used locked there back = record {
   back = back;
 }
 
-changed_so : {T : Type 0} (old new changed : RegistryState T) → new ≡ changed → changed.capacity ≡ old.capacity → changed.budget ≡ old.budget → Kept old new
+changed_so : {T : Type 0} (old new changed : RegistryState T) → new ≡ changed → changed.capacity ≡ old.capacity → changed.budget ≡ old.budget → SameBounds old new
 changed_so {T} old new changed e c g = record { capacity = ap (λ (r : RegistryState T). r.capacity) e ∙ c; budget = ap (λ (r : RegistryState T). r.budget) e ∙ g }
 
 same_listed : {T : Type 0} (a b : RegistryState T) → Within a.entries b.entries → Within b.entries a.entries → IsRegistry a → IsRegistry b → IsPermutation (listed a) (listed b)
