@@ -3,6 +3,7 @@ use Rattle.std.proofs.Common.{◌≡◌, ℕ, suc, ◌+◌, ◌≤◌, Bool, tru
 use Rattle.std.specs.Prelude.{All, if◌then◌else◌, slice_get}
 use Rattle.std.proofs.lemmas.List.{append-nil}
 use Rattle.std.proofs.lemmas.List.Elements.{All-nil, All-cons}
+use Rattle.iox2_container.specs.declared.container.cell.Occupant.{Occupant}
 use Rattle.iox2_container.specs.Passes.{cell_is_of}
 use Rattle.iox2_container.specs.Places.{entries_from}
 use Rattle.iox2_container.specs.State.{Entry}
@@ -28,17 +29,17 @@ counted-between p [] x ys = omega (arith, counted-cons p x ys)
 counted-between p (e ∷ xs) x ys =
     omega (arith, counted-cons p e (xs ++ x ∷ ys), counted-cons p e (xs ++ ys), counted-between p xs x ys)
 
-counted_cell : {T : Type 0} (node : T → ℕ) (id i : ℕ) (cells : List (Option (ℕ × T))) (cell : Option (ℕ × T)) → slice_get cells i ≡ Some cell
+counted_cell : {T : Type 0} (node : T → ℕ) (id i : ℕ) (cells : List (Option (Occupant T))) (cell : Option (Occupant T)) → slice_get cells i ≡ Some cell
     → counted (is_of node id) (entries_from 0 (take (suc i) cells)) ≡ counted (is_of node id) (entries_from 0 (take i cells)) + one_if (cell_is_of node id cell)
 counted_cell node id i cells None h = ap (counted (is_of node id)) (taken_free 0 i cells h) ∙ add_zero (counted (is_of node id) (entries_from 0 (take i cells)))
-counted_cell {T} node id i cells (Some (t, d)) h =
-    let x : Entry T = record { slot = i; ticket = t; details = d } in
+counted_cell {T} node id i cells (Some o) h =
+    let x : Entry T = record { slot = i; ticket = o.ticket; details = o.details } in
     let before = entries_from 0 (take i cells) in
     ap (counted (is_of node id)) (taken_more 0 i cells x h (omega arith))
-    ∙ (counted-between (is_of node id) before x [] ∙ ap (λ es. counted (is_of node id) es + one_if (is_of node id d)) (append-nil before))
+    ∙ (counted-between (is_of node id) before x [] ∙ ap (λ es. counted (is_of node id) es + one_if (is_of node id o.details)) (append-nil before))
 
 -- one cell more, by what a loop knows of it
-pub counted_more : {T : Type 0} (node : T → ℕ) (id i n m : ℕ) (cells : List (Option (ℕ × T))) (cell : Option (ℕ × T)) (b : Bool) → slice_get cells i ≡ Some cell → b ≡ cell_is_of node id cell
+pub counted_more : {T : Type 0} (node : T → ℕ) (id i n m : ℕ) (cells : List (Option (Occupant T))) (cell : Option (Occupant T)) (b : Bool) → slice_get cells i ≡ Some cell → b ≡ cell_is_of node id cell
     → m ≡ n + one_if b → n ≡ counted (is_of node id) (entries_from 0 (take i cells)) → m ≡ counted (is_of node id) (entries_from 0 (take (i + 1) cells))
 counted_more node id i n m cells cell b h e em en =
     em ∙ (ap (λ k. k + one_if b) en

@@ -4,7 +4,8 @@ use Rattle.std.specs.Prelude.{All, slice_get, slice_set, replicate}
 use Rattle.std.proofs.lemmas.List.Elements.{All-nil, All-cons, All-head, All-tail, All-weaker}
 use Rattle.iox2_container.specs.FreeLinks.{Linked}
 use Rattle.iox2_container.specs.declared.container.cell.Cell.TheVariants.{Taken, Free}
-use Rattle.iox2_container.specs.Cells.{shown}
+use Rattle.iox2_container.specs.declared.container.cell.Occupant.{Occupant}
+use Rattle.iox2_container.specs.Cells.{occupant, shown}
 use Rattle.iox2_container.specs.FreeLinks.{LeadsThrough, IsFreeAt}
 use Rattle.iox2_container.proofs.ListEdits.{get_set_other, get_set_same}
 use Rattle.iox2_container.proofs.ShownCells.{shown_at}
@@ -51,14 +52,14 @@ cell_free (Free next ∷ cells) zero h n = (next, refl)
 cell_free (Taken ticket details ∷ cells) zero h n = absurd (n ticket details refl)
 cell_free (c ∷ cells) (suc slot) h n = cell_free cells slot (omega arith) n
 
-pub shown_free : {T : Type 0} (cells : List (Linked T)) (slot : ℕ) → IsFreeAt cells slot → ◌≡◌ {A = Option (Option (ℕ × T))} (slice_get (map shown cells) slot) (Some None)
+pub shown_free : {T : Type 0} (cells : List (Linked T)) (slot : ℕ) → IsFreeAt cells slot → ◌≡◌ {A = Option (Option (Occupant T))} (slice_get (map shown cells) slot) (Some None)
 shown_free cells slot f = shown_at cells slot (Free f.0) f.1
 
-pub taken_of_shown : {T : Type 0} (cell : Linked T) (ticket : ℕ) (details : T) → ◌≡◌ {A = Option (ℕ × T)} (shown cell) (Some (ticket, details)) → cell ≡ Taken ticket details
+pub taken_of_shown : {T : Type 0} (cell : Linked T) (ticket : ℕ) (details : T) → ◌≡◌ {A = Option (Occupant T)} (shown cell) (Some (occupant ticket details)) → cell ≡ Taken ticket details
 taken_of_shown {T} (Taken t d) ticket details e =
-    let p : ◌≡◌ {A = ℕ × T} (t, d) (ticket, details) = (cc) in
-    let et : t ≡ ticket = ap (λ (q : ℕ × T). q.0) p in
-    let ed : d ≡ details = ap (λ (q : ℕ × T). q.1) p in
+    let p : ◌≡◌ {A = Occupant T} (occupant t d) (occupant ticket details) = (cc) in
+    let et : t ≡ ticket = ap (λ (q : Occupant T). q.ticket) p in
+    let ed : d ≡ details = ap (λ (q : Occupant T). q.details) p in
     (cc)
 taken_of_shown (Free next) ticket details e = (cc)
 
@@ -68,9 +69,9 @@ replicate_free (suc n) zero ticket details e = (cc)
 replicate_free (suc n) (suc slot) ticket details e = replicate_free n slot ticket details e
 
 -- what is shown as taken, is taken
-pub taken_at : {T : Type 0} (cells : List (Linked T)) (slot ticket : ℕ) (details : T) → ◌≡◌ {A = Option (Option (ℕ × T))} (slice_get (map shown cells) slot) (Some (Some (ticket, details))) → slice_get cells slot ≡ Some (Taken ticket details)
+pub taken_at : {T : Type 0} (cells : List (Linked T)) (slot ticket : ℕ) (details : T) → ◌≡◌ {A = Option (Option (Occupant T))} (slice_get (map shown cells) slot) (Some (Some (occupant ticket details))) → slice_get cells slot ≡ Some (Taken ticket details)
 taken_at [] slot ticket details h = (cc)
 taken_at {T} (cell ∷ cells) zero ticket details h =
-    let e : ◌≡◌ {A = Option (ℕ × T)} (shown cell) (Some (ticket, details)) = (cc) in
+    let e : ◌≡◌ {A = Option (Occupant T)} (shown cell) (Some (occupant ticket details)) = (cc) in
     ap (λ (c : Linked T). Some c) (taken_of_shown cell ticket details e)
 taken_at (cell ∷ cells) (suc slot) ticket details h = taken_at cells slot ticket details h

@@ -8,10 +8,8 @@ use Rattle.std.proofs.lemmas.List.Elements.{All-nil, All-cons, All-head, All-tai
 use Rattle.iox2_container.specs.declared.container.free_list.FreeList.TheInside.{Inside}
 use Rattle.iox2_container.specs.FreeLinks.{Linked}
 use Rattle.iox2_container.specs.declared.container.cell.Cell.TheVariants.{Taken, Free}
-use Rattle.iox2_container.specs.Cells.{Cells}
-use Rattle.iox2_container.specs.Places.{entries_from}
-use Rattle.iox2_container.specs.Places.{IsTakenAt}
-use Rattle.iox2_container.specs.Cells.{shown}
+use Rattle.iox2_container.specs.Places.{IsTakenAt, entries_from}
+use Rattle.iox2_container.specs.Cells.{Cells, occupant, shown}
 use Rattle.iox2_container.specs.State.{Entry}
 use Rattle.iox2_container.specs.FreeLinks.{LeadsThrough, IsFreeAt, HasFree, TakesFirst}
 use Rattle.iox2_container.specs.FreeList.{IsFreeList}
@@ -30,7 +28,7 @@ standing_write : {T : Type 0} (cells : List (Linked T)) (slot ticket : ℕ) (d :
 standing_write {T} cells slot ticket d f =
     let x : Entry T = record { slot = slot; ticket = ticket; details = d } in
     ap (λ cs. length (entries_from 0 cs)) (shown_set cells (slice_set cells slot (Taken ticket d)) slot (Taken ticket d) refl)
-    ∙ length-Gains (entries_from 0 (map shown cells)) (entries_from 0 (slice_set (map shown cells) slot (Some (ticket, d)))) x (gains_write 0 (map shown cells) slot x (shown_free cells slot f) (omega arith))
+    ∙ length-Gains (entries_from 0 (map shown cells)) (entries_from 0 (slice_set (map shown cells) slot (Some (occupant ticket d)))) x (gains_write 0 (map shown cells) slot x (shown_free cells slot f) (omega arith))
 
 -- one stands less, after a taken slot was freed
 standing_clear : {T : Type 0} (cells : List (Linked T)) (slot ticket : ℕ) (d : T) (next : Option ℕ) → slice_get cells slot ≡ Some (Taken ticket d) → standing cells ≡ standing (slice_set cells slot (Free next)) + 1
@@ -135,7 +133,7 @@ threaded_free {T} c s slot ticket d t shows e =
 
 pub threaded_clear : {T : Type 0} (c : Inside T) (s : Cells (Linked T)) (slot : ℕ) → IsFreeList c → IsTakenAt (map shown c.slots.cells) slot → s.cells ≡ slice_set c.slots.cells slot (Free c.head) → IsFreeList (record c { slots = s; head = Some slot })
 threaded_clear c s slot t i e =
-    threaded_free c s slot i.0.0 i.0.1 t (taken_at c.slots.cells slot i.0.0 i.0.1 i.1) e
+    threaded_free c s slot i.0.ticket i.0.details t (taken_at c.slots.cells slot i.0.ticket i.0.details i.1) e
 
 pub taken_within : {T : Type 0} (cells : List (Linked T)) (slot : ℕ) → IsTakenAt (map shown cells) slot → slot < length cells
 taken_within cells slot i = omega (arith, slice_get_within (map shown cells) slot (Some i.0) i.1, length-map cells shown)

@@ -4,6 +4,8 @@ use Rattle.std.specs.Prelude.{MatchOption, slice_get, slice_set}
 use Rattle.std.proofs.lemmas.List.Elements.{All-weaker}
 use Rattle.iox2_container.specs.declared.container.ledger.Ledger.{Ledger}
 use Rattle.iox2_container.specs.declared.container.role.Role.{Role}
+use Rattle.iox2_container.specs.declared.container.cell.Occupant.{Occupant}
+use Rattle.iox2_container.specs.Cells.{occupant}
 use Rattle.iox2_container.specs.Handle.{Handle}
 use Rattle.iox2_container.specs.State.{Entry, RegistryState, handle_of}
 use Rattle.iox2_container.specs.Steps.{IsForeign, Stands}
@@ -13,18 +15,18 @@ use Rattle.iox2_container.proofs.CellEntries.{shown_from, gains_clear}
 use Rattle.iox2_container.proofs.Members.{of_all, gained}
 
 -- what was found in the handle's place, by the names that its calls have
-pub finds : {T : Type 0} (cells : List (Option (ℕ × T))) (handle : Handle) (slot ticket : ℕ) (cell : Option (ℕ × T)) (found : Option T) → slot ≡ handle.slot → ticket ≡ handle.ticket → slice_get cells slot ≡ Some cell → MatchOption found ((d : T) → cell ≢ Some (ticket, d)) (λ d. cell ≡ Some (ticket, d)) → Finds cells handle found
+pub finds : {T : Type 0} (cells : List (Option (Occupant T))) (handle : Handle) (slot ticket : ℕ) (cell : Option (Occupant T)) (found : Option T) → slot ≡ handle.slot → ticket ≡ handle.ticket → slice_get cells slot ≡ Some cell → MatchOption found ((d : T) → cell ≢ Some (occupant ticket d)) (λ d. cell ≡ Some (occupant ticket d)) → Finds cells handle found
 finds {T} cells handle slot ticket cell None es et shown f =
-    λ d q. f d (let z : ◌≡◌ {A = Option (Option (ℕ × T))} (Some cell) (Some (Some (ticket, d))) = sym shown ∙ (ap (slice_get cells) es ∙ (q ∙ ap (λ (t : ℕ). (let o : Option (Option (ℕ × T)) = Some (Some (t, d)) in o)) (sym et))) in cc)
+    λ d q. f d (let z : ◌≡◌ {A = Option (Option (Occupant T))} (Some cell) (Some (Some (occupant ticket d))) = sym shown ∙ (ap (slice_get cells) es ∙ (q ∙ ap (λ (t : ℕ). (let o : Option (Option (Occupant T)) = Some (Some (occupant t d)) in o)) (sym et))) in cc)
 finds {T} cells handle slot ticket cell (Some d) es et shown f =
-    ap (slice_get cells) (sym es) ∙ (shown ∙ (ap (λ (o : Option (ℕ × T)). Some o) f ∙ ap (λ (t : ℕ). (let o : Option (Option (ℕ × T)) = Some (Some (t, d)) in o)) et))
+    ap (slice_get cells) (sym es) ∙ (shown ∙ (ap (λ (o : Option (Occupant T)). Some o) f ∙ ap (λ (t : ℕ). (let o : Option (Option (Occupant T)) = Some (Some (occupant t d)) in o)) et))
 
 -- nothing was found, so no entry has the handle
-pub foreign_by_ticket : {T : Type 0} (a : Ledger) (cells : List (Option (ℕ × T))) (handle : Handle) → Finds cells handle None → IsForeign (registry_of a cells) handle
+pub foreign_by_ticket : {T : Type 0} (a : Ledger) (cells : List (Option (Occupant T))) (handle : Handle) → Finds cells handle None → IsForeign (registry_of a cells) handle
 foreign_by_ticket {T} a cells handle none =
-    All-weaker (λ (x : Entry T). slice_get cells x.slot ≡ Some (Some (x.ticket, x.details))) (λ (x : Entry T). handle ≢ handle_of (registry_of a cells) x)
+    All-weaker (λ (x : Entry T). slice_get cells x.slot ≡ Some (Some (occupant x.ticket x.details))) (λ (x : Entry T). handle ≢ handle_of (registry_of a cells) x)
     (λ x is q.
-    let f : ℕ → Option (Option (ℕ × T)) = λ t. Some (Some (t, x.details)) in
+    let f : ℕ → Option (Option (Occupant T)) = λ t. Some (Some (occupant t x.details)) in
     none x.details (ap (λ (k : Handle). slice_get cells k.slot) q ∙ (is ∙ ap f (sym (ap (λ (k : Handle). k.ticket) q)))))
     (entries_from 0 cells) (shown_from cells)
 
@@ -35,7 +37,7 @@ has_parts a handle hs hr =
     ap (λ n. h n handle.role) hs ∙ ap (h a.service) hr
 
 -- what was found is what the handle names
-pub names : {T : Type 0} (a : Ledger) (cells : List (Option (ℕ × T))) (handle : Handle) (found : Option T) → handle.service ≡ a.service → handle.role ≡ a.role → Finds cells handle found → MatchOption found (IsForeign (registry_of a cells) handle) (Stands (registry_of a cells) handle)
+pub names : {T : Type 0} (a : Ledger) (cells : List (Option (Occupant T))) (handle : Handle) (found : Option T) → handle.service ≡ a.service → handle.role ≡ a.role → Finds cells handle found → MatchOption found (IsForeign (registry_of a cells) handle) (Stands (registry_of a cells) handle)
 names a cells handle None hs hr l = foreign_by_ticket a cells handle l
 names {T} a cells handle (Some d) hs hr shown =
     let x : Entry T = record { slot = handle.slot; ticket = handle.ticket; details = d } in

@@ -2,6 +2,7 @@
 use Rattle.std.proofs.Common.{◌≡◌, ◌≢◌, ℕ, ◌<◌, false, Option, None, List, [], length, sym, ◌∙◌, ap, subst, arith}
 use Rattle.std.specs.Prelude.{All, AllPairs, replicate}
 use Rattle.std.proofs.lemmas.List.{length-replicate}
+use Rattle.iox2_container.specs.declared.container.cell.Occupant.{Occupant}
 use Rattle.iox2_container.specs.declared.container.ledger.Ledger.{Ledger}
 use Rattle.iox2_container.specs.declared.container.role.Role.{Role}
 use Rattle.iox2_container.specs.ContainerState.{ContainerState, fresh}
@@ -10,7 +11,7 @@ use Rattle.iox2_container.specs.Places.{entries_from}
 use Rattle.iox2_container.specs.LedgerAndPlaces.{registry_of, AreRegistry}
 use Rattle.iox2_container.proofs.CellEntries.{slots_from, below_from, nothing_stands}
 
-kept_new : {T : Type 0} (a : Ledger) (cells : List (Option (ℕ × T))) → entries_from 0 cells ≡ [] → a.locked ≡ false → a.used ≡ 0 → a.count ≡ 0 → AreRegistry a cells
+kept_new : {T : Type 0} (a : Ledger) (cells : List (Option (Occupant T))) → entries_from 0 cells ≡ [] → a.locked ≡ false → a.used ≡ 0 → a.count ≡ 0 → AreRegistry a cells
 kept_new {T} a cells e l u n =
     let P : (List (Entry T) → Type 0) → Type 0 = λ Q. Q (entries_from 0 cells) in (
       record {
@@ -25,14 +26,14 @@ kept_new {T} a cells e l u n =
     )
 
 -- a new ledger, and free places
-pub new_kept : {T : Type 0} (a : Ledger) (cells : List (Option (ℕ × T))) (service : ℕ) (role : Role) (tickets n : ℕ) → a ≡ record { service = service; role = role; budget = tickets; count = 0; locked = false; used = 0 } → cells ≡ replicate n None → AreRegistry a cells
+pub new_kept : {T : Type 0} (a : Ledger) (cells : List (Option (Occupant T))) (service : ℕ) (role : Role) (tickets n : ℕ) → a ≡ record { service = service; role = role; budget = tickets; count = 0; locked = false; used = 0 } → cells ≡ replicate n None → AreRegistry a cells
 new_kept {T} a cells service role tickets n e h =
     kept_new a cells (ap (entries_from 0) h ∙ nothing_stands 0 n) (ap (λ (b : Ledger). b.locked) e) (ap (λ (b : Ledger). b.used) e) (ap (λ (b : Ledger). b.count) e)
 
-pub new_is_fresh : {T : Type 0} (a : Ledger) (cells : List (Option (ℕ × T))) (touches service : ℕ) (role : Role) (tickets n : ℕ) → a ≡ record { service = service; role = role; budget = tickets; count = 0; locked = false; used = 0 } → cells ≡ replicate n None → touches ≡ 0 → (let made : ContainerState T = record { registry = registry_of a cells; touches = touches } in made) ≡ fresh service role n tickets
+pub new_is_fresh : {T : Type 0} (a : Ledger) (cells : List (Option (Occupant T))) (touches service : ℕ) (role : Role) (tickets n : ℕ) → a ≡ record { service = service; role = role; budget = tickets; count = 0; locked = false; used = 0 } → cells ≡ replicate n None → touches ≡ 0 → (let made : ContainerState T = record { registry = registry_of a cells; touches = touches } in made) ≡ fresh service role n tickets
 new_is_fresh {T} a cells touches service role tickets n e h t =
     let f : ℕ → List (Entry T) → ℕ → ContainerState T = λ m es k. record { registry = record { service = service; role = role; capacity = m; budget = tickets; entries = es; locked = false; used = 0 }; touches = k } in
     ap (λ (b : Ledger). (let made : ContainerState T = record { registry = registry_of b cells; touches = touches } in made)) e
-    ∙ (ap (λ (cs : List (Option (ℕ × T))). f (length cs) (entries_from 0 cs) touches) h
+    ∙ (ap (λ (cs : List (Option (Occupant T))). f (length cs) (entries_from 0 cs) touches) h
     ∙ (ap (λ m. f m (entries_from 0 (replicate n None)) touches) (length-replicate n None)
     ∙ (ap (λ es. f n es touches) (nothing_stands 0 n) ∙ ap (f n []) t)))

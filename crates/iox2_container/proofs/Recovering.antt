@@ -2,6 +2,7 @@
 use Rattle.std.proofs.Common.{◌≡◌, ◌≢◌, ℕ, zero, suc, ◌+◌, ◌-◌, ◌<◌, Bool, Option, List, [], length, sym, ap, subst, arith}
 use Rattle.std.specs.Prelude.{All, AllPairs, IsTrue, if◌then◌else◌, nat_lt}
 use Rattle.std.proofs.lemmas.Bool.{lt-ltb}
+use Rattle.iox2_container.specs.declared.container.cell.Occupant.{Occupant}
 use Rattle.iox2_container.specs.declared.container.ledger.Ledger.{Ledger}
 use Rattle.iox2_container.specs.declared.container.release.ReleaseMode.{ReleaseMode}
 use Rattle.iox2_container.specs.Places.{entries_from}
@@ -21,7 +22,7 @@ still_empty old new (suc gone) count mode was empty n k t =
     let left : count - suc gone ≡ 0 = lock_is_last mode (count - suc gone) was (subst (λ b. IsTrue (if b then lock_after mode (count - suc gone) was else was)) (lt-ltb 0 (suc gone) (omega arith)) t) was_open in
     nothing_left new (omega arith)
 
-pub kept_recover : {F T : Type 0} (calls : F → T → Bool → F → Type 0) (is_dead : T → Bool) (f h : F) (a : Ledger) (cells s : List (Option (ℕ × T))) (gone : ℕ) (mode : ReleaseMode) (locked : Bool) → AreRegistry a cells → Swept calls is_dead f (entries_from 0 cells) h (entries_from 0 s) gone → locked ≡ (if nat_lt 0 gone then lock_after mode (a.count - gone) a.locked else a.locked) → AreRegistry (record a { count = a.count - gone; locked = locked }) s
+pub kept_recover : {F T : Type 0} (calls : F → T → Bool → F → Type 0) (is_dead : T → Bool) (f h : F) (a : Ledger) (cells s : List (Option (Occupant T))) (gone : ℕ) (mode : ReleaseMode) (locked : Bool) → AreRegistry a cells → Swept calls is_dead f (entries_from 0 cells) h (entries_from 0 s) gone → locked ≡ (if nat_lt 0 gone then lock_after mode (a.count - gone) a.locked else a.locked) → AreRegistry (record a { count = a.count - gone; locked = locked }) s
 kept_recover {F} {T} calls is_dead f h a cells s gone mode locked k w l = (
   record {
     slots_rise = slots_from 0 s;

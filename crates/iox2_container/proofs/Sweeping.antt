@@ -9,6 +9,8 @@ use Rattle.std.proofs.lemmas.List.{append-nil}
 use Rattle.std.proofs.lemmas.Bool.{lt-ltb}
 use Rattle.std.proofs.lemmas.Option.{slice_get_within}
 use Rattle.std.proofs.lemmas.List.Kept.{AllPairs-cons}
+use Rattle.iox2_container.specs.declared.container.cell.Occupant.{Occupant}
+use Rattle.iox2_container.specs.Cells.{occupant}
 use Rattle.iox2_container.specs.State.{Entry}
 use Rattle.iox2_container.specs.Places.{entries_from, IsTakenAt}
 use Rattle.iox2_container.specs.Passes.{Swept, SweptCell}
@@ -129,23 +131,23 @@ swept_asked {F} {T} calls is_dead f g h old new gone x goes e a w =
       ];
     }
 
-abbrev Sweeps : {F T : Type 0} → (F → T → Bool → F → Type 0) → (T → Bool) → F → List (Option (ℕ × T)) → ℕ → F → List (Option (ℕ × T)) → ℕ → Type 0
+abbrev Sweeps : {F T : Type 0} → (F → T → Bool → F → Type 0) → (T → Bool) → F → List (Option (Occupant T)) → ℕ → F → List (Option (Occupant T)) → ℕ → Type 0
 Sweeps calls is_dead f cells i g left gone = Swept calls is_dead f (entries_from 0 (take i cells)) g (entries_from 0 (take i left)) gone
 
-cleared : {T : Type 0} (low i : ℕ) (cells : List (Option (ℕ × T))) → i < length cells → entries_from low (take (suc i) (slice_set cells i None)) ≡ entries_from low (take i cells)
+cleared : {T : Type 0} (low i : ℕ) (cells : List (Option (Occupant T))) → i < length cells → entries_from low (take (suc i) (slice_set cells i None)) ≡ entries_from low (take i cells)
 cleared low i [] h = absurd (omega arith)
 cleared low zero (c ∷ cells) h = refl
 cleared low (suc i) (None ∷ cells) h = cleared (low + 1) i cells (omega arith)
-cleared {T} low (suc i) (Some (t, d) ∷ cells) h =
-    let y : Entry T = record { slot = low; ticket = t; details = d } in
+cleared {T} low (suc i) (Some o ∷ cells) h =
+    let y : Entry T = record { slot = low; ticket = o.ticket; details = o.details } in
     ap (λ (l : List (Entry T)). y ∷ l) (cleared (low + 1) i cells (omega arith))
 
-swept_dead : {F T : Type 0} (calls : F → T → Bool → F → Type 0) (is_dead : T → Bool) (f g h : F) (cs m : List (Option (ℕ × T))) (i gone : ℕ) (t : ℕ) (d : T) (goes b : Bool) → slice_get cs i ≡ Some (Some (t, d)) → slice_get m i ≡ Some (Some (t, d)) → is_dead d ≡ b → MatchBool b (calls g d goes h) ((goes ≡ false) × (h ≡ g)) → Sweeps calls is_dead f cs i g m gone → Sweeps calls is_dead f cs (suc i) h (if goes then slice_set m i None else m) (gone + (if goes then 1 else 0))
+swept_dead : {F T : Type 0} (calls : F → T → Bool → F → Type 0) (is_dead : T → Bool) (f g h : F) (cs m : List (Option (Occupant T))) (i gone : ℕ) (t : ℕ) (d : T) (goes b : Bool) → slice_get cs i ≡ Some (Some (occupant t d)) → slice_get m i ≡ Some (Some (occupant t d)) → is_dead d ≡ b → MatchBool b (calls g d goes h) ((goes ≡ false) × (h ≡ g)) → Sweeps calls is_dead f cs i g m gone → Sweeps calls is_dead f cs (suc i) h (if goes then slice_set m i None else m) (gone + (if goes then 1 else 0))
 swept_dead {F} {T} calls is_dead f g h cs m i gone t d true true is im e a w =
     let x : Entry T = record { slot = i; ticket = t; details = d } in
     let r = swept_asked calls is_dead f g h (entries_from 0 (take i cs)) (entries_from 0 (take i m)) gone x true e a w in
     subst (λ (l : List (Entry T)). Swept calls is_dead f l h (entries_from 0 (take (suc i) (slice_set m i None))) (gone + 1)) (sym (taken_more 0 i cs x is (omega arith)))
-    (subst (λ (l : List (Entry T)). Swept calls is_dead f (entries_from 0 (take i cs) ++ x ∷ []) h l (gone + 1)) (append-nil (entries_from 0 (take i m)) ∙ sym (cleared 0 i m (slice_get_within m i (Some (t, d)) im))) r)
+    (subst (λ (l : List (Entry T)). Swept calls is_dead f (entries_from 0 (take i cs) ++ x ∷ []) h l (gone + 1)) (append-nil (entries_from 0 (take i m)) ∙ sym (cleared 0 i m (slice_get_within m i (Some (occupant t d)) im))) r)
 swept_dead {F} {T} calls is_dead f g h cs m i gone t d false true is im e a w =
     let x : Entry T = record { slot = i; ticket = t; details = d } in
     let r = swept_asked calls is_dead f g h (entries_from 0 (take i cs)) (entries_from 0 (take i m)) gone x false e a w in
@@ -161,9 +163,9 @@ swept_dead {F} {T} calls is_dead f g h cs m i gone t d goes false is im e a w =
     (subst (λ (l : List (Entry T)). Swept calls is_dead f l g (entries_from 0 (take (suc i) m)) gone) (sym (taken_more 0 i cs x is (omega arith)))
     (subst (λ (l : List (Entry T)). Swept calls is_dead f (entries_from 0 (take i cs) ++ x ∷ []) g l gone) (sym (taken_more 0 i m x im (omega arith))) r))))
 
-swept_cell : {F T : Type 0} (calls : F → T → Bool → F → Type 0) (is_dead : T → Bool) (f g h : F) (cs m : List (Option (ℕ × T))) (i gone : ℕ) (cell : Option (ℕ × T)) (goes : Bool) → slice_get cs i ≡ Some cell → slice_get m i ≡ Some cell → SweptCell calls is_dead g cell goes h → Sweeps calls is_dead f cs i g m gone → Sweeps calls is_dead f cs (suc i) h (if goes then slice_set m i None else m) (gone + (if goes then 1 else 0))
-swept_cell {F} {T} calls is_dead f g h cs m i gone (Some (t, d)) goes is im a w =
-    swept_dead calls is_dead f g h cs m i gone t d goes (is_dead d) is im refl a w
+swept_cell : {F T : Type 0} (calls : F → T → Bool → F → Type 0) (is_dead : T → Bool) (f g h : F) (cs m : List (Option (Occupant T))) (i gone : ℕ) (cell : Option (Occupant T)) (goes : Bool) → slice_get cs i ≡ Some cell → slice_get m i ≡ Some cell → SweptCell calls is_dead g cell goes h → Sweeps calls is_dead f cs i g m gone → Sweeps calls is_dead f cs (suc i) h (if goes then slice_set m i None else m) (gone + (if goes then 1 else 0))
+swept_cell {F} {T} calls is_dead f g h cs m i gone (Some o) goes is im a w =
+    swept_dead calls is_dead f g h cs m i gone o.ticket o.details goes (is_dead o.details) is im refl a w
 swept_cell {F} {T} calls is_dead f g h cs m i gone None goes is im a w =
     let n : gone ≡ gone + 0 = omega arith in
     subst (λ (b : Bool). Sweeps calls is_dead f cs (suc i) h (if b then slice_set m i None else m) (gone + (if b then 1 else 0))) (sym a.0)
@@ -177,14 +179,14 @@ pub swept_none : {F T : Type 0} (calls : F → T → Bool → F → Type 0) (is_
 swept_none calls is_dead f = record { answers = []; asked = refl; left_is = refl; gone_is = refl; any_is = refl }
 
 -- one cell more is swept, by what a loop knows of it
-pub sweeps_more : {F T : Type 0} (calls : F → T → Bool → F → Type 0) (is_dead : T → Bool) (f g h : F) (cs m n : List (Option (ℕ × T))) (i gone gone' : ℕ) (goes : Bool)
+pub sweeps_more : {F T : Type 0} (calls : F → T → Bool → F → Type 0) (is_dead : T → Bool) (f g h : F) (cs m n : List (Option (Occupant T))) (i gone gone' : ℕ) (goes : Bool)
     → slice_get m i ≡ slice_get cs i
-    → (cell : Option (ℕ × T)) × (slice_get m i ≡ Some cell) × SweptCell calls is_dead g cell goes h
+    → (cell : Option (Occupant T)) × (slice_get m i ≡ Some cell) × SweptCell calls is_dead g cell goes h
     → n ≡ (if goes then slice_set m i None else m) → gone' ≡ gone + (if goes then 1 else 0)
     → Sweeps calls is_dead f cs i g m gone → Sweeps calls is_dead f cs (i + 1) h n gone'
 sweeps_more {F} {T} calls is_dead f g h cs m n i gone gone' goes same s en eg w =
     subst (λ (k : ℕ). Sweeps calls is_dead f cs k h n gone') (sym (add-one i))
-    (subst (λ (l : List (Option (ℕ × T))). Sweeps calls is_dead f cs (suc i) h l gone') (sym en)
+    (subst (λ (l : List (Option (Occupant T))). Sweeps calls is_dead f cs (suc i) h l gone') (sym en)
     (subst (λ (k : ℕ). Sweeps calls is_dead f cs (suc i) h (if goes then slice_set m i None else m) k) (sym eg)
     (swept_cell calls is_dead f g h cs m i gone s.0 goes (sym same ∙ s.1) s.1 s.2 w)))
 
@@ -209,6 +211,6 @@ few_gone gone gone' i true e h = omega arith
 few_gone gone gone' i false e h = omega arith
 
 -- what goes stands in the cell
-pub goes_is_taken : {F T : Type 0} (calls : F → T → Bool → F → Type 0) (is_dead : T → Bool) (f h : F) (cells : List (Option (ℕ × T))) (slot : ℕ) (cell : Option (ℕ × T)) (goes : Bool) → slice_get cells slot ≡ Some cell → SweptCell calls is_dead f cell goes h → goes ≡ true → IsTakenAt cells slot
+pub goes_is_taken : {F T : Type 0} (calls : F → T → Bool → F → Type 0) (is_dead : T → Bool) (f h : F) (cells : List (Option (Occupant T))) (slot : ℕ) (cell : Option (Occupant T)) (goes : Bool) → slice_get cells slot ≡ Some cell → SweptCell calls is_dead f cell goes h → goes ≡ true → IsTakenAt cells slot
 goes_is_taken calls is_dead f h cells slot None goes e s t = (let z : false ≡ true = sym s.0 ∙ t in cc)
-goes_is_taken calls is_dead f h cells slot (Some entry) goes e s t = (entry, e)
+goes_is_taken calls is_dead f h cells slot (Some o) goes e s t = (o, e)

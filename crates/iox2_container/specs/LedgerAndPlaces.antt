@@ -1,11 +1,12 @@
 -- What a ledger and places say together.
 use Rattle.std.specs.Prelude.{◌≡◌, ℕ, Option, List, length}
 use Rattle.iox2_container.specs.declared.container.ledger.Ledger.{Ledger}
+use Rattle.iox2_container.specs.declared.container.cell.Occupant.{Occupant}
 use Rattle.iox2_container.specs.State.{RegistryState, IsRegistry}
 use Rattle.iox2_container.specs.Places.{entries_from}
 
 -- the registry that they stand for
-abbrev pub registry_of : {T : Type 0} → Ledger → List (Option (ℕ × T)) → RegistryState T
+abbrev pub registry_of : {T : Type 0} → Ledger → List (Option (Occupant T)) → RegistryState T
 registry_of a cells = record {
   service = a.service;
   role = a.role;
@@ -17,5 +18,5 @@ registry_of a cells = record {
 }
 
 -- they fit together
-abbrev pub AreRegistry : {T : Type 0} → Ledger → List (Option (ℕ × T)) → Type 0
+abbrev pub AreRegistry : {T : Type 0} → Ledger → List (Option (Occupant T)) → Type 0
 AreRegistry a cells = IsRegistry (registry_of a cells) × (a.count ≡ length (entries_from 0 cells))

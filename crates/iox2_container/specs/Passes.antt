@@ -4,24 +4,25 @@ use Rattle.std.specs.Bool.{MatchBool}
 use Rattle.std.specs.List.{list_any}
 use Rattle.iox2_texts.specs.declared.bounded.CallbackProgression.{CallbackProgression}
 use Rattle.iox2_texts.specs.declared.bounded.CallbackProgression.TheVariants.{Continue}
+use Rattle.iox2_container.specs.declared.container.cell.Occupant.{Occupant}
 use Rattle.iox2_container.specs.State.{Entry}
 use Rattle.iox2_container.specs.Steps.{Asked, candidates, staying, is_of}
 
 -- a callback was asked about what is in a cell, if there is anything
-abbrev pub AskedOfCell : {F A : Type 0} → (F → A → CallbackProgression → F → Type 0) → F → Option (ℕ × A) → CallbackProgression → F → Type 0
+abbrev pub AskedOfCell : {F A : Type 0} → (F → A → CallbackProgression → F → Type 0) → F → Option (Occupant A) → CallbackProgression → F → Type 0
 AskedOfCell calls f None answer f' = (answer ≡ Continue) × (f' ≡ f)
-AskedOfCell calls f (Some (ticket, details)) answer f' = calls f details answer f'
+AskedOfCell calls f (Some o) answer f' = calls f o.details answer f'
 
 -- whether what is in a cell is the node's
-abbrev pub cell_is_of : {T : Type 0} → (T → ℕ) → ℕ → Option (ℕ × T) → Bool
+abbrev pub cell_is_of : {T : Type 0} → (T → ℕ) → ℕ → Option (Occupant T) → Bool
 cell_is_of node id None = false
-cell_is_of node id (Some (ticket, details)) = is_of node id details
+cell_is_of node id (Some o) = is_of node id o.details
 
 -- whether what is in a cell goes, where a callback is asked about it if it is the dead node's
-abbrev pub SweptCell : {F T : Type 0} → (F → T → Bool → F → Type 0) → (T → Bool) → F → Option (ℕ × T) → Bool → F → Type 0
+abbrev pub SweptCell : {F T : Type 0} → (F → T → Bool → F → Type 0) → (T → Bool) → F → Option (Occupant T) → Bool → F → Type 0
 SweptCell calls is_dead f None goes f' = (goes ≡ false) × (f' ≡ f)
-SweptCell calls is_dead f (Some (ticket, details)) goes f' =
-    MatchBool (is_dead details) (calls f details goes f') ((goes ≡ false) × (f' ≡ f))
+SweptCell calls is_dead f (Some o) goes f' =
+    MatchBool (is_dead o.details) (calls f o.details goes f') ((goes ≡ false) × (f' ≡ f))
 
 -- so many entries went, as the callback said of the candidates in turn
 pub record Swept {F T : Type 0} (calls : F → T → Bool → F → Type 0) (is_dead : T → Bool)

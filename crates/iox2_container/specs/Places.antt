@@ -1,28 +1,30 @@
 -- What stands in numbered places.
 use Rattle.std.specs.Prelude.{◌≡◌, ◌≢◌, ℕ, ◌+◌, ◌≤◌, Option, Some, None, List, [], ◌∷◌, map, slice_get}
+use Rattle.iox2_container.specs.declared.container.cell.Occupant.{Occupant}
+use Rattle.iox2_container.specs.Cells.{occupant}
 use Rattle.iox2_container.specs.Handle.{Handle}
 use Rattle.iox2_container.specs.State.{Entry}
 
 -- the entries in cells of which the first is this slot
-abbrev pub entries_from : {T : Type 0} → ℕ → List (Option (ℕ × T)) → List (Entry T)
+abbrev pub entries_from : {T : Type 0} → ℕ → List (Option (Occupant T)) → List (Entry T)
 entries_from slot [] = []
 entries_from slot (None ∷ cells) = entries_from (slot + 1) cells
-entries_from slot (Some (ticket, details) ∷ cells) =
-    record { slot = slot; ticket = ticket; details = details } ∷ entries_from (slot + 1) cells
+entries_from slot (Some o ∷ cells) =
+    record { slot = slot; ticket = o.ticket; details = o.details } ∷ entries_from (slot + 1) cells
 
 -- the details in cells, by rising slot
-abbrev pub details_in : {T : Type 0} → List (Option (ℕ × T)) → List T
+abbrev pub details_in : {T : Type 0} → List (Option (Occupant T)) → List T
 details_in cells = map (λ e. e.details) (entries_from 0 cells)
 
 -- something stands in the cell
-abbrev pub IsTakenAt : {T : Type 0} → List (Option (ℕ × T)) → ℕ → Type 0
-IsTakenAt {T} cells slot = (entry : ℕ × T) × (slice_get cells slot ≡ Some (Some entry))
+abbrev pub IsTakenAt : {T : Type 0} → List (Option (Occupant T)) → ℕ → Type 0
+IsTakenAt {T} cells slot = (o : Occupant T) × (slice_get cells slot ≡ Some (Some o))
 
 -- no entry stands in this place, nor in a later one
-abbrev pub NoneFrom : {T : Type 0} → List (Option (ℕ × T)) → ℕ → Type 0
+abbrev pub NoneFrom : {T : Type 0} → List (Option (Occupant T)) → ℕ → Type 0
 NoneFrom cells end = (slot : ℕ) → end ≤ slot → IsTakenAt cells slot → ⊥
 
 -- the details in the handle's place, if they have its ticket
-abbrev pub Finds : {T : Type 0} → List (Option (ℕ × T)) → Handle → Option T → Type 0
-Finds {T} cells handle None = (details : T) → slice_get cells handle.slot ≢ Some (Some (handle.ticket, details))
-Finds cells handle (Some details) = slice_get cells handle.slot ≡ Some (Some (handle.ticket, details))
+abbrev pub Finds : {T : Type 0} → List (Option (Occupant T)) → Handle → Option T → Type 0
+Finds {T} cells handle None = (details : T) → slice_get cells handle.slot ≢ Some (Some (occupant handle.ticket details))
+Finds cells handle (Some details) = slice_get cells handle.slot ≡ Some (Some (occupant handle.ticket details))

@@ -2,6 +2,13 @@
 ghost use Rattle.std.specs.Prelude.{◌≡◌};
 ghost use Rattle.iox2_container.specs.Cells.{shown};
 
+/// What stands in a slot: details, and the ticket that they were given.
+#[derive(Clone, Copy, Debug)]
+pub struct Occupant<T: Copy> {
+    pub(super) ticket: u64,
+    pub(super) details: T,
+}
+
 /// A slot's cell. A free one keeps what its container finds free slots by.
 #[derive(Clone, Copy, Debug)]
 pub enum Cell<T: Copy, N: Copy> {
@@ -10,12 +17,12 @@ pub enum Cell<T: Copy, N: Copy> {
 }
 
 impl<T: Copy, N: Copy> Cell<T, N> {
-    /// The ticket and the details of the entry in it.
-    pub(super) fn entry(self) -> Option<(u64, T)>
+    /// What stands in it, if it is taken.
+    pub(super) fn occupant(self) -> Option<Occupant<T>>
         ensures { result ≡ shown self }
     {
         match self {
-            Cell::Taken { ticket, details } => Some((ticket, details)),
+            Cell::Taken { ticket, details } => Some(Occupant { ticket, details }),
             Cell::Free(_) => None,
         }
     }

@@ -2,7 +2,7 @@
 ghost use Rattle.std.specs.Prelude.{◌≡◌, ◌+◌, ◌≤◌, ◌<◌, ◌^◌, None, length};
 ghost use Rattle.iox2_container.specs.FreeLinks.{HasFree, TakesFirst};
 
-use super::cell::Cell;
+use super::cell::{Cell, Occupant};
 use super::places::Places;
 use super::slots::Slots;
 use std::alloc::{AllocError, Global};
@@ -22,11 +22,11 @@ pub struct FreeList<T: Copy> {
 }
 
 impl<T: Copy> Model for FreeList<T> {
-    ghost use Rattle.std.specs.Prelude.{Option, ℕ, map};
-    ghost use Rattle.iox2_container.specs.Cells.{Cells};
-    ghost use Rattle.iox2_container.specs.Cells.{shown};
+    ghost use Rattle.std.specs.Prelude.{Option, map};
+    ghost use Rattle.iox2_container.specs.declared.container.cell.Occupant.{Occupant};
+    ghost use Rattle.iox2_container.specs.Cells.{Cells, shown};
 
-    ghost Value = { Cells (Option (ℕ × T)) };
+    ghost Value = { Cells (Option (Occupant T)) };
 
     ghost use Rattle.iox2_container.specs.FreeList.{IsFreeList};
 
@@ -87,8 +87,8 @@ impl<T: Copy> Places<T> for FreeList<T> {
         self.fresh
     }
 
-    fn look(&mut self, slot: usize) -> Option<(u64, T)> {
-        self.slots.read(slot).entry()
+    fn look(&mut self, slot: usize) -> Option<Occupant<T>> {
+        self.slots.read(slot).occupant()
     }
 
     fn put(&mut self, ticket: u64, details: T) -> usize {
@@ -104,7 +104,7 @@ impl<T: Copy> Places<T> for FreeList<T> {
         self.head = Some(slot);
     }
 
-    fn peek_at(&self, slot: usize) -> Option<(u64, T)> {
-        self.slots.peek(slot).entry()
+    fn peek_at(&self, slot: usize) -> Option<Occupant<T>> {
+        self.slots.peek(slot).occupant()
     }
 }

@@ -4,7 +4,7 @@ ghost use Rattle.std.specs.Prelude.{length, map, slice_get};
 ghost use Rattle.iox2_container.specs.Places.{entries_from};
 ghost use Rattle.iox2_container.specs.Cells.{shown};
 
-use super::cell::Cell;
+use super::cell::{Cell, Occupant};
 use super::places::Places;
 use super::slots::Slots;
 use std::alloc::{AllocError, Global};
@@ -47,8 +47,8 @@ impl<T: Copy> Places<T> for Slots<Cell<T, ()>> {
         self.len()
     }
 
-    fn look(&mut self, slot: usize) -> Option<(u64, T)> {
-        self.read(slot).entry()
+    fn look(&mut self, slot: usize) -> Option<Occupant<T>> {
+        self.read(slot).occupant()
     }
 
     fn put(&mut self, ticket: u64, details: T) -> usize {
@@ -65,7 +65,7 @@ impl<T: Copy> Places<T> for Slots<Cell<T, ()>> {
         self.write(slot, Cell::Free(()));
     }
 
-    fn peek_at(&self, slot: usize) -> Option<(u64, T)> {
-        self.peek(slot).entry()
+    fn peek_at(&self, slot: usize) -> Option<Occupant<T>> {
+        self.peek(slot).occupant()
     }
 }

@@ -2,11 +2,13 @@
 ghost use Rattle.std.specs.Prelude.{◌≡◌, ◌+◌, ◌*◌, ◌≤◌, ◌<◌, ℕ, Option, Some, None, IsTrue, false};
 ghost use Rattle.std.specs.Prelude.{length, slice_get, slice_set};
 ghost use Rattle.std.specs.Fn.{CalledAt};
+ghost use Rattle.iox2_container.specs.declared.container.cell.Occupant.{Occupant};
 ghost use Rattle.iox2_container.specs.Places.{details_in, entries_from};
 ghost use Rattle.iox2_container.specs.Passes.{AskedOfCell, SweptCell, Swept, cell_is_of};
 ghost use Rattle.iox2_container.specs.Steps.{Visit, candidates, is_of};
 
 use super::attached::Attached;
+use super::cell::Occupant;
 use super::places::Places;
 use iox2_ids::identifiers::UniqueNodeId;
 use iox2_texts::bounded::CallbackProgression;
@@ -22,7 +24,7 @@ fn ask<T: Copy, R, F: FnMut(&T) -> R>(details: T, f: &mut F) -> R
 
 /// Asks the callback about what stands in a place, if anything does.
 fn show<T: Copy, F: FnMut(&T) -> CallbackProgression>(
-    cell: Option<(u64, T)>,
+    cell: Option<Occupant<T>>,
     f: &mut F,
 ) -> CallbackProgression
     requires { F.IsAlwaysCallable f.old }
@@ -30,7 +32,7 @@ fn show<T: Copy, F: FnMut(&T) -> CallbackProgression>(
     ensures asked { AskedOfCell (CalledAt F.FnMut) f.old cell result f.new }
 {
     match cell {
-        Some(entry) => ask(entry.1, f),
+        Some(occupant) => ask(occupant.details, f),
         None => CallbackProgression::Continue,
     }
 }
@@ -52,11 +54,11 @@ pub(super) fn visit<T: Copy, P: Places<T>, F: FnMut(&T) -> CallbackProgression>(
 }
 
 /// Whether what stands in a place is the node's.
-fn stands_for<T: Attached + Copy>(cell: Option<(u64, T)>, node: &UniqueNodeId) -> bool
+fn stands_for<T: Attached + Copy>(cell: Option<Occupant<T>>, node: &UniqueNodeId) -> bool
     ensures { result ≡ cell_is_of T.node node.now cell }
 {
     match cell {
-        Some(entry) => entry.1.node_id() == *node,
+        Some(occupant) => occupant.details.node_id() == *node,
         None => false,
     }
 }
@@ -77,7 +79,7 @@ pub(super) fn count_of<T: Attached + Copy, P: Places<T>>(places: &P, node: &Uniq
 
 /// Whether what stands in a place goes: it is the dead node's, and the callback says so.
 fn asks_to_go<T: Attached + Copy, F: FnMut(&T) -> bool>(
-    cell: Option<(u64, T)>,
+    cell: Option<Occupant<T>>,
     dead: &UniqueNodeId,
     f: &mut F,
 ) -> bool
@@ -86,9 +88,9 @@ fn asks_to_go<T: Attached + Copy, F: FnMut(&T) -> bool>(
     ensures swept { SweptCell (CalledAt F.FnMut) (is_of T.node dead.now) f.old cell result f.new }
 {
     match cell {
-        Some(entry) => {
-            if entry.1.node_id() == *dead {
-                ask(entry.1, f)
+        Some(occupant) => {
+            if occupant.details.node_id() == *dead {
+                ask(occupant.details, f)
             } else {
                 false
             }
@@ -107,7 +109,7 @@ fn sweep_place<T: Attached + Copy, P: Places<T>, F: FnMut(&T) -> bool>(
     requires slot { slot < length (P.cells places.old) }
     requires callable { F.IsAlwaysCallable f.old }
     ensures callable { F.IsAlwaysCallable f.new }
-    ensures swept { (cell : Option (ℕ × T)) × (slice_get (P.cells places.old) slot ≡ Some cell)
+    ensures swept { (cell : Option (Occupant T)) × (slice_get (P.cells places.old) slot ≡ Some cell)
         × SweptCell (CalledAt F.FnMut) (is_of T.node dead.now) f.old cell result f.new }
     ensures gone { IsTrue result → P.cells places.new ≡ slice_set (P.cells places.old) slot None }
     ensures kept { result ≡ false → P.cells places.new ≡ P.cells places.old }

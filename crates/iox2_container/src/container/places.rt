@@ -2,15 +2,18 @@
 ghost use Rattle.std.specs.Prelude.{◌≡◌, ◌≢◌, ◌+◌, ◌*◌, ◌≤◌, ◌<◌, ℕ, Option, Some, None, List};
 ghost use Rattle.std.specs.Prelude.{IfNone, IfOk, IfSome, MatchOption};
 ghost use Rattle.std.specs.Prelude.{length, replicate, slice_get, slice_set};
+ghost use Rattle.iox2_container.specs.declared.container.cell.Occupant.{Occupant};
+ghost use Rattle.iox2_container.specs.Cells.{occupant};
 ghost use Rattle.iox2_container.specs.Places.{Finds, IsTakenAt, NoneFrom, entries_from};
 
+use super::cell::Occupant;
 use super::handle::ContainerHandle;
 use std::alloc::{AllocError, Global};
 
 /// Places in which entries stand, each with its ticket.
 pub trait Places<T: Copy>: Drop {
-    /// The ticket and the details in each place.
-    ghost cells: { Self → List (Option (ℕ × T)) };
+    /// What stands in each place.
+    ghost cells: { Self → List (Option (Occupant T)) };
 
     /// How often a place was read or written.
     ghost touches: { Self → ℕ };
@@ -33,7 +36,7 @@ pub trait Places<T: Copy>: Drop {
         ensures free { NoneFrom (cells self.now) result };
 
     /// What stands in a place.
-    fn look(&mut self, slot: usize) -> Option<(u64, T)>
+    fn look(&mut self, slot: usize) -> Option<Occupant<T>>
         requires { slot < length (cells self.old) }
         ensures cell { slice_get (cells self.old) slot ≡ Some result }
         ensures cells { cells self.new ≡ cells self.old }
@@ -44,7 +47,7 @@ pub trait Places<T: Copy>: Drop {
         requires { length (entries_from 0 (cells self.old)) < length (cells self.old) }
         ensures free { slice_get (cells self.old) result ≡ Some None }
         ensures cells { cells self.new ≡
-            slice_set (cells self.old) result (Some (ticket, details)) }
+            slice_set (cells self.old) result (Some (occupant ticket details)) }
         ensures touched { touches self.new ≤ touches self.old + 2 * length (cells self.old) }
         ensures few { touches self.new ≤ touches self.old + most_for_put (length (cells self.old)) }
         ensures counted { touches self.old ≤ touches self.new };
@@ -56,20 +59,20 @@ pub trait Places<T: Copy>: Drop {
         ensures touched { touches self.new ≡ touches self.old + 1 };
 
     /// What stands in a place, for calls that change nothing.
-    fn peek_at(&self, slot: usize) -> Option<(u64, T)>
+    fn peek_at(&self, slot: usize) -> Option<Occupant<T>>
         requires { slot < length (cells self.now) }
         ensures { slice_get (cells self.now) slot ≡ Some result };
 }
 
 /// The details in a cell, if they have the ticket.
-fn with_ticket<T: Copy>(cell: Option<(u64, T)>, ticket: u64) -> Option<T>
-    ensures { MatchOption result ((details : T) → cell ≢ Some (ticket, details))
-        (λ details. cell ≡ Some (ticket, details)) }
+fn with_ticket<T: Copy>(cell: Option<Occupant<T>>, ticket: u64) -> Option<T>
+    ensures { MatchOption result ((details : T) → cell ≢ Some (occupant ticket details))
+        (λ details. cell ≡ Some (occupant ticket details)) }
 {
     match cell {
-        Some(entry) => {
-            if entry.0 == ticket {
-                Some(entry.1)
+        Some(occupant) => {
+            if occupant.ticket == ticket {
+                Some(occupant.details)
             } else {
                 None
             }

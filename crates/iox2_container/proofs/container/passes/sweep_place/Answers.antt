@@ -1,5 +1,6 @@
 use Rattle.std.proofs.Common.{ℕ, Option, sym, subst, List}
 use Rattle.std.specs.Fn.{CalledAt}
+use Rattle.iox2_container.specs.declared.container.cell.Occupant.{Occupant}
 use Rattle.iox2_container.specs.Places.{IsTakenAt}
 use Rattle.iox2_container.specs.Steps.{is_of}
 use Rattle.iox2_container.proofs.Sweeping.{goes_is_taken}
@@ -7,5 +8,5 @@ use Rattle.iox2_container.proofs.container.passes.sweep_place.Goals as goal
 
 pub clear-requires : goal.clear-requires
 clear-requires g c =
-    subst (λ (cs : List (Option (ℕ × g.row.T.Denot))). IsTakenAt cs c.args.slot) (sym c.look.ensures.cells)
+    subst (λ (cs : List (Option (Occupant g.row.T.Denot))). IsTakenAt cs c.args.slot) (sym c.look.ensures.cells)
     (goes_is_taken (CalledAt g.F.FnMut) (is_of g.T.Attached.node c.args.dead.now) c.args.f.now c.asks_to_go-goes.new.f (g.P.Places.cells c.args.places.now) c.args.slot c.look.result c.asks_to_go-goes.result c.look.ensures.cell c.asks_to_go-goes.ensures.swept c.if-goes.true)

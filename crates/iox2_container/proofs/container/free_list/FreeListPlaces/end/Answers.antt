@@ -1,4 +1,5 @@
 use Rattle.std.proofs.Common.{ℕ, Option, subst}
+use Rattle.iox2_container.specs.declared.container.cell.Occupant.{Occupant}
 use Rattle.iox2_container.specs.Cells.{Cells}
 use Rattle.iox2_container.specs.Places.{NoneFrom}
 use Rattle.iox2_container.proofs.FreeList.{taken_at}
@@ -6,5 +7,5 @@ use Rattle.iox2_container.proofs.container.free_list.FreeListPlaces.end.Goals as
 
 pub returns-clause-free : goal.returns-clause-free
 returns-clause-free g c =
-    subst (λ (v : Cells (Option (ℕ × g.row.T.Denot))). NoneFrom v.cells c.self.inside.fresh) c.self.view_is
-    (λ slot later taken. c.self.invariant.fresh_are_free slot later taken.0.0 taken.0.1 (taken_at c.self.inside.slots.cells slot taken.0.0 taken.0.1 taken.1))
+    subst (λ (v : Cells (Option (Occupant g.row.T.Denot))). NoneFrom v.cells c.self.inside.fresh) c.self.view_is
+    (λ slot later taken. c.self.invariant.fresh_are_free slot later taken.0.ticket taken.0.details (taken_at c.self.inside.slots.cells slot taken.0.ticket taken.0.details taken.1))

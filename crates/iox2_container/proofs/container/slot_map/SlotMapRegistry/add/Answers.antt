@@ -1,6 +1,7 @@
 use Rattle.std.proofs.Common.{ℕ, Ok, Some, sym, ◌∙◌, ap, subst, arith}
 use Rattle.std.specs.Prelude.{slice_set}
 use Rattle.iox2_container.specs.declared.container.ledger.Ledger.{Ledger}
+use Rattle.iox2_container.specs.Cells.{occupant}
 use Rattle.iox2_container.specs.ContainerState.{ContainerState}
 use Rattle.iox2_container.specs.Handle.{Handle}
 use Rattle.iox2_container.specs.LedgerAndPlaces.{registry_of, AreRegistry}
@@ -22,7 +23,7 @@ invariant_of-self g c =
     let cells = g.P.Places.cells c.self.inside.places in
     let new = g.P.Places.cells c.put-slot.new.self in
     let slot = c.put-slot.result in
-    let written = c.put-slot.ensures.cells ∙ ap (λ t. slice_set cells slot (Some (t, c.args.details))) c.enter-ticket.ensures.ticket in
+    let written = c.put-slot.ensures.cells ∙ ap (λ t. slice_set cells slot (Some (occupant t c.args.details))) c.enter-ticket.ensures.ticket in
     subst (λ (a : Ledger). AreRegistry a new) (sym c.enter-ticket.ensures.counted)
     (kept_write old cells new slot c.args.details c.self.invariant c.put-slot.ensures.free written (sym c.is_locked.ensures ∙ c.if-is_locked.false) (c.has_ticket.ensures.0 c.if-not-has_ticket.false))
 
@@ -32,7 +33,7 @@ returns-clause-step g c =
     let cells = g.P.Places.cells c.self.inside.places in
     let new = g.P.Places.cells c.put-slot.new.self in
     let slot = c.put-slot.result in
-    let written = c.put-slot.ensures.cells ∙ ap (λ t. slice_set cells slot (Some (t, c.args.details))) c.enter-ticket.ensures.ticket in
+    let written = c.put-slot.ensures.cells ∙ ap (λ t. slice_set cells slot (Some (occupant t c.args.details))) c.enter-ticket.ensures.ticket in
     let handle_by : Ledger → ℕ → Handle = λ a t. record { service = a.service; role = a.role; slot = slot; ticket = t } in
     let handle_is = c.handle.ensures ∙ (ap (λ (a : Ledger). handle_by a c.enter-ticket.result) c.enter-ticket.ensures.counted ∙ ap (handle_by old) c.enter-ticket.ensures.ticket) in
     subst (λ (v : ContainerState g.row.T.Denot). AddStep v.registry c.args.details (Ok c.handle.result) (registry_of c.enter-ticket.new.self new)) c.self.view_is
