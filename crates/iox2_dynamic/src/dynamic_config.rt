@@ -13,6 +13,7 @@ mod port_kind;
 mod port_registries;
 pub mod publish_subscribe;
 mod recovery;
+mod registry;
 pub mod request_response;
 mod service;
 mod settings;

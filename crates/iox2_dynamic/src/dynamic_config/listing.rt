@@ -6,12 +6,13 @@ ghost use Rattle.iox2_container.specs.Mapped.{registry_as};
 
 use super::port_details::PortDetails;
 use super::port_kind::PortKind;
-use iox2_container::container::{ListContainer, Registry};
+use super::registry::ServiceRegistry;
+use iox2_container::container::Registry;
 use iox2_texts::bounded::CallbackProgression;
 
 /// Shows each port.
 pub(super) fn list_details<T: PortKind, F: FnMut(&PortDetails) -> CallbackProgression>(
-    ports: &ListContainer<T>,
+    ports: &ServiceRegistry<T>,
     f: &mut F,
 )
     requires { F.IsAlwaysCallable f.old }

@@ -10,9 +10,10 @@ use super::listing::list_details;
 use super::port_details::PortDetails;
 use super::port_kind::PortKind;
 use super::recovery::recover_ports;
+use super::registry::ServiceRegistry;
 use iox2_container::container::{
-    ContainerAddFailure, ContainerHandle, ContainerRemoveError, ListContainer, Registry,
-    ReleaseMode, ReleaseState, Role,
+    ContainerAddFailure, ContainerHandle, ContainerRemoveError, Registry, ReleaseMode,
+    ReleaseState, Role,
 };
 use iox2_ids::identifiers::{UniqueNodeId, UniquePortId};
 use iox2_texts::bounded::CallbackProgression;
@@ -22,8 +23,8 @@ use std::marker::Model;
 /// A registry for each of two kinds of ports, of which the first is recovered first. A port's removal locks neither.
 #[derive(Debug, Drop)]
 pub struct PortRegistries<A: Copy, B: Copy> {
-    pub(super) first: ListContainer<A>,
-    pub(super) second: ListContainer<B>,
+    pub(super) first: ServiceRegistry<A>,
+    pub(super) second: ServiceRegistry<B>,
 }
 
 impl<A: Copy, B: Copy> Model for PortRegistries<A, B> {
@@ -47,8 +48,8 @@ impl<A: PortKind, B: PortKind> PortRegistries<A, B> {
             p ≡ empty_ports A.ROLE B.ROLE service_number first second tickets) }
     {
         Ok(PortRegistries {
-            first: ListContainer::new(alloc, service_number, A::ROLE, first, tickets)?,
-            second: ListContainer::new(alloc, service_number, B::ROLE, second, tickets)?,
+            first: ServiceRegistry::new(alloc, service_number, A::ROLE, first, tickets)?,
+            second: ServiceRegistry::new(alloc, service_number, B::ROLE, second, tickets)?,
         })
     }
 

@@ -6,12 +6,13 @@ ghost use Rattle.iox2_dynamic.specs.Details.{port_of};
 
 use super::cleanup::PortCleanupAction;
 use super::port_kind::PortKind;
-use iox2_container::container::{ListContainer, Registry, ReleaseMode, ReleaseState};
+use super::registry::ServiceRegistry;
+use iox2_container::container::{Registry, ReleaseMode, ReleaseState};
 use iox2_ids::identifiers::{UniqueNodeId, UniquePortId};
 
 /// Asks about each port of the node whether it goes.
 pub(super) fn recover_ports<T: PortKind, F: FnMut(UniquePortId) -> PortCleanupAction>(
-    ports: &mut ListContainer<T>,
+    ports: &mut ServiceRegistry<T>,
     dead: &UniqueNodeId,
     f: &mut F,
 )
@@ -32,7 +33,7 @@ pub(super) fn recover_ports<T: PortKind, F: FnMut(UniquePortId) -> PortCleanupAc
 
 /// Removes each entry of the node.
 pub(super) fn recover_nodes(
-    nodes: &mut ListContainer<UniqueNodeId>,
+    nodes: &mut ServiceRegistry<UniqueNodeId>,
     dead: &UniqueNodeId,
 ) -> ReleaseState
     ensures { RecoversNodes dead.now nodes.old result nodes.new }

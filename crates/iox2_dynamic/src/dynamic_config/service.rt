@@ -17,12 +17,13 @@ use super::cleanup::PortCleanupAction;
 use super::pattern::MessagingPattern;
 use super::port_details::PortDetails;
 use super::recovery::recover_nodes;
+use super::registry::ServiceRegistry;
 use super::settings::MessagingPatternSettings;
 use super::{blackboard, event, publish_subscribe, request_response};
 use iox2_config::hash::PatternKind;
 use iox2_container::container::{
-    ContainerAddFailure, ContainerHandle, ContainerRemoveError, ListContainer, Registry,
-    ReleaseMode, ReleaseState, Role,
+    ContainerAddFailure, ContainerHandle, ContainerRemoveError, Registry, ReleaseMode,
+    ReleaseState, Role,
 };
 use iox2_ids::identifiers::{UniqueNodeId, UniquePortId};
 use iox2_texts::bounded::CallbackProgression;
@@ -36,7 +37,7 @@ use std::marker::Model;
 #[derive(Debug, Drop)]
 pub struct DynamicConfig {
     pattern: MessagingPattern,
-    nodes: ListContainer<UniqueNodeId>,
+    nodes: ServiceRegistry<UniqueNodeId>,
 }
 
 impl Model for DynamicConfig {
@@ -80,7 +81,7 @@ impl DynamicConfig {
         ensures kept { IfOk result IsService }
     {
         let pattern = MessagingPattern::with_tickets(alloc, settings, service_number, tickets)?;
-        let nodes = ListContainer::new(alloc, service_number, Role::Node, max_nodes, tickets)?;
+        let nodes = ServiceRegistry::new(alloc, service_number, Role::Node, max_nodes, tickets)?;
         Ok(DynamicConfig { pattern, nodes })
     }
 
