@@ -9,7 +9,8 @@ use Rattle.iox2_container.specs.State.{Entry}
 use Rattle.iox2_container.specs.Steps.{Asked, candidates, staying, is_of}
 
 -- a callback was asked about what is in a cell, if there is anything
-abbrev pub AskedOfCell : {F A : Type 0} → (F → A → CallbackProgression → F → Type 0) → F → Option (Occupant A) → CallbackProgression → F → Type 0
+abbrev pub AskedOfCell : {F A : Type 0} → (F → A → CallbackProgression → F → Type 0)
+    → F → Option (Occupant A) → CallbackProgression → F → Type 0
 AskedOfCell calls f None answer f' = (answer ≡ Continue) × (f' ≡ f)
 AskedOfCell calls f (Some o) answer f' = calls f o.details answer f'
 

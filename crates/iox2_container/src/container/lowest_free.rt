@@ -9,8 +9,11 @@ use super::places::Places;
 use super::slots::Slots;
 use std::alloc::{AllocError, Global};
 
+/// Places of which the free ones are found by a scan.
+pub type Scan<T> = Slots<Cell<T, ()>>;
+
 /// The lowest free slot.
-fn lowest_free<T: Copy>(slots: &mut Slots<Cell<T, ()>>) -> Option<usize>
+fn lowest_free<T: Copy>(slots: &mut Scan<T>) -> Option<usize>
     ensures cells { map shown slots.new.cells ≡ map shown slots.old.cells }
     ensures touched { slots.new.touches ≤ slots.old.touches + length slots.old.cells }
     ensures counted { slots.old.touches ≤ slots.new.touches }
@@ -28,7 +31,7 @@ fn lowest_free<T: Copy>(slots: &mut Slots<Cell<T, ()>>) -> Option<usize>
     None
 }
 
-impl<T: Copy> Places<T> for Slots<Cell<T, ()>> {
+impl<T: Copy> Places<T> for Scan<T> {
     ghost cells = { λ s. map shown s.cells };
 
     ghost touches = { λ s. s.touches };

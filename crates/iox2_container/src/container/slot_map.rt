@@ -5,17 +5,16 @@ ghost use Rattle.iox2_container.specs.State.{IsRegistry};
 ghost use Rattle.iox2_container.specs.Steps.{AddStep, RemoveStep};
 
 use super::attached::Attached;
-use super::cell::Cell;
 use super::free_list::FreeList;
 use super::handle::ContainerHandle;
 use super::ledger::Ledger;
+use super::lowest_free::Scan;
 use super::passes::{count_of, sweep, visit};
 use super::places::{Places, find, take_out};
 use super::refusal::{ContainerAddFailure, ContainerRemoveError};
 use super::registry::Registry;
 use super::release::{ReleaseMode, ReleaseState};
 use super::role::Role;
-use super::slots::Slots;
 use iox2_ids::identifiers::UniqueNodeId;
 use iox2_texts::bounded::CallbackProgression;
 use std::alloc::{AllocError, Global};
@@ -23,7 +22,7 @@ use std::marker::{Model, PhantomData};
 
 /// A registry that puts each entry into the lowest free slot, which it finds by reading the slots from the first on.
 /// Adding touches at most one slot more often than there are slots, removing at most two slots.
-pub type Container<T> = SlotMap<T, Slots<Cell<T, ()>>>;
+pub type Container<T> = SlotMap<T, Scan<T>>;
 
 /// A registry that puts each entry into the slot that was freed last, or else into the lowest that was never used.
 /// Adding and removing touch at most two slots.

@@ -4,7 +4,7 @@ use Rattle.iox2_container.specs.declared.container.cell.Occupant.{Occupant}
 use Rattle.iox2_container.specs.declared.container.cell.Cell.TheVariants.{Taken}
 use Rattle.iox2_container.specs.Cells.{occupant}
 use Rattle.iox2_container.proofs.ShownCells.{shown_set}
-use Rattle.iox2_container.proofs.container.lowest_free.SlotsCellUnitPlaces.put.Goals as goal
+use Rattle.iox2_container.proofs.container.lowest_free.ScanPlaces.put.Goals as goal
 
 pub returns-clause-cells : goal.returns-clause-cells
 returns-clause-cells g c =

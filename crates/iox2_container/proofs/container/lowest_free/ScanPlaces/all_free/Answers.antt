@@ -1,6 +1,6 @@
 use Rattle.std.proofs.lemmas.Result.{IfOk-weaker}
 use Rattle.iox2_container.proofs.ShownCells.{nothing_shown_yet}
-use Rattle.iox2_container.proofs.container.lowest_free.SlotsCellUnitPlaces.all_free.Goals as goal
+use Rattle.iox2_container.proofs.container.lowest_free.ScanPlaces.all_free.Goals as goal
 
 pub returns-clause-cells : goal.returns-clause-cells
 returns-clause-cells g c =
