@@ -1,5 +1,5 @@
 -- What a ledger and places say together.
-use Rattle.std.specs.Prelude.{◌≡◌, ℕ, Option, List, length}
+use Rattle.std.specs.Prelude.{◌≡◌, Option, List, length}
 use Rattle.iox2_container.specs.declared.container.ledger.Ledger.{Ledger}
 use Rattle.iox2_container.specs.declared.container.cell.Occupant.{Occupant}
 use Rattle.iox2_container.specs.State.{RegistryState, IsRegistry}

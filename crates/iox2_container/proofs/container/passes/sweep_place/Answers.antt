@@ -1,4 +1,4 @@
-use Rattle.std.proofs.Common.{ℕ, Option, sym, subst, List}
+use Rattle.std.proofs.Common.{Option, sym, subst, List}
 use Rattle.std.specs.Fn.{CalledAt}
 use Rattle.iox2_container.specs.declared.container.cell.Occupant.{Occupant}
 use Rattle.iox2_container.specs.Places.{IsTakenAt}

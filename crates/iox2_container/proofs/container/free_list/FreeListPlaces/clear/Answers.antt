@@ -1,4 +1,4 @@
-use Rattle.std.proofs.Common.{◌≡◌, ℕ, Option, None, map, sym, subst}
+use Rattle.std.proofs.Common.{◌≡◌, Option, None, map, sym, subst}
 use Rattle.std.specs.Prelude.{slice_set}
 use Rattle.iox2_container.specs.declared.container.cell.Occupant.{Occupant}
 use Rattle.iox2_container.specs.declared.container.cell.Cell.TheVariants.{Free}

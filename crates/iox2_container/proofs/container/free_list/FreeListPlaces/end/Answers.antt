@@ -1,4 +1,4 @@
-use Rattle.std.proofs.Common.{ℕ, Option, subst}
+use Rattle.std.proofs.Common.{Option, subst}
 use Rattle.iox2_container.specs.declared.container.cell.Occupant.{Occupant}
 use Rattle.iox2_container.specs.Cells.{Cells}
 use Rattle.iox2_container.specs.Places.{NoneFrom}
