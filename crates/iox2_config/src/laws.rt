@@ -1,7 +1,8 @@
 //! Laws of the definitions that the contracts cite, and of comparisons.
 ghost use Rattle.std.specs.Prelude.{◌≡◌, ◌↔◌, IsTrue, IsOkAnd, fold};
 ghost use Rattle.iox2_texts.specs.Pair.{text_cmp, text_writes};
-ghost use Rattle.iox2_config.specs.Compatible.{IsCompatibleToItself, IsCompatibleThrough, AreEqualBothWays};
+ghost use Rattle.iox2_config.specs.Compatible.{IsCompatibleToItself, IsCompatibleThrough};
+ghost use Rattle.iox2_config.specs.Compatible.{AreEqualBothWays};
 ghost use Rattle.iox2_config.specs.HashWrites.{variant_writes, detail_writes, details_writes};
 ghost use Rattle.iox2_config.specs.Hashing.{HashInputsDiffer};
 

@@ -1,5 +1,6 @@
 //! What holds of every service, and how details, settings and answers are compared and copied.
-ghost use Rattle.std.specs.Prelude.{◌≡◌, ◌↔◌, ℕ, Bool, IsTrue, List, IsOkAnd, length, not, count_by};
+ghost use Rattle.std.specs.Prelude.{◌≡◌, ◌↔◌, ℕ, Bool, IsTrue, List, IsOkAnd, length, not};
+ghost use Rattle.std.specs.Prelude.{count_by};
 ghost use Rattle.iox2_container.specs.declared.container.release.ReleaseMode.{ReleaseMode};
 ghost use Rattle.iox2_container.specs.declared.container.release.ReleaseState.{ReleaseState};
 ghost use Rattle.iox2_container.specs.State.{RegistryState};

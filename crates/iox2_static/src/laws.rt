@@ -1,8 +1,9 @@
 //! Laws of static configurations: two of one type are equal exactly where all their fields are, and each gives its
 //! fields in turn to a hasher, so `==` and hashing agree.
 ghost use Rattle.std.specs.Prelude.{◌≡◌, ◌↔◌, IsTrue, IsOkAnd, fold};
-ghost use Rattle.iox2_static.specs.HashWrites.{publish_subscribe_writes, request_response_writes, deadline_writes};
-ghost use Rattle.iox2_static.specs.HashWrites.{event_writes, blackboard_writes, pattern_writes};
+ghost use Rattle.iox2_static.specs.HashWrites.{publish_subscribe_writes, request_response_writes};
+ghost use Rattle.iox2_static.specs.HashWrites.{deadline_writes, event_writes};
+ghost use Rattle.iox2_static.specs.HashWrites.{blackboard_writes, pattern_writes};
 
 use crate::static_config::messaging_pattern::MessagingPattern;
 use crate::static_config::{StaticConfig, blackboard, event, publish_subscribe, request_response};

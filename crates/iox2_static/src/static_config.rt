@@ -57,7 +57,8 @@ impl Model for StaticConfig {
 
 impl StaticConfig {
     ghost use Rattle.std.specs.Borrow.{sem};
-    ghost use Rattle.iox2_static.specs.ServiceLoans.{LendsRequestResponse, LendsPublishSubscribe, LendsEvent, LendsBlackboard};
+    ghost use Rattle.iox2_static.specs.ServiceLoans.{LendsRequestResponse, LendsPublishSubscribe};
+    ghost use Rattle.iox2_static.specs.ServiceLoans.{LendsEvent, LendsBlackboard};
 
     /// The description of a service of this pattern, without attributes.
     fn describe<H: Hash>(

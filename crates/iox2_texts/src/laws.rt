@@ -2,7 +2,8 @@
 //!
 //! Texts of each type are equal, ordered and hashed by their bytes, so `==`, `cmp` and hashing agree.
 ghost use Rattle.std.specs.Prelude.{◌≡◌, ◌↔◌, IsTrue, IsOkAnd, IsPermutation, fold};
-ghost use Rattle.iox2_texts.specs.Laws.{ListingsAreUnique, ValuesAreCounted, LeastMultiplesAreUnique};
+ghost use Rattle.iox2_texts.specs.Laws.{ListingsAreUnique, ValuesAreCounted};
+ghost use Rattle.iox2_texts.specs.Laws.{LeastMultiplesAreUnique};
 ghost use Rattle.iox2_texts.specs.Name.{IsAllowed, MakesLegal, MakesName};
 ghost use Rattle.iox2_texts.specs.Path.{IsPlain, EndsPlain, IsRestricted};
 ghost use Rattle.iox2_texts.specs.Pair.{text_cmp, text_writes, pair_cmp};

@@ -57,7 +57,8 @@ pub fn open_service(
     service: &mut DynamicConfig,
     opener: &Opener,
 ) -> Result<OpenedService, OpenError>
-    ensures opened { IfOk result (λ opened. Opens description.now opener.now service.old opened service.new) }
+    ensures opened { IfOk result (λ opened.
+        Opens description.now opener.now service.old opened service.new) }
     ensures cause { IfErr result (Refuses description.now opener.now service.old) }
     ensures unchanged { OnErr result (SameAttached service.old service.new) }
 {

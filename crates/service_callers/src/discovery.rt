@@ -1,7 +1,8 @@
 //! Discovery: who is attached to a service.
 ghost use Rattle.std.specs.Prelude.{◌≡◌, [], OnOk, OnErr};
 ghost use Rattle.iox2_dynamic.specs.Service.{first_role, second_role};
-ghost use Rattle.service_callers.specs.Members.{IsRoster, Noted, NotesAll, nodes_in, ports_in, node_of_member};
+ghost use Rattle.service_callers.specs.Members.{IsRoster, Noted, NotesAll, nodes_in, ports_in};
+ghost use Rattle.service_callers.specs.Members.{node_of_member};
 
 use iox2_config::hash::PatternKind;
 use iox2_container::container::Role;
@@ -75,7 +76,8 @@ struct Listing<T: Copy> {
 impl<T: Copy> Listing<T> {
     /// Notes an item, or stops where memory for it is refused.
     fn note(&mut self, item: T) -> CallbackProgression
-        ensures { Noted (self.old.items.items, self.old.refused) item result (self.new.items.items, self.new.refused) }
+        ensures { Noted (self.old.items.items, self.old.refused) item result
+            (self.new.items.items, self.new.refused) }
     {
         match self.items.push(item) {
             Ok(()) => CallbackProgression::Continue,
@@ -89,10 +91,13 @@ impl<T: Copy> Listing<T> {
 
 /// Notes each entry of a node.
 fn note_nodes(service: &DynamicConfig, listing: &mut Listing<Member>)
-    ensures { NotesAll (nodes_in service.now) (listing.old.items.items, listing.old.refused) (listing.new.items.items, listing.new.refused) }
+    ensures { NotesAll (nodes_in service.now) (listing.old.items.items, listing.old.refused)
+        (listing.new.items.items, listing.new.refused) }
 {
     let mut note = |id: &UniqueNodeId| -> CallbackProgression
-        ensures noted { Noted (listing.entry.now.items.items, listing.entry.now.refused) (Member.Node id.now) result (listing.exit.now.items.items, listing.exit.now.refused) }
+        ensures noted { Noted (listing.entry.now.items.items, listing.entry.now.refused)
+            (Member.Node id.now) result
+            (listing.exit.now.items.items, listing.exit.now.refused) }
         ensures same { listing.exit.ghost_name ≡ listing.entry.ghost_name }
     { listing.note(Member::Node(*id)) };
     service.list_node_ids(&mut note);
@@ -100,11 +105,19 @@ fn note_nodes(service: &DynamicConfig, listing: &mut Listing<Member>)
 
 /// Notes each port of one of the two roles of the service's pattern.
 fn note_ports(service: &DynamicConfig, role: Role, listing: &mut Listing<Member>)
-    ensures first { role ≡ first_role service.now.pattern → NotesAll (ports_in service.now.ports.first) (listing.old.items.items, listing.old.refused) (listing.new.items.items, listing.new.refused) }
-    ensures second { role ≡ second_role service.now.pattern → NotesAll (ports_in service.now.ports.second) (listing.old.items.items, listing.old.refused) (listing.new.items.items, listing.new.refused) }
+    ensures first { role ≡ first_role service.now.pattern → NotesAll
+        (ports_in service.now.ports.first)
+        (listing.old.items.items, listing.old.refused)
+        (listing.new.items.items, listing.new.refused) }
+    ensures second { role ≡ second_role service.now.pattern → NotesAll
+        (ports_in service.now.ports.second)
+        (listing.old.items.items, listing.old.refused)
+        (listing.new.items.items, listing.new.refused) }
 {
     let mut note = |details: &PortDetails| -> CallbackProgression
-        ensures noted { Noted (listing.entry.now.items.items, listing.entry.now.refused) (Member.Port details.now) result (listing.exit.now.items.items, listing.exit.now.refused) }
+        ensures noted { Noted (listing.entry.now.items.items, listing.entry.now.refused)
+            (Member.Port details.now) result
+            (listing.exit.now.items.items, listing.exit.now.refused) }
         ensures same { listing.exit.ghost_name ≡ listing.entry.ghost_name }
     { listing.note(Member::Port(*details)) };
     service.list_ports(role, &mut note);

@@ -69,7 +69,8 @@ pub fn attach_publisher(
     publisher: &PublisherSettings,
 ) -> Result<Publisher, PublisherError>
     requires { service.old.pattern ≡ kind.PublishSubscribe }
-    ensures attached { IfOk result (λ made. Attaches settings.now publisher.now service.old made service.new) }
+    ensures attached { IfOk result (λ made.
+        Attaches settings.now publisher.now service.old made service.new) }
     ensures cause { IfErr result (RefusesPublisher settings.now publisher.now service.old) }
     ensures unchanged { OnErr result (SameAttached service.old service.new) }
 {
@@ -123,7 +124,8 @@ pub fn data_segment(
 
 /// How many bytes so many blocks of a size take, or `None` where these are more than 2^63 - 1.
 fn size_of_row(size: usize, blocks: usize) -> Option<usize>
-    ensures { MatchOption result (2 ^ 63 ≤ blocks * size) (λ bytes. (bytes ≡ blocks * size) × (bytes < 2 ^ 63)) }
+    ensures { MatchOption result (2 ^ 63 ≤ blocks * size)
+        (λ bytes. (bytes ≡ blocks * size) × (bytes < 2 ^ 63)) }
 {
     match blocks.checked_mul(size) {
         Some(bytes) if bytes <= GREATEST_SIZE => Some(bytes),

@@ -16,7 +16,8 @@ pub fn remove_dead_nodes(
     dead: &[UniqueNodeId],
 ) -> Option<DeregisterNodeState>
     ensures removed { OnlyOthersStay dead.now service.old service.new }
-    ensures told { MatchOption result (dead.now ≡ []) (λ state. state_of state ≡ release_state service.new.nodes.registry.locked) }
+    ensures told { MatchOption result (dead.now ≡ [])
+        (λ state. state_of state ≡ release_state service.new.nodes.registry.locked) }
 {
     let mut told = None;
     for id in dead {

@@ -46,7 +46,8 @@ impl MessageLayout {
     pub(crate) fn of(details: &MessageTypeDetails, elements: usize) -> Option<Self>
         ensures some { IfSome result (λ layout. IsLayoutOf layout details.now elements) }
         ensures inside { IfSome result (λ layout. IsWhole layout) }
-        ensures none { IfNone result (HaveAlignments details.now → 2 ^ 63 ≤ bound details.now elements) }
+        ensures none { IfNone result
+            (HaveAlignments details.now → 2 ^ 63 ≤ bound details.now elements) }
     {
         if !details.has_alignments() {
             return None;
@@ -104,7 +105,8 @@ impl MessageLayout {
 
     /// How many bytes so many messages take, or `None` where that passes 2^64 - 1.
     pub(crate) fn memory(&self, chunks: usize) -> Option<usize>
-        ensures { MatchOption result (2 ^ 64 ≤ chunks * self.now.size) (λ bytes. bytes ≡ chunks * self.now.size) }
+        ensures { MatchOption result (2 ^ 64 ≤ chunks * self.now.size)
+            (λ bytes. bytes ≡ chunks * self.now.size) }
     {
         chunks.checked_mul(self.size)
     }
@@ -126,7 +128,8 @@ pub(crate) fn first_clash(
     opener: &MessageTypeDetails,
     service: &MessageTypeDetails,
 ) -> Option<Clash>
-    ensures { MatchOption result (Compatible opener.now service.now) (λ why. Clashes why opener.now service.now) }
+    ensures { MatchOption result (Compatible opener.now service.now)
+        (λ why. Clashes why opener.now service.now) }
 {
     if opener.is_compatible_to(service) {
         None

@@ -1,7 +1,8 @@
 //! The messages that the ports of a service send, and how many of them a port's data segment has room for.
 ghost use Rattle.iox2_static.specs.Chunks.{TellsGreatest};
 ghost use Rattle.iox2_static.specs.PublishSubscribe.{publish_subscribe_of, sample_limits};
-ghost use Rattle.iox2_static.specs.RequestResponse.{request_response_of, client_limits, server_limits};
+ghost use Rattle.iox2_static.specs.RequestResponse.{request_response_of, client_limits};
+ghost use Rattle.iox2_static.specs.RequestResponse.{server_limits};
 
 use crate::description::{Description, Exchange, Message};
 use iox2_config::config::Config;
@@ -21,9 +22,9 @@ pub(crate) struct Segment<'a> {
 
 /// How many samples of a publisher can be in use at once.
 fn samples(config: &Config) -> Option<usize>
-    ensures { TellsGreatest
-        (sample_limits (publish_subscribe_of config.now.defaults.publish_subscribe) config.now.defaults.publish_subscribe.publisher_max_loaned_samples)
-        result }
+    ensures { TellsGreatest (sample_limits
+        (publish_subscribe_of config.now.defaults.publish_subscribe)
+        config.now.defaults.publish_subscribe.publisher_max_loaned_samples) result }
 {
     let loans = config
         .defaults
@@ -34,9 +35,9 @@ fn samples(config: &Config) -> Option<usize>
 
 /// How many requests of a client can be in use at once.
 fn requests(config: &Config) -> Option<usize>
-    ensures { TellsGreatest
-        (client_limits (request_response_of config.now.defaults.request_response) config.now.defaults.request_response.max_loaned_requests)
-        result }
+    ensures { TellsGreatest (client_limits
+        (request_response_of config.now.defaults.request_response)
+        config.now.defaults.request_response.max_loaned_requests) result }
 {
     let loans = config.defaults.request_response.max_loaned_requests;
     request_response::StaticConfig::new(config).required_amount_of_chunks_per_client_data_segment(
@@ -46,9 +47,9 @@ fn requests(config: &Config) -> Option<usize>
 
 /// How many responses of a server can be in use at once.
 fn responses(config: &Config) -> Option<usize>
-    ensures { TellsGreatest
-        (server_limits (request_response_of config.now.defaults.request_response) config.now.defaults.request_response.server_max_loaned_responses_per_request)
-        result }
+    ensures { TellsGreatest (server_limits
+        (request_response_of config.now.defaults.request_response)
+        config.now.defaults.request_response.server_max_loaned_responses_per_request) result }
 {
     let loans = config
         .defaults

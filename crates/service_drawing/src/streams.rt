@@ -1,7 +1,8 @@
 //! The program: a description comes from a reader, and goes to a writer as text or as a picture.
 ghost use Rattle.std.specs.Prelude.{◌≡◌, ◌<◌, ◌++◌, IfOk, OnOk};
 ghost use Rattle.std.specs.Io.KnownBytes.{Appends, IsAtEnd};
-ghost use Rattle.service_drawing.specs.Streams.{expected, bad_line_text, fault_text, status_of, output_text, error_text, Reported};
+ghost use Rattle.service_drawing.specs.Streams.{expected, bad_line_text, fault_text, status_of};
+ghost use Rattle.service_drawing.specs.Streams.{output_text, error_text, Reported};
 
 use crate::reading::{Wanted, read_description};
 use crate::svg::write_svg;
@@ -94,7 +95,8 @@ fn drawn(alloc: Global, form: Form, bytes: &[u8]) -> Result<String, Fault> {
 
 /// Writes one after the other.
 fn write_both<W: Write>(writer: &mut W, first: &[u8], second: &[u8]) -> io::Result<()>
-    ensures { OnOk result (Appends (W.contents writer.old) (W.contents writer.new) (first.now ++ second.now)) }
+    ensures { OnOk result
+        (Appends (W.contents writer.old) (W.contents writer.new) (first.now ++ second.now)) }
 {
     write_whole(writer, first)?;
     write_whole(writer, second)
@@ -102,7 +104,8 @@ fn write_both<W: Write>(writer: &mut W, first: &[u8], second: &[u8]) -> io::Resu
 
 /// Writes what was expected in the place of a bad line, and a newline.
 fn write_expected<E: Write>(errors: &mut E, prefix: &str, form: &str) -> io::Result<()>
-    ensures { OnOk result (Appends (E.contents errors.old) (E.contents errors.new) (expected prefix.now form.now)) }
+    ensures { OnOk result
+        (Appends (E.contents errors.old) (E.contents errors.new) (expected prefix.now form.now)) }
 {
     write_both(errors, b": expected ", prefix.as_bytes())?;
     write_both(errors, form.as_bytes(), b"\n")
@@ -110,7 +113,8 @@ fn write_expected<E: Write>(errors: &mut E, prefix: &str, form: &str) -> io::Res
 
 /// Writes the line that tells of a bad line.
 fn write_bad_line<E: Write>(errors: &mut E, line: usize, prefix: &str, form: &str) -> io::Result<()>
-    ensures { OnOk result (Appends (E.contents errors.old) (E.contents errors.new) (bad_line_text line prefix.now form.now)) }
+    ensures { OnOk result (Appends (E.contents errors.old) (E.contents errors.new)
+        (bad_line_text line prefix.now form.now)) }
 {
     let mut digits = Buffer::new();
     write_both(errors, b"bad line ", digits.format(line).as_bytes())?;
@@ -119,7 +123,8 @@ fn write_bad_line<E: Write>(errors: &mut E, line: usize, prefix: &str, form: &st
 
 /// Writes the line that tells why nothing was drawn.
 fn write_fault<E: Write>(errors: &mut E, fault: &Fault) -> io::Result<()>
-    ensures { OnOk result (Appends (E.contents errors.old) (E.contents errors.new) (fault_text fault.now)) }
+    ensures { OnOk result
+        (Appends (E.contents errors.old) (E.contents errors.new) (fault_text fault.now)) }
 {
     match fault {
         Fault::BadLine { line, prefix, form } => write_bad_line(errors, *line, prefix, form),
@@ -147,8 +152,10 @@ fn report<W: Write, E: Write>(
     errors: &mut E,
     end: &Result<String, Fault>,
 ) -> io::Result<()>
-    ensures output { OnOk result (Appends (W.contents output.old) (W.contents output.new) (output_text end.now)) }
-    ensures errors { OnOk result (Appends (E.contents errors.old) (E.contents errors.new) (error_text end.now)) }
+    ensures output { OnOk result
+        (Appends (W.contents output.old) (W.contents output.new) (output_text end.now)) }
+    ensures errors { OnOk result
+        (Appends (E.contents errors.old) (E.contents errors.new) (error_text end.now)) }
 {
     match end {
         Ok(text) => write_whole(output, text.as_bytes())?,

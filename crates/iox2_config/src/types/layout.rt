@@ -3,7 +3,8 @@ ghost use Rattle.std.specs.Prelude.{◌≡◌, ◌^◌, ◌<◌, ◌≤◌, ◌�
 ghost use Rattle.iox2_texts.specs.Multiple.{least_multiple};
 ghost use Rattle.iox2_config.specs.Blocks.{HoldsEverywhere};
 ghost use Rattle.iox2_config.specs.Compatible.{Compatible, Suits};
-ghost use Rattle.iox2_config.specs.Layout.{user_header_place, payload_place, bound, HaveAlignments, HasPlaces};
+ghost use Rattle.iox2_config.specs.Layout.{user_header_place, payload_place, bound, HaveAlignments};
+ghost use Rattle.iox2_config.specs.Layout.{HasPlaces};
 
 use super::message_details::MessageTypeDetails;
 use super::sample_layout::SampleLayout;

@@ -31,7 +31,9 @@ impl Default for MessageTypeDetails {
 }
 
 impl MessageTypeDetails {
-    ghost use Rattle.iox2_config.specs.declared.types.type_detail.TypeVariant.TheVariants.{FixedSize};
+    ghost use Rattle.iox2_config.specs.declared.types.type_detail.TypeVariant.TheVariants.{
+      FixedSize,
+    };
     ghost use Rattle.iox2_config.specs.TypeDetails.{detail, message, DescribesMessage};
 
     /// The details of messages with these three types. There is one header and one user header.

@@ -23,7 +23,9 @@ pub enum TypeVariant {
 
 impl Default for TypeVariant {
     ghost use Rattle.std.specs.Prelude.{◌≡◌};
-    ghost use Rattle.iox2_config.specs.declared.types.type_detail.TypeVariant.TheVariants.{FixedSize};
+    ghost use Rattle.iox2_config.specs.declared.types.type_detail.TypeVariant.TheVariants.{
+      FixedSize,
+    };
 
     ghost is_default = { λ variant. variant ≡ FixedSize };
 

@@ -5,7 +5,8 @@ ghost use Rattle.iox2_dynamic.specs.Details.{role_of};
 ghost use Rattle.iox2_dynamic.specs.Patterns.{kind_of, ports_of};
 ghost use Rattle.iox2_dynamic.specs.Ports.{AddsTo, RemovesFrom, RecoversBoth, CountsIn, ListsIn};
 ghost use Rattle.iox2_dynamic.specs.Ports.{has_ports_of};
-ghost use Rattle.iox2_dynamic.specs.Service.{HasRole, first_role, second_role, pattern_in, fresh_ports};
+ghost use Rattle.iox2_dynamic.specs.Service.{HasRole, first_role, second_role, pattern_in};
+ghost use Rattle.iox2_dynamic.specs.Service.{fresh_ports};
 
 use super::cleanup::PortCleanupAction;
 use super::port_details::PortDetails;
@@ -157,7 +158,8 @@ impl MessagingPattern {
         &mut self,
         handle: ContainerHandle,
     ) -> Result<ReleaseState, ContainerRemoveError>
-        ensures removed { RemovesFrom (first_role (kind_of self.old)) (second_role (kind_of self.old))
+        ensures removed { RemovesFrom
+            (first_role (kind_of self.old)) (second_role (kind_of self.old))
             (ports_of self.old) handle result (ports_of self.new) }
         ensures kind { kind_of self.new ≡ kind_of self.old }
     {

@@ -126,7 +126,8 @@ impl<A: PortKind, B: PortKind> PortRegistries<A, B> {
     )
         requires { F.IsAlwaysCallable f.old }
         ensures recovered { RecoversBoth F.step dead.now
-            (ports_as A.details B.details self.old) f.old (ports_as A.details B.details self.new) f.new }
+            (ports_as A.details B.details self.old) f.old
+            (ports_as A.details B.details self.new) f.new }
         ensures callable { F.IsAlwaysCallable f.new }
     {
         recover_ports(&mut self.first, dead, f);

@@ -50,7 +50,10 @@ impl Model for Time {
 
     ghost view = { λ time. record { seconds = time.seconds; nanoseconds = time.nanoseconds } };
 
-    ghost inverse = { λ moment. record { seconds = moment.seconds; nanoseconds = moment.nanoseconds } };
+    ghost inverse = { λ moment. record {
+      seconds = moment.seconds;
+      nanoseconds = moment.nanoseconds;
+    } };
 }
 
 impl Time {

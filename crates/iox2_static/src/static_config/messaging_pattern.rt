@@ -38,7 +38,8 @@ impl fmt::Display for MessagingPattern {
 impl MessagingPattern {
     ghost use Rattle.std.specs.Borrow.{sem};
     ghost use Rattle.iox2_static.specs.MessagingPattern.{kind_of};
-    ghost use Rattle.iox2_static.specs.PatternLoans.{LendsRequestResponse, LendsPublishSubscribe, LendsEvent, LendsBlackboard};
+    ghost use Rattle.iox2_static.specs.PatternLoans.{LendsRequestResponse, LendsPublishSubscribe};
+    ghost use Rattle.iox2_static.specs.PatternLoans.{LendsEvent, LendsBlackboard};
 
     /// The kind of the pattern, without its configuration.
     pub fn kind(&self) -> PatternKind

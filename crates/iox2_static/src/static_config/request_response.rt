@@ -36,7 +36,8 @@ pub struct StaticConfig {
 
 impl StaticConfig {
     ghost use Rattle.iox2_static.specs.Chunks.{TellsGreatest};
-    ghost use Rattle.iox2_static.specs.RequestResponse.{request_response_of, client_limits, server_limits};
+    ghost use Rattle.iox2_static.specs.RequestResponse.{request_response_of, client_limits};
+    ghost use Rattle.iox2_static.specs.RequestResponse.{server_limits};
 
     /// The request-response defaults of a configuration, with the default type details.
     pub fn new(config: &Config) -> Self

@@ -1,5 +1,6 @@
 //! Sets of attributes.
-ghost use Rattle.std.specs.Prelude.{◌≡◌, ◌+◌, ◌<◌, ◌≤◌, ◌↔◌, [], ◌∷◌, Some, length, IsTrue, IsOk, OnOk, OnErr, Contains, slice_get};
+ghost use Rattle.std.specs.Prelude.{◌≡◌, ◌+◌, ◌<◌, ◌≤◌, ◌↔◌, [], ◌∷◌, Some, length, IsTrue, IsOk};
+ghost use Rattle.std.specs.Prelude.{OnOk, OnErr, Contains, slice_get};
 ghost use Rattle.std.specs.Option.{option_copied};
 ghost use Rattle.std.specs.Fn.{CalledAt};
 ghost use Rattle.iox2_texts.specs.Pair.{IsAttributes};

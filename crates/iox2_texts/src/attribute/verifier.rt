@@ -1,5 +1,6 @@
 //! What an opener requires of a set of attributes, and whether a set meets it.
-ghost use Rattle.std.specs.Prelude.{◌≡◌, ◌+◌, ◌<◌, ◌≤◌, ◌↔◌, [], ◌∷◌, ◌++◌, length, Some, IsTrue, IsOk, IfOk, All, Contains, MatchOption};
+ghost use Rattle.std.specs.Prelude.{◌≡◌, ◌+◌, ◌<◌, ◌≤◌, ◌↔◌, [], ◌∷◌, ◌++◌, length, Some, IsTrue};
+ghost use Rattle.std.specs.Prelude.{IsOk, IfOk, All, Contains, MatchOption};
 ghost use Rattle.std.specs.Option.{option_copied};
 ghost use Rattle.iox2_texts.specs.Attribute.{IsListing, ContainsKey};
 ghost use Rattle.iox2_texts.specs.Pair.{IsAttributes};

@@ -1,6 +1,8 @@
 //! The lines of a message.
 ghost use Rattle.std.specs.Prelude.{◌≡◌, ◌∷◌, ◌++◌, ◌<◌, length, IfSome, IfOk};
-ghost use Rattle.service_drawing.specs.Lines.{type_text, payload_text, alignments_text, IsOpenerOf, type_front, payload_front, elements_front, opener_front, message_front};
+ghost use Rattle.service_drawing.specs.Lines.{type_text, payload_text, alignments_text, IsOpenerOf};
+ghost use Rattle.service_drawing.specs.Lines.{type_front, payload_front, elements_front};
+ghost use Rattle.service_drawing.specs.Lines.{opener_front, message_front};
 ghost use Rattle.iox2_config.specs.declared.types.type_detail.TypeVariant.TheVariants.{FixedSize};
 
 use super::wanted::Wanted;
@@ -14,7 +16,8 @@ pub(super) fn line_after<'a>(
     prefix: &str,
     word: &str,
 ) -> Option<(&'a str, &'a [u8])>
-    ensures spelled { IfSome result (λ found. bytes.now ≡ prefix.now ++ word.now ++ found.0.now ++ 10 ∷ found.1.now) }
+    ensures spelled { IfSome result (λ found.
+        bytes.now ≡ prefix.now ++ word.now ++ found.0.now ++ 10 ∷ found.1.now) }
     ensures shorter { IfSome result (λ found. length found.1.now < length bytes.now) }
 {
     let Some((line, rest)) = next_line(bytes) else {
@@ -126,7 +129,8 @@ fn fixed_before<'a>(
     word: &'static str,
     form: &'static str,
 ) -> Result<(TypeDetail, &'a [u8]), Wanted<'a>>
-    ensures spelled { IfOk result (λ found. bytes.now ≡ type_front (prefix.now ++ word.now) found.0 found.1.now) }
+    ensures spelled { IfOk result (λ found.
+        bytes.now ≡ type_front (prefix.now ++ word.now) found.0 found.1.now) }
     ensures variant { IfOk result (λ found. found.0.variant ≡ FixedSize) }
 {
     if let Some((text, rest)) = line_after(bytes, prefix, word) {
@@ -166,7 +170,8 @@ fn elements_before<'a>(
     prefix: &'static str,
     variant: TypeVariant,
 ) -> Result<(usize, &'a [u8]), Wanted<'a>>
-    ensures spelled { IfOk result (λ found. bytes.now ≡ elements_front prefix.now variant found.0 found.1.now) }
+    ensures spelled { IfOk result (λ found.
+        bytes.now ≡ elements_front prefix.now variant found.0 found.1.now) }
     ensures one { IfOk result (λ found. variant ≡ FixedSize → found.0 ≡ 1) }
 {
     if variant == TypeVariant::FixedSize {
@@ -190,7 +195,8 @@ fn opener_before<'a>(
     prefix: &'static str,
     service: &MessageTypeDetails,
 ) -> Result<(Option<MessageTypeDetails>, &'a [u8]), Wanted<'a>>
-    ensures spelled { IfOk result (λ found. bytes.now ≡ opener_front prefix.now found.0 found.1.now) }
+    ensures spelled { IfOk result (λ found.
+        bytes.now ≡ opener_front prefix.now found.0 found.1.now) }
     ensures same { IfOk result (λ found. IfSome found.0 (λ opener. IsOpenerOf opener service.now)) }
 {
     let Some((text, rest)) = line_after(bytes, prefix, "opener ") else {

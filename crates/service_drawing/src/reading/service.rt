@@ -34,7 +34,8 @@ pub(super) struct Service {
 
 /// The service that a line spells.
 fn service_in(line: &str) -> Option<Service>
-    ensures spelled { IfSome result (λ service. line.now ≡ pattern_word service.kind ++ service.name) }
+    ensures spelled { IfSome result (λ service.
+        line.now ≡ pattern_word service.kind ++ service.name) }
     ensures hash { IfSome result IsHashed }
 {
     let Some((kind, name)) = pattern_in(line) else {

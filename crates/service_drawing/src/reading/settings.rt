@@ -10,7 +10,8 @@ use crate::settings::{Settings, Value};
 /// The number and the value of the setting of this name, if there is one.
 fn find<S: Settings>(settings: &S, name: &str) -> Option<(usize, Value)>
     ensures name { IfSome result (λ found. slice_get S.names found.0 ≡ Some name.now) }
-    ensures value { IfSome result (λ found. slice_get (S.values settings.now) found.0 ≡ Some found.1) }
+    ensures value { IfSome result (λ found.
+        slice_get (S.values settings.now) found.0 ≡ Some found.1) }
 {
     for index in 0..32 {
         let Some((found, value)) = settings.row(index) else {
@@ -26,7 +27,8 @@ fn find<S: Settings>(settings: &S, name: &str) -> Option<(usize, Value)>
 /// Sets the setting whose name and value the text spells. Refused is one that is set already, and a value that it has
 /// anyway.
 fn set<S: Settings>(settings: &mut S, defaults: &S, text: &str) -> bool
-    ensures { IsTrue result → Sets S.names (S.values settings.old) text.now (S.values settings.new) }
+    ensures { IsTrue result →
+        Sets S.names (S.values settings.old) text.now (S.values settings.new) }
 {
     let Some((name, text)) = split_word(text) else {
         return false;

@@ -4,7 +4,8 @@ use super::{Settings, Value};
 use iox2_config::config::PublishSubscribe;
 
 impl Settings for PublishSubscribe {
-    ghost use Rattle.service_drawing.specs.Settings.{publish_subscribe_names, publish_subscribe_values};
+    ghost use Rattle.service_drawing.specs.Settings.{publish_subscribe_names};
+    ghost use Rattle.service_drawing.specs.Settings.{publish_subscribe_values};
 
     ghost names = { publish_subscribe_names };
 

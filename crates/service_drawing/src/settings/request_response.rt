@@ -4,7 +4,8 @@ use super::{Settings, Value};
 use iox2_config::config::RequestResonse;
 
 impl Settings for RequestResonse {
-    ghost use Rattle.service_drawing.specs.Settings.{request_response_names, request_response_values};
+    ghost use Rattle.service_drawing.specs.Settings.{request_response_names};
+    ghost use Rattle.service_drawing.specs.Settings.{request_response_values};
 
     ghost names = { request_response_names };
 

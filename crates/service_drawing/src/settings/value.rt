@@ -1,7 +1,13 @@
 //! The values of settings.
 ghost use Rattle.std.specs.Prelude.{◌≡◌, IfSome, Some};
 ghost use Rattle.service_drawing.specs.Settings.{value_text};
-ghost use Rattle.service_drawing.specs.declared.settings.value.Value.TheVariants.{Switch, Perhaps, Deadline, Backpressure, Allocation};
+ghost use Rattle.service_drawing.specs.declared.settings.value.Value.TheVariants.{
+  Switch,
+  Perhaps,
+  Deadline,
+  Backpressure,
+  Allocation,
+};
 
 use crate::reading::words::number;
 use iox2_config::config::{AllocationStrategy, BackpressureStrategy};
