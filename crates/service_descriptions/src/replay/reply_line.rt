@@ -1,5 +1,6 @@
 //! Reply lines.
-ghost use Rattle.std.specs.Prelude.{◌≡◌, ◌+◌, ◌≤◌, ◌++◌, ◌∷◌, [], OnOk, OnErr, codes, decimal, drop, length, take, vec_len};
+ghost use Rattle.std.specs.Prelude.{◌≡◌, ◌+◌, ◌≤◌, ◌++◌, ◌∷◌, [], OnOk, OnErr, codes, decimal};
+ghost use Rattle.std.specs.Prelude.{drop, length, take, vec_len};
 ghost use Rattle.std.specs.List.{flat_map};
 ghost use Rattle.iox2_texts.specs.VerifyErrors.{verification_error_text};
 ghost use Rattle.service_descriptions.specs.Replies.{id_word, port_word, reply_line, reply_of};
@@ -41,7 +42,8 @@ fn append_number(word: &[u8], n: u64, out: &mut Vec<u8>) -> Result<(), AllocErro
 #[inline(always)]
 fn append_numbers(word: &[u8], first: u64, second: u64, out: &mut Vec<u8>) -> Result<(), AllocError>
     requires { length word.now ≤ 16 }
-    ensures ok { OnOk result (out.new.items ≡ out.old.items ++ (word.now ++ decimal first ++ codes " " ++ decimal second ++ 10 ∷ [])) }
+    ensures ok { OnOk result (out.new.items ≡ out.old.items
+        ++ (word.now ++ decimal first ++ codes " " ++ decimal second ++ 10 ∷ [])) }
     ensures err { OnErr result (out.new.items ≡ out.old.items) }
 {
     let mut line = [0u8; 64];
@@ -64,7 +66,8 @@ fn append_id(id: u128, out: &mut Vec<u8>) -> Result<(), AllocError>
 
 /// Appends the line of a list of nodes.
 fn append_nodes(ids: &[UniqueNodeId], out: &mut Vec<u8>) -> Result<(), AllocError>
-    ensures ok { OnOk result (out.new.items ≡ out.old.items ++ (codes "list" ++ flat_map id_word ids.now ++ 10 ∷ [])) }
+    ensures ok { OnOk result (out.new.items ≡ out.old.items
+        ++ (codes "list" ++ flat_map id_word ids.now ++ 10 ∷ [])) }
     ensures err { OnErr result (take (vec_len out.old) out.new.items ≡ out.old.items) }
 {
     out.extend_from_slice(b"list")?;
@@ -76,7 +79,8 @@ fn append_nodes(ids: &[UniqueNodeId], out: &mut Vec<u8>) -> Result<(), AllocErro
 
 /// Appends the line of a list of ports.
 fn append_ports(ports: &[PortDetails], out: &mut Vec<u8>) -> Result<(), AllocError>
-    ensures ok { OnOk result (out.new.items ≡ out.old.items ++ (codes "list" ++ flat_map port_word ports.now ++ 10 ∷ [])) }
+    ensures ok { OnOk result (out.new.items ≡ out.old.items
+        ++ (codes "list" ++ flat_map port_word ports.now ++ 10 ∷ [])) }
     ensures err { OnErr result (take (vec_len out.old) out.new.items ≡ out.old.items) }
 {
     out.extend_from_slice(b"list")?;
@@ -88,7 +92,8 @@ fn append_ports(ports: &[PortDetails], out: &mut Vec<u8>) -> Result<(), AllocErr
 
 /// Appends the line of what attributes lack.
 fn append_fault(fault: &AttributeVerificationError, out: &mut Vec<u8>) -> Result<(), AllocError>
-    ensures ok { OnOk result (out.new.items ≡ out.old.items ++ (codes "refused " ++ verification_error_text fault.now ++ 10 ∷ [])) }
+    ensures ok { OnOk result (out.new.items ≡ out.old.items
+        ++ (codes "refused " ++ verification_error_text fault.now ++ 10 ∷ [])) }
     ensures err { OnErr result (out.new.items ≡ out.old.items) }
 {
     let line = format!(in *out.allocator(); "refused {}\n", fault)?;

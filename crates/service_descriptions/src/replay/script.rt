@@ -3,7 +3,8 @@ ghost use Rattle.std.specs.Prelude.{◌≡◌, ◌∷◌, ◌++◌, IfOk, List, 
 ghost use Rattle.std.specs.Option.{option_map};
 ghost use Rattle.service_descriptions.specs.declared.replay.script.ScriptError.TheVariants.{NoMemory};
 ghost use Rattle.service_descriptions.specs.declared.replay.service_line.ServiceLine.{ServiceLine};
-ghost use Rattle.service_descriptions.specs.Script.{RanLine, Scripted, first_state, service_line, IsServiceLine};
+ghost use Rattle.service_descriptions.specs.Script.{RanLine, Scripted, first_state};
+ghost use Rattle.service_descriptions.specs.Script.{IsServiceLine, service_line};
 
 use super::line::next_command;
 use super::reply_line::write_line;
@@ -40,7 +41,8 @@ fn run_line<'a>(
     lines: &'a [u8],
     out: &mut Vec<u8>,
 ) -> Result<Option<&'a [u8]>, AllocError>
-    ensures ok { IfOk result (λ found. RanLine state.old lines.now out.old.items (option_map (λ rest. rest.now) found) state.new out.new.items) }
+    ensures ok { IfOk result (λ found. RanLine state.old lines.now out.old.items
+        (option_map (λ rest. rest.now) found) state.new out.new.items) }
     ensures err { OnErr result (out.new.items ≡ out.old.items) }
 {
     let Some((command, rest)) = next_command(alloc, lines)? else {
@@ -84,7 +86,8 @@ fn run_lines(
 /// At a bad line the replies to all commands before it have been appended. Where memory is refused, nothing has been
 /// appended, or the whole reply lines of some first commands.
 pub fn run_script(alloc: Global, script: &[u8], out: &mut Vec<u8>) -> Result<(), ScriptError>
-    ensures { (text : List ℕ) × (out.new.items ≡ out.old.items ++ text) × Scripted script.now result text }
+    ensures { (text : List ℕ) × (out.new.items ≡ out.old.items ++ text)
+        × Scripted script.now result text }
 {
     let Some((service, lines)) = service_before(script) else {
         return Err(ScriptError::BadLine(1));

@@ -66,7 +66,8 @@ impl Pattern {
 
 /// The pattern whose name stands at the front, and what follows the space after it.
 fn pattern_before(bytes: &[u8]) -> Option<(Pattern, &[u8])>
-    ensures { Reads IsPatternFront pattern_front (option_map (λ found. (found.0, found.1.now)) result) bytes.now }
+    ensures { Reads IsPatternFront pattern_front
+        (option_map (λ found. (found.0, found.1.now)) result) bytes.now }
 {
     if let Some(rest) = after_word(bytes, b"publish-subscribe ") {
         Some((Pattern::PublishSubscribe, rest))
@@ -83,7 +84,8 @@ fn pattern_before(bytes: &[u8]) -> Option<(Pattern, &[u8])>
 
 /// The service line with its newline that begins these bytes, and what follows the newline.
 pub(super) fn service_before(bytes: &[u8]) -> Option<(ServiceLine, &[u8])>
-    ensures { Reads IsServiceFront service_front (option_map (λ found. (found.0, found.1.now)) result) bytes.now }
+    ensures { Reads IsServiceFront service_front
+        (option_map (λ found. (found.0, found.1.now)) result) bytes.now }
 {
     let Some(rest) = after_word(bytes, b"service ") else {
         return None;

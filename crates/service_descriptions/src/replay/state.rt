@@ -1,5 +1,6 @@
 //! The state of a service under commands.
-ghost use Rattle.std.specs.Prelude.{◌≡◌, ◌+◌, ◌<◌, Some, IfOk, IsTrue, OnOk, OnErr, length, vec_len};
+ghost use Rattle.std.specs.Prelude.{◌≡◌, ◌+◌, ◌<◌, Some, IfOk, IsTrue};
+ghost use Rattle.std.specs.Prelude.{OnOk, OnErr, length, vec_len};
 ghost use Rattle.iox2_dynamic.specs.Service.{HasNoPort};
 ghost use Rattle.iox2_static.specs.MessagingPattern.{kind_of};
 ghost use Rattle.service_descriptions.specs.Lines.{command_of};
@@ -103,7 +104,8 @@ impl ServiceState {
         alloc: Global,
         command: &LineCommand,
     ) -> Result<LineReply, AllocError>
-        ensures ok { IfOk result (λ reply. ServiceStep self.old (command_of command.now) (reply_of reply) self.new) }
+        ensures ok { IfOk result
+            (λ reply. ServiceStep self.old (command_of command.now) (reply_of reply) self.new) }
         ensures err { OnErr result (self.new ≡ self.old) }
         ensures state { IsState self.new }
     {
@@ -136,7 +138,8 @@ pub fn replay(
     ensures err { OnErr result (vec_len replies.new < vec_len replies.old + length commands.now) }
     // The node of every port is registered, and no two handles are equal.
     ensures state { IsState state.new }
-    ensures no_port { IsTrue state.new.service.nodes.registry.locked → HasNoPort state.new.service.ports }
+    ensures no_port { IsTrue state.new.service.nodes.registry.locked
+        → HasNoPort state.new.service.ports }
 {
     let _service = &state.service;
     for command in commands {
@@ -163,7 +166,8 @@ pub fn replay_line(
         state.new replies.new.items) }
     ensures err { OnErr result ((state.new ≡ state.old) × (replies.new.items ≡ replies.old.items)) }
     ensures state { IsState state.new }
-    ensures no_port { IsTrue state.new.service.nodes.registry.locked → HasNoPort state.new.service.ports }
+    ensures no_port { IsTrue state.new.service.nodes.registry.locked
+        → HasNoPort state.new.service.ports }
 {
     let _service = &state.service;
     replies.reserve(1)?;
