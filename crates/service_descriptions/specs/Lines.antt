@@ -14,6 +14,7 @@ use Rattle.service_descriptions.specs.declared.replay.command.Cleanup.TheVariant
 use Rattle.service_descriptions.specs.declared.replay.command.Command.{Command}
 use Rattle.service_descriptions.specs.declared.replay.command.Command.TheVariants as command
 use Rattle.service_descriptions.specs.declared.replay.id.Parts.{Parts}
+use Rattle.service_descriptions.specs.declared.replay.id.PlainPort.{PlainPort}
 use Rattle.service_descriptions.specs.declared.replay.line_command.LineCommand.{LineCommand}
 use Rattle.service_descriptions.specs.declared.replay.line_command.LineCommand.TheVariants as spelled
 use Rattle.service_descriptions.specs.Reading.{EndsNumber}
@@ -180,6 +181,10 @@ GoesOn before bytes None after =
 abbrev pub value_of : Parts → ℕ
 value_of p = packed p.process p.seconds p.nanoseconds p.counter
 
+-- the details that a script gives a port
+abbrev pub plain_of : PlainPort → PortDetails
+plain_of p = plain p.role (value_of p.port) p.node
+
 -- the details of a port, and what follows them
 abbrev pub IsPlainFront : PortDetails × List ℕ → Type 0
 IsPlainFront front = IsPlain front.0 × EndsNumber front.1
@@ -223,7 +228,7 @@ abbrev pub command_of : LineCommand → Command
 command_of (spelled.Register id) = command.Register id
 command_of (spelled.Deregister k) = command.Deregister k
 command_of spelled.Nodes = command.Nodes
-command_of (spelled.Add details) = command.Add details
+command_of (spelled.Add port) = command.Add (plain_of port)
 command_of (spelled.Release k) = command.Release k
 command_of (spelled.List role) = command.List role
 command_of (spelled.Count role) = command.Count role

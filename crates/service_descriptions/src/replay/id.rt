@@ -4,7 +4,7 @@ ghost use Rattle.std.specs.Prelude.{◌≡◌, ◌<◌, ℕ, List, IfOk, IfSome,
 ghost use Rattle.std.specs.Option.{option_map};
 ghost use Rattle.iox2_ids.specs.Packing.{owner_of};
 ghost use Rattle.service_descriptions.specs.Reading.{Reads, EndsNumber};
-ghost use Rattle.service_descriptions.specs.Lines.{IsIdFront, IsNodeFront, IsPlainFront, IsRoleFront, IsSkipFront, IsDeadFront, dead_front, id_front, plain, plain_front, role_front, skip_front, value_of, GoesOn};
+ghost use Rattle.service_descriptions.specs.Lines.{IsIdFront, IsNodeFront, IsPlainFront, IsRoleFront, IsSkipFront, IsDeadFront, dead_front, id_front, plain_front, plain_of, role_front, skip_front, value_of, GoesOn};
 
 use super::number::{number_before, number_then};
 use super::word::{after, after_word};
@@ -119,64 +119,74 @@ pub(super) fn role_before(bytes: &[u8]) -> Option<(Role, &[u8])>
     }
 }
 
-/// The details that a script gives a port.
-fn plain_port(role: Role, port: Parts, node: UniqueNodeId) -> PortDetails
-    ensures { result ≡ plain role (value_of port) node }
-{
-    match role {
-        Role::Publisher => PortDetails::Publisher(PublisherDetails {
-            publisher_id: port.id(),
-            node_id: node,
-            number_of_samples: 0,
-            max_slice_len: 0,
-            data_segment_type: DataSegmentType::Static,
-            max_number_of_segments: 1,
-        }),
-        Role::Subscriber => PortDetails::Subscriber(SubscriberDetails {
-            subscriber_id: port.id(),
-            node_id: node,
-            buffer_size: 0,
-        }),
-        Role::Listener => PortDetails::Listener(ListenerDetails {
-            listener_id: port.id(),
-            node_id: node,
-        }),
-        Role::Notifier => PortDetails::Notifier(NotifierDetails {
-            notifier_id: port.id(),
-            node_id: node,
-        }),
-        Role::Server => PortDetails::Server(ServerDetails {
-            server_id: port.id(),
-            node_id: node,
-            request_buffer_size: 0,
-            number_of_responses: 0,
-            max_slice_len: 0,
-            data_segment_type: DataSegmentType::Static,
-            max_number_of_segments: 1,
-        }),
-        Role::Client => PortDetails::Client(ClientDetails {
-            client_id: port.id(),
-            node_id: node,
-            number_of_requests: 0,
-            response_buffer_size: 0,
-            max_slice_len: 0,
-            data_segment_type: DataSegmentType::Static,
-            max_number_of_segments: 1,
-        }),
-        Role::Writer => PortDetails::Writer(WriterDetails {
-            writer_id: port.id(),
-            node_id: node,
-        }),
-        Role::Reader | Role::Node => PortDetails::Reader(ReaderDetails {
-            reader_id: port.id(),
-            node_id: node,
-        }),
+/// A port as a line spells it.
+#[derive(Clone, Copy)]
+pub(super) struct PlainPort {
+    role: Role,
+    port: Parts,
+    node: UniqueNodeId,
+}
+
+impl PlainPort {
+    /// The details that a script gives the port.
+    pub(super) fn details(self) -> PortDetails
+        ensures { result ≡ plain_of self }
+    {
+        match self.role {
+            Role::Publisher => PortDetails::Publisher(PublisherDetails {
+                publisher_id: self.port.id(),
+                node_id: self.node,
+                number_of_samples: 0,
+                max_slice_len: 0,
+                data_segment_type: DataSegmentType::Static,
+                max_number_of_segments: 1,
+            }),
+            Role::Subscriber => PortDetails::Subscriber(SubscriberDetails {
+                subscriber_id: self.port.id(),
+                node_id: self.node,
+                buffer_size: 0,
+            }),
+            Role::Listener => PortDetails::Listener(ListenerDetails {
+                listener_id: self.port.id(),
+                node_id: self.node,
+            }),
+            Role::Notifier => PortDetails::Notifier(NotifierDetails {
+                notifier_id: self.port.id(),
+                node_id: self.node,
+            }),
+            Role::Server => PortDetails::Server(ServerDetails {
+                server_id: self.port.id(),
+                node_id: self.node,
+                request_buffer_size: 0,
+                number_of_responses: 0,
+                max_slice_len: 0,
+                data_segment_type: DataSegmentType::Static,
+                max_number_of_segments: 1,
+            }),
+            Role::Client => PortDetails::Client(ClientDetails {
+                client_id: self.port.id(),
+                node_id: self.node,
+                number_of_requests: 0,
+                response_buffer_size: 0,
+                max_slice_len: 0,
+                data_segment_type: DataSegmentType::Static,
+                max_number_of_segments: 1,
+            }),
+            Role::Writer => PortDetails::Writer(WriterDetails {
+                writer_id: self.port.id(),
+                node_id: self.node,
+            }),
+            Role::Reader | Role::Node => PortDetails::Reader(ReaderDetails {
+                reader_id: self.port.id(),
+                node_id: self.node,
+            }),
+        }
     }
 }
 
 /// The port that is spelled at the front, and what follows it.
-pub(super) fn plain_before(bytes: &[u8]) -> Option<(PortDetails, &[u8])>
-    ensures { Reads IsPlainFront plain_front (option_map (λ found. (found.0, found.1.now)) result) bytes.now }
+pub(super) fn plain_before(bytes: &[u8]) -> Option<(PlainPort, &[u8])>
+    ensures { Reads IsPlainFront plain_front (option_map (λ found. (plain_of found.0, found.1.now)) result) bytes.now }
 {
     let Some((role, rest)) = role_before(bytes) else {
         return None;
@@ -193,7 +203,7 @@ pub(super) fn plain_before(bytes: &[u8]) -> Option<(PortDetails, &[u8])>
     let Some((node, rest)) = id_before(rest) else {
         return None;
     };
-    Some((plain_port(role, port, node), rest))
+    Some((PlainPort { role, port, node }, rest))
 }
 
 /// Takes in the ports that are spelled at the front, each with a space before it, and gives what follows them.

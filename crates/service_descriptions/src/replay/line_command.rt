@@ -3,8 +3,8 @@ ghost use Rattle.std.specs.Prelude.{◌≡◌};
 ghost use Rattle.service_descriptions.specs.Lines.{command_of};
 
 use super::command::{Cleanup, Command};
+use super::id::PlainPort;
 use iox2_container::container::Role;
-use iox2_dynamic::dynamic_config::PortDetails;
 use iox2_ids::identifiers::UniqueNodeId;
 
 /// A command that a line can spell. It is small, where a [`Command`] has room for what a verifier requires.
@@ -13,7 +13,7 @@ pub(super) enum LineCommand {
     Register(UniqueNodeId),
     Deregister(usize),
     Nodes,
-    Add(PortDetails),
+    Add(PlainPort),
     Release(usize),
     List(Role),
     Count(Role),
@@ -29,7 +29,7 @@ impl LineCommand {
             LineCommand::Register(id) => Command::Register(id),
             LineCommand::Deregister(k) => Command::Deregister(k),
             LineCommand::Nodes => Command::Nodes,
-            LineCommand::Add(details) => Command::Add(details),
+            LineCommand::Add(port) => Command::Add(port.details()),
             LineCommand::Release(k) => Command::Release(k),
             LineCommand::List(role) => Command::List(role),
             LineCommand::Count(role) => Command::Count(role),

@@ -152,6 +152,7 @@ fn count(service: &DynamicConfig, number: u64, earlier: &[Earlier], role: Role) 
     }
 }
 
+#[inline(always)]
 fn dead(
     service: &mut DynamicConfig,
     number: u64,
@@ -188,11 +189,14 @@ pub(super) fn serve_line(
         LineCommand::Register(id) => Ok(register(service, number, earlier, *id)),
         LineCommand::Deregister(k) => Ok(deregister(service, number, earlier, *k)),
         LineCommand::Nodes => nodes(alloc, service, number, earlier),
-        LineCommand::Add(details) => Ok(add(service, number, earlier, *details)),
+        LineCommand::Add(port) => Ok(add(service, number, earlier, port.details())),
         LineCommand::Release(k) => Ok(release(service, number, earlier, *k)),
         LineCommand::List(role) => list(alloc, service, number, earlier, *role),
         LineCommand::Count(role) => Ok(count(service, number, earlier, *role)),
-        LineCommand::Dead(node, cleanup) => Ok(dead(service, number, earlier, node, cleanup)),
+        LineCommand::Dead(node, cleanup) => {
+            let node = *node;
+            Ok(dead(service, number, earlier, &node, cleanup))
+        }
     }
 }
 
