@@ -99,7 +99,9 @@ pub extern "C" fn iox2_client_chunks(
     max_active_requests_per_client: usize,
     loaned_requests: usize,
 ) -> CountAnswer
-    ensures { Counts (client_limits (request_response max_servers 0 max_active_requests_per_client 0 0) loaned_requests) result }
+    ensures { Counts (client_limits
+        (request_response max_servers 0 max_active_requests_per_client 0 0)
+        loaned_requests) result }
 {
     let config = request_response_of(max_servers, 0, max_active_requests_per_client, 0, 0);
     answer_of(config.required_amount_of_chunks_per_client_data_segment(loaned_requests))
@@ -117,8 +119,9 @@ pub extern "C" fn iox2_server_chunks(
     max_borrowed_responses_per_pending_response: usize,
     loaned_responses: usize,
 ) -> CountAnswer
-    ensures { Counts (server_limits (request_response 0 max_clients max_active_requests_per_client
-        max_response_buffer_size max_borrowed_responses_per_pending_response) loaned_responses) result }
+    ensures { Counts (server_limits (request_response
+        0 max_clients max_active_requests_per_client max_response_buffer_size
+        max_borrowed_responses_per_pending_response) loaned_responses) result }
 {
     let config = request_response_of(
         0,

@@ -1,6 +1,7 @@
 //! What a caller says of the parts of a message.
 ghost use Rattle.std.specs.Prelude.{◌≡◌};
-ghost use Rattle.iox2_ffi.specs.Details.{ReadsVariant, ReadsPart, ReadsDetails, ShapesPart, ShapesDetails};
+ghost use Rattle.iox2_ffi.specs.Details.{ReadsVariant, ReadsPart, ReadsDetails, ShapesPart};
+ghost use Rattle.iox2_ffi.specs.Details.{ShapesDetails};
 
 use super::status::Status;
 use iox2_config::types::{MessageTypeDetails, TypeDetail, TypeVariant};

@@ -58,7 +58,8 @@ pub extern "C" fn iox2_id_text(
     counter: u32,
     out: &mut [u8],
 ) -> TextAnswer
-    ensures { Writes (hexadecimal (packed process seconds nanoseconds counter)) out.old out.new result }
+    ensures { Writes (hexadecimal (packed process seconds nanoseconds counter))
+        out.old out.new result }
 {
     let id = UniqueServiceId::new(process, seconds, nanoseconds, counter);
     write(Hexadecimal::new(id.value()).as_str().as_bytes(), out)

@@ -24,7 +24,9 @@ impl Session {
         max_nodes: usize,
         number: u64,
     ) -> Result<Self, AllocError>
-        ensures { IfOk result (λ session. (session.state ≡ new_state settings.now max_nodes number) × (session.replies.items ≡ [])) }
+        ensures { IfOk result (λ session.
+            (session.state ≡ new_state settings.now max_nodes number)
+            × (session.replies.items ≡ [])) }
     {
         Ok(Session {
             state: ServiceState::new(alloc, settings, max_nodes, number)?,
