@@ -16,8 +16,8 @@
  * - No call starts a thread, takes a lock, or reads a file, the clock or the environment. There is no global state:
  *   calls may run on several threads at once, where they share no handle and no buffer. A handle stays on the thread
  *   on which it was made.
- * - Memory is taken by malloc and given back by free. Only iox2_service_make, _command, _reply and iox2_script_run take
- *   any; they answer IOX2_NO_MEMORY where malloc gives NULL. None of them is called from a signal handler.
+ * - Memory is taken by malloc and realloc, and given back by free. Only iox2_service_make, _command, _reply and
+ *   iox2_script_run take any; they answer IOX2_NO_MEMORY where NULL is given. None of them is called from a signal handler.
  *
  * What is proved, and what not
  *

@@ -75,6 +75,8 @@ fn laws_hold(rt: HostRuntime) {
     laws::skipped_ports_are_left();
     let copy = laws::settings_are_cloned(&settings(PatternKind::Event, 3, 5));
     assert!(rt;
-        matches!(copy, Ok(MessagingPatternSettings::Event(places)) if places.number_of_notifiers == 5)
+        matches!(
+            copy, Ok(MessagingPatternSettings::Event(places)) if places.number_of_notifiers == 5
+        )
     );
 }
