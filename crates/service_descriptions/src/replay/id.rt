@@ -4,7 +4,10 @@ ghost use Rattle.std.specs.Prelude.{◌≡◌, ◌<◌, ℕ, List, IfOk, IfSome,
 ghost use Rattle.std.specs.Option.{option_map};
 ghost use Rattle.iox2_ids.specs.Packing.{owner_of};
 ghost use Rattle.service_descriptions.specs.Reading.{Reads, EndsNumber};
-ghost use Rattle.service_descriptions.specs.Lines.{IsIdFront, IsNodeFront, IsPlainFront, IsRoleFront, IsSkipFront, IsDeadFront, dead_front, id_front, plain_front, plain_of, role_front, skip_front, value_of, GoesOn};
+ghost use Rattle.service_descriptions.specs.Lines.{IsIdFront, IsNodeFront, IsPlainFront};
+ghost use Rattle.service_descriptions.specs.Lines.{IsRoleFront, IsSkipFront, IsDeadFront};
+ghost use Rattle.service_descriptions.specs.Lines.{dead_front, id_front, plain_front, plain_of};
+ghost use Rattle.service_descriptions.specs.Lines.{role_front, skip_front, value_of, GoesOn};
 
 use super::number::{number_before, number_then};
 use super::word::{after, after_word};
@@ -57,7 +60,8 @@ impl Parts {
 /// The parts of the id that is spelled at the front, and what follows it.
 #[inline]
 fn parts_before(bytes: &[u8]) -> Option<(Parts, &[u8])>
-    ensures { Reads IsIdFront id_front (option_map (λ found. (value_of found.0, found.1.now)) result) bytes.now }
+    ensures { Reads IsIdFront id_front
+        (option_map (λ found. (value_of found.0, found.1.now)) result) bytes.now }
 {
     let Some((process, rest)) = number_then(bytes, MOST, b'.') else {
         return None;
@@ -83,7 +87,8 @@ fn parts_before(bytes: &[u8]) -> Option<(Parts, &[u8])>
 /// The node's id that is spelled at the front, and what follows it.
 #[inline]
 pub(super) fn id_before(bytes: &[u8]) -> Option<(UniqueNodeId, &[u8])>
-    ensures { Reads IsNodeFront id_front (option_map (λ found. (found.0, found.1.now)) result) bytes.now }
+    ensures { Reads IsNodeFront id_front (option_map (λ found. (found.0, found.1.now)) result)
+        bytes.now }
 {
     let Some((parts, rest)) = parts_before(bytes) else {
         return None;
@@ -96,7 +101,8 @@ pub(super) fn id_before(bytes: &[u8]) -> Option<(UniqueNodeId, &[u8])>
 
 /// The role of ports that is named at the front, and what follows it.
 pub(super) fn role_before(bytes: &[u8]) -> Option<(Role, &[u8])>
-    ensures { Reads IsRoleFront role_front (option_map (λ found. (found.0, found.1.now)) result) bytes.now }
+    ensures { Reads IsRoleFront role_front (option_map (λ found. (found.0, found.1.now)) result)
+        bytes.now }
 {
     if let Some(rest) = after_word(bytes, b"publisher") {
         Some((Role::Publisher, rest))
@@ -186,7 +192,8 @@ impl PlainPort {
 
 /// The port that is spelled at the front, and what follows it.
 pub(super) fn plain_before(bytes: &[u8]) -> Option<(PlainPort, &[u8])>
-    ensures { Reads IsPlainFront plain_front (option_map (λ found. (plain_of found.0, found.1.now)) result) bytes.now }
+    ensures { Reads IsPlainFront plain_front
+        (option_map (λ found. (plain_of found.0, found.1.now)) result) bytes.now }
 {
     let Some((role, rest)) = role_before(bytes) else {
         return None;
@@ -209,7 +216,8 @@ pub(super) fn plain_before(bytes: &[u8]) -> Option<(PlainPort, &[u8])>
 /// Takes in the ports that are spelled at the front, each with a space before it, and gives what follows them.
 fn more_ports<'a>(ports: &mut Vec<u128>, bytes: &'a [u8]) -> Result<Option<&'a [u8]>, AllocError>
     requires { EndsNumber bytes.now }
-    ensures { IfOk result (λ found. GoesOn ports.old.items bytes.now (option_map (λ rest. rest.now) found) ports.new.items) }
+    ensures { IfOk result (λ found. GoesOn ports.old.items bytes.now
+        (option_map (λ rest. rest.now) found) ports.new.items) }
 {
     let mut rest = bytes;
     while rest.len() > 0 {
@@ -228,7 +236,8 @@ fn more_ports<'a>(ports: &mut Vec<u128>, bytes: &'a [u8]) -> Result<Option<&'a [
 /// The ports that stay, if the word for them stands at the front, and what follows them.
 fn skips_before(alloc: Global, bytes: &[u8]) -> Result<Option<(Vec<u128>, &[u8])>, AllocError>
     requires { EndsNumber bytes.now }
-    ensures { IfOk result (λ found. Reads IsSkipFront skip_front (option_map (λ found. (found.0.items, found.1.now)) found) bytes.now) }
+    ensures { IfOk result (λ found. Reads IsSkipFront skip_front
+        (option_map (λ found. (found.0.items, found.1.now)) found) bytes.now) }
 {
     let mut ports = Vec::new(alloc);
     let Some(rest) = after_word(bytes, b" skip ") else {
@@ -249,7 +258,8 @@ pub(super) fn dead_before(
     alloc: Global,
     bytes: &[u8],
 ) -> Result<Option<(UniqueNodeId, Vec<u128>, &[u8])>, AllocError>
-    ensures { IfOk result (λ found. Reads IsDeadFront dead_front (option_map (λ found. (found.0, found.1.items, found.2.now)) found) bytes.now) }
+    ensures { IfOk result (λ found. Reads IsDeadFront dead_front
+        (option_map (λ found. (found.0, found.1.items, found.2.now)) found) bytes.now) }
 {
     let Some((id, rest)) = id_before(bytes) else {
         return Ok(None);
