@@ -1,11 +1,12 @@
 //! The program on streams of a test's own, which fail at a call that the test names.
-ghost use Rattle.std.specs.Prelude.{◌≤◌};
 
 use super::worked::{ROWS, SKIPPED};
 use service_descriptions::replay::run_streams;
 use std::alloc::Global;
 use std::io;
 use std::io::{ErrorKind, Read, Write};
+use std::process::Abort;
+use std::test::Fail;
 
 /// Counts calls, one of which fails.
 #[derive(Clone, Copy)]
@@ -35,52 +36,39 @@ impl Calls {
     }
 }
 
-/// Gives a text in pieces of at most 40 bytes.
+/// Gives a text in pieces of so many bytes at most, and notes the greatest piece that was asked for.
 #[derive(Clone, Copy)]
 struct Source<'a> {
     text: &'a [u8],
+    piece: usize,
+    greatest: usize,
     calls: Calls,
 }
 
 impl Read for Source<'_> {
     fn read(&mut self, buf: &mut [u8]) -> io::Result<usize> {
         self.calls.next()?;
-        let n = buf.len().min(self.text.len()).min(40);
+        self.greatest = self.greatest.max(buf.len());
+        let n = buf.len().min(self.text.len()).min(self.piece);
         buf[..n].copy_from_slice(&self.text[..n]);
         self.text = &self.text[n..];
         Ok(n)
     }
 }
 
-/// Takes at most 20 bytes at a call.
-#[derive(Clone, Copy)]
+/// Takes so many bytes at a call at most.
+#[derive(Drop)]
 struct Sink {
-    bytes: [u8; 400],
-    len: usize,
+    bytes: Vec<u8>,
+    piece: usize,
     calls: Calls,
-    ghost in_range: { len ≤ 400 },
-}
-
-impl Sink {
-    fn failing_at(failing: Option<u64>, kind: ErrorKind) -> Self {
-        Sink {
-            bytes: [0; 400],
-            len: 0,
-            calls: Calls::failing_at(failing, kind),
-        }
-    }
-
-    fn holds(&self, text: &str) -> bool {
-        self.bytes.starts_with(text.as_bytes()) && self.len == text.len()
-    }
 }
 
 impl Write for Sink {
     fn write(&mut self, buf: &[u8]) -> io::Result<usize> {
         self.calls.next()?;
-        let n = buf.len().min(20).min(400 - self.len);
-        self.bytes[self.len..self.len + n].copy_from_slice(&buf[..n]);
-        self.len += n;
+        let n = buf.len().min(self.piece);
+        self.bytes.extend_from_slice(&buf[..n])?;
         Ok(n)
     }
 
@@ -89,32 +77,104 @@ impl Write for Sink {
     }
 }
 
-/// Runs a script where each stream fails at the call of its own number, and with an error of this kind.
-fn run(
-    alloc: Global,
-    script: &str,
+/// How the input, the output and the errors behave.
+#[derive(Clone, Copy)]
+struct Streams {
+    /// How many bytes the input gives at a call, and the writers take, at most.
+    pieces: [usize; 2],
+    /// The call of each that fails.
     failing: [Option<u64>; 3],
     kind: ErrorKind,
-) -> (u8, [u64; 3], [Sink; 2]) {
+}
+
+impl Streams {
+    /// None of them fails.
+    fn steady(pieces: [usize; 2]) -> Self {
+        Streams {
+            pieces,
+            failing: [None; 3],
+            kind: ErrorKind::Other,
+        }
+    }
+}
+
+const PIECES: [usize; 2] = [40, 20];
+
+/// The status of a run, how many calls each stream had, and what each gave or got.
+#[derive(Drop)]
+struct Ended {
+    status: u8,
+    made: [u64; 3],
+    greatest: usize,
+    output: Vec<u8>,
+    errors: Vec<u8>,
+}
+
+fn run(alloc: Global, script: &[u8], streams: Streams) -> Ended {
+    let [read, write] = streams.pieces;
+    let [of_input, of_output, of_errors] = streams
+        .failing
+        .map(|call| Calls::failing_at(call, streams.kind));
     let mut input = Source {
-        text: script.as_bytes(),
-        calls: Calls::failing_at(failing[0], kind),
+        text: script,
+        piece: read,
+        greatest: 0,
+        calls: of_input,
     };
-    let mut output = Sink::failing_at(failing[1], kind);
-    let mut errors = Sink::failing_at(failing[2], kind);
+    let mut output = Sink {
+        bytes: Vec::new(alloc),
+        piece: write,
+        calls: of_output,
+    };
+    let mut errors = Sink {
+        bytes: Vec::new(alloc),
+        piece: write,
+        calls: of_errors,
+    };
     let status = run_streams(alloc, &mut input, &mut output, &mut errors);
-    let made = [input.calls.made, output.calls.made, errors.calls.made];
-    (status, made, [output, errors])
+    Ended {
+        status,
+        made: [input.calls.made, output.calls.made, errors.calls.made],
+        greatest: input.greatest,
+        output: output.bytes,
+        errors: errors.bytes,
+    }
+}
+
+/// A run on streams that do not fail gives this output and these errors, and asks for no more than 4,096 bytes at once.
+fn gives(
+    rt: &(impl Abort + AllocGlobal),
+    script: &str,
+    pieces: [usize; 2],
+    (status, lines, error): (u8, &str, &str),
+) {
+    let ended = run(rt.alloc(), script.as_bytes(), Streams::steady(pieces));
+    assert_eq!(rt;
+        (
+            script,
+            ended.status,
+            ended.greatest,
+            ended.output.as_slice(),
+            ended.errors.as_slice()
+        ),
+        (script, status, 4096, lines.as_bytes(), error.as_bytes())
+    );
 }
 
 #[test]
 fn worked_scripts(rt: HostRuntime) {
     for (script, lines) in ROWS {
-        let (status, _, [output, errors]) = run(rt.alloc(), script, [None; 3], ErrorKind::Other);
-        let held = [output.holds(lines), errors.holds("")];
-        assert_eq!(rt; (script, status, held), (script, 0, [true; 2]));
+        for pieces in [[1, 1], [40, 20], [4096, 4096]] {
+            gives(&rt, script, pieces, (0, lines, ""));
+        }
     }
 }
+
+/// A script of 67 bytes, which is bad at line 5, and the 47 bytes of its replies.
+const BAD: (&str, &str) = (
+    "service event 7 1 2 2\nregister 1.0.0.1\nregister 2.0.0.2\nnodes\nnode\n",
+    "handle 0 0\nfull\nlist 1000000000000000000000001\n",
+);
 
 #[test]
 fn statuses(rt: HostRuntime) {
@@ -140,6 +200,7 @@ fn statuses(rt: HostRuntime) {
             "handle 0 0\n",
             "bad line 3\n",
         ),
+        (BAD.0, 1, BAD.1, "bad line 5\n"),
         // No memory has room for so many nodes.
         (
             "service event 7 18446744073709551615 2 2\nregister 1.0.0.1\n",
@@ -149,43 +210,84 @@ fn statuses(rt: HostRuntime) {
         ),
     ];
     for (script, status, lines, error) in rows {
-        let (found, _, [output, errors]) = run(rt.alloc(), script, [None; 3], ErrorKind::Other);
-        let held = [output.holds(lines), errors.holds(error)];
-        assert_eq!(rt; (script, found, held), (script, status, [true; 2]));
+        gives(&rt, script, PIECES, (status, lines, error));
     }
 }
 
-const KINDS: [ErrorKind; 2] = [ErrorKind::Other, ErrorKind::Interrupted];
+/// A service with a node that stays and one that comes and goes 2,500 times, and its reply lines.
+fn long_script(alloc: Global) -> Result<(String, String), Fail> {
+    let mut script = String::from_str(alloc, "service event 7 2 2 2\nregister 1.0.0.1\n")?;
+    let mut lines = String::from_str(alloc, "handle 0 0\n")?;
+    for turn in 0..2500u64 {
+        writeln!(script, "register 2.0.0.2\nderegister {}", turn + turn + 1)?;
+        writeln!(lines, "handle 1 {}\nhas-owners", turn + 1)?;
+    }
+    Ok((script, lines))
+}
+
+/// Over 2,000 reads, 5,000 commands, 3,000 writes and 60,000 bytes either way.
+#[test]
+fn a_long_script(rt: HostRuntime) -> Result<(), Fail> {
+    let (script, lines) = long_script(rt.alloc())?;
+    let ended = run(rt.alloc(), script.as_bytes(), Streams::steady(PIECES));
+    // The last read finds the end, and both writers are flushed.
+    let reads = script.len().div_ceil(40) as u64 + 1;
+    let writes = lines.len().div_ceil(20) as u64 + 1;
+    assert_eq!(rt; (ended.status, ended.made), (0, [reads, writes, 1]));
+    assert!(rt; ended.output.as_slice() == lines.as_bytes() && ended.errors.is_empty());
+    Ok(())
+}
+
+/// Where a stream fails at a call, whatever the kind of the failure, the status is 3 and the streams have had so many calls.
+fn fails(rt: &(impl Abort + AllocGlobal), script: &str, failing: [Option<u64>; 3], made: [u64; 3]) {
+    for kind in [ErrorKind::Other, ErrorKind::Interrupted] {
+        let streams = Streams {
+            pieces: PIECES,
+            failing,
+            kind,
+        };
+        let ended = run(rt.alloc(), script.as_bytes(), streams);
+        let calls = ended.made;
+        assert_eq!(rt; (ended.status, calls), (3, made));
+    }
+}
 
 #[test]
 fn a_read_that_fails(rt: HostRuntime) {
     // The script is read in six pieces, and the last read finds its end.
     for call in 0..7 {
-        for kind in KINDS {
-            let (status, made, _) = run(rt.alloc(), SKIPPED.0, [Some(call), None, None], kind);
-            assert_eq!(rt; (status, made), (3, [call + 1, 0, 0]));
-        }
+        fails(&rt, SKIPPED.0, [Some(call), None, None], [call + 1, 0, 0]);
     }
 }
 
 #[test]
-fn a_write_or_flush_of_the_output_that_fails(rt: HostRuntime) {
+fn a_write_or_flush_of_a_good_script_that_fails(rt: HostRuntime) {
     // The replies are written in ten pieces, and then flushed.
     for call in 0..11 {
-        for kind in KINDS {
-            let (status, made, _) = run(rt.alloc(), SKIPPED.0, [None, Some(call), None], kind);
-            assert_eq!(rt; (status, made[1], made[2]), (3, call + 1, 0));
-        }
+        fails(&rt, SKIPPED.0, [None, Some(call), None], [7, call + 1, 0]);
     }
+    // The flush of the errors comes last.
+    fails(&rt, SKIPPED.0, [None, None, Some(0)], [7, 11, 1]);
 }
 
+/// The output is written, then the errors, then the output is flushed, then the errors.
 #[test]
-fn a_write_or_flush_of_the_errors_that_fails(rt: HostRuntime) {
-    // The number of the bad line is written between two texts, and then flushed.
-    for call in 0..4 {
-        for kind in KINDS {
-            let (status, made, _) = run(rt.alloc(), "", [None, None, Some(call)], kind);
-            assert_eq!(rt; (status, made[2]), (3, call + 1));
-        }
+fn a_write_or_flush_of_a_bad_script_that_fails(rt: HostRuntime) {
+    // The script is read in two pieces and the replies are written in three, as is the error with its number.
+    for call in 0..3 {
+        fails(&rt, BAD.0, [None, Some(call), None], [3, call + 1, 0]);
+        fails(&rt, BAD.0, [None, None, Some(call)], [3, 3, call + 1]);
+    }
+    fails(&rt, BAD.0, [None, Some(3), None], [3, 4, 3]);
+    fails(&rt, BAD.0, [None, None, Some(3)], [3, 4, 4]);
+}
+
+/// A writer that takes no byte fails: it is not asked again.
+#[test]
+fn a_writer_that_takes_nothing(rt: HostRuntime) {
+    for (script, made) in [(SKIPPED.0, [7, 1, 0]), ("", [1, 0, 1])] {
+        let ended = run(rt.alloc(), script.as_bytes(), Streams::steady([40, 0]));
+        let calls = ended.made;
+        assert_eq!(rt; (ended.status, calls), (3, made));
     }
 }
