@@ -5,6 +5,8 @@
 #[cfg(test)]
 mod descriptions;
 #[cfg(test)]
+mod laws;
+#[cfg(test)]
 mod line_runs;
 #[cfg(test)]
 mod lines;

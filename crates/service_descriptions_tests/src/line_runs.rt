@@ -23,7 +23,11 @@ fn serve_line(
 }
 
 /// Lines of all kinds, good and bad.
-fn serve_lines(alloc: Global, state: &mut ServiceState, out: &mut Vec<u8>) -> Result<(), AllocError> {
+fn serve_lines(
+    alloc: Global,
+    state: &mut ServiceState,
+    out: &mut Vec<u8>,
+) -> Result<(), AllocError> {
     let lines = [
         "register 1.0.0.1",
         // A bad line is no command: the next handle is that of command 1.

@@ -3,8 +3,12 @@
 use service_descriptions::attribute::{AttributeKey, AttributeVerificationError};
 use service_descriptions::config::DataSegmentType;
 use service_descriptions::container::{ContainerHandle, Role};
-use service_descriptions::dynamic_config::{ListenerDetails, PortDetails, PublisherDetails};
-use service_descriptions::identifiers::{UniqueListenerId, UniqueNodeId, UniquePublisherId};
+use service_descriptions::dynamic_config::{
+    ListenerDetails, PortDetails, PublisherDetails, WriterDetails,
+};
+use service_descriptions::identifiers::{
+    UniqueListenerId, UniqueNodeId, UniquePublisherId, UniqueWriterId,
+};
 use service_descriptions::replay::{Cleanup, Command, Reply, read_line, write_reply};
 use std::alloc::{AllocError, Global};
 use std::test::Fail;
@@ -50,7 +54,12 @@ fn commands(rt: HostRuntime) -> Result<(), Fail> {
         data_segment_type: DataSegmentType::Static,
         max_number_of_segments: 1,
     });
+    let writer = PortDetails::Writer(WriterDetails {
+        writer_id: UniqueWriterId::new(MOST, MOST, MOST, MOST),
+        node_id: last,
+    });
     let kept = vec![in alloc; 0x1_00000002_00000003_00000004u128, 0, 7]?;
+    let many_kept = vec![in alloc; u128::MAX, 7, u128::MAX]?;
     let rows = [
         ("register 1.2.3.4", Command::Register(one)),
         (
@@ -66,6 +75,10 @@ fn commands(rt: HostRuntime) -> Result<(), Fail> {
         ("nodes", Command::Nodes),
         ("add publisher 1.1.0.10 1.2.3.4", Command::Add(publisher)),
         ("add listener 0.0.0.0 1.2.3.4", Command::Add(listener(one))),
+        (
+            "add writer 4294967295.4294967295.4294967295.4294967295 4294967295.4294967295.4294967295.4294967295",
+            Command::Add(writer),
+        ),
         ("release 7", Command::Release(7)),
         ("list subscriber", Command::List(Role::Subscriber)),
         ("list notifier", Command::List(Role::Notifier)),
@@ -80,6 +93,10 @@ fn commands(rt: HostRuntime) -> Result<(), Fail> {
         (
             "dead 1.2.3.4 skip 1.2.3.4 0.0.0.0 0.0.0.7",
             Command::Dead(one, Cleanup::ByPort(kept)),
+        ),
+        (
+            "dead 4294967295.4294967295.4294967295.4294967295 skip 4294967295.4294967295.4294967295.4294967295 0.0.0.7 4294967295.4294967295.4294967295.4294967295",
+            Command::Dead(last, Cleanup::ByPort(many_kept)),
         ),
     ];
     for (line, command) in &rows {
@@ -151,6 +168,7 @@ fn no_commands(rt: HostRuntime) -> Result<(), Fail> {
         "dead 1.0.0.1 skip  1.0.0.9",
         "dead 1.0.0.1 skip 1.0.0.9  1.0.0.10",
         "dead 1.0.0.1 1.0.0.9",
+        "dead 1.0.0.1 skip 4294967295.4294967295.4294967295.4294967295 4294967295.4294967295.4294967295.4294967296",
         "verify",
         "layout message 1",
     ];

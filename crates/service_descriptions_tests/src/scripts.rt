@@ -2,7 +2,9 @@
 
 use super::worked::{ROWS, SKIPPED};
 use service_descriptions::replay::{ScriptError, run_script};
+use std::alloc::AllocError;
 use std::process::Abort;
+use std::test::Fail;
 
 /// Runs a script, which is to give these lines, and to be bad at a line or at none.
 fn gives(rt: &(impl Abort + AllocGlobal), script: &str, lines: &str, bad: Option<usize>) {
@@ -119,4 +121,26 @@ fn replies_before_a_bad_line(rt: HostRuntime) {
         "handle 0 0\n",
         Some(3),
     );
+}
+
+#[test]
+fn a_line_that_is_no_text(rt: HostRuntime) {
+    let mut out = Vec::new(rt.alloc());
+    let end = run_script(rt.alloc(), b"service event 7 1 2 2\n\xc8\n", &mut out);
+    assert!(rt; matches!(end, Err(ScriptError::BadLine(2))) && out.is_empty());
+}
+
+#[test]
+fn each_end_has_its_text(rt: HostRuntime) -> Result<(), Fail> {
+    for (end, text) in [
+        (ScriptError::BadLine(1), "bad line 1"),
+        (
+            ScriptError::BadLine(usize::MAX),
+            "bad line 18446744073709551615",
+        ),
+        (ScriptError::from(AllocError), "no memory"),
+    ] {
+        assert_eq!(rt; format!(in rt.alloc(); "{end}")?.as_str(), text);
+    }
+    Ok(())
 }
