@@ -1,5 +1,5 @@
 //! `compare` where memory is refused. With ample memory it gives its full answer; where one request is refused
-//! (`bench/refuse_memory.sh` does that), both registries have made the calls of a beginning of it.
+//! (`bench/refuse_memory` does that), both registries have made the calls of a beginning of it.
 use super::comparison::by_scan;
 use super::nodes::node;
 use iox2_container::container::*;

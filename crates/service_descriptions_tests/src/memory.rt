@@ -1,5 +1,5 @@
 //! Calls that are refused memory. With ample memory they give their full answers; where one request is refused
-//! (`bench/refuse_memory.sh` does that), they give a beginning of these, and the rest when they are called again.
+//! (`bench/refuse_memory` does that), they give a beginning of these, and the rest when they are called again.
 
 use super::stored_run;
 use super::worked::SKIPPED;
@@ -9,9 +9,11 @@ use service_descriptions::dynamic_config::{
 };
 use service_descriptions::identifiers::UniqueNodeId;
 use service_descriptions::replay::{
-    Cleanup, Command, Reply, ScriptError, ServiceState, read_line, replay, run_script, write_reply,
+    Cleanup, Command, Reply, ScriptError, ServiceState, read_line, replay, run_script, run_streams,
+    write_reply,
 };
 use std::alloc::{AllocError, Global};
+use std::process::Abort;
 use std::test::Fail;
 
 const SETTINGS: MessagingPatternSettings = MessagingPatternSettings::PublishSubscribe(
@@ -21,34 +23,56 @@ const SETTINGS: MessagingPatternSettings = MessagingPatternSettings::PublishSubs
     },
 );
 
-/// The lines of commands. After the fifth a node dies whose ports are answered in order.
-const COMMANDS: [&str; 8] = [
+/// A node and two ports of each kind.
+const COMING: [&str; 5] = [
     "register 1.0.0.1",
     "add publisher 1.0.0.11 1.0.0.1",
     "add publisher 1.0.0.12 1.0.0.1",
     "add subscriber 1.0.0.13 1.0.0.1",
     "add subscriber 1.0.0.14 1.0.0.1",
-    "list publisher",
-    "list subscriber",
-    "nodes",
 ];
 
-const LINES: &str =
-    "handle 0 0\nhandle 0 0\nhandle 1 1\nhandle 0 0\nhandle 1 1\nhas-owners\nlist 100000000000000000000000c\nlist 100000000000000000000000d\nlist 1000000000000000000000001\n";
+const LISTINGS: [&str; 3] = ["list publisher", "list subscriber", "nodes"];
 
-/// The commands of the lines, and one that tells of a dead node.
-fn commands(alloc: Global, dead: UniqueNodeId) -> Result<Vec<Command>, AllocError> {
-    let actions: [PortCleanupAction; 3] = [RemovePort, SkipPort, SkipPort];
-    let mut commands = Vec::new(alloc);
-    for (i, line) in COMMANDS.iter().enumerate() {
-        if i == 5 {
-            let cleanup = Cleanup::ByOrder(Vec::from_array(alloc, actions)?);
-            commands.push(Command::Dead(dead, cleanup))?;
-        }
+const LINES: &str =
+    "handle 0 0\nhandle 0 0\nhandle 1 1\nhandle 0 0\nhandle 1 1\nhas-owners\nlist 100000000000000000000000c\nlist 100000000000000000000000d\nlist 1000000000000000000000001\nno-owners\nlist\nlist\nlist\n";
+
+/// Appends the commands of these lines.
+fn spell(alloc: Global, lines: &[&str], commands: &mut Vec<Command>) -> Result<(), AllocError> {
+    for line in lines {
         if let Some(command) = read_line(alloc, line.as_bytes())? {
             commands.push(command)?;
         }
     }
+    Ok(())
+}
+
+/// Appends the command that tells of a dead node, with these answers in order.
+fn die(
+    alloc: Global,
+    dead: UniqueNodeId,
+    answers: &[PortCleanupAction],
+    commands: &mut Vec<Command>,
+) -> Result<(), AllocError> {
+    let mut list = Vec::new(alloc);
+    list.extend_from_slice(answers)?;
+    commands.push(Command::Dead(dead, Cleanup::ByOrder(list)))?;
+    Ok(())
+}
+
+/// The node dies twice: the first time two of its ports stay.
+fn commands(alloc: Global, dead: UniqueNodeId) -> Result<Vec<Command>, AllocError> {
+    let mut commands = Vec::new(alloc);
+    spell(alloc, &COMING, &mut commands)?;
+    die(
+        alloc,
+        dead,
+        &[RemovePort, SkipPort, SkipPort],
+        &mut commands,
+    )?;
+    spell(alloc, &LISTINGS, &mut commands)?;
+    die(alloc, dead, &[], &mut commands)?;
+    spell(alloc, &LISTINGS, &mut commands)?;
     Ok(commands)
 }
 
@@ -122,19 +146,50 @@ fn a_run_goes_on_where_it_was_refused(rt: HostRuntime) -> Result<(), Fail> {
     Ok(())
 }
 
-#[test]
-fn a_script_gives_whole_lines(rt: HostRuntime) {
-    for (script, lines) in [(stored_run::SCRIPT, stored_run::LINES), SKIPPED] {
-        let mut out = Vec::new(rt.alloc());
-        match run_script(rt.alloc(), script.as_bytes(), &mut out) {
-            Ok(()) => assert_eq!(rt; out.as_slice(), lines.as_bytes()),
-            Err(ScriptError::BadLine(line)) => assert!(rt; false, "bad line {line}"),
-            Err(ScriptError::NoMemory(_)) => {
-                let whole = out.is_empty() || out.ends_with(b"\n");
-                assert!(rt; whole && lines.as_bytes().starts_with(&out));
-            }
+/// The status of a run of the program, and what it writes to its output and its errors, which have room for it.
+fn streamed(alloc: Global, script: &str) -> Result<(u8, Vec<u8>, Vec<u8>), AllocError> {
+    let mut output = Vec::with_capacity(alloc, 400)?;
+    let mut errors = Vec::with_capacity(alloc, 40)?;
+    let status = run_streams(alloc, &mut script.as_bytes(), &mut output, &mut errors);
+    Ok((status, output, errors))
+}
+
+/// Whether this is the text of some first lines.
+fn begins(lines: &str, text: &[u8]) -> bool {
+    lines.as_bytes().starts_with(text) && (text.is_empty() || text.ends_with(b"\n"))
+}
+
+/// The script gives all its lines, or is refused memory after some first ones. So does the program, and after the same ones
+/// where both are refused.
+fn gives_whole_lines(rt: &(impl Abort + AllocGlobal), script: &str, lines: &str) {
+    let mut text = Vec::new(rt.alloc());
+    let end = run_script(rt.alloc(), script.as_bytes(), &mut text);
+    let Ok((status, output, errors)) = streamed(rt.alloc(), script) else {
+        return;
+    };
+    match end {
+        Ok(()) => assert_eq!(rt; text.as_slice(), lines.as_bytes()),
+        Err(ScriptError::BadLine(line)) => assert!(rt; false, "bad line {line}"),
+        Err(ScriptError::NoMemory(_)) => {
+            assert!(rt; begins(lines, &text));
+            assert!(rt; status == 0 || output == text);
         }
     }
+    match status {
+        0 => assert_eq!(rt; (output.as_slice(), errors.len()), (lines.as_bytes(), 0)),
+        2 => assert!(rt; begins(lines, &output) && errors.as_slice() == b"no memory\n".as_slice()),
+        _ => assert!(rt; false, "status {status}"),
+    }
+}
+
+#[test]
+fn the_stored_run_gives_whole_lines(rt: HostRuntime) {
+    gives_whole_lines(&rt, stored_run::SCRIPT, stored_run::LINES);
+}
+
+#[test]
+fn a_script_with_ports_gives_whole_lines(rt: HostRuntime) {
+    gives_whole_lines(&rt, SKIPPED.0, SKIPPED.1);
 }
 
 #[test]
