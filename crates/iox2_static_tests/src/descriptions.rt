@@ -7,6 +7,8 @@ use iox2_static::static_config::{
 };
 use iox2_texts::attribute::{AttributeKey, AttributeSet, AttributeValue};
 use iox2_texts::service_name::ServiceName;
+use std::fmt;
+use std::fmt::Write;
 use std::hash::{DefaultHasher, Hash as _, Hasher};
 use std::process::Abort;
 
@@ -29,6 +31,16 @@ impl Hash for RefusingHasher {
 
     fn value(&self) -> Result<HashValue, HashError> {
         Err(HashError::HasherFailed)
+    }
+}
+
+/// A writer that refuses each text.
+#[derive(Drop)]
+struct RefusingWriter {}
+
+impl Write for RefusingWriter {
+    fn write_str(&mut self, _text: &str) -> fmt::Result {
+        Err(fmt::Error)
     }
 }
 
@@ -96,6 +108,8 @@ fn describes(
         (service_id(), 0, kind)
     );
     assert!(rt; service.copied() == *service);
+    let mut refusing = RefusingWriter {};
+    assert!(rt; write!(refusing, "{pattern}").is_err());
 }
 
 #[test]
