@@ -194,6 +194,7 @@ pub(super) fn serve_line(
         LineCommand::List(role) => list(alloc, service, number, earlier, *role),
         LineCommand::Count(role) => Ok(count(service, number, earlier, *role)),
         LineCommand::Dead(node, cleanup) => {
+            // A copy is lent, so that the command itself need not lie in memory.
             let node = *node;
             Ok(dead(service, number, earlier, &node, cleanup))
         }
