@@ -1,5 +1,5 @@
-//! Whole runs of the program: drawings worked out by hand, refusals, and streams that fail. They are tests of what no
-//! contract says: the text and the picture, and that a run succeeds with ample memory.
+//! Whole runs of the program: drawings worked out by hand, refusals, memory that is refused, and streams that fail. They are
+//! tests of what no contract says: the text and the picture, and that a run succeeds with ample memory.
 #![tactic(auto)]
 
 #[cfg(test)]
@@ -8,6 +8,8 @@ mod drawings;
 mod expected;
 #[cfg(test)]
 mod failing;
+#[cfg(test)]
+mod memory;
 #[cfg(test)]
 mod refusals;
 #[cfg(test)]
