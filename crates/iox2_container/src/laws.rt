@@ -1,4 +1,4 @@
-//! What holds of a container over every list of changes, from a new one on, and how `==`, hashing and `clone` see the
+//! What holds of a container over every list of changes, from a new one on, and how `==` and `clone` see the
 //! values that it takes and gives.
 ghost use Rattle.std.specs.Prelude.{◌≡◌, ◌↔◌, ◌≢◌, IsTrue, IsOkAnd, List, AllPairs, Any, fold};
 ghost use Rattle.iox2_container.specs.Handle.{Handle};

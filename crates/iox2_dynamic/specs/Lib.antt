@@ -1,9 +1,12 @@
+-- Promises: what the details of a port tell, what a service and its ports are, what the calls on them do and answer, and what
+-- becomes of the ports and nodes of a dead node.
 pub mod Details
+pub mod Service
+pub mod Ports
+pub mod PortsState
+pub mod Steps
 pub mod Recoveries
 pub mod Answers
-pub mod PortsState
-pub mod Ports
-pub mod Service
-pub mod Steps
+-- Inner facts: how private fields make what contracts see of a service.
 pub mod Patterns
 pub mod Fields

@@ -1,5 +1,7 @@
-pub mod Unchanged
+-- Promises: what opening a service, attaching a publisher, listing who is attached and removing dead nodes do, and what a
+-- refused call leaves.
 pub mod Opening
 pub mod Publishing
-pub mod Removal
 pub mod Members
+pub mod Removal
+pub mod Unchanged

@@ -2,7 +2,6 @@ pub mod Appending
 pub mod CommandLines
 pub mod Fronts
 pub mod Growing
-pub mod Kept
 pub mod Ids
 pub mod Moves
 pub mod Noting
@@ -11,5 +10,6 @@ pub mod OneReading
 pub mod Runs
 pub mod Scripts
 pub mod Services
+pub mod Serving
 pub mod Words
 pub mod SameReply

@@ -1,13 +1,17 @@
+-- Promises: the step of a service under a command and its parts, how ids, commands, services and replies are spelled, what a
+-- script is and gives, and what the streams of the program get.
+pub mod Steps
 pub mod Cleanups
 pub mod Descriptions
-pub mod Fields
 pub mod Handles
-pub mod Laws
-pub mod Lines
 pub mod Listings
-pub mod Pattern
+pub mod Lines
 pub mod Reading
 pub mod Replies
 pub mod Script
-pub mod Steps
 pub mod Streams
+-- Promises of no single call: what follows from those definitions.
+pub mod Laws
+-- Inner facts: how private fields make a state, and the names of patterns.
+pub mod Fields
+pub mod Pattern

@@ -1,5 +1,7 @@
-pub mod Extent
-pub mod Layout
+-- Promises: how a description is spelled, and what the streams of the program get.
 pub mod Lines
 pub mod Settings
 pub mod Streams
+-- Inner facts: where the parts of a drawn message lie.
+pub mod Extent
+pub mod Layout

@@ -18,6 +18,7 @@ pub(crate) fn file_name(
     ensures { MakesLegal (IsAllowed IsPlain 255) 255 (prefix.now ++ hash.now ++ suffix.now) result }
 {
     let mut name: ArrayVec<u8, 574> = ArrayVec::new();
+    // Never refused: 574 bytes are room for all three.
     let _fits = name.try_extend_from_slice(prefix.as_bytes());
     let _fits = name.try_extend_from_slice(hash.as_str().as_bytes());
     let _fits = name.try_extend_from_slice(suffix.as_bytes());

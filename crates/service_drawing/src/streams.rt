@@ -56,6 +56,7 @@ fn form_in(arguments: io::Result<Args>) -> Result<Form, Fault> {
         Err(why) if why.kind() == ErrorKind::OutOfMemory => return Err(Fault::NoMemory),
         Err(_) => return Err(Fault::BadArgument),
     };
+    // The program's name asks for nothing.
     let _program = words.next();
     let Some(word) = words.next() else {
         return Ok(Form::Text);

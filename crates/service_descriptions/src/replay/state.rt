@@ -141,6 +141,7 @@ pub fn replay(
     ensures no_port { IsTrue state.new.service.nodes.registry.locked
         → HasNoPort state.new.service.ports }
 {
+    // Tells the proof what is true of every state.
     let _service = &state.service;
     for command in commands {
         replies.reserve(1)?;
@@ -169,6 +170,7 @@ pub fn replay_line(
     ensures no_port { IsTrue state.new.service.nodes.registry.locked
         → HasNoPort state.new.service.ports }
 {
+    // Tells the proof what is true of every state.
     let _service = &state.service;
     replies.reserve(1)?;
     let Some(command) = line_command(alloc, line)? else {

@@ -4,7 +4,7 @@ use Rattle.service_descriptions.specs.declared.replay.state.ServiceState.TheInsi
 use Rattle.service_descriptions.specs.Fields.{state_of}
 use Rattle.service_descriptions.specs.Handles.{handles_in}
 use Rattle.service_descriptions.specs.Steps.{Serves, ServiceStep}
-use Rattle.service_descriptions.proofs.Kept.{served}
+use Rattle.service_descriptions.proofs.Serving.{served}
 use Rattle.service_descriptions.proofs.replay.state.ServiceState.serve.Goals as goal
 
 pub invariant_of-self-2 : goal.invariant_of-self-2

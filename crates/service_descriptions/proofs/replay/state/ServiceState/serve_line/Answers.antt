@@ -6,7 +6,7 @@ use Rattle.service_descriptions.specs.Handles.{handles_in}
 use Rattle.service_descriptions.specs.Steps.{Serves, ServiceStep}
 use Rattle.service_descriptions.specs.Lines.{command_of}
 use Rattle.service_descriptions.specs.Replies.{reply_of}
-use Rattle.service_descriptions.proofs.Kept.{line_serves, served}
+use Rattle.service_descriptions.proofs.Serving.{line_serves, served}
 use Rattle.service_descriptions.proofs.replay.state.ServiceState.serve_line.Goals as goal
 
 pub invariant_of-self-2 : goal.invariant_of-self-2
