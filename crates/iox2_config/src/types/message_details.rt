@@ -47,9 +47,10 @@ impl MessageTypeDetails {
             (detail FixedSize UserHeader.type_name UserHeader.SIZE UserHeader.ALIGNMENT)
             (detail payload_variant Payload.type_name Payload.SIZE Payload.ALIGNMENT)) result }
     {
-        Ok(MessageTypeDetails {
-            header: TypeDetail::new::<Header>(TypeVariant::FixedSize)?,
-            user_header: TypeDetail::new::<UserHeader>(TypeVariant::FixedSize)?,
+        let fixed = TypeVariant::FixedSize;
+        Ok(Self {
+            header: TypeDetail::new::<Header>(fixed)?,
+            user_header: TypeDetail::new::<UserHeader>(fixed)?,
             payload: TypeDetail::new::<Payload>(payload_variant)?,
         })
     }

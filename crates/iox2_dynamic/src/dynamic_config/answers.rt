@@ -28,8 +28,8 @@ impl DeregisterNodeState {
         ensures { state ≡ state_of result }
     {
         match state {
-            ReleaseState::Locked => DeregisterNodeState::NoMoreOwners,
-            ReleaseState::Unlocked => DeregisterNodeState::HasOwners,
+            ReleaseState::Unlocked => Self::HasOwners,
+            ReleaseState::Locked => Self::NoMoreOwners,
         }
     }
 }
