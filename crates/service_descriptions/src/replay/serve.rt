@@ -80,10 +80,7 @@ fn nodes(
     ensures { IfOk result (λ reply. Acts service.now (handles_in number earlier.now)
         commands.Nodes (reply_of reply) service.now) }
 {
-    match nodes_of(alloc, service) {
-        Ok(ids) => Ok(LineReply::Nodes(ids)),
-        Err(error) => Err(error),
-    }
+    Ok(LineReply::Nodes(nodes_of(alloc, service)?))
 }
 
 fn add(
@@ -133,13 +130,10 @@ fn list(
     ensures { IfOk result (λ reply. Acts service.now (handles_in number earlier.now)
         (commands.List role) (reply_of reply) service.now) }
 {
-    match ports_of(alloc, service, role) {
-        Ok(found) => match found {
-            Some(ports) => Ok(LineReply::Ports(ports)),
-            None => Ok(LineReply::WrongPattern),
-        },
-        Err(error) => Err(error),
-    }
+    Ok(match ports_of(alloc, service, role)? {
+        Some(ports) => LineReply::Ports(ports),
+        None => LineReply::WrongPattern,
+    })
 }
 
 fn count(service: &DynamicConfig, number: u64, earlier: &[Earlier], role: Role) -> LineReply
