@@ -1,25 +1,18 @@
 //! Commands on the description of a service.
 
+use super::serving::{new_service, serve};
 use service_descriptions::attribute::{
     AttributeKey, AttributeSet, AttributeValue, AttributeVerifier,
 };
 use service_descriptions::config::Config;
-use service_descriptions::dynamic_config::{MessagingPatternSettings, publish_subscribe};
 use service_descriptions::hash::Sha1Hasher;
 use service_descriptions::identifiers::{UniqueNodeId, UniqueServiceId};
-use service_descriptions::replay::{Command, MessagePart, ServiceState, replay, write_reply};
+use service_descriptions::replay::{Command, MessagePart, ServiceState};
 use service_descriptions::service_name::ServiceName;
 use service_descriptions::static_config::StaticConfig;
 use service_descriptions::types::{MessageTypeDetails, TypeDetail, TypeVariant};
 use std::alloc::{AllocError, Global};
 use std::test::Fail;
-
-const SETTINGS: MessagingPatternSettings = MessagingPatternSettings::PublishSubscribe(
-    publish_subscribe::DynamicConfigSettings {
-        number_of_subscribers: 2,
-        number_of_publishers: 2,
-    },
-);
 
 /// A publish-subscribe service with these messages and the attribute (a, 1).
 fn described(messages: MessageTypeDetails) -> Option<StaticConfig> {
@@ -47,21 +40,6 @@ fn describe(state: &mut ServiceState, messages: MessageTypeDetails) -> Result<()
         return Err("another pattern");
     }
     state.describe(description);
-    Ok(())
-}
-
-/// Appends the reply line of a command.
-fn serve(
-    alloc: Global,
-    state: &mut ServiceState,
-    command: Command,
-    out: &mut Vec<u8>,
-) -> Result<(), AllocError> {
-    let mut replies = Vec::new(alloc);
-    replay(alloc, state, &[command], &mut replies)?;
-    for reply in &replies {
-        write_reply(reply, out)?;
-    }
     Ok(())
 }
 
@@ -100,10 +78,10 @@ fn undescribed(
     out: &mut Vec<u8>,
 ) -> Result<(), AllocError> {
     if let Some(node) = UniqueNodeId::new(1, 0, 0, 1) {
-        serve(alloc, state, Command::Register(node), out)?;
+        serve(alloc, state, &[Command::Register(node)], out)?;
     }
     let layout = Command::Layout(MessagePart::Request, 1);
-    serve(alloc, state, layout, out)
+    serve(alloc, state, &[layout], out)
 }
 
 /// With the description of the defaults.
@@ -113,20 +91,20 @@ fn of_defaults(
     out: &mut Vec<u8>,
 ) -> Result<(), AllocError> {
     let layout = Command::Layout(MessagePart::Message, 1);
-    serve(alloc, state, layout, out)?;
+    serve(alloc, state, &[layout], out)?;
     let layout = Command::Layout(MessagePart::Request, 1);
-    serve(alloc, state, layout, out)?;
+    serve(alloc, state, &[layout], out)?;
     let places = Command::Places(MessagePart::Message, 0);
-    serve(alloc, state, places, out)
+    serve(alloc, state, &[places], out)
 }
 
 /// With that of three numbers: a layout, and places for headers at these places.
 fn of_eights(alloc: Global, state: &mut ServiceState, out: &mut Vec<u8>) -> Result<(), AllocError> {
     let layout = Command::Layout(MessagePart::Message, 2);
-    serve(alloc, state, layout, out)?;
+    serve(alloc, state, &[layout], out)?;
     for header in [0, 18446744073709551592, 18446744073709551600] {
         let places = Command::Places(MessagePart::Message, header);
-        serve(alloc, state, places, out)?;
+        serve(alloc, state, &[places], out)?;
     }
     Ok(())
 }
@@ -140,14 +118,14 @@ fn for_openers(
 ) -> Result<(), AllocError> {
     if let Some(types) = opener() {
         let compatible = Command::Compatible(MessagePart::Message, types);
-        serve(alloc, state, compatible, out)?;
+        serve(alloc, state, &[compatible], out)?;
     }
     if let Some(required) = requires_b() {
-        serve(alloc, state, Command::Verify(required), out)?;
+        serve(alloc, state, &[Command::Verify(required)], out)?;
     }
     let nothing = AttributeVerifier::new();
-    serve(alloc, state, Command::Verify(nothing), out)?;
-    serve(alloc, state, Command::Deregister(0), out)
+    serve(alloc, state, &[Command::Verify(nothing)], out)?;
+    serve(alloc, state, &[Command::Deregister(0)], out)
 }
 
 /// The description changes between calls.
@@ -163,7 +141,7 @@ fn serve_all(alloc: Global, state: &mut ServiceState, out: &mut Vec<u8>) -> Resu
 
 #[test]
 fn a_service_is_described_between_calls(rt: HostRuntime) -> Result<(), Fail> {
-    let mut state = ServiceState::new(rt.alloc(), &SETTINGS, 2, 9)?;
+    let mut state = new_service(rt.alloc(), "service publish-subscribe 9 2 2 2")?;
     let mut out = Vec::new(rt.alloc());
     serve_all(rt.alloc(), &mut state, &mut out)?;
     assert_eq!(rt;

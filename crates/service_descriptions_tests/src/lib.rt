@@ -3,6 +3,8 @@
 #![tactic(auto)]
 
 #[cfg(test)]
+mod deaths;
+#[cfg(test)]
 mod descriptions;
 #[cfg(test)]
 mod laws;
@@ -18,6 +20,8 @@ mod modules;
 mod runs;
 #[cfg(test)]
 mod scripts;
+#[cfg(test)]
+mod serving;
 #[cfg(test)]
 mod stored_run;
 #[cfg(test)]

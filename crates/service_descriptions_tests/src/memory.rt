@@ -1,15 +1,13 @@
 //! Calls that are refused memory. With ample memory they give their full answers; where one request is refused
 //! (`bench/refuse_memory` does that), they give a beginning of these, and the rest when they are called again.
 
-use super::stored_run;
+use super::serving::write_replies;
 use super::worked::SKIPPED;
-use service_descriptions::dynamic_config::PortCleanupAction::{RemovePort, SkipPort};
-use service_descriptions::dynamic_config::{
-    MessagingPatternSettings, PortCleanupAction, publish_subscribe,
-};
+use super::{deaths, stored_run};
+use service_descriptions::dynamic_config::{MessagingPatternSettings, publish_subscribe};
 use service_descriptions::identifiers::UniqueNodeId;
 use service_descriptions::replay::{
-    Cleanup, Command, Reply, ScriptError, ServiceState, read_line, replay, run_script, run_streams,
+    Command, Reply, ScriptError, ServiceState, read_line, replay, run_script, run_streams,
     write_reply,
 };
 use std::alloc::{AllocError, Global};
@@ -23,65 +21,10 @@ const SETTINGS: MessagingPatternSettings = MessagingPatternSettings::PublishSubs
     },
 );
 
-/// A node and two ports of each kind.
-const COMING: [&str; 5] = [
-    "register 1.0.0.1",
-    "add publisher 1.0.0.11 1.0.0.1",
-    "add publisher 1.0.0.12 1.0.0.1",
-    "add subscriber 1.0.0.13 1.0.0.1",
-    "add subscriber 1.0.0.14 1.0.0.1",
-];
-
-const LISTINGS: [&str; 3] = ["list publisher", "list subscriber", "nodes"];
-
-const LINES: &str =
-    "handle 0 0\nhandle 0 0\nhandle 1 1\nhandle 0 0\nhandle 1 1\nhas-owners\nlist 100000000000000000000000c\nlist 100000000000000000000000d\nlist 1000000000000000000000001\nno-owners\nlist\nlist\nlist\n";
-
-/// Appends the commands of these lines.
-fn spell(alloc: Global, lines: &[&str], commands: &mut Vec<Command>) -> Result<(), AllocError> {
-    for line in lines {
-        if let Some(command) = read_line(alloc, line.as_bytes())? {
-            commands.push(command)?;
-        }
-    }
-    Ok(())
-}
-
-/// Appends the command that tells of a dead node, with these answers in order.
-fn die(
-    alloc: Global,
-    dead: UniqueNodeId,
-    answers: &[PortCleanupAction],
-    commands: &mut Vec<Command>,
-) -> Result<(), AllocError> {
-    let mut list = Vec::new(alloc);
-    list.extend_from_slice(answers)?;
-    commands.push(Command::Dead(dead, Cleanup::ByOrder(list)))?;
-    Ok(())
-}
-
-/// The node dies twice: the first time two of its ports stay.
-fn commands(alloc: Global, dead: UniqueNodeId) -> Result<Vec<Command>, AllocError> {
-    let mut commands = Vec::new(alloc);
-    spell(alloc, &COMING, &mut commands)?;
-    die(
-        alloc,
-        dead,
-        &[RemovePort, SkipPort, SkipPort],
-        &mut commands,
-    )?;
-    spell(alloc, &LISTINGS, &mut commands)?;
-    die(alloc, dead, &[], &mut commands)?;
-    spell(alloc, &LISTINGS, &mut commands)?;
-    Ok(commands)
-}
-
 /// The lines of replies.
 fn lines(alloc: Global, replies: &[Reply]) -> Result<Vec<u8>, AllocError> {
     let mut out = Vec::new(alloc);
-    for reply in replies {
-        write_reply(reply, &mut out)?;
-    }
+    write_replies(replies, &mut out)?;
     Ok(out)
 }
 
@@ -117,9 +60,9 @@ fn lines_of(
 
 /// The commands, made again where memory was refused.
 fn commands_at_last(alloc: Global, dead: UniqueNodeId) -> Result<Vec<Command>, AllocError> {
-    match commands(alloc, dead) {
+    match deaths::commands(alloc, dead) {
         Ok(commands) => Ok(commands),
-        Err(_) => commands(alloc, dead),
+        Err(_) => deaths::commands(alloc, dead),
     }
 }
 
@@ -142,7 +85,7 @@ fn a_run_goes_on_where_it_was_refused(rt: HostRuntime) -> Result<(), Fail> {
     let node = UniqueNodeId::new(1, 0, 0, 1).ok_or("an id")?;
     let commands = commands_at_last(rt.alloc(), node)?;
     let text = run_lines(rt.alloc(), &commands)?;
-    assert_eq!(rt; text.as_slice(), LINES.as_bytes());
+    assert_eq!(rt; text.as_slice(), deaths::LINES.as_bytes());
     Ok(())
 }
 

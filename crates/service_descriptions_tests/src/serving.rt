@@ -1,0 +1,95 @@
+//! Services that tests make, the commands that lines spell, and the lines of replies.
+
+use service_descriptions::dynamic_config::{
+    MessagingPatternSettings, blackboard, event, publish_subscribe, request_response,
+};
+use service_descriptions::replay::{Command, Reply, ServiceState, read_line, replay, write_reply};
+use std::alloc::{AllocError, Global};
+use std::str::Split;
+use std::test::Fail;
+
+/// The settings of a pattern with this room for the ports recovered first, and for the others.
+fn settings(pattern: &str, first: usize, second: usize) -> Option<MessagingPatternSettings> {
+    match pattern {
+        "publish-subscribe" => Some(MessagingPatternSettings::PublishSubscribe(
+            publish_subscribe::DynamicConfigSettings {
+                number_of_subscribers: second,
+                number_of_publishers: first,
+            },
+        )),
+        "event" => Some(MessagingPatternSettings::Event(event::DynamicConfigSettings {
+            number_of_listeners: first,
+            number_of_notifiers: second,
+        })),
+        "request-response" => Some(MessagingPatternSettings::RequestResponse(
+            request_response::DynamicConfigSettings {
+                number_of_servers: first,
+                number_of_clients: second,
+            },
+        )),
+        "blackboard" => Some(MessagingPatternSettings::Blackboard(
+            blackboard::DynamicConfigSettings {
+                number_of_readers: first,
+                number_of_writers: second,
+            },
+        )),
+        _ => None,
+    }
+}
+
+/// The number that the next word spells.
+fn next_number(words: &mut Split<'_, char>) -> Option<usize> {
+    words.next()?.parse().ok()
+}
+
+/// The number, the room for nodes and the settings that follow the first word of a service line.
+fn asked(line: &str) -> Option<(u64, usize, MessagingPatternSettings)> {
+    let mut words = line.split(' ');
+    let pattern = words.next()?;
+    let number = next_number(&mut words)?;
+    let max_nodes = next_number(&mut words)?;
+    let first = next_number(&mut words)?;
+    let second = next_number(&mut words)?;
+    Some((number as u64, max_nodes, settings(pattern, first, second)?))
+}
+
+/// The service that a script's first line asks for.
+pub(super) fn new_service(alloc: Global, line: &str) -> Result<ServiceState, Fail> {
+    let words = line.strip_prefix("service ").ok_or("a service line")?;
+    let (number, max_nodes, settings) = asked(words).ok_or("a service line")?;
+    Ok(ServiceState::new(alloc, &settings, max_nodes, number)?)
+}
+
+/// Appends the commands that these lines spell.
+pub(super) fn spell(
+    alloc: Global,
+    lines: &[&str],
+    commands: &mut Vec<Command>,
+) -> Result<(), AllocError> {
+    for line in lines {
+        if let Some(command) = read_line(alloc, line.as_bytes())? {
+            commands.push(command)?;
+        }
+    }
+    Ok(())
+}
+
+/// Appends the lines of replies.
+pub(super) fn write_replies(replies: &[Reply], out: &mut Vec<u8>) -> Result<(), AllocError> {
+    for reply in replies {
+        write_reply(reply, out)?;
+    }
+    Ok(())
+}
+
+/// Gives the commands to the service in one call, and appends the lines of its replies.
+pub(super) fn serve(
+    alloc: Global,
+    state: &mut ServiceState,
+    commands: &[Command],
+    out: &mut Vec<u8>,
+) -> Result<(), AllocError> {
+    let mut replies = Vec::new(alloc);
+    replay(alloc, state, commands, &mut replies)?;
+    write_replies(&replies, out)
+}
