@@ -1,5 +1,6 @@
 //! Scripts that are bad at no line, and their reply lines.
 
+use super::deaths;
 use super::stored_run::{LINES, SCRIPT};
 
 /// Ports of two nodes of one process and one counter, one of which dies; one of its ports stays, and so does it.
@@ -9,13 +10,23 @@ pub(super) const SKIPPED: (&str, &str) = (
 );
 
 /// The scripts with their reply lines.
-pub(super) const ROWS: [(&str, &str); 13] = [
+pub(super) const ROWS: [(&str, &str); 16] = [
     (SCRIPT, LINES),
     SKIPPED,
     // A place is taken again under another ticket.
     (
         "service blackboard 0 2 0 0\nregister 1.0.0.1\nregister 2.0.0.2\nderegister 1\nregister 2.0.0.2\nnodes\n",
         "handle 0 0\nhandle 1 1\nhas-owners\nhandle 1 2\nlist 1000000000000000000000001 2000000000000000000000002\n",
+    ),
+    // Of the free places the one that was left last is taken first.
+    (
+        "service event 7 1 3 0\nregister 1.0.0.1\nadd listener 1.0.0.11 1.0.0.1\nadd listener 1.0.0.12 1.0.0.1\nadd listener 1.0.0.13 1.0.0.1\nrelease 1\nrelease 2\nadd listener 1.0.0.14 1.0.0.1\nadd listener 1.0.0.15 1.0.0.1\nlist listener\n",
+        "handle 0 0\nhandle 0 0\nhandle 1 1\nhandle 2 2\nreleased\nreleased\nhandle 1 3\nhandle 0 4\nlist 100000000000000000000000f 100000000000000000000000e 100000000000000000000000d\n",
+    ),
+    // The ports of a dead node leave their places in rising order.
+    (
+        "service event 7 2 3 0\nregister 1.0.0.1\nregister 2.0.0.2\nadd listener 1.0.0.10 1.0.0.1\nadd listener 1.0.0.11 2.0.0.2\nadd listener 1.0.0.12 1.0.0.1\ndead 1.0.0.1\nregister 1.0.0.1\nadd listener 1.0.0.13 1.0.0.1\nadd listener 1.0.0.14 1.0.0.1\nadd listener 1.0.0.15 1.0.0.1\nlist listener\n",
+        "handle 0 0\nhandle 1 1\nhandle 0 0\nhandle 1 1\nhandle 2 2\nhas-owners\nhandle 0 2\nhandle 2 3\nhandle 0 4\nfull\nlist 100000000000000000000000e 100000000000000000000000b 100000000000000000000000d\n",
     ),
     // No node is registered, so no port is attached.
     (
@@ -36,6 +47,11 @@ pub(super) const ROWS: [(&str, &str); 13] = [
     (
         "service event 7 0 2 2\nregister 1.0.0.1\ndead 1.0.0.1\nadd publisher 1.0.0.9 1.0.0.1\nrelease 7\ncount listener\n",
         "full\nhas-owners\nwrong-pattern\nno-handle\ncount 0\n",
+    ),
+    // Two ports of a dead node stay, one of each kind, and go at its next death.
+    (
+        "service publish-subscribe 9 2 2 2\nregister 1.0.0.1\nadd publisher 1.0.0.11 1.0.0.1\nadd publisher 1.0.0.12 1.0.0.1\nadd subscriber 1.0.0.13 1.0.0.1\nadd subscriber 1.0.0.14 1.0.0.1\ndead 1.0.0.1 skip 1.0.0.12 1.0.0.13\nlist publisher\nlist subscriber\nnodes\ndead 1.0.0.1\nlist publisher\nlist subscriber\nnodes\n",
+        deaths::LINES,
     ),
     // There is room for no port.
     (
