@@ -230,9 +230,11 @@ required by an opener
 ",
 );
 
-/// A message of no bytes, and an opener whose header has another alignment.
+/// The strategy that no other drawing names, a message of no bytes, and an opener whose header has
+/// another alignment.
 pub(super) const SMALLEST: (&str, &str) = (
     "publish-subscribe Tiny
+set publisher_allocation_strategy BestFit
 header 0 1 ()
 user-header 0 1 ()
 payload fixed 0 1 ()
@@ -259,7 +261,7 @@ settings, with ! where they differ from the defaults
   enable_safe_overflow                         true
   backpressure_strategy                        RetryUntilDelivered
   subscriber_expired_connection_buffer         128
-  publisher_allocation_strategy                Static
+! publisher_allocation_strategy                BestFit, by default Static
 
 message: 0 bytes at multiples of 1
 
