@@ -1,11 +1,13 @@
 -- What an add does.
-use Rattle.std.proofs.Common.{◌≡◌, ◌≢◌, ℕ, ◌+◌, ◌<◌, false, Option, Some, None, Ok, List, length, refl, sym, ◌∙◌, ap, subst, arith}
+use Rattle.std.proofs.Common.{◌≡◌, ◌≢◌, ℕ, ◌+◌, ◌<◌, false, Option, Some, None, Ok, List, length, map, refl, sym, ◌∙◌, ap, subst, arith}
 use Rattle.std.specs.Prelude.{All, slice_get, slice_set}
 use Rattle.std.proofs.Math.ListN.{length-set}
+use Rattle.std.proofs.lemmas.List.{length-map}
 use Rattle.std.proofs.lemmas.List.Elements.{All-weaker}
+use Rattle.iox2_container.specs.declared.container.cell.Cell.{Cell}
 use Rattle.iox2_container.specs.declared.container.cell.Occupant.{Occupant}
 use Rattle.iox2_container.specs.declared.container.ledger.Ledger.{Ledger}
-use Rattle.iox2_container.specs.Cells.{occupant}
+use Rattle.iox2_container.specs.Cells.{occupant, shown}
 use Rattle.iox2_container.specs.Handle.{Handle}
 use Rattle.iox2_container.specs.State.{Entry, RegistryState}
 use Rattle.iox2_container.specs.Steps.{Gains, AddStep}
@@ -16,8 +18,8 @@ use Rattle.iox2_container.proofs.Gaining.{length-Gains}
 use Rattle.iox2_container.proofs.Keeping.{kept_add}
 
 -- where not each slot has an entry, there is room for one
-pub room_for_one : {T : Type 0} (cells : List (Option (Occupant T))) (count n : ℕ) → count ≡ length (entries_from 0 cells) → n ≡ length cells → count ≢ n → length (entries_from 0 cells) < length cells
-room_for_one cells count n k e h = omega (arith, room_from 0 cells)
+pub room_for_one : {T N : Type 0} (cells : List (Cell T N)) (count n : ℕ) → count ≡ length (entries_from 0 (map shown cells)) → n ≡ length cells → count ≢ n → length (entries_from 0 (map shown cells)) < length cells
+room_for_one cells count n k e h = omega (arith, room_from 0 (map shown cells), length-map cells shown)
 
 gains_of_write : {T : Type 0} (a : Ledger) (cells s : List (Option (Occupant T))) (slot : ℕ) (d : T) → slice_get cells slot ≡ Some None → s ≡ slice_set cells slot (Some (occupant a.used d)) → Gains (entries_from 0 cells) (entries_from 0 s) (record { slot = slot; ticket = a.used; details = d })
 gains_of_write {T} a cells s slot d free e =

@@ -1,17 +1,46 @@
--- What is true of a free list.
-use Rattle.std.specs.Prelude.{◌≡◌, ◌≢◌, ℕ, ◌+◌, ◌≤◌, ◌<◌, Some, List, length, map, slice_get, All}
-use Rattle.iox2_container.specs.declared.container.cell.Cell.TheVariants.{Taken}
-use Rattle.iox2_container.specs.declared.container.free_list.FreeList.TheInside.{Inside}
+-- Free slots in a list that is threaded through their cells.
+use Rattle.std.specs.Prelude.{◌≡◌, ◌≢◌, ℕ, ◌+◌, ◌≤◌, ◌<◌, Option, Some, None, List, [], ◌∷◌, length, map, slice_get, All, ⊤}
+use Rattle.iox2_container.specs.declared.container.cell.Cell.{Cell}
+use Rattle.iox2_container.specs.declared.container.cell.Cell.TheVariants.{Taken, Free}
+use Rattle.iox2_container.specs.declared.container.free_list.FreeList.{FreeList}
 use Rattle.iox2_container.specs.Places.{entries_from}
 use Rattle.iox2_container.specs.Cells.{shown}
-use Rattle.iox2_container.specs.FreeLinks.{LeadsThrough}
+
+-- a cell that names the next free slot, where it is free
+abbrev pub Linked : Type 0 → Type 0
+Linked T = Cell T (Option ℕ)
+
+-- who follows the head through the cells visits these slots, and each once
+abbrev pub LeadsThrough : {T : Type 0} → List (Linked T) → Option ℕ → List ℕ → Type 0
+LeadsThrough cells None [] = ⊤
+LeadsThrough cells None (slot ∷ slots) = ⊥
+LeadsThrough cells (Some head) [] = ⊥
+LeadsThrough {T} cells (Some head) (slot ∷ slots) =
+    (head ≡ slot)
+    × All (λ later. later ≢ slot) slots
+    × ((next : Option ℕ) × (slice_get cells slot ≡ Some (Free next)) × LeadsThrough cells next slots)
+
+-- the cell is free, and names the next one
+abbrev pub IsFreeAt : {T : Type 0} → List (Linked T) → ℕ → Type 0
+IsFreeAt cells slot = (next : Option ℕ) × (slice_get cells slot ≡ Some (Free next))
+
+-- there is a slot to take
+abbrev pub HasFree : {T : Type 0} → List (Linked T) → Option ℕ → ℕ → Type 0
+HasFree cells (Some head) fresh = IsFreeAt cells head
+HasFree cells None fresh = fresh < length cells
+
+-- the first slot of the list was taken, or the first fresh one where the list is empty
+abbrev pub TakesFirst : {T : Type 0} → List (Linked T) → Option ℕ → ℕ → ℕ → Option ℕ → ℕ → Type 0
+TakesFirst cells (Some head) fresh slot head' fresh' =
+    (slot ≡ head) × (slice_get cells head ≡ Some (Free head')) × (fresh' ≡ fresh)
+TakesFirst cells None fresh slot head' fresh' = (slot ≡ fresh) × (head' ≡ None) × (fresh' ≡ fresh + 1)
 
 -- each slot that was used before is taken, or in the list once; each later one is free
-pub record IsFreeList {T : Type 0} (c : Inside T) : Type 0 where
+pub record IsFreeList {T : Type 0} (l : FreeList) (cells : List (Linked T)) : Type 0 where
   pub free : List ℕ
-  pub threads : LeadsThrough c.slots.cells c.head free
-  pub used_before : All (λ slot. slot < c.fresh) free
-  pub fresh_are_free : (slot : ℕ) → c.fresh ≤ slot → (ticket : ℕ) → (details : T)
-      → slice_get c.slots.cells slot ≢ Some (Taken ticket details)
-  pub all_counted : length (entries_from 0 (map shown c.slots.cells)) + length free ≡ c.fresh
-  pub fresh_within : c.fresh ≤ length c.slots.cells
+  pub threads : LeadsThrough cells l.head free
+  pub used_before : All (λ slot. slot < l.fresh) free
+  pub fresh_are_free : (slot : ℕ) → l.fresh ≤ slot → (ticket : ℕ) → (details : T)
+      → slice_get cells slot ≢ Some (Taken ticket details)
+  pub all_counted : length (entries_from 0 (map shown cells)) + length free ≡ l.fresh
+  pub fresh_within : l.fresh ≤ length cells

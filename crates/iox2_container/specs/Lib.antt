@@ -14,5 +14,4 @@ pub mod Cells
 pub mod Places
 pub mod Passes
 pub mod LedgerAndPlaces
-pub mod FreeLinks
 pub mod FreeList

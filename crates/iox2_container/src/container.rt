@@ -6,6 +6,7 @@ mod calls;
 mod cell;
 mod comparison;
 mod free_list;
+mod free_slots;
 mod handle;
 mod ledger;
 mod lowest_free;

@@ -4,71 +4,59 @@ ghost use Rattle.std.specs.Prelude.{length, map, slice_get};
 ghost use Rattle.iox2_container.specs.Places.{entries_from};
 ghost use Rattle.iox2_container.specs.Cells.{shown};
 
-use super::cell::{Cell, Occupant};
+use super::cell::Cell;
+use super::free_slots::FreeSlots;
 use super::places::Places;
-use super::slots::Slots;
-use std::alloc::{AllocError, Global};
 
-/// Places of which the free ones are found by a scan.
-pub type Scan<T> = Slots<Cell<T, ()>>;
+/// Finds the free places by a scan. It keeps nothing, so it goes with any cells.
+#[derive(Debug, Drop)]
+pub struct LowestFree;
 
-/// The lowest free slot.
-fn lowest_free<T: Copy>(slots: &mut Scan<T>) -> Option<usize>
-    ensures cells { map shown slots.new.cells ≡ map shown slots.old.cells }
-    ensures touched { slots.new.touches ≤ slots.old.touches + length slots.old.cells }
-    ensures counted { slots.old.touches ≤ slots.new.touches }
-    ensures free { IfSome result (λ i. slice_get (map shown slots.old.cells) i ≡ Some None) }
+/// The lowest free place.
+fn lowest_free<T: Copy>(places: &mut Places<T, ()>) -> Option<usize>
+    ensures cells { places.new.cells ≡ places.old.cells }
+    ensures touched { places.new.touches ≤ places.old.touches + length places.old.cells }
+    ensures counted { places.old.touches ≤ places.new.touches }
+    ensures free { IfSome result (λ i. slice_get (map shown places.old.cells) i ≡ Some None) }
     ensures lowest { IfSome result (λ i. (k : ℕ) → k < i
-        → slice_get (map shown slots.old.cells) k ≢ Some None) }
+        → slice_get (map shown places.old.cells) k ≢ Some None) }
     ensures full { IfNone result
-        (length slots.old.cells ≤ length (entries_from 0 (map shown slots.old.cells))) }
+        (length places.old.cells ≤ length (entries_from 0 (map shown places.old.cells))) }
 {
-    for slot in 0..slots.len() {
-        if slots.look(slot).is_none() {
+    for slot in 0..places.len() {
+        if places.look(slot).is_none() {
             return Some(slot);
         }
     }
     None
 }
 
-impl<T: Copy> Places<T> for Scan<T> {
-    ghost cells = { λ s. map shown s.cells };
+impl<T: Copy> FreeSlots<T> for LowestFree {
+    type Next = ();
 
-    ghost touches = { λ s. s.touches };
+    ghost fits = { λ _ _. Unit {0} };
 
     ghost most_for_put = { λ n. n + 1 };
 
-    fn all_free(alloc: Global, capacity: usize) -> Result<Self, AllocError> {
-        Slots::new(alloc, capacity, Cell::Free(()))
+    fn all_free() -> (Self, ()) {
+        (LowestFree, ())
     }
 
-    fn capacity(&self) -> usize {
-        self.len()
+    fn end(&self, places: &Places<T, ()>) -> usize {
+        places.len()
     }
 
-    fn end(&self) -> usize {
-        self.len()
-    }
-
-    fn look(&mut self, slot: usize) -> Option<Occupant<T>> {
-        self.read(slot).occupant()
-    }
-
-    fn put(&mut self, ticket: u64, details: T) -> usize {
-        match lowest_free(self) {
+    fn put(&mut self, places: &mut Places<T, ()>, ticket: u64, details: T) -> usize {
+        match lowest_free(places) {
             Some(slot) => {
-                self.write(slot, Cell::Taken { ticket, details });
+                places.write(slot, Cell::Taken { ticket, details });
                 slot
             }
             None => unreachable!(),
         }
     }
 
-    fn clear(&mut self, slot: usize) {
-        self.write(slot, Cell::Free(()));
-    }
-
-    fn peek_at(&self, slot: usize) -> Option<Occupant<T>> {
-        self.peek(slot).occupant()
+    fn clear(&mut self, places: &mut Places<T, ()>, slot: usize) {
+        places.write(slot, Cell::Free(()));
     }
 }

@@ -5,53 +5,59 @@ ghost use Rattle.iox2_container.specs.State.{IsRegistry};
 ghost use Rattle.iox2_container.specs.Steps.{AddStep, RemoveStep};
 
 use super::attached::Attached;
+use super::cell::Cell;
 use super::free_list::FreeList;
+use super::free_slots::FreeSlots;
 use super::handle::ContainerHandle;
 use super::ledger::Ledger;
-use super::lowest_free::Scan;
+use super::lowest_free::LowestFree;
 use super::passes::{count_of, sweep, visit};
 use super::places::{Places, find, take_out};
 use super::refusal::{ContainerAddFailure, ContainerRemoveError};
 use super::registry::Registry;
 use super::release::{ReleaseMode, ReleaseState};
 use super::role::Role;
+use super::slots::Slots;
 use iox2_ids::identifiers::UniqueNodeId;
 use iox2_texts::bounded::CallbackProgression;
 use std::alloc::{AllocError, Global};
-use std::marker::{Model, PhantomData};
+use std::marker::Model;
 
 /// A registry that puts each entry into the lowest free slot, which it finds by reading the slots from the first on.
 /// Adding touches at most one slot more often than there are slots, removing at most two slots.
-pub type Container<T> = SlotMap<T, Scan<T>>;
+pub type Container<T> = SlotMap<T, LowestFree>;
 
 /// A registry that puts each entry into the slot that was freed last, or else into the lowest that was never used.
 /// Adding and removing touch at most two slots.
-pub type ListContainer<T> = SlotMap<T, FreeList<T>>;
+pub type ListContainer<T> = SlotMap<T, FreeList>;
 
-/// A registry whose places find the free slots. An add touches slots at most as often as `most_for_put` of its places
-/// says, a removal at most twice.
+/// A registry, by what finds its free slots. An add touches slots at most as often as `most_for_put` of that says, a
+/// removal at most twice.
 #[derive(Debug, Drop)]
-pub struct SlotMap<T: Copy, P: Places<T>> {
+pub struct SlotMap<T: Copy, S: FreeSlots<T>> {
     ledger: Ledger,
-    places: P,
-    details: PhantomData<T>,
+    places: Places<T, S::Next>,
+    free: S,
 }
 
-impl<T: Copy, P: Places<T>> Model for SlotMap<T, P> {
+impl<T: Copy, S: FreeSlots<T>> Model for SlotMap<T, S> {
+    ghost use Rattle.std.specs.Prelude.{map};
+    ghost use Rattle.iox2_container.specs.Cells.{shown};
     ghost use Rattle.iox2_container.specs.ContainerState.{ContainerState};
     ghost use Rattle.iox2_container.specs.LedgerAndPlaces.{registry_of, AreRegistry};
 
     ghost Value = { ContainerState T };
 
     ghost view = { λ m. record {
-      registry = registry_of m.ledger (P.cells m.places);
-      touches = P.touches m.places;
+      registry = registry_of m.ledger (map shown m.places.cells);
+      touches = m.places.touches;
     } };
 
-    ghost invariant = { λ m. AreRegistry m.ledger (P.cells m.places) };
+    ghost invariant = { λ m.
+        AreRegistry m.ledger (map shown m.places.cells) × S.fits m.free m.places.cells };
 }
 
-impl<T: Copy, P: Places<T>> SlotMap<T, P> {
+impl<T: Copy, S: FreeSlots<T>> SlotMap<T, S> {
     /// An empty container of a service, for so many entries at a time and so many in all. Refused where there is no
     /// memory for its slots; no call on it takes memory afterwards.
     pub fn new(
@@ -63,16 +69,17 @@ impl<T: Copy, P: Places<T>> SlotMap<T, P> {
     ) -> Result<Self, AllocError>
         ensures { IfOk result (λ m. m ≡ fresh service role capacity tickets) }
     {
-        let places = P::all_free(alloc, capacity)?;
+        let (free, next) = S::all_free();
+        let places = Slots::new(alloc, capacity, Cell::Free(next))?;
         Ok(SlotMap {
             ledger: Ledger::new(service, role, tickets),
             places,
-            details: PhantomData,
+            free,
         })
     }
 }
 
-impl<T: Attached + Copy, P: Places<T>> Registry<T> for SlotMap<T, P> {
+impl<T: Attached + Copy, S: FreeSlots<T>> Registry<T> for SlotMap<T, S> {
     ghost state = { λ m. m.registry };
 
     ghost touches = { λ m. m.touches };
@@ -83,17 +90,17 @@ impl<T: Attached + Copy, P: Places<T>> Registry<T> for SlotMap<T, P> {
         ensures kept { IsRegistry self.new.registry }
         ensures touched { self.new.touches ≤ self.old.touches + 2 * self.old.registry.capacity }
         ensures few { self.new.touches ≤
-            self.old.touches + P.most_for_put self.old.registry.capacity }
+            self.old.touches + S.most_for_put self.old.registry.capacity }
         ensures counted { self.old.touches ≤ self.new.touches }
     {
         if self.ledger.is_locked() {
             return Err(ContainerAddFailure::IsLocked);
         }
-        if !self.ledger.has_ticket() || self.ledger.count() == self.places.capacity() {
+        if !self.ledger.has_ticket() || self.ledger.count() == self.places.len() {
             return Err(ContainerAddFailure::OutOfSpace);
         }
         let ticket = self.ledger.enter();
-        let slot = self.places.put(ticket, details);
+        let slot = self.free.put(&mut self.places, ticket, details);
         Ok(self.ledger.handle(slot, ticket))
     }
 
@@ -110,10 +117,10 @@ impl<T: Attached + Copy, P: Places<T>> Registry<T> for SlotMap<T, P> {
         ensures counted { self.old.touches ≤ self.new.touches }
     {
         let refused = Err(ContainerRemoveError::ContainerHandleNotOwnedByContainer);
-        if !self.ledger.may_have(handle, self.places.capacity()) {
+        if !self.ledger.may_have(handle, self.places.len()) {
             return refused;
         }
-        match take_out(&mut self.places, handle) {
+        match take_out(&mut self.places, &mut self.free, handle) {
             Some(_) => Ok(self.ledger.leave(1, mode)),
             None => refused,
         }
@@ -128,18 +135,18 @@ impl<T: Attached + Copy, P: Places<T>> Registry<T> for SlotMap<T, P> {
         if self.ledger.count() == 0 {
             return ReleaseState::of(self.ledger.is_locked());
         }
-        let gone = sweep(&mut self.places, dead, f);
+        let gone = sweep(&mut self.places, &mut self.free, dead, f);
         self.ledger.leave(gone, mode)
     }
 
     fn for_each<F: FnMut(&T) -> CallbackProgression>(&self, f: &mut F) {
         if self.ledger.count() > 0 {
-            visit(&self.places, f);
+            visit(&self.places, &self.free, f);
         }
     }
 
     fn get(&self, handle: ContainerHandle) -> Option<T> {
-        if !self.ledger.may_have(handle, self.places.capacity()) {
+        if !self.ledger.may_have(handle, self.places.len()) {
             return None;
         }
         find(&self.places, handle)
@@ -149,7 +156,7 @@ impl<T: Attached + Copy, P: Places<T>> Registry<T> for SlotMap<T, P> {
         if self.ledger.count() == 0 {
             return 0;
         }
-        count_of(&self.places, node)
+        count_of(&self.places, &self.free, node)
     }
 
     fn len(&self) -> usize {
@@ -157,7 +164,7 @@ impl<T: Attached + Copy, P: Places<T>> Registry<T> for SlotMap<T, P> {
     }
 
     fn capacity(&self) -> usize {
-        self.places.capacity()
+        self.places.len()
     }
 
     fn is_locked(&self) -> bool {

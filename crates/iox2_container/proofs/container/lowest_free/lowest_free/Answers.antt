@@ -6,5 +6,5 @@ use Rattle.iox2_container.proofs.container.lowest_free.lowest_free.Goals as goal
 
 pub returns-clause-full : goal.returns-clause-full
 returns-clause-full g c =
-    let all = full_from 0 (map shown c.args.slots.now.cells) (λ k l. c.loop-slot.invariant.taken k (omega (arith, c.len-slot-end.ensures, length-map c.args.slots.now.cells shown))) in
-    omega (arith, all, length-map c.args.slots.now.cells shown)
+    let all = full_from 0 (map shown c.args.places.now.cells) (λ k l. c.loop-slot.invariant.taken k (omega (arith, c.len-slot-end.ensures, length-map c.args.places.now.cells shown))) in
+    omega (arith, all, length-map c.args.places.now.cells shown)

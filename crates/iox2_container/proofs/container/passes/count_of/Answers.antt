@@ -1,4 +1,5 @@
-use Rattle.std.proofs.Common.{◌≡◌, ◌+◌, sym, ◌∙◌, ap, arith}
+use Rattle.std.proofs.Common.{◌≡◌, ◌+◌, sym, ◌∙◌, ap, arith, map}
+use Rattle.iox2_container.specs.Cells.{shown}
 use Rattle.iox2_container.specs.Steps.{is_of}
 use Rattle.iox2_container.proofs.CellEntries.{all_before}
 use Rattle.iox2_container.proofs.Counting.{counted, counted_more, few_more, one_if}
@@ -8,7 +9,7 @@ use Rattle.iox2_container.proofs.container.passes.count_of.Goals.{then-stands_fo
 
 pub returns : goal.returns
 returns g c =
-    let cells = g.P.Places.cells c.args.places.now in
+    let cells = map shown c.args.places.now.cells in
     c.loop-slot.invariant.count
     ∙ ap (counted (is_of g.T.Attached.node c.args.node.now)) (all_before 0 c.loop-slot.slot cells (λ slot later. c.end-slot-end.ensures.free slot (omega arith)))
 
@@ -19,6 +20,6 @@ loop-slot-preserved g c =
       | else-stands_for w ↦ w.count-is ∙ (add_zero c.loop-slot.count ∙ ap (λ b. c.loop-slot.count + one_if b) (sym w.if-stands_for.false))
     ] in
     record {
-      count = counted_more g.T.Attached.node c.args.node.now c.loop-slot.slot c.loop-slot.count c.if-stands_for.count (g.P.Places.cells c.args.places.now) c.peek_at.result c.stands_for.result c.peek_at.ensures c.stands_for.ensures by_is c.loop-slot.invariant.count;
+      count = counted_more g.T.Attached.node c.args.node.now c.loop-slot.slot c.loop-slot.count c.if-stands_for.count (map shown c.args.places.now.cells) c.peek_at.result c.stands_for.result c.peek_at.ensures c.stands_for.ensures by_is c.loop-slot.invariant.count;
       few = few_more c.loop-slot.count c.if-stands_for.count c.loop-slot.slot c.stands_for.result by_is c.loop-slot.invariant.few;
     }

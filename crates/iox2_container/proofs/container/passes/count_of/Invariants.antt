@@ -1,10 +1,11 @@
-use Rattle.std.proofs.Common.{◌≡◌, ◌≤◌, length, take}
+use Rattle.std.proofs.Common.{◌≡◌, ◌≤◌, length, take, map}
+use Rattle.iox2_container.specs.Cells.{shown}
 use Rattle.iox2_container.specs.Places.{entries_from}
 use Rattle.iox2_container.specs.Steps.{candidates, is_of}
 use Rattle.iox2_container.proofs.container.passes.count_of.Given as goal
 
 abbrev pub invariant-loop-slot : goal.invariant-loop-slot
 invariant-loop-slot g l = record {
-  count : l.count ≡ length (candidates (is_of g.T.Attached.node l.node) (entries_from 0 (take l.slot (g.P.Places.cells l.places))));
+  count : l.count ≡ length (candidates (is_of g.T.Attached.node l.node) (entries_from 0 (take l.slot (map shown l.places.cells))));
   few : l.count ≤ l.slot;
 }

@@ -1,5 +1,6 @@
-use Rattle.std.proofs.Common.{◌≡◌, ℕ, take, arith, add-one, sym, subst}
+use Rattle.std.proofs.Common.{◌≡◌, ℕ, take, arith, add-one, sym, subst, map}
 use Rattle.std.specs.Fn.{CalledAt}
+use Rattle.iox2_container.specs.Cells.{shown}
 use Rattle.iox2_container.specs.Places.{entries_from}
 use Rattle.iox2_container.proofs.CellEntries.{all_before}
 use Rattle.iox2_container.proofs.AskedInTurn.{details_of, GoesOn, goes_on, stops, ends, not_stop}
@@ -7,11 +8,11 @@ use Rattle.iox2_container.proofs.container.passes.visit.Goals as goal
 
 pub returns-in-Stop-clause-visit : goal.returns-in-Stop-clause-visit
 returns-in-Stop-clause-visit g c =
-    stops (CalledAt g.F.FnMut) c.args.f.now c.loop-slot.f c.show.new.f (g.P.Places.cells c.args.places.now) c.loop-slot.slot c.peek_at.result c.show.result c.peek_at.ensures c.show.ensures.asked c.in-Stop.is c.loop-slot.invariant.asked
+    stops (CalledAt g.F.FnMut) c.args.f.now c.loop-slot.f c.show.new.f (map shown c.args.places.now.cells) c.loop-slot.slot c.peek_at.result c.show.result c.peek_at.ensures c.show.ensures.asked c.in-Stop.is c.loop-slot.invariant.asked
 
 pub loop-slot-preserved : goal.loop-slot-preserved
 loop-slot-preserved g c =
-    let cells = g.P.Places.cells c.args.places.now in
+    let cells = map shown c.args.places.now.cells in
     record {
       callable = c.show.ensures.callable;
       asked =
@@ -21,7 +22,7 @@ loop-slot-preserved g c =
 
 pub returns-clause-visit : goal.returns-clause-visit
 returns-clause-visit g c =
-    let cells = g.P.Places.cells c.args.places.now in
+    let cells = map shown c.args.places.now.cells in
     let all : entries_from 0 (take c.loop-slot.slot cells) ≡ entries_from 0 cells = all_before 0 c.loop-slot.slot cells (λ slot later. c.end-slot-end.ensures.free slot (omega arith)) in
     ends (CalledAt g.F.FnMut) c.args.f.now c.loop-slot.f (details_of (entries_from 0 cells))
     (subst (λ es. GoesOn (CalledAt g.F.FnMut) c.args.f.now (details_of es) c.loop-slot.f) all c.loop-slot.invariant.asked)

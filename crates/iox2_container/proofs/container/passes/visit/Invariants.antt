@@ -1,6 +1,7 @@
-use Rattle.std.proofs.Common.{take}
+use Rattle.std.proofs.Common.{take, map}
 use Rattle.std.specs.Fn.{CalledAt}
 use denote.Param.Always.{always_mut}
+use Rattle.iox2_container.specs.Cells.{shown}
 use Rattle.iox2_container.specs.Places.{entries_from}
 use Rattle.iox2_container.proofs.AskedInTurn.{details_of, GoesOn}
 use Rattle.iox2_container.proofs.container.passes.visit.Given as goal
@@ -8,5 +9,5 @@ use Rattle.iox2_container.proofs.container.passes.visit.Given as goal
 abbrev pub invariant-loop-slot : goal.invariant-loop-slot
 invariant-loop-slot g l = record {
   callable : always_mut g.F.FnMut l.f;
-  asked : GoesOn (CalledAt g.F.FnMut) l.fn.f (details_of (entries_from 0 (take l.slot (g.P.Places.cells l.places)))) l.f;
+  asked : GoesOn (CalledAt g.F.FnMut) l.fn.f (details_of (entries_from 0 (take l.slot (map shown l.places.cells)))) l.f;
 }

@@ -1,7 +1,7 @@
-use Rattle.std.proofs.Common.{ℕ, Ok, Some, sym, ◌∙◌, ap, subst, arith}
+use Rattle.std.proofs.Common.{ℕ, Ok, Some, sym, ◌∙◌, ap, subst, arith, map}
 use Rattle.std.specs.Prelude.{slice_set}
 use Rattle.iox2_container.specs.declared.container.ledger.Ledger.{Ledger}
-use Rattle.iox2_container.specs.Cells.{occupant}
+use Rattle.iox2_container.specs.Cells.{occupant, shown}
 use Rattle.iox2_container.specs.ContainerState.{ContainerState}
 use Rattle.iox2_container.specs.Handle.{Handle}
 use Rattle.iox2_container.specs.LedgerAndPlaces.{registry_of, AreRegistry}
@@ -11,27 +11,29 @@ use Rattle.iox2_container.proofs.container.slot_map.SlotMapRegistry.add.Goals as
 
 pub enter-ticket-requires-clause-fits : goal.enter-ticket-requires-clause-fits
 enter-ticket-requires-clause-fits g c =
-    omega (arith, c.capacity.ensures, c.self.invariant.1, room_for_one (g.P.Places.cells c.self.inside.places) c.count.result c.capacity.result (c.count.ensures ∙ c.self.invariant.1) c.capacity.ensures c.if-count-capacity.false)
+    omega (arith, c.len.ensures, c.self.invariant.0.1, room_for_one c.self.inside.places.cells c.count.result c.len.result (c.count.ensures ∙ c.self.invariant.0.1) c.len.ensures c.if-count-len.false)
 
-pub put-slot-requires : goal.put-slot-requires
-put-slot-requires g c =
-    room_for_one (g.P.Places.cells c.self.inside.places) c.count.result c.capacity.result (c.count.ensures ∙ c.self.invariant.1) c.capacity.ensures c.if-count-capacity.false
+pub put-slot-requires-clause-room : goal.put-slot-requires-clause-room
+put-slot-requires-clause-room g c =
+    room_for_one c.self.inside.places.cells c.count.result c.len.result (c.count.ensures ∙ c.self.invariant.0.1) c.len.ensures c.if-count-len.false
 
 pub invariant_of-self : goal.invariant_of-self
 invariant_of-self g c =
     let old = c.self.inside.ledger in
-    let cells = g.P.Places.cells c.self.inside.places in
-    let new = g.P.Places.cells c.put-slot.new.self in
+    let cells = map shown c.self.inside.places.cells in
+    let new = map shown c.put-slot.new.places.cells in
     let slot = c.put-slot.result in
-    let written = c.put-slot.ensures.cells ∙ ap (λ t. slice_set cells slot (Some (occupant t c.args.details))) c.enter-ticket.ensures.ticket in
-    subst (λ (a : Ledger). AreRegistry a new) (sym c.enter-ticket.ensures.counted)
-    (kept_write old cells new slot c.args.details c.self.invariant c.put-slot.ensures.free written (sym c.is_locked.ensures ∙ c.if-is_locked.false) (c.has_ticket.ensures.0 c.if-not-has_ticket.false))
+    let written = c.put-slot.ensures.cells ∙ ap (λ t. slice_set cells slot (Some (occupant t c.args.details))) c.enter-ticket.ensures.ticket in (
+      subst (λ (a : Ledger). AreRegistry a new) (sym c.enter-ticket.ensures.counted)
+          (kept_write old cells new slot c.args.details c.self.invariant.0 c.put-slot.ensures.free written (sym c.is_locked.ensures ∙ c.if-is_locked.false) (c.has_ticket.ensures.0 c.if-not-has_ticket.false)),
+      c.put-slot.ensures.fits,
+    )
 
 pub returns-clause-step : goal.returns-clause-step
 returns-clause-step g c =
     let old = c.self.inside.ledger in
-    let cells = g.P.Places.cells c.self.inside.places in
-    let new = g.P.Places.cells c.put-slot.new.self in
+    let cells = map shown c.self.inside.places.cells in
+    let new = map shown c.put-slot.new.places.cells in
     let slot = c.put-slot.result in
     let written = c.put-slot.ensures.cells ∙ ap (λ t. slice_set cells slot (Some (occupant t c.args.details))) c.enter-ticket.ensures.ticket in
     let handle_by : Ledger → ℕ → Handle = λ a t. record { service = a.service; role = a.role; slot = slot; ticket = t } in
@@ -41,4 +43,4 @@ returns-clause-step g c =
     (add_step old cells new slot c.args.details c.handle.result c.put-slot.ensures.free written (sym c.is_locked.ensures ∙ c.if-is_locked.false) (c.has_ticket.ensures.0 c.if-not-has_ticket.false) handle_is))
 
 pub returns-clause-kept : goal.returns-clause-kept
-returns-clause-kept g c = (invariant_of-self g c).0
+returns-clause-kept g c = (invariant_of-self g c).0.0

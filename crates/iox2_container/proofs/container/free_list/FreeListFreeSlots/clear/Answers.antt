@@ -1,0 +1,12 @@
+use Rattle.iox2_container.specs.declared.container.cell.Cell.TheVariants.{Free}
+use Rattle.iox2_container.proofs.ShownCells.{shown_set}
+use Rattle.iox2_container.proofs.FreeSlots.{threaded_clear}
+use Rattle.iox2_container.proofs.container.free_list.FreeListFreeSlots.clear.Goals as goal
+
+pub returns-clause-fits : goal.returns-clause-fits
+returns-clause-fits g c =
+    threaded_clear c.args.places.now.cells c.write.new.self.cells c.args.self.now c.args.slot c.requires.fits c.requires.taken c.write.ensures.cells
+
+pub returns-clause-cells : goal.returns-clause-cells
+returns-clause-cells g c =
+    shown_set c.args.places.now.cells c.write.new.self.cells c.args.slot (Free c.args.self.now.head) c.write.ensures.cells
