@@ -4,3 +4,5 @@ pub mod PortId
 pub mod Time
 -- Promises of no single call: what follows from those definitions.
 pub mod Laws
+-- Inner facts: digits that are not yet a text.
+pub mod Digits
