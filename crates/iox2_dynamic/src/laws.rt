@@ -10,8 +10,10 @@ ghost use Rattle.iox2_dynamic.specs.Details.{node_of};
 ghost use Rattle.iox2_dynamic.specs.Service.{Service, IsService, HasNoPort};
 
 use crate::dynamic_config::{
-    AttachError, DeregisterError, DeregisterNodeState, MessagingPatternSettings, PortCleanupAction,
-    PortDetails, RegisterNodeResult,
+    AttachError, ClientDetails, DeregisterError, DeregisterNodeState, ListenerDetails,
+    MessagingPatternSettings, NotifierDetails, PortCleanupAction, PortDetails, PublisherDetails,
+    ReaderDetails, RegisterNodeResult, ServerDetails, SubscriberDetails, WriterDetails, blackboard,
+    event, publish_subscribe, request_response,
 };
 use std::alloc::AllocError;
 
@@ -65,4 +67,63 @@ pub fn settings_are_cloned(
     ensures { IsOkAnd result (λ copy. copy ≡ settings.now) }
 {
     settings.clone()
+}
+
+/// The clones of the settings of a pattern, and of the details of its two kinds of ports.
+pub type Clones<S, A, B> = (
+    Result<S, AllocError>,
+    Result<A, AllocError>,
+    Result<B, AllocError>,
+);
+
+/// A clone of the settings of publish-subscribe, of details of a publisher or of a subscriber is equal and takes no memory.
+pub fn publish_subscribe_details_are_cloned(
+    settings: &publish_subscribe::DynamicConfigSettings,
+    publisher: &PublisherDetails,
+    subscriber: &SubscriberDetails,
+) -> Clones<publish_subscribe::DynamicConfigSettings, PublisherDetails, SubscriberDetails>
+    ensures settings { IsOkAnd result.0 (λ copy. copy ≡ settings.now) }
+    ensures publisher { IsOkAnd result.1 (λ copy. copy ≡ publisher.now) }
+    ensures subscriber { IsOkAnd result.2 (λ copy. copy ≡ subscriber.now) }
+{
+    (settings.clone(), publisher.clone(), subscriber.clone())
+}
+
+/// A clone of the settings of event, of details of a listener or of a notifier is equal and takes no memory.
+pub fn event_details_are_cloned(
+    settings: &event::DynamicConfigSettings,
+    listener: &ListenerDetails,
+    notifier: &NotifierDetails,
+) -> Clones<event::DynamicConfigSettings, ListenerDetails, NotifierDetails>
+    ensures settings { IsOkAnd result.0 (λ copy. copy ≡ settings.now) }
+    ensures listener { IsOkAnd result.1 (λ copy. copy ≡ listener.now) }
+    ensures notifier { IsOkAnd result.2 (λ copy. copy ≡ notifier.now) }
+{
+    (settings.clone(), listener.clone(), notifier.clone())
+}
+
+/// A clone of the settings of request-response, of details of a server or of a client is equal and takes no memory.
+pub fn request_response_details_are_cloned(
+    settings: &request_response::DynamicConfigSettings,
+    server: &ServerDetails,
+    client: &ClientDetails,
+) -> Clones<request_response::DynamicConfigSettings, ServerDetails, ClientDetails>
+    ensures settings { IsOkAnd result.0 (λ copy. copy ≡ settings.now) }
+    ensures server { IsOkAnd result.1 (λ copy. copy ≡ server.now) }
+    ensures client { IsOkAnd result.2 (λ copy. copy ≡ client.now) }
+{
+    (settings.clone(), server.clone(), client.clone())
+}
+
+/// A clone of the settings of blackboard, of details of a reader or of a writer is equal and takes no memory.
+pub fn blackboard_details_are_cloned(
+    settings: &blackboard::DynamicConfigSettings,
+    reader: &ReaderDetails,
+    writer: &WriterDetails,
+) -> Clones<blackboard::DynamicConfigSettings, ReaderDetails, WriterDetails>
+    ensures settings { IsOkAnd result.0 (λ copy. copy ≡ settings.now) }
+    ensures reader { IsOkAnd result.1 (λ copy. copy ≡ reader.now) }
+    ensures writer { IsOkAnd result.2 (λ copy. copy ≡ writer.now) }
+{
+    (settings.clone(), reader.clone(), writer.clone())
 }

@@ -26,6 +26,60 @@ fn details_are_compared_by_all_they_tell(rt: HostRuntime) -> Result<(), Fail> {
     Ok(())
 }
 
+/// Whether the law of a pattern answers the details that it is given, and a clone of the settings.
+fn are_cloned(
+    settings: &MessagingPatternSettings,
+    first: PortDetails,
+    second: PortDetails,
+) -> bool {
+    match (settings, first, second) {
+        (
+            MessagingPatternSettings::PublishSubscribe(settings),
+            PortDetails::Publisher(first),
+            PortDetails::Subscriber(second),
+        ) => {
+            let copies = laws::publish_subscribe_details_are_cloned(settings, &first, &second);
+            copies.0.is_ok() && copies.1 == Ok(first) && copies.2 == Ok(second)
+        }
+        (
+            MessagingPatternSettings::Event(settings),
+            PortDetails::Listener(first),
+            PortDetails::Notifier(second),
+        ) => {
+            let copies = laws::event_details_are_cloned(settings, &first, &second);
+            copies.0.is_ok() && copies.1 == Ok(first) && copies.2 == Ok(second)
+        }
+        (
+            MessagingPatternSettings::RequestResponse(settings),
+            PortDetails::Server(first),
+            PortDetails::Client(second),
+        ) => {
+            let copies = laws::request_response_details_are_cloned(settings, &first, &second);
+            copies.0.is_ok() && copies.1 == Ok(first) && copies.2 == Ok(second)
+        }
+        (
+            MessagingPatternSettings::Blackboard(settings),
+            PortDetails::Reader(first),
+            PortDetails::Writer(second),
+        ) => {
+            let copies = laws::blackboard_details_are_cloned(settings, &first, &second);
+            copies.0.is_ok() && copies.1 == Ok(first) && copies.2 == Ok(second)
+        }
+        _ => false,
+    }
+}
+
+#[test]
+fn settings_and_details_of_each_pattern_are_cloned(rt: HostRuntime) -> Result<(), Fail> {
+    let node = node(1, 5)?;
+    for (pattern, first, second, _) in PATTERNS {
+        let settings = settings(pattern, 3, 5);
+        let cloned = are_cloned(&settings, port(first, 9, node)?, port(second, 9, node)?);
+        assert!(rt; cloned);
+    }
+    Ok(())
+}
+
 #[test]
 fn answers_are_compared_by_what_they_tell(rt: HostRuntime) {
     let one = (
