@@ -1,7 +1,7 @@
 //! What a container is for.
 
 /// What the entries of a container are: nodes, or the ports of one kind.
-#[derive(Clone, Copy, Debug, PartialEq, Eq, Hash)]
+#[derive(Clone, Copy, Debug, PartialEq, Eq)]
 pub enum Role {
     /// Nodes of a service.
     Node,
