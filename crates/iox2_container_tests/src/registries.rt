@@ -36,6 +36,7 @@ fn listed_up_to<T: Attached + Copy, R: Registry<T>>(
 ) -> Result<Vec<u128>, AllocError> {
     let mut numbers = Vec::with_capacity(alloc, registry.capacity())?;
     let mut note = |details: &T| {
+        // There is room for all.
         let _ = numbers.push(details.key());
         if Some(details.key()) == last {
             CallbackProgression::Stop
@@ -273,6 +274,7 @@ fn recovery_goes_by_the_whole_id<R: Registry<UniqueNodeId>>(
     registry.add(other)?;
     let mut asked = Vec::with_capacity(alloc, 2)?;
     let mut none = |id: &UniqueNodeId| {
+        // There is room for all.
         let _ = asked.push(*id);
         false
     };
@@ -444,6 +446,7 @@ fn answers_go_by_turn<R: Registry<Port>>(
     }
     let mut asked = Vec::with_capacity(alloc, 3)?;
     let mut all_but_the_second = |port: &Port| {
+        // There is room for all.
         let _ = asked.push(port.number);
         asked.len() != 2
     };

@@ -76,7 +76,7 @@ pub type Clones<S, A, B> = (
     Result<B, AllocError>,
 );
 
-/// A clone of the settings of publish-subscribe, of details of a publisher or of a subscriber is equal and takes no memory.
+/// A clone of publish-subscribe settings, or of details of a publisher or a subscriber, is equal and takes no memory.
 pub fn publish_subscribe_details_are_cloned(
     settings: &publish_subscribe::DynamicConfigSettings,
     publisher: &PublisherDetails,
@@ -89,7 +89,7 @@ pub fn publish_subscribe_details_are_cloned(
     (settings.clone(), publisher.clone(), subscriber.clone())
 }
 
-/// A clone of the settings of event, of details of a listener or of a notifier is equal and takes no memory.
+/// A clone of event settings, or of details of a listener or a notifier, is equal and takes no memory.
 pub fn event_details_are_cloned(
     settings: &event::DynamicConfigSettings,
     listener: &ListenerDetails,
@@ -102,7 +102,7 @@ pub fn event_details_are_cloned(
     (settings.clone(), listener.clone(), notifier.clone())
 }
 
-/// A clone of the settings of request-response, of details of a server or of a client is equal and takes no memory.
+/// A clone of request-response settings, or of details of a server or a client, is equal and takes no memory.
 pub fn request_response_details_are_cloned(
     settings: &request_response::DynamicConfigSettings,
     server: &ServerDetails,
@@ -115,7 +115,7 @@ pub fn request_response_details_are_cloned(
     (settings.clone(), server.clone(), client.clone())
 }
 
-/// A clone of the settings of blackboard, of details of a reader or of a writer is equal and takes no memory.
+/// A clone of blackboard settings, or of details of a reader or a writer, is equal and takes no memory.
 pub fn blackboard_details_are_cloned(
     settings: &blackboard::DynamicConfigSettings,
     reader: &ReaderDetails,

@@ -27,6 +27,12 @@ fn node_ids_have_parts_and_a_text(rt: HostRuntime) {
             b"1000000020000000300000004".as_slice(),
         )
     );
+    let most = u32::MAX;
+    let greatest = UniqueNodeId::new(most, most, most, most).expect(&rt, "an id");
+    assert_eq!(rt;
+        shown(&rt, &greatest).as_str(),
+        "ffffffffffffffffffffffffffffffff"
+    );
 }
 
 #[test]

@@ -6,6 +6,7 @@ use service_descriptions::dynamic_config::{ListenerDetails, NotifierDetails, Por
 use service_descriptions::identifiers::{UniqueListenerId, UniqueNodeId, UniqueNotifierId};
 use service_descriptions::laws::*;
 use service_descriptions::replay::{MessagePart, Reply};
+use service_descriptions::types::{MessageTypeDetails, TypeVariant};
 use std::alloc::{AllocError, Global};
 use std::process::Abort;
 use std::test::Fail;
@@ -127,5 +128,26 @@ fn refusals() -> Option<[Reply; 3]> {
 #[test]
 fn laws_of_refusals(rt: HostRuntime) {
     let replies = refusals().expect(&rt, "legal texts");
+    all_differ(&rt, &replies);
+}
+
+/// The reply that gives the room of so many elements.
+fn layout(details: &MessageTypeDetails, n: usize) -> Option<Reply> {
+    if !details.has_alignments() {
+        return None;
+    }
+    Some(Reply::Layout(details.sample_layout(n)?))
+}
+
+/// The rooms of one byte, of two, and of a number of two, which has another alignment.
+fn layouts() -> Option<[Reply; 3]> {
+    let bytes = MessageTypeDetails::from::<(), (), u8>(TypeVariant::Dynamic).ok()?;
+    let number = MessageTypeDetails::from::<u16, (), ()>(TypeVariant::FixedSize).ok()?;
+    Some([layout(&bytes, 1)?, layout(&bytes, 2)?, layout(&number, 1)?])
+}
+
+#[test]
+fn laws_of_layouts(rt: HostRuntime) {
+    let replies = layouts().expect(&rt, "rooms");
     all_differ(&rt, &replies);
 }

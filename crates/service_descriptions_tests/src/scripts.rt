@@ -2,7 +2,8 @@
 
 use super::worked::{ROWS, SKIPPED};
 use service_descriptions::replay::{ScriptError, run_script};
-use std::alloc::AllocError;
+use std::alloc::{AllocError, Global};
+use std::error::Error;
 use std::process::Abort;
 use std::test::Fail;
 
@@ -130,6 +131,11 @@ fn a_line_that_is_no_text(rt: HostRuntime) {
     assert!(rt; matches!(end, Err(ScriptError::BadLine(2))) && out.is_empty());
 }
 
+/// The text of what is known to be an error alone.
+fn told(alloc: Global, error: &impl Error) -> Result<String, AllocError> {
+    format!(in alloc; "{error}")
+}
+
 #[test]
 fn each_end_has_its_text(rt: HostRuntime) -> Result<(), Fail> {
     for (end, text) in [
@@ -140,7 +146,7 @@ fn each_end_has_its_text(rt: HostRuntime) -> Result<(), Fail> {
         ),
         (ScriptError::from(AllocError), "no memory"),
     ] {
-        assert_eq!(rt; format!(in rt.alloc(); "{end}")?.as_str(), text);
+        assert_eq!(rt; told(rt.alloc(), &end)?.as_str(), text);
     }
     Ok(())
 }

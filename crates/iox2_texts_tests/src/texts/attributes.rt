@@ -211,6 +211,7 @@ fn visit_ends_with_the_first_stop(rt: HostRuntime) {
     set.iter_key_values(
         &key(&rt, "a"),
         &mut |item: &AttributeValue| {
+            // A refusal would show in what was seen.
             let _fits = seen.add(&visited, item);
             if seen.number_of_attributes() == 2 {
                 CallbackProgression::Stop
