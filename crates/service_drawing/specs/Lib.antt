@@ -2,6 +2,7 @@
 pub mod Lines
 pub mod Settings
 pub mod Streams
--- Inner facts: where the parts of a drawn message lie.
+-- Inner facts: where the parts of a drawn message lie, and which messages the ports send.
 pub mod Extent
 pub mod Layout
+pub mod Segments

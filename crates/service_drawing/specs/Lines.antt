@@ -1,5 +1,5 @@
 -- How a description is spelled.
-use Rattle.std.specs.Prelude.{◌≡◌, ℕ, List, ◌∷◌, ◌++◌, codes, Option, Some, None}
+use Rattle.std.specs.Prelude.{◌≡◌, ℕ, List, [], ◌∷◌, ◌++◌, codes, Option, Some, None}
 use Rattle.std.specs.Fmt.{decimal}
 use Rattle.iox2_config.specs.Hashing.{hash_input, sha1_text}
 use Rattle.iox2_config.specs.TypeDetailParts.{TypeDetailParts}
@@ -8,6 +8,8 @@ use Rattle.iox2_config.specs.declared.hash.input.PatternKind.TheVariants.{Publis
 use Rattle.iox2_config.specs.declared.types.message_details.MessageTypeDetails.{MessageTypeDetails}
 use Rattle.iox2_config.specs.declared.types.type_detail.TypeVariant.{TypeVariant}
 use Rattle.iox2_config.specs.declared.types.type_detail.TypeVariant.TheVariants.{FixedSize, Dynamic}
+use Rattle.service_drawing.specs.declared.description.Exchange.{Exchange}
+use Rattle.service_drawing.specs.declared.description.Exchange.TheVariants as exchange
 use Rattle.service_drawing.specs.declared.description.Message.{Message}
 use Rattle.service_drawing.specs.declared.reading.service.Service.{Service}
 
@@ -61,6 +63,21 @@ message_front prefix m rest =
     (payload_front prefix m.details.payload
     (elements_front prefix m.details.payload.variant m.elements
     (opener_front prefix m.opener rest))))
+
+-- what the lines say of messages and keys, and what follows them
+abbrev pub exchange_front : Exchange → List ℕ → List ℕ
+exchange_front (exchange.PublishSubscribe message) rest = message_front [] message rest
+exchange_front exchange.Event rest = rest
+exchange_front (exchange.RequestResponse request response) rest =
+    message_front (codes "request-") request (message_front (codes "response-") response rest)
+exchange_front (exchange.Blackboard key) rest = type_front (codes "key ") key rest
+
+-- the pattern whose ports exchange so
+abbrev pub kind_of : Exchange → PatternKind
+kind_of (exchange.PublishSubscribe message) = PublishSubscribe
+kind_of exchange.Event = Event
+kind_of (exchange.RequestResponse request response) = RequestResponse
+kind_of (exchange.Blackboard key) = Blackboard
 
 -- the word for a pattern
 abbrev pub pattern_word : PatternKind → List ℕ

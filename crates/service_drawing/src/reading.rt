@@ -1,4 +1,6 @@
 //! Descriptions as lines.
+ghost use Rattle.std.specs.Prelude.{◌≡◌, codes, IfOk};
+ghost use Rattle.service_drawing.specs.Lines.{type_front, exchange_front, kind_of};
 
 mod attributes;
 mod message;
@@ -11,8 +13,8 @@ use crate::description::{Description, Exchange};
 use attributes::{attributes_before, required_before};
 use iox2_config::config::Config;
 use iox2_config::hash::PatternKind;
-use iox2_config::types::{TypeDetail, TypeVariant};
-use message::{line_after, message_before, type_in};
+use iox2_config::types::TypeDetail;
+use message::{fixed_before, message_before};
 use service::service_before;
 use settings::settings_before;
 pub(crate) use wanted::Wanted;
@@ -42,20 +44,22 @@ fn configuration_before(bytes: &[u8], kind: PatternKind) -> Result<(Config, &[u8
 }
 
 /// The line of a blackboard's keys.
-fn key_type_before(bytes: &[u8]) -> Result<(TypeDetail, &[u8]), Wanted<'_>> {
-    if let Some((text, rest)) = line_after(bytes, "", "key ") {
-        if let Some(detail) = type_in(text, TypeVariant::FixedSize) {
-            return Ok((detail, rest));
-        }
-    }
-    Err(Wanted::plain(
+fn key_type_before(bytes: &[u8]) -> Result<(TypeDetail, &[u8]), Wanted<'_>>
+    ensures { IfOk result (λ found. bytes.now ≡ type_front (codes "key ") found.0 found.1.now) }
+{
+    fixed_before(
         bytes,
+        "",
+        "key ",
         "key SIZE ALIGNMENT NAME: two numbers, the second a power of two, and 1 to 256 bytes",
-    ))
+    )
 }
 
 /// The lines of what the ports exchange.
-fn exchange_before(bytes: &[u8], kind: PatternKind) -> Result<(Exchange, &[u8]), Wanted<'_>> {
+fn exchange_before(bytes: &[u8], kind: PatternKind) -> Result<(Exchange, &[u8]), Wanted<'_>>
+    ensures spelled { IfOk result (λ found. bytes.now ≡ exchange_front found.0 found.1.now) }
+    ensures kind { IfOk result (λ found. kind_of found.0 ≡ kind) }
+{
     match kind {
         PatternKind::PublishSubscribe => {
             let (message, rest) = message_before(bytes, "")?;

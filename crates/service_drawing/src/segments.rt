@@ -1,8 +1,7 @@
 //! The messages that the ports of a service send, and how many of them a port's data segment has room for.
 ghost use Rattle.iox2_static.specs.Chunks.{TellsGreatest};
-ghost use Rattle.iox2_static.specs.PublishSubscribe.{publish_subscribe_of, sample_limits};
-ghost use Rattle.iox2_static.specs.RequestResponse.{request_response_of, client_limits};
-ghost use Rattle.iox2_static.specs.RequestResponse.{server_limits};
+ghost use Rattle.service_drawing.specs.Segments.{sample_limits_of, request_limits_of};
+ghost use Rattle.service_drawing.specs.Segments.{response_limits_of, AreSegments};
 
 use crate::description::{Description, Exchange, Message};
 use iox2_config::config::Config;
@@ -22,9 +21,7 @@ pub(crate) struct Segment<'a> {
 
 /// How many samples of a publisher can be in use at once.
 fn samples(config: &Config) -> Option<usize>
-    ensures { TellsGreatest (sample_limits
-        (publish_subscribe_of config.now.defaults.publish_subscribe)
-        config.now.defaults.publish_subscribe.publisher_max_loaned_samples) result }
+    ensures { TellsGreatest (sample_limits_of config.now.defaults) result }
 {
     let loans = config
         .defaults
@@ -35,9 +32,7 @@ fn samples(config: &Config) -> Option<usize>
 
 /// How many requests of a client can be in use at once.
 fn requests(config: &Config) -> Option<usize>
-    ensures { TellsGreatest (client_limits
-        (request_response_of config.now.defaults.request_response)
-        config.now.defaults.request_response.max_loaned_requests) result }
+    ensures { TellsGreatest (request_limits_of config.now.defaults) result }
 {
     let loans = config.defaults.request_response.max_loaned_requests;
     request_response::StaticConfig::new(config).required_amount_of_chunks_per_client_data_segment(
@@ -47,9 +42,7 @@ fn requests(config: &Config) -> Option<usize>
 
 /// How many responses of a server can be in use at once.
 fn responses(config: &Config) -> Option<usize>
-    ensures { TellsGreatest (server_limits
-        (request_response_of config.now.defaults.request_response)
-        config.now.defaults.request_response.server_max_loaned_responses_per_request) result }
+    ensures { TellsGreatest (response_limits_of config.now.defaults) result }
 {
     let loans = config
         .defaults
@@ -61,7 +54,9 @@ fn responses(config: &Config) -> Option<usize>
 }
 
 /// What the ports of a service send, at most two kinds of messages.
-pub(crate) fn segments(service: &Description) -> [Option<Segment<'_>>; 2] {
+pub(crate) fn segments(service: &Description) -> [Option<Segment<'_>>; 2]
+    ensures { AreSegments result service.now.exchange service.now.config.defaults }
+{
     match &service.exchange {
         Exchange::PublishSubscribe(message) => [
             Some(Segment {

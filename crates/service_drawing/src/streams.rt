@@ -1,5 +1,5 @@
 //! The program: a description comes from a reader, and goes to a writer as text or as a picture.
-ghost use Rattle.std.specs.Prelude.{◌≡◌, ◌<◌, ◌++◌, IfOk, OnOk};
+ghost use Rattle.std.specs.Prelude.{◌≡◌, ℕ, ◌+◌, ◌<◌, List, ◌++◌, ◌==◌, count_by, IfOk, OnOk};
 ghost use Rattle.std.specs.Io.KnownBytes.{Appends, IsAtEnd};
 ghost use Rattle.service_drawing.specs.Streams.{expected, bad_line_text, fault_text, status_of};
 ghost use Rattle.service_drawing.specs.Streams.{output_text, error_text, Reported};
@@ -39,14 +39,13 @@ pub(crate) enum Fault {
     NoMemory,
 }
 
-/// The number of the line where what is left begins.
-fn line_number(bytes: &[u8], rest: &[u8]) -> usize {
+/// The number of the line where what is left begins: 1, and one more for each newline that was read before.
+fn line_number(bytes: &[u8], rest: &[u8]) -> usize
+    ensures { (read : List ℕ) → bytes.now ≡ read ++ rest.now
+        → result ≡ count_by (λ b. b == 10) read + 1 }
+{
     let read = bytes.len().saturating_sub(rest.len());
-    bytes[..read]
-        .iter()
-        .filter(|b| **b == b'\n')
-        .count()
-        .saturating_add(1)
+    bytes[..read].iter().filter(|b| **b == b'\n').count() + 1
 }
 
 /// What the arguments, of which the first is the program's name, ask for.

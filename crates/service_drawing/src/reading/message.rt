@@ -33,7 +33,7 @@ pub(super) fn line_after<'a>(
 }
 
 /// The type whose size, alignment and name the text spells.
-pub(super) fn type_in(text: &str, variant: TypeVariant) -> Option<TypeDetail>
+fn type_in(text: &str, variant: TypeVariant) -> Option<TypeDetail>
     ensures spelled { IfSome result (λ detail. text.now ≡ type_text detail) }
     ensures variant { IfSome result (λ detail. detail.variant ≡ variant) }
 {
@@ -123,7 +123,7 @@ fn opener_in(text: &str, service: &MessageTypeDetails) -> Option<MessageTypeDeta
 }
 
 /// The line of a type that has one value in each message.
-fn fixed_before<'a>(
+pub(super) fn fixed_before<'a>(
     bytes: &'a [u8],
     prefix: &'static str,
     word: &'static str,

@@ -1,4 +1,5 @@
 //! The layout of a message as text.
+ghost use Rattle.std.specs.Prelude.{◌≡◌, ℕ, ◌+◌, ◌*◌, ◌<◌, ◌≤◌, min};
 ghost use Rattle.service_drawing.specs.Layout.{IsWhole};
 
 use crate::description::Message;
@@ -48,16 +49,23 @@ fn letter(part: Part) -> char {
     }
 }
 
+/// How many bytes a character of a bar stands for: the fewest, from one on, with which the bar fits.
+fn scale(size: usize) -> usize
+    ensures positive { 0 < result }
+    ensures fits { size ≤ result * WIDTH }
+    ensures least { (other : ℕ) → 0 < other → size ≤ other * WIDTH → result ≤ other }
+{
+    size.div_ceil(WIDTH).max(1)
+}
+
 /// Appends a drawing to scale: each character is what lies at the first of as many bytes.
 fn write_bar(out: &mut String, layout: &MessageLayout) -> Result<(), AllocError>
     requires { IsWhole layout.now }
 {
-    let scale = layout.size.div_ceil(WIDTH).max(1);
+    let scale = scale(layout.size);
     write!(out, "  ")?;
-    let mut offset = 0;
-    while offset < layout.size {
+    for offset in (0..layout.size).step_by(scale) {
         out.push(letter(layout.part_at(offset)))?;
-        offset += scale;
     }
     match scale {
         1 => writeln!(out, "\n  a character for each byte\n"),
@@ -147,7 +155,14 @@ fn write_table(
     writeln!(out, "{:>10} {:>32}    end", layout.size, "")
 }
 
-/// Appends a row for each of the first elements, and one that tells of the others.
+/// How many elements follow those that are listed.
+fn others(elements: usize) -> usize
+    ensures { min elements LISTED + result ≡ elements }
+{
+    elements.saturating_sub(LISTED)
+}
+
+/// Appends a row for each of the first elements, and one that tells how many others there are.
 fn write_elements(out: &mut String, layout: &MessageLayout) -> Result<(), AllocError>
     requires { IsWhole layout.now }
 {
@@ -155,9 +170,8 @@ fn write_elements(out: &mut String, layout: &MessageLayout) -> Result<(), AllocE
         write_columns(out, layout.element(i), None, None)?;
         writeln!(out, "  {i}   element {i}")?;
     }
-    if layout.elements > LISTED {
-        let others = layout.elements - LISTED;
-        writeln!(out, "{:>43}      and {others} more", "")?;
+    match others(layout.elements) {
+        0 => Ok(()),
+        others => writeln!(out, "{:>43}      and {others} more", ""),
     }
-    Ok(())
 }
