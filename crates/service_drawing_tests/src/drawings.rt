@@ -1,8 +1,8 @@
 //! Whole drawings, worked out by hand.
 
-use super::expected::{
-    BLACKBOARD, EVENT, LARGE, PICTURE, PUBLISH_SUBSCRIBE, REQUEST_RESPONSE, SMALLEST,
-};
+use super::expected::pictures::{PICTURE, TWO_MESSAGES, WITHOUT_MESSAGES};
+use super::expected::request_response::{REQUEST_RESPONSE, UNBOUNDED};
+use super::expected::{BLACKBOARD, EVENT, LARGE, PUBLISH_SUBSCRIBE, SMALLEST};
 use super::running::run;
 use std::alloc::Global;
 use std::process::Abort;
@@ -16,7 +16,8 @@ fn assert_drawn(rt: &impl Abort, alloc: Global, words: &[&str], input: &str, dra
     );
 }
 
-/// A service of each pattern, with each kind of opener and of verdict, the smallest message and a large one.
+/// A service of each pattern, with each kind of opener, without one and with each verdict, and the smallest message, large
+/// ones and one without a layout.
 #[test]
 fn each_pattern(rt: HostRuntime) {
     let alloc = rt.alloc();
@@ -27,10 +28,15 @@ fn each_pattern(rt: HostRuntime) {
     assert_drawn(&rt, alloc, &words, BLACKBOARD.0, BLACKBOARD.1);
     assert_drawn(&rt, alloc, &words, SMALLEST.0, SMALLEST.1);
     assert_drawn(&rt, alloc, &words, LARGE.0, LARGE.1);
+    assert_drawn(&rt, alloc, &words, UNBOUNDED.0, UNBOUNDED.1);
 }
 
+/// Pictures of no message, of one and of two, with an opener and without one, with a layout and without one.
 #[test]
-fn picture(rt: HostRuntime) {
+fn pictures(rt: HostRuntime) {
+    let alloc = rt.alloc();
     let words = ["iox2-describe", "svg"];
-    assert_drawn(&rt, rt.alloc(), &words, PICTURE.0, PICTURE.1);
+    assert_drawn(&rt, alloc, &words, WITHOUT_MESSAGES.0, WITHOUT_MESSAGES.1);
+    assert_drawn(&rt, alloc, &words, PICTURE.0, PICTURE.1);
+    assert_drawn(&rt, alloc, &words, TWO_MESSAGES.0, TWO_MESSAGES.1);
 }

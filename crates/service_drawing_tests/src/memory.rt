@@ -1,7 +1,8 @@
 //! Drawings where memory is refused. With ample memory they are whole; where one request is refused (`bench/refuse_memory`
 //! does that), nothing is drawn, and the program says why.
 
-use super::expected::{EVENT, PICTURE, PUBLISH_SUBSCRIBE};
+use super::expected::pictures::PICTURE;
+use super::expected::{EVENT, PUBLISH_SUBSCRIBE};
 use super::running::arguments;
 use service_drawing::describe_streams;
 use std::alloc::{AllocError, Global};

@@ -1,7 +1,7 @@
 //! Refused arguments and lines.
 
 use super::running::run;
-use std::alloc::Global;
+use std::alloc::{AllocError, Global};
 use std::process::Abort;
 use std::test::Fail;
 
@@ -26,6 +26,9 @@ const PAYLOAD: &str =
 
 const OPENER: &str = "opener HEADER USER-HEADER PAYLOAD: three alignments, each a power of two";
 
+const KEY: &str =
+    "key SIZE ALIGNMENT NAME: two numbers, the second a power of two, and 1 to 256 bytes";
+
 const ATTRIBUTE: &str =
     "attribute KEY VALUE: 1 to 64 bytes without a space, and 1 to 256 bytes, at most 16 times";
 
@@ -33,6 +36,29 @@ const REQUIRE: &str =
     "require KEY VALUE or require-key KEY: 1 to 64 bytes without a space, and 1 to 256 bytes, at most 16 times";
 
 const END: &str = "the end, or a line that may follow the one before it";
+
+/// Asserts that a run is refused with this error, and draws nothing.
+fn assert_refused(rt: &impl Abort, alloc: Global, words: &[&str], input: &str, error: &str) {
+    let (status, output, errors) = run(rt, alloc, words, input);
+    assert_eq!(rt;
+        (status, output.len(), errors.as_slice()),
+        (1, 0, error.as_bytes()),
+        "{input}"
+    );
+}
+
+/// Asserts that a description is refused at the line of this number, where this was expected.
+fn assert_bad_line(
+    rt: &impl Abort,
+    alloc: Global,
+    input: &str,
+    line: usize,
+    expected: &str,
+) -> Result<(), AllocError> {
+    let error = format!(in alloc; "bad line {line}: expected {expected}\n")?;
+    assert_refused(rt, alloc, &["iox2-describe"], input, error.as_str());
+    Ok(())
+}
 
 /// Each line after a good start is refused for its own cause, with the number of the line and what was expected there.
 #[test]
@@ -71,6 +97,14 @@ fn bad_lines(rt: HostRuntime) -> Result<(), Fail> {
             4,
             PAYLOAD,
         ),
+        (
+            "request-response A\nrequest-header 8 8 u64\nrequest-user-header 0 1 ()\n",
+            "request-payload dynamic 4 4 u32\n",
+            5,
+            "request-elements NUMBER",
+        ),
+        ("blackboard A\n", "", 2, KEY),
+        ("blackboard A\n", "key 4 3 u32\n", 2, KEY),
         (GOOD, "elements 1\n", 5, END),
         (GOOD, "opener 8 1 3\n", 5, OPENER),
         (GOOD, "opener 8 1\n", 5, OPENER),
@@ -82,47 +116,28 @@ fn bad_lines(rt: HostRuntime) -> Result<(), Fail> {
         (GOOD, "\n", 5, END),
     ] {
         let input = format!(in rt.alloc(); "{begin}{rest}")?;
-        let (status, output, errors) = run(&rt, rt.alloc(), &["iox2-describe"], input.as_str());
-        let error = format!(in rt.alloc(); "bad line {line}: expected {expected}\n")?;
-        assert_eq!(rt;
-            (status, output.len(), errors.as_slice()),
-            (1, 0, error.as_bytes()),
-            "{input}"
-        );
+        assert_bad_line(&rt, rt.alloc(), input.as_str(), line, expected)?;
     }
     Ok(())
 }
 
-/// Asserts that a run is refused with this error, and draws nothing.
-fn assert_refused(rt: &impl Abort, alloc: Global, words: &[&str], input: &str, error: &str) {
-    let (status, output, errors) = run(rt, alloc, words, input);
-    assert_eq!(rt;
-        (status, output.len(), errors.as_slice()),
-        (1, 0, error.as_bytes())
-    );
+/// The good start, then 16 lines that begin so and end in a number, then the last line.
+fn after_sixteen(alloc: Global, begin: &str, last: &str) -> Result<String, AllocError> {
+    let mut input = String::from_str(alloc, GOOD)?;
+    for i in 0..16 {
+        writeln!(input, "{begin} k {i}")?;
+    }
+    input.push_str(last)?;
+    Ok(input)
 }
 
-/// A dynamic payload wants its number of elements, and a 17th attribute is refused.
+/// A 17th attribute and a 17th requirement are refused.
 #[test]
-fn missing_and_spare_lines(rt: HostRuntime) -> Result<(), Fail> {
-    let mut many = String::from_str(rt.alloc(), GOOD)?;
-    for i in 0..17 {
-        writeln!(many, "attribute k {i}")?;
-    }
-    assert_refused(
-        &rt,
-        rt.alloc(),
-        &["iox2-describe"],
-        many.as_str(),
-        "bad line 21: expected attribute KEY VALUE: 1 to 64 bytes without a space, and 1 to 256 bytes, at most 16 times\n",
-    );
-    assert_refused(
-        &rt,
-        rt.alloc(),
-        &["iox2-describe"],
-        "request-response A\nrequest-header 8 8 u64\nrequest-user-header 0 1 ()\nrequest-payload dynamic 4 4 u32\n",
-        "bad line 5: expected request-elements NUMBER\n",
-    );
+fn spare_lines(rt: HostRuntime) -> Result<(), Fail> {
+    let input = after_sixteen(rt.alloc(), "attribute", "attribute k 16\n")?;
+    assert_bad_line(&rt, rt.alloc(), input.as_str(), 21, ATTRIBUTE)?;
+    let input = after_sixteen(rt.alloc(), "require", "require-key k\n")?;
+    assert_bad_line(&rt, rt.alloc(), input.as_str(), 21, REQUIRE)?;
     Ok(())
 }
 
