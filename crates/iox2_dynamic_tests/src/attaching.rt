@@ -1,187 +1,109 @@
 //! Ports that come.
+use super::rows::{Handle, Row, are_answered, each_pattern_answers};
 use super::services::*;
-use iox2_container::container::{ContainerRemoveError, Role};
+use iox2_container::container::ContainerRemoveError;
 use iox2_dynamic::dynamic_config::*;
-use iox2_ids::identifiers::UniqueNodeId;
 use std::alloc::Global;
 use std::process::Abort;
 use std::test::Fail;
 
-/// On a new service with one place for nodes and none for the first ports.
-fn a_node_comes_and_goes(
-    rt: &impl Abort,
-    service: &mut DynamicConfig,
-    first: Role,
-    id: UniqueNodeId,
-) -> Result<(), Fail> {
-    let before = attach(rt, service, first, 9, id)?;
-    let registered = service.register_node_id(id)?;
-    let full = attach(rt, service, first, 9, id)?;
-    let left = deregister(service, registered);
-    let after = attach(rt, service, first, 9, id)?;
-    assert_eq!(rt;
-        (before, registered, full, left, after),
-        (
-            Err(AttachError::NodeNotRegistered),
-            handle(Role::Node, 0, 0),
-            Err(AttachError::OutOfSpace),
-            Ok(false),
-            Err(AttachError::ServiceIsLocked)
-        )
-    );
-    Ok(())
-}
+const B: Node = Node(0, 2);
+
+const C: Node = Node(0, 3);
+
+/// One place for nodes, and none for the first ports.
+const A_NODE_COMES_AND_GOES: [Row; 5] = [
+    Row::Attach(Kind::First, 9, A, Err(AttachError::NodeNotRegistered)),
+    Row::Register(A, Ok(Handle(7, Kind::Node, 0, 0))),
+    Row::Attach(Kind::First, 9, A, Err(AttachError::OutOfSpace)),
+    Row::Deregister(Handle(7, Kind::Node, 0, 0), Ok(false)),
+    Row::Attach(Kind::First, 9, A, Err(AttachError::ServiceIsLocked)),
+];
 
 #[test]
 fn ports_want_a_registered_node_of_an_unlocked_service(rt: HostRuntime) -> Result<(), Fail> {
-    let id = node(0, 1)?;
-    for (pattern, first, _, _) in PATTERNS {
-        let mut service = service(rt.alloc(), pattern, (1, 0, 2))?;
-        a_node_comes_and_goes(&rt, &mut service, first, id)?;
-    }
-    Ok(())
+    each_pattern_answers(&rt, rt.alloc(), (1, 0, 2), &A_NODE_COMES_AND_GOES)
 }
 
-/// On a new service with one place for the first ports and two for the others.
-fn a_place_is_used_again(
-    rt: &impl Abort,
-    service: &mut DynamicConfig,
-    [first, second]: [Role; 2],
-    id: UniqueNodeId,
-) -> Result<(), Fail> {
-    service.register_node_id(id)?;
-    let old = attach(rt, service, first, 7, id)?;
-    let full = attach(rt, service, first, 8, id)?;
-    let beside = attach(rt, service, second, 9, id)?;
-    let released = service.release_port(handle(first, 0, 0));
-    let new = attach(rt, service, first, 8, id)?;
-    let stale = service.release_port(handle(first, 0, 0));
-    assert_eq!(rt;
-        (old, full, beside, released, new, stale),
-        (
-            Ok(handle(first, 0, 0)),
-            Err(AttachError::OutOfSpace),
-            Ok(handle(second, 0, 0)),
-            Ok(()),
-            Ok(handle(first, 0, 1)),
-            Err(ContainerRemoveError::ContainerHandleNotOwnedByContainer)
-        )
-    );
-    Ok(())
-}
-
-/// On a service with a port of each of its kinds, of which the first has number 8.
-fn roles_are_told_apart(
-    rt: &impl Abort,
-    alloc: Global,
-    service: &DynamicConfig,
-    [first, second, other]: [Role; 3],
-) -> Result<(), Fail> {
-    let roles = [first, second, other, Role::Node];
-    let listed = ports(alloc, service, first)?;
-    let wanted = Some(vec![in alloc; number(8)]?);
-    let unlisted = [
-        ports(alloc, service, other)?,
-        ports(alloc, service, Role::Node)?,
-    ];
-    assert_eq!(rt;
-        (
-            roles.map(|role| service.has_role(role)),
-            roles.map(|role| service.count_ports(role)),
-            listed,
-            unlisted
-        ),
-        (
-            [true, true, false, false],
-            [Some(1), Some(1), None, None],
-            wanted,
-            [None, None]
-        )
-    );
-    Ok(())
-}
+/// One place for the first ports and two for the others.
+const A_PLACE_IS_USED_AGAIN: [Row; 11] = [
+    Row::Register(A, Ok(Handle(7, Kind::Node, 0, 0))),
+    Row::Attach(Kind::First, 7, A, Ok(Handle(7, Kind::First, 0, 0))),
+    Row::Attach(Kind::First, 8, A, Err(AttachError::OutOfSpace)),
+    Row::Attach(Kind::Second, 9, A, Ok(Handle(7, Kind::Second, 0, 0))),
+    Row::Release(Handle(7, Kind::First, 0, 0), Ok(())),
+    Row::Attach(Kind::First, 8, A, Ok(Handle(7, Kind::First, 0, 1))),
+    Row::Release(
+        Handle(7, Kind::First, 0, 0),
+        Err(ContainerRemoveError::ContainerHandleNotOwnedByContainer),
+    ),
+    Row::Ports(Kind::First, Some(&[8])),
+    Row::Ports(Kind::Second, Some(&[9])),
+    Row::Ports(Kind::Other, None),
+    Row::Ports(Kind::Node, None),
+];
 
 #[test]
 fn a_place_is_taken_again_by_a_new_handle(rt: HostRuntime) -> Result<(), Fail> {
-    let id = node(0, 1)?;
-    for (pattern, first, second, other) in PATTERNS {
-        let mut service = service(rt.alloc(), pattern, (2, 1, 2))?;
-        a_place_is_used_again(&rt, &mut service, [first, second], id)?;
-        roles_are_told_apart(&rt, rt.alloc(), &service, [first, second, other])?;
-    }
-    Ok(())
+    each_pattern_answers(&rt, rt.alloc(), (2, 1, 2), &A_PLACE_IS_USED_AGAIN)
 }
 
-/// On a new service, of two nodes that share an owner id.
-fn one_node_is_registered(
-    rt: &impl Abort,
-    service: &mut DynamicConfig,
-    [first, second]: [Role; 2],
-    [registered, other]: [UniqueNodeId; 2],
-) -> Result<(), Fail> {
-    service.register_node_id(registered)?;
-    let of_other = attach(rt, service, first, 9, other)?;
-    let of_registered = attach(rt, service, second, 9, registered)?;
-    assert_eq!(rt;
-        (registered.owner_id(), of_other, of_registered),
-        (
-            other.owner_id(),
-            Err(AttachError::NodeNotRegistered),
-            Ok(handle(second, 0, 0))
-        )
-    );
-    Ok(())
-}
+/// One of two nodes that share an owner id.
+const ONE_OF_AN_OWNER_IS_REGISTERED: [Row; 3] = [
+    Row::Register(ONE_OF_FIVE, Ok(Handle(7, Kind::Node, 0, 0))),
+    Row::Attach(
+        Kind::First,
+        9,
+        TWO_OF_FIVE,
+        Err(AttachError::NodeNotRegistered),
+    ),
+    Row::Attach(
+        Kind::Second,
+        9,
+        ONE_OF_FIVE,
+        Ok(Handle(7, Kind::Second, 0, 0)),
+    ),
+];
 
 #[test]
 fn another_node_of_the_same_owner_id_is_not_registered(rt: HostRuntime) -> Result<(), Fail> {
-    let ids = [node(1, 5)?, node(2, 5)?];
-    for (pattern, first, second, _) in PATTERNS {
-        let mut service = service(rt.alloc(), pattern, (2, 2, 2))?;
-        one_node_is_registered(&rt, &mut service, [first, second], ids)?;
-    }
-    Ok(())
+    let (registered, other) = (ONE_OF_FIVE.id()?, TWO_OF_FIVE.id()?);
+    assert_eq!(rt; registered.owner_id(), other.owner_id());
+    each_pattern_answers(&rt, rt.alloc(), (2, 2, 2), &ONE_OF_AN_OWNER_IS_REGISTERED)
 }
 
-/// On a new service with three places of each kind and two tickets.
-fn two_tickets_are_used(
+/// Two tickets of each kind.
+const TWO_TICKETS_ARE_USED: [Row; 7] = [
+    Row::Register(A, Ok(Handle(7, Kind::Node, 0, 0))),
+    Row::Register(B, Ok(Handle(7, Kind::Node, 1, 1))),
+    Row::Deregister(Handle(7, Kind::Node, 1, 1), Ok(true)),
+    Row::Register(C, Err(RegisterNodeResult::ExceedsMaxNumberOfNodes)),
+    Row::Attach(Kind::First, 9, A, Ok(Handle(7, Kind::First, 0, 0))),
+    Row::Attach(Kind::First, 10, A, Ok(Handle(7, Kind::First, 1, 1))),
+    Row::Attach(Kind::First, 11, A, Err(AttachError::OutOfSpace)),
+];
+
+const NO_TICKET_IS_LEFT: [Row; 1] = [Row::Register(
+    A,
+    Err(RegisterNodeResult::ExceedsMaxNumberOfNodes),
+)];
+
+/// Makes the calls of the rows on a new service of each pattern, with three places of each kind and so many tickets.
+fn each_pattern_answers_by_tickets(
     rt: &impl Abort,
-    service: &mut DynamicConfig,
-    first: Role,
-    ids: [UniqueNodeId; 3],
+    alloc: Global,
+    tickets: u64,
+    rows: &[Row],
 ) -> Result<(), Fail> {
-    let [a, b, c] = ids;
-    let of_a = service.register_node_id(a);
-    let of_b = service.register_node_id(b)?;
-    let left = deregister(service, of_b);
-    let of_c = service.register_node_id(c);
-    let port = attach(rt, service, first, 9, a)?;
-    let other = attach(rt, service, first, 10, a)?;
-    let third = attach(rt, service, first, 11, a)?;
-    assert_eq!(rt;
-        (of_a, left, of_c, port, other, third),
-        (
-            Ok(handle(Role::Node, 0, 0)),
-            Ok(true),
-            Err(RegisterNodeResult::ExceedsMaxNumberOfNodes),
-            Ok(handle(first, 0, 0)),
-            Ok(handle(first, 1, 1)),
-            Err(AttachError::OutOfSpace)
-        )
-    );
+    for pattern in &PATTERNS {
+        let mut service = service_by_tickets(alloc, pattern.kind, (3, 3, 3), tickets)?;
+        are_answered(rt, &mut service, pattern, rows)?;
+    }
     Ok(())
 }
 
 #[test]
 fn tickets_run_out(rt: HostRuntime) -> Result<(), Fail> {
-    let ids = [node(0, 1)?, node(0, 2)?, node(0, 3)?];
-    for (pattern, first, _, _) in PATTERNS {
-        let settings = settings(pattern, 3, 3);
-        let mut two = DynamicConfig::with_tickets(rt.alloc(), &settings, 3, 7, 2)?;
-        two_tickets_are_used(&rt, &mut two, first, ids)?;
-        let mut none = DynamicConfig::with_tickets(rt.alloc(), &settings, 3, 7, 0)?;
-        let refused = none.register_node_id(ids[0]);
-        assert_eq!(rt; refused, Err(RegisterNodeResult::ExceedsMaxNumberOfNodes));
-    }
-    Ok(())
+    each_pattern_answers_by_tickets(&rt, rt.alloc(), 2, &TWO_TICKETS_ARE_USED)?;
+    each_pattern_answers_by_tickets(&rt, rt.alloc(), 0, &NO_TICKET_IS_LEFT)
 }

@@ -1,27 +1,31 @@
 //! How details, settings and answers are compared and copied.
 use super::services::*;
 use iox2_config::hash::PatternKind;
+use iox2_container::container::Role;
 use iox2_dynamic::dynamic_config::*;
 use iox2_dynamic::laws;
+use std::process::Abort;
 use std::test::Fail;
 
-/// Details of each kind against themselves, another port, another node, and another kind.
+/// Details of a role against themselves, another port, another node, and another role.
+fn details_go_by_fields(rt: &impl Abort, role: Role, other: Role) -> Result<(), Fail> {
+    let (a, b) = (ONE_OF_FIVE.id()?, TWO_OF_FIVE.id()?);
+    let details = port(role, 9, a)?;
+    assert_eq!(rt;
+        laws::details_go_by_fields(&details, &details),
+        (true, Ok(details))
+    );
+    for others in [port(role, 10, a)?, port(role, 9, b)?, port(other, 9, a)?] {
+        assert_eq!(rt; laws::details_go_by_fields(&details, &others).0, false);
+    }
+    Ok(())
+}
+
 #[test]
 fn details_are_compared_by_all_they_tell(rt: HostRuntime) -> Result<(), Fail> {
-    let (a, b) = (node(1, 5)?, node(2, 5)?);
-    for (_, first, second, other) in PATTERNS {
-        for role in [first, second] {
-            let details = port(role, 9, a)?;
-            let others = [
-                details,
-                port(role, 10, a)?,
-                port(role, 9, b)?,
-                port(other, 9, a)?,
-            ];
-            let equal = others.map(|other| laws::details_go_by_fields(&details, &other).0);
-            let copy = laws::details_go_by_fields(&details, &details).1;
-            assert_eq!(rt; (equal, copy), ([true, false, false, false], Ok(details)));
-        }
+    for pattern in &PATTERNS {
+        details_go_by_fields(&rt, pattern.first, pattern.other)?;
+        details_go_by_fields(&rt, pattern.second, pattern.other)?;
     }
     Ok(())
 }

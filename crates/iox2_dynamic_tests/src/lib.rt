@@ -19,4 +19,6 @@ mod many_places;
 #[cfg(test)]
 mod memory;
 #[cfg(test)]
+mod rows;
+#[cfg(test)]
 mod services;

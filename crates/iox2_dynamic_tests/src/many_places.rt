@@ -1,55 +1,46 @@
 //! Services with far more places than ports.
+use super::rows::{Handle, Row, are_answered};
 use super::services::*;
-use iox2_config::hash::PatternKind;
-use iox2_container::container::{ContainerHandle, Role};
 use iox2_dynamic::dynamic_config::*;
-use iox2_ids::identifiers::UniqueNodeId;
-use std::alloc::Global;
-use std::process::Abort;
 use std::test::Fail;
 
-/// Attaches a third port, lists the ports of its kind, asks whether the node may leave, and releases the port.
-fn come_and_go(
-    rt: &impl Abort,
-    alloc: Global,
-    service: &mut DynamicConfig,
-    registered: ContainerHandle,
-    id: UniqueNodeId,
-) -> Result<(), Fail> {
-    let port = attach(rt, service, Role::Listener, 11, id)??;
-    let listed = ports(alloc, service, Role::Listener)?;
-    let told = deregister(service, registered);
-    let wanted = Some(vec![in alloc; number(9), number(11)]?);
-    assert_eq!(rt;
-        (listed, told, service.release_port(port)),
-        (wanted, Err(DeregisterError::PortsStillAttached), Ok(()))
-    );
-    Ok(())
+const TWO_PORTS_COME: [Row; 3] = [
+    Row::Register(A, Ok(Handle(7, Kind::Node, 0, 0))),
+    Row::Attach(Kind::First, 9, A, Ok(Handle(7, Kind::First, 0, 0))),
+    Row::Attach(Kind::Second, 10, A, Ok(Handle(7, Kind::Second, 0, 0))),
+];
+
+const WITH_THE_THIRD: Option<&[u128]> = Some(&[9, 11]);
+
+/// A third port comes, which takes this ticket, and goes. Meanwhile its kind is listed and the node asks to leave.
+fn one_comes_and_goes(ticket: u64) -> [Row<'static>; 4] {
+    let port = Handle(7, Kind::First, 1, ticket);
+    [
+        Row::Attach(Kind::First, 11, A, Ok(port)),
+        Row::Ports(Kind::First, WITH_THE_THIRD),
+        Row::Deregister(
+            Handle(7, Kind::Node, 0, 0),
+            Err(DeregisterError::PortsStillAttached),
+        ),
+        Row::Release(port, Ok(())),
+    ]
 }
 
-/// On a new service with a million places of each kind. Passes over all places would take minutes here.
-fn few_ports_come_and_go(
-    rt: &impl Abort,
-    alloc: Global,
-    service: &mut DynamicConfig,
-    id: UniqueNodeId,
-) -> Result<(), Fail> {
-    let registered = service.register_node_id(id)?;
-    attach(rt, service, Role::Listener, 9, id)??;
-    attach(rt, service, Role::Notifier, 10, id)??;
-    for _ in 0..3000 {
-        come_and_go(rt, alloc, service, registered, id)?;
-    }
-    attach(rt, service, Role::Listener, 12, id)??;
-    let owned = recover_all(service, &id);
-    let counts = [Role::Listener, Role::Notifier].map(|role| service.count_ports(role));
-    assert_eq!(rt; (owned, counts), (false, [Some(0); 2]));
-    Ok(())
-}
+const ALL_PORTS_GO: [Row; 4] = [
+    Row::Attach(Kind::First, 12, A, Ok(Handle(7, Kind::First, 1, 3001))),
+    Row::Recover(A, &[], &[9, 12, 10], false),
+    Row::Ports(Kind::First, Some(&[])),
+    Row::Ports(Kind::Second, Some(&[])),
+];
 
+/// With a million places of each kind. Passes over all places would take minutes here.
 #[test]
 fn a_million_places_cost_what_their_ports_cost(rt: HostRuntime) -> Result<(), Fail> {
     let places = (1_000_000, 1_000_000, 1_000_000);
-    let mut service = service(rt.alloc(), PatternKind::Event, places)?;
-    few_ports_come_and_go(&rt, rt.alloc(), &mut service, node(0, 1)?)
+    let mut service = service(rt.alloc(), EVENT.kind, places)?;
+    are_answered(&rt, &mut service, &EVENT, &TWO_PORTS_COME)?;
+    for ticket in 1..3001 {
+        are_answered(&rt, &mut service, &EVENT, &one_comes_and_goes(ticket))?;
+    }
+    are_answered(&rt, &mut service, &EVENT, &ALL_PORTS_GO)
 }

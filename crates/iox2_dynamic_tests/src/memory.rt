@@ -1,123 +1,119 @@
 //! Services where memory is refused. With ample memory they are made; where one request is refused (`bench/refuse_memory`
 //! does that), the maker says so. No call on a service that was made takes memory.
+use super::rows::{Handle, Row, are_answered};
 use super::services::*;
-use iox2_container::container::Role;
 use iox2_dynamic::dynamic_config::*;
-use iox2_ids::identifiers::UniqueNodeId;
-use iox2_texts::bounded::CallbackProgression;
-use std::alloc::AllocError;
+use std::alloc::{AllocError, Global};
 use std::process::Abort;
 use std::test::Fail;
 
-/// How many nodes and how many ports of a role are listed.
-fn listed(service: &DynamicConfig, role: Role) -> (u64, u64) {
-    let (mut nodes, mut ports) = (0u64, 0u64);
-    service.list_node_ids(&mut |_: &UniqueNodeId| {
-        nodes = nodes.wrapping_add(1);
-        CallbackProgression::Continue
-    });
-    service.list_ports(
-        role,
-        &mut |_: &PortDetails| {
-            ports = ports.wrapping_add(1);
-            CallbackProgression::Continue
-        },
-    );
-    (nodes, ports)
-}
+/// One ticket of each kind.
+const EACH_KIND_HAS_ONE: [Row; 10] = [
+    Row::Register(A, Ok(Handle(7, Kind::Node, 0, 0))),
+    Row::Attach(Kind::First, 9, A, Ok(Handle(7, Kind::First, 0, 0))),
+    Row::Attach(Kind::Second, 10, A, Ok(Handle(7, Kind::Second, 0, 0))),
+    Row::Nodes(1),
+    Row::Ports(Kind::First, Some(&[9])),
+    Row::Release(Handle(7, Kind::First, 0, 0), Ok(())),
+    Row::Deregister(
+        Handle(7, Kind::Node, 0, 0),
+        Err(DeregisterError::PortsStillAttached),
+    ),
+    Row::Recover(A, &[], &[10], false),
+    Row::Nodes(0),
+    Row::Ports(Kind::Second, Some(&[])),
+];
 
-/// On a new service with one ticket of each kind. No call takes memory.
-fn each_kind_has_one(
+/// Makes the calls of the rows on a new service of this pattern, where there is memory for it.
+fn is_made_whole_or_not_at_all(
     rt: &impl Abort,
-    service: &mut DynamicConfig,
-    [first, second]: [Role; 2],
-    id: UniqueNodeId,
+    alloc: Global,
+    pattern: &Pattern,
 ) -> Result<(), Fail> {
-    let registered = service.register_node_id(id);
-    let of_first = attach(rt, service, first, 9, id)?;
-    let of_second = attach(rt, service, second, 10, id)?;
-    let before = listed(service, first);
-    let released = service.release_port(handle(first, 0, 0));
-    let kept = deregister(service, handle(Role::Node, 0, 0));
-    assert_eq!(rt;
-        (registered, of_first, of_second, before, released, kept),
-        (
-            Ok(handle(Role::Node, 0, 0)),
-            Ok(handle(first, 0, 0)),
-            Ok(handle(second, 0, 0)),
-            (1, 1),
-            Ok(()),
-            Err(DeregisterError::PortsStillAttached)
-        )
-    );
-    assert_eq!(rt;
-        (recover_all(service, &id), listed(service, second)),
-        (false, (0, 0))
-    );
-    Ok(())
+    let Ok(mut service) = service_by_tickets(alloc, pattern.kind, (4, 4, 4), 1) else {
+        return Ok(());
+    };
+    are_answered(rt, &mut service, pattern, &EACH_KIND_HAS_ONE)
 }
 
 /// Whatever requests for memory are refused, a service is made whole or not at all.
 #[test]
 fn a_service_is_made_whole_or_not_at_all(rt: HostRuntime) -> Result<(), Fail> {
-    let id = node(0, 1)?;
-    for (pattern, first, second, _) in PATTERNS {
-        let settings = settings(pattern, 4, 4);
-        let made = DynamicConfig::with_tickets(rt.alloc(), &settings, 4, 7, 1);
-        if let Ok(mut service) = made {
-            each_kind_has_one(&rt, &mut service, [first, second], id)?;
-        }
+    for pattern in &PATTERNS {
+        is_made_whole_or_not_at_all(&rt, rt.alloc(), pattern)?;
     }
     Ok(())
+}
+
+/// With so many places, no memory holds a service of this pattern.
+fn no_memory_holds(
+    rt: &impl Abort,
+    alloc: Global,
+    pattern: &Pattern,
+    places: (usize, usize, usize),
+) {
+    let made = service(alloc, pattern.kind, places).is_ok();
+    let made_by_tickets = service_by_tickets(alloc, pattern.kind, places, 1).is_ok();
+    assert_eq!(rt; (made, made_by_tickets), (false, false));
 }
 
 /// Whichever of the three kinds of places finds no memory, there is no service.
 #[test]
 fn places_that_no_memory_holds(rt: HostRuntime) {
     let most = usize::MAX;
-    for (pattern, _, _, _) in PATTERNS {
-        for (nodes, first, second) in [(most, 1, 1), (1, most, 1), (1, 1, most)] {
-            let settings = settings(pattern, first, second);
-            let made = [
-                DynamicConfig::new(rt.alloc(), &settings, nodes, 7).is_ok(),
-                DynamicConfig::with_tickets(rt.alloc(), &settings, nodes, 7, 1).is_ok(),
-            ];
-            assert_eq!(rt; made, [false; 2]);
+    for pattern in &PATTERNS {
+        for places in [(most, 1, 1), (1, most, 1), (1, 1, most)] {
+            no_memory_holds(&rt, rt.alloc(), pattern, places);
         }
     }
 }
 
-/// Each pattern's own maker, with four places for either kind.
-#[test]
-fn the_ports_of_each_pattern_are_made(rt: HostRuntime) {
-    let alloc = rt.alloc();
-    let samples = publish_subscribe::DynamicConfigSettings {
+/// How many publishers new ports of publish-subscribe have, with four places for either kind.
+fn publishers(alloc: Global) -> Result<usize, AllocError> {
+    let settings = publish_subscribe::DynamicConfigSettings {
         number_of_publishers: 4,
         number_of_subscribers: 4,
     };
-    let events = event::DynamicConfigSettings {
+    Ok(publish_subscribe::DynamicConfig::new(alloc, &settings, 7)?.number_of_publishers())
+}
+
+/// How many listeners new ports of event have, with four places for either kind.
+fn listeners(alloc: Global) -> Result<usize, AllocError> {
+    let settings = event::DynamicConfigSettings {
         number_of_listeners: 4,
         number_of_notifiers: 4,
     };
-    let requests = request_response::DynamicConfigSettings {
+    Ok(event::DynamicConfig::new(alloc, &settings, 7)?.number_of_listeners())
+}
+
+/// How many servers new ports of request-response have, with four places for either kind.
+fn servers(alloc: Global) -> Result<usize, AllocError> {
+    let settings = request_response::DynamicConfigSettings {
         number_of_servers: 4,
         number_of_clients: 4,
     };
-    let entries = blackboard::DynamicConfigSettings {
+    Ok(request_response::DynamicConfig::new(alloc, &settings, 7)?.number_of_servers())
+}
+
+/// How many readers new ports of blackboard have, with four places for either kind.
+fn readers(alloc: Global) -> Result<usize, AllocError> {
+    let settings = blackboard::DynamicConfigSettings {
         number_of_readers: 4,
         number_of_writers: 4,
     };
-    let counts = (
-        publish_subscribe::DynamicConfig::new(alloc, &samples, 7).map(
-            |made| made.number_of_publishers(),
-        ),
-        event::DynamicConfig::new(alloc, &events, 7).map(|made| made.number_of_listeners()),
-        request_response::DynamicConfig::new(alloc, &requests, 7).map(
-            |made| made.number_of_servers(),
-        ),
-        blackboard::DynamicConfig::new(alloc, &entries, 7).map(|made| made.number_of_readers()),
-    );
-    for count in [counts.0, counts.1, counts.2, counts.3] {
+    Ok(blackboard::DynamicConfig::new(alloc, &settings, 7)?.number_of_readers())
+}
+
+/// Each pattern's own maker.
+#[test]
+fn the_ports_of_each_pattern_are_made(rt: HostRuntime) {
+    let alloc = rt.alloc();
+    for count in [
+        publishers(alloc),
+        listeners(alloc),
+        servers(alloc),
+        readers(alloc),
+    ] {
         assert!(rt; count == Ok(0) || count == Err(AllocError));
     }
 }

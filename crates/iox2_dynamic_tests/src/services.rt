@@ -4,38 +4,90 @@ use iox2_config::hash::PatternKind;
 use iox2_container::container::{ContainerHandle, Role};
 use iox2_dynamic::dynamic_config::*;
 use iox2_ids::identifiers::*;
-use iox2_texts::bounded::CallbackProgression;
 use std::alloc::{AllocError, Global};
 use std::process::Abort;
 use std::test::Fail;
 
-/// Each pattern, with the role of its ports that are recovered first and that of the others, and a role that it lacks.
-pub(super) const PATTERNS: [(PatternKind, Role, Role, Role); 4] = [
-    (
-        PatternKind::PublishSubscribe,
-        Role::Publisher,
-        Role::Subscriber,
-        Role::Listener,
-    ),
-    (
-        PatternKind::Event,
-        Role::Listener,
-        Role::Notifier,
-        Role::Publisher,
-    ),
-    (
-        PatternKind::RequestResponse,
-        Role::Server,
-        Role::Client,
-        Role::Reader,
-    ),
-    (
-        PatternKind::Blackboard,
-        Role::Reader,
-        Role::Writer,
-        Role::Client,
-    ),
-];
+/// What a handle is of, in words that are the same for each pattern.
+#[derive(Clone, Copy)]
+pub(super) enum Kind {
+    Node,
+    /// The ports that are recovered first.
+    First,
+    /// The other ports.
+    Second,
+    /// Some ports that the pattern lacks.
+    Other,
+}
+
+/// A pattern, with the roles of its two kinds of ports and a role that it lacks.
+#[derive(Clone, Copy)]
+pub(super) struct Pattern {
+    pub(super) kind: PatternKind,
+    pub(super) first: Role,
+    pub(super) second: Role,
+    pub(super) other: Role,
+}
+
+impl Pattern {
+    pub(super) fn role(&self, kind: Kind) -> Role {
+        match kind {
+            Kind::Node => Role::Node,
+            Kind::First => self.first,
+            Kind::Second => self.second,
+            Kind::Other => self.other,
+        }
+    }
+}
+
+pub(super) const PUBLISH_SUBSCRIBE: Pattern = Pattern {
+    kind: PatternKind::PublishSubscribe,
+    first: Role::Publisher,
+    second: Role::Subscriber,
+    other: Role::Listener,
+};
+
+pub(super) const EVENT: Pattern = Pattern {
+    kind: PatternKind::Event,
+    first: Role::Listener,
+    second: Role::Notifier,
+    other: Role::Publisher,
+};
+
+pub(super) const REQUEST_RESPONSE: Pattern = Pattern {
+    kind: PatternKind::RequestResponse,
+    first: Role::Server,
+    second: Role::Client,
+    other: Role::Reader,
+};
+
+pub(super) const BLACKBOARD: Pattern = Pattern {
+    kind: PatternKind::Blackboard,
+    first: Role::Reader,
+    second: Role::Writer,
+    other: Role::Client,
+};
+
+pub(super) const PATTERNS: [Pattern; 4] = [PUBLISH_SUBSCRIBE, EVENT, REQUEST_RESPONSE, BLACKBOARD];
+
+/// A node of process 1 with these seconds, no nanoseconds and this counter.
+#[derive(Clone, Copy)]
+pub(super) struct Node(pub(super) u32, pub(super) u32);
+
+impl Node {
+    pub(super) fn id(self) -> Result<UniqueNodeId, Fail> {
+        let Node(seconds, counter) = self;
+        Ok(UniqueNodeId::new(1, seconds, 0, counter).ok_or("no node has these parts")?)
+    }
+}
+
+/// The node of the tests that need no other.
+pub(super) const A: Node = Node(0, 1);
+
+/// Two nodes that share an owner id.
+pub(super) const ONE_OF_FIVE: Node = Node(1, 5);
+
+pub(super) const TWO_OF_FIVE: Node = Node(2, 5);
 
 /// The settings with so many places for the ports that are recovered first, and so many for the others.
 pub(super) fn settings(
@@ -79,9 +131,16 @@ pub(super) fn service(
     DynamicConfig::new(alloc, &settings(pattern, first, second), nodes, 7)
 }
 
-/// The node of process 1 with these parts and no nanoseconds.
-pub(super) fn node(seconds: u32, counter: u32) -> Result<UniqueNodeId, Fail> {
-    Ok(UniqueNodeId::new(1, seconds, 0, counter).ok_or("no node has these parts")?)
+/// As `service`, with so many tickets of each kind.
+pub(super) fn service_by_tickets(
+    alloc: Global,
+    pattern: PatternKind,
+    places: (usize, usize, usize),
+    tickets: u64,
+) -> Result<DynamicConfig, AllocError> {
+    let (nodes, first, second) = places;
+    let settings = settings(pattern, first, second);
+    DynamicConfig::with_tickets(alloc, &settings, nodes, 7, tickets)
 }
 
 /// The number of the port of process 1 with this counter.
@@ -156,55 +215,7 @@ pub(super) fn attach(
     Ok(service.attach(details))
 }
 
-/// The handle with this role, slot and ticket of a service of number 7.
-pub(super) fn handle(role: Role, slot: usize, ticket: u64) -> ContainerHandle {
-    ContainerHandle::from_parts(7, role, slot, ticket)
-}
-
-/// The numbers of the ports of a role by rising slot, or `None` where the service has no such ports.
-pub(super) fn ports(
-    alloc: Global,
-    service: &DynamicConfig,
-    role: Role,
-) -> Result<Option<Vec<u128>>, AllocError> {
-    let mut numbers = Vec::with_capacity(alloc, 4)?;
-    let mut note = |details: &PortDetails| {
-        let _ = numbers.push(details.port_id().value());
-        CallbackProgression::Continue
-    };
-    let told = service.list_ports(role, &mut note);
-    Ok(if told { Some(numbers) } else { None })
-}
-
-/// The nodes by rising slot.
-pub(super) fn nodes(
-    alloc: Global,
-    service: &DynamicConfig,
-) -> Result<Vec<UniqueNodeId>, AllocError> {
-    let mut ids = Vec::with_capacity(alloc, 4)?;
-    let mut note = |id: &UniqueNodeId| {
-        let _ = ids.push(*id);
-        CallbackProgression::Continue
-    };
-    service.list_node_ids(&mut note);
-    Ok(ids)
-}
-
 /// Whether the service still has owners, by an answer that has no debug text.
 pub(super) fn has_owners(state: DeregisterNodeState) -> bool {
     state == DeregisterNodeState::HasOwners
-}
-
-/// Takes out the node of a handle, and tells whether the service still has owners.
-pub(super) fn deregister(
-    service: &mut DynamicConfig,
-    handle: ContainerHandle,
-) -> Result<bool, DeregisterError> {
-    service.deregister_node_id(handle).map(has_owners)
-}
-
-/// Recovers a dead node with all its ports, and tells whether the service still has owners.
-pub(super) fn recover_all(service: &mut DynamicConfig, dead: &UniqueNodeId) -> bool {
-    let mut all = |_: UniquePortId| PortCleanupAction::RemovePort;
-    has_owners(service.remove_dead_node_id(dead, &mut all))
 }

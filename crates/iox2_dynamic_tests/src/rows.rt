@@ -1,0 +1,170 @@
+//! Calls on a service as rows of a table, each with what it must answer. One table serves for all patterns.
+use super::services::*;
+use arrayvec::ArrayVec;
+use iox2_container::container::{ContainerHandle, ContainerRemoveError, Role};
+use iox2_dynamic::dynamic_config::*;
+use iox2_ids::identifiers::{UniqueNodeId, UniquePortId};
+use iox2_texts::bounded::CallbackProgression;
+use std::alloc::Global;
+use std::process::Abort;
+use std::test::Fail;
+
+/// The handle of these parts: the number of its service, its kind, its slot and its ticket.
+#[derive(Clone, Copy)]
+pub(super) struct Handle(
+    pub(super) u64,
+    pub(super) Kind,
+    pub(super) usize,
+    pub(super) u64,
+);
+
+impl Handle {
+    fn on(self, pattern: &Pattern) -> ContainerHandle {
+        let Handle(service, kind, slot, ticket) = self;
+        ContainerHandle::from_parts(service, pattern.role(kind), slot, ticket)
+    }
+}
+
+/// A call, and its answer.
+#[derive(Clone, Copy)]
+pub(super) enum Row<'a> {
+    /// Registers a node.
+    Register(Node, Result<Handle, RegisterNodeResult>),
+    /// Takes out a node, and tells whether the service still has owners.
+    Deregister(Handle, Result<bool, DeregisterError>),
+    /// Attaches a port of this counter and node.
+    Attach(Kind, u32, Node, Result<Handle, AttachError>),
+    /// Releases a port.
+    Release(Handle, Result<(), ContainerRemoveError>),
+    /// Recovers a dead node by a callback that keeps the ports of the first counters. Tells the ports that it was asked
+    /// about, in order, and whether the service still has owners.
+    Recover(Node, &'a [u128], &'a [u128], bool),
+    /// How many nodes are listed.
+    Nodes(u64),
+    /// The ports of a kind by rising slot, or `None` where the pattern lacks the kind.
+    Ports(Kind, Option<&'a [u128]>),
+}
+
+/// The counter of a port of process 1, by the number of its id.
+pub(super) fn counter_of(number_of_id: u128) -> u128 {
+    number_of_id.wrapping_sub(number(0))
+}
+
+/// Recovers a dead node by a callback that keeps the ports of some counters, in the row of this index.
+fn recovers(
+    rt: &impl Abort,
+    service: &mut DynamicConfig,
+    at: usize,
+    dead: &UniqueNodeId,
+    kept: &[u128],
+    wanted: (&[u128], bool),
+) {
+    let mut asked: ArrayVec<u128, 8> = ArrayVec::new();
+    let mut clean = |id: UniquePortId| {
+        let counter = counter_of(id.value());
+        let _ = asked.try_push(counter);
+        if kept.contains(&counter) {
+            PortCleanupAction::SkipPort
+        } else {
+            PortCleanupAction::RemovePort
+        }
+    };
+    let owned = has_owners(service.remove_dead_node_id(dead, &mut clean));
+    assert_eq!(rt; (at, asked.as_slice(), owned), (at, wanted.0, wanted.1));
+}
+
+/// Lists the ports of a role in the row of this index, and tells whether the service has the role and how many ports of it
+/// there are.
+fn lists(rt: &impl Abort, service: &DynamicConfig, at: usize, role: Role, wanted: Option<&[u128]>) {
+    let mut listed: ArrayVec<u128, 8> = ArrayVec::new();
+    let mut note = |details: &PortDetails| {
+        let _ = listed.try_push(counter_of(details.port_id().value()));
+        CallbackProgression::Continue
+    };
+    let told = service.list_ports(role, &mut note);
+    let is_there = wanted.is_some();
+    assert_eq!(rt;
+        (at, listed.as_slice(), told),
+        (at, wanted.unwrap_or(&[]), is_there)
+    );
+    assert_eq!(rt;
+        (at, service.has_role(role), service.count_ports(role)),
+        (at, is_there, wanted.map(|ports| ports.len()))
+    );
+}
+
+/// How many nodes are listed.
+fn count_nodes(service: &DynamicConfig) -> u64 {
+    let mut count = 0u64;
+    service.list_node_ids(&mut |_: &UniqueNodeId| {
+        count = count.wrapping_add(1);
+        CallbackProgression::Continue
+    });
+    count
+}
+
+/// Makes the call of the row of this index, and compares its answer. No call takes memory.
+fn is_answered(
+    rt: &impl Abort,
+    service: &mut DynamicConfig,
+    pattern: &Pattern,
+    at: usize,
+    row: &Row,
+) -> Result<(), Fail> {
+    match *row {
+        Row::Register(node, wanted) => {
+            let told = service.register_node_id(node.id()?);
+            assert_eq!(rt; (at, told), (at, wanted.map(|handle| handle.on(pattern))));
+        }
+        Row::Deregister(handle, wanted) => {
+            let told = service
+                .deregister_node_id(handle.on(pattern))
+                .map(has_owners);
+            assert_eq!(rt; (at, told), (at, wanted));
+        }
+        Row::Attach(kind, counter, node, wanted) => {
+            let told = attach(rt, service, pattern.role(kind), counter, node.id()?)?;
+            assert_eq!(rt; (at, told), (at, wanted.map(|handle| handle.on(pattern))));
+        }
+        Row::Release(handle, wanted) => {
+            assert_eq!(rt;
+                (at, service.release_port(handle.on(pattern))),
+                (at, wanted)
+            );
+        }
+        Row::Recover(dead, kept, asked, owned) => {
+            recovers(rt, service, at, &dead.id()?, kept, (asked, owned));
+        }
+        Row::Nodes(count) => assert_eq!(rt; (at, count_nodes(service)), (at, count)),
+        Row::Ports(kind, wanted) => lists(rt, service, at, pattern.role(kind), wanted),
+    }
+    Ok(())
+}
+
+/// Makes the calls of the rows one after the other.
+pub(super) fn are_answered(
+    rt: &impl Abort,
+    service: &mut DynamicConfig,
+    pattern: &Pattern,
+    rows: &[Row],
+) -> Result<(), Fail> {
+    for (at, row) in rows.iter().enumerate() {
+        is_answered(rt, service, pattern, at, row)?;
+    }
+    Ok(())
+}
+
+/// Makes the calls of the rows on a new service of each pattern, with so many places for nodes, for the first ports and for
+/// the others.
+pub(super) fn each_pattern_answers(
+    rt: &impl Abort,
+    alloc: Global,
+    places: (usize, usize, usize),
+    rows: &[Row],
+) -> Result<(), Fail> {
+    for pattern in &PATTERNS {
+        let mut service = service(alloc, pattern.kind, places)?;
+        are_answered(rt, &mut service, pattern, rows)?;
+    }
+    Ok(())
+}
