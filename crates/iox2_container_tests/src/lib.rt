@@ -5,11 +5,17 @@
 #[cfg(test)]
 mod comparison;
 #[cfg(test)]
+mod handles;
+#[cfg(test)]
 mod laws;
 #[cfg(test)]
 mod memory;
 #[cfg(test)]
 mod nodes;
+#[cfg(test)]
+mod passes;
+#[cfg(test)]
+mod places;
 #[cfg(test)]
 mod registries;
 #[cfg(test)]
