@@ -75,11 +75,12 @@ fn are_cloned(
 
 #[test]
 fn settings_and_details_of_each_pattern_are_cloned(rt: HostRuntime) -> Result<(), Fail> {
-    let node = node(1, 5)?;
-    for (pattern, first, second, _) in PATTERNS {
-        let settings = settings(pattern, 3, 5);
-        let cloned = are_cloned(&settings, port(first, 9, node)?, port(second, 9, node)?);
-        assert!(rt; cloned);
+    let node = ONE_OF_FIVE.id()?;
+    for pattern in &PATTERNS {
+        let settings = settings(pattern.kind, 3, 5);
+        let first = port(pattern.first, 9, node)?;
+        let second = port(pattern.second, 9, node)?;
+        assert!(rt; are_cloned(&settings, first, second));
     }
     Ok(())
 }

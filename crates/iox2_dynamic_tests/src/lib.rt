@@ -15,6 +15,8 @@ mod leaving;
 #[cfg(test)]
 mod listings;
 #[cfg(test)]
+mod making;
+#[cfg(test)]
 mod many_places;
 #[cfg(test)]
 mod memory;

@@ -11,6 +11,7 @@ use std::test::Fail;
 
 /// Notes a port, and stops at the second.
 fn note_two<T: Attached>(seen: &mut ArrayVec<u128, 4>, details: &T) -> CallbackProgression {
+    // What is listed too often shows as one port more.
     let _ = seen.try_push(counter_of(details.key()));
     if seen.len() == 2 {
         CallbackProgression::Stop

@@ -8,7 +8,7 @@ use std::process::Abort;
 use std::test::Fail;
 
 /// One ticket of each kind.
-const EACH_KIND_HAS_ONE: [Row; 10] = [
+pub(super) const EACH_KIND_HAS_ONE: [Row; 10] = [
     Row::Register(A, Ok(Handle(7, Kind::Node, 0, 0))),
     Row::Attach(Kind::First, 9, A, Ok(Handle(7, Kind::First, 0, 0))),
     Row::Attach(Kind::Second, 10, A, Ok(Handle(7, Kind::Second, 0, 0))),
@@ -24,23 +24,34 @@ const EACH_KIND_HAS_ONE: [Row; 10] = [
     Row::Ports(Kind::Second, Some(&[])),
 ];
 
+/// A port and then its node leave.
+const ALL_LEAVE: [Row; 5] = [
+    Row::Register(A, Ok(Handle(7, Kind::Node, 0, 0))),
+    Row::Attach(Kind::Second, 9, A, Ok(Handle(7, Kind::Second, 0, 0))),
+    Row::Release(Handle(7, Kind::Second, 0, 0), Ok(())),
+    Row::Deregister(Handle(7, Kind::Node, 0, 0), Ok(false)),
+    Row::Nodes(0),
+];
+
 /// Makes the calls of the rows on a new service of this pattern, where there is memory for it.
 fn is_made_whole_or_not_at_all(
     rt: &impl Abort,
     alloc: Global,
     pattern: &Pattern,
+    rows: &[Row],
 ) -> Result<(), Fail> {
     let Ok(mut service) = service_by_tickets(alloc, pattern.kind, (4, 4, 4), 1) else {
         return Ok(());
     };
-    are_answered(rt, &mut service, pattern, &EACH_KIND_HAS_ONE)
+    are_answered(rt, &mut service, pattern, rows)
 }
 
 /// Whatever requests for memory are refused, a service is made whole or not at all.
 #[test]
 fn a_service_is_made_whole_or_not_at_all(rt: HostRuntime) -> Result<(), Fail> {
     for pattern in &PATTERNS {
-        is_made_whole_or_not_at_all(&rt, rt.alloc(), pattern)?;
+        is_made_whole_or_not_at_all(&rt, rt.alloc(), pattern, &EACH_KIND_HAS_ONE)?;
+        is_made_whole_or_not_at_all(&rt, rt.alloc(), pattern, &ALL_LEAVE)?;
     }
     Ok(())
 }
@@ -69,7 +80,7 @@ fn places_that_no_memory_holds(rt: HostRuntime) {
 }
 
 /// How many publishers new ports of publish-subscribe have, with four places for either kind.
-fn publishers(alloc: Global) -> Result<usize, AllocError> {
+pub(super) fn publishers(alloc: Global) -> Result<usize, AllocError> {
     let settings = publish_subscribe::DynamicConfigSettings {
         number_of_publishers: 4,
         number_of_subscribers: 4,
@@ -78,7 +89,7 @@ fn publishers(alloc: Global) -> Result<usize, AllocError> {
 }
 
 /// How many listeners new ports of event have, with four places for either kind.
-fn listeners(alloc: Global) -> Result<usize, AllocError> {
+pub(super) fn listeners(alloc: Global) -> Result<usize, AllocError> {
     let settings = event::DynamicConfigSettings {
         number_of_listeners: 4,
         number_of_notifiers: 4,
@@ -87,7 +98,7 @@ fn listeners(alloc: Global) -> Result<usize, AllocError> {
 }
 
 /// How many servers new ports of request-response have, with four places for either kind.
-fn servers(alloc: Global) -> Result<usize, AllocError> {
+pub(super) fn servers(alloc: Global) -> Result<usize, AllocError> {
     let settings = request_response::DynamicConfigSettings {
         number_of_servers: 4,
         number_of_clients: 4,
@@ -96,7 +107,7 @@ fn servers(alloc: Global) -> Result<usize, AllocError> {
 }
 
 /// How many readers new ports of blackboard have, with four places for either kind.
-fn readers(alloc: Global) -> Result<usize, AllocError> {
+pub(super) fn readers(alloc: Global) -> Result<usize, AllocError> {
     let settings = blackboard::DynamicConfigSettings {
         number_of_readers: 4,
         number_of_writers: 4,

@@ -62,6 +62,7 @@ fn recovers(
     let mut asked: ArrayVec<u128, 8> = ArrayVec::new();
     let mut clean = |id: UniquePortId| {
         let counter = counter_of(id.value());
+        // No row has so many ports.
         let _ = asked.try_push(counter);
         if kept.contains(&counter) {
             PortCleanupAction::SkipPort
@@ -78,6 +79,7 @@ fn recovers(
 fn lists(rt: &impl Abort, service: &DynamicConfig, at: usize, role: Role, wanted: Option<&[u128]>) {
     let mut listed: ArrayVec<u128, 8> = ArrayVec::new();
     let mut note = |details: &PortDetails| {
+        // No row has so many ports.
         let _ = listed.try_push(counter_of(details.port_id().value()));
         CallbackProgression::Continue
     };
