@@ -160,7 +160,12 @@ fn a_reply_is_written_whole_or_not_at_all(rt: HostRuntime) -> Result<(), Fail> {
 fn a_line_wants_memory_for_its_list_alone(rt: HostRuntime) {
     let rows = [
         ("register 1.0.0.1", true),
+        ("deregister 0", true),
+        ("nodes", true),
         ("add listener 1.0.0.9 1.0.0.1", true),
+        ("release 0", true),
+        ("list listener", true),
+        ("count listener", true),
         ("dead 1.0.0.1", true),
         ("dead 1.0.0.1 skip 1.0.0.9", false),
     ];
