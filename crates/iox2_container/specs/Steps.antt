@@ -104,10 +104,12 @@ candidates is_dead entries = filter (λ e. is_dead e.details) entries
 abbrev pub entries_of : {T : Type 0} → (T → ℕ) → ℕ → RegistryState T → ℕ
 entries_of node id r = length (candidates (is_of node id) r.entries)
 
+-- whether the first answer was yes
 abbrev pub is_true_first : List Bool → Bool
 is_true_first [] = false
 is_true_first (answer ∷ answers) = answer
 
+-- the answers after the first
 abbrev pub after_first_answer : List Bool → List Bool
 after_first_answer [] = []
 after_first_answer (answer ∷ answers) = answers
