@@ -43,8 +43,8 @@ pub fn details_go_by_fields(
     (one == other, one.clone())
 }
 
-/// Answers of one kind, each of what the calls on a service tell or are told.
-pub type Told = (
+/// An answer of each kind that the calls on a service give or are given.
+pub type Answers = (
     RegisterNodeResult,
     DeregisterNodeState,
     DeregisterError,
@@ -53,7 +53,7 @@ pub type Told = (
 );
 
 /// Answers are equal exactly where they are the same, and a clone of one is it and takes no memory.
-pub fn answers_go_by_variant(one: &Told, other: &Told) -> (bool, Result<Told, AllocError>)
+pub fn answers_go_by_variant(one: &Answers, other: &Answers) -> (bool, Result<Answers, AllocError>)
     ensures equal { IsTrue result.0 ↔ (one.now ≡ other.now) }
     ensures cloned { IsOkAnd result.1 (λ copy. copy ≡ one.now) }
 {
