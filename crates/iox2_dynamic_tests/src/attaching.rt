@@ -1,7 +1,6 @@
 //! Ports that come.
-use super::rows::{Handle, Row, are_answered, each_pattern_answers};
+use super::rows::{Handle, NOT_A_PORT, Row, are_answered, each_pattern_answers};
 use super::services::*;
-use iox2_container::container::ContainerRemoveError;
 use iox2_dynamic::dynamic_config::*;
 use std::alloc::Global;
 use std::process::Abort;
@@ -33,10 +32,7 @@ const A_PLACE_IS_USED_AGAIN: [Row; 11] = [
     Row::Attach(Kind::Second, 9, A, Ok(Handle(7, Kind::Second, 0, 0))),
     Row::Release(Handle(7, Kind::First, 0, 0), Ok(())),
     Row::Attach(Kind::First, 8, A, Ok(Handle(7, Kind::First, 0, 1))),
-    Row::Release(
-        Handle(7, Kind::First, 0, 0),
-        Err(ContainerRemoveError::ContainerHandleNotOwnedByContainer),
-    ),
+    Row::Release(Handle(7, Kind::First, 0, 0), NOT_A_PORT),
     Row::Ports(Kind::First, Some(&[8])),
     Row::Ports(Kind::Second, Some(&[9])),
     Row::Ports(Kind::Other, None),

@@ -1,16 +1,11 @@
 //! Handles that do not belong.
-use super::rows::{Handle, Row, each_pattern_answers};
+use super::rows::{Handle, NOT_A_PORT, Row, each_pattern_answers};
 use super::services::*;
-use iox2_container::container::ContainerRemoveError;
 use iox2_dynamic::dynamic_config::*;
 use std::test::Fail;
 
 const NOT_A_NODE: Result<bool, DeregisterError> = Err(
     DeregisterError::ContainerHandleNotOwnedByContainer,
-);
-
-const NOT_A_PORT: Result<(), ContainerRemoveError> = Err(
-    ContainerRemoveError::ContainerHandleNotOwnedByContainer,
 );
 
 /// Registers the node twice and attaches two ports of it, and takes the first of either out again. With a node and a port

@@ -25,6 +25,11 @@ impl Handle {
     }
 }
 
+/// What is answered for a handle that is no port's here.
+pub(super) const NOT_A_PORT: Result<(), ContainerRemoveError> = Err(
+    ContainerRemoveError::ContainerHandleNotOwnedByContainer,
+);
+
 /// A call, and its answer.
 #[derive(Clone, Copy)]
 pub(super) enum Row<'a> {

@@ -47,11 +47,13 @@ impl MessageTypeDetails {
             (detail FixedSize UserHeader.type_name UserHeader.SIZE UserHeader.ALIGNMENT)
             (detail payload_variant Payload.type_name Payload.SIZE Payload.ALIGNMENT)) result }
     {
-        let fixed = TypeVariant::FixedSize;
-        Ok(Self {
-            header: TypeDetail::new::<Header>(fixed)?,
-            user_header: TypeDetail::new::<UserHeader>(fixed)?,
-            payload: TypeDetail::new::<Payload>(payload_variant)?,
+        let header = TypeDetail::new::<Header>(TypeVariant::FixedSize)?;
+        let user_header = TypeDetail::new::<UserHeader>(TypeVariant::FixedSize)?;
+        let payload = TypeDetail::new::<Payload>(payload_variant)?;
+        Ok(MessageTypeDetails {
+            header,
+            user_header,
+            payload,
         })
     }
 

@@ -8,11 +8,14 @@ ghost use Rattle.iox2_dynamic.specs.Ports.{has_ports_of};
 ghost use Rattle.iox2_dynamic.specs.Service.{HasRole, first_role, second_role, pattern_in};
 ghost use Rattle.iox2_dynamic.specs.Service.{fresh_ports};
 
+use super::blackboard::DynamicConfig as BlackboardPorts;
 use super::cleanup::PortCleanupAction;
+use super::event::DynamicConfig as EventPorts;
 use super::port_details::PortDetails;
 use super::port_registries::PortRegistries;
+use super::publish_subscribe::DynamicConfig as PublishSubscribePorts;
+use super::request_response::DynamicConfig as RequestResponsePorts;
 use super::settings::MessagingPatternSettings;
-use super::{blackboard, event, publish_subscribe, request_response};
 use iox2_config::hash::PatternKind;
 use iox2_container::container::{
     ContainerAddFailure, ContainerHandle, ContainerRemoveError, ReleaseState, Role,
@@ -25,13 +28,13 @@ use std::alloc::{AllocError, Global};
 #[derive(Debug, Drop)]
 pub enum MessagingPattern {
     /// Clients send requests, and servers respond.
-    RequestResponse(request_response::DynamicConfig),
+    RequestResponse(RequestResponsePorts),
     /// Publishers send samples to all subscribers.
-    PublishSubscribe(publish_subscribe::DynamicConfig),
+    PublishSubscribe(PublishSubscribePorts),
     /// Notifiers wake listeners.
-    Event(event::DynamicConfig),
+    Event(EventPorts),
     /// Writers update values that readers look up.
-    Blackboard(blackboard::DynamicConfig),
+    Blackboard(BlackboardPorts),
 }
 
 impl MessagingPattern {

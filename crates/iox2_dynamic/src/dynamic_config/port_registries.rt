@@ -115,7 +115,8 @@ impl<A: PortKind, B: PortKind> PortRegistries<A, B> {
         if handle.role() == B::ROLE {
             return self.second.remove(handle, ReleaseMode::Default);
         }
-        Err(ContainerRemoveError::ContainerHandleNotOwnedByContainer)
+        let of_neither_kind = ContainerRemoveError::ContainerHandleNotOwnedByContainer;
+        Err(of_neither_kind)
     }
 
     /// Asks about each port of a dead node whether it goes, first about those of the first kind.
