@@ -42,7 +42,7 @@ DescribesType parts (Ok made) = (made ≡ parts) × IsLegal parts
 DescribesType parts (Err (Name error)) = MakesText 256 parts.type_name (Err error)
 DescribesType parts (Err AlignmentNotPowerOfTwo) = ⊥
 
--- the first of the names that is none is refused for this cause
+-- the first invalid name is refused for this cause
 abbrev pub FirstRefused : List (List ℕ) → StringModificationError → Type 0
 FirstRefused [] error = ⊥
 FirstRefused (name ∷ names) error =

@@ -117,6 +117,30 @@ fn hash_of_a_service_has_27_letters(rt: HostRuntime) {
     assert!(rt; event.copied() == event);
 }
 
+/// The values are those of another implementation of SHA-1 and of RFC 4648 section 5.
+#[test]
+fn services_that_differ_have_other_hash_texts(rt: HostRuntime) {
+    for (kind, name, wanted) in [
+        (
+            PatternKind::PublishSubscribe,
+            "a",
+            "Z3mvvD6ZPFR8oIAKl1Tzem6A4O0",
+        ),
+        (PatternKind::Event, "a", "mywygMzqC6QIJwxFGFv7zTYWQjc"),
+        (
+            PatternKind::RequestResponse,
+            "a",
+            "s2GhNwmUEbEtiNUx9btoJocbKMc",
+        ),
+        (PatternKind::Blackboard, "a", "DRYJSGGCd2yYeqANMtUVaEW_nts"),
+        (PatternKind::Event, "b", "LZGiCiD8rrCuYLUYm4EL34SBsdc"),
+    ] {
+        let name = ServiceName::new(name).expect(&rt, "a name");
+        let hash = ServiceHash::new::<Sha1Hasher>(&name, kind).expect(&rt, "a hash");
+        assert_eq!(rt; hash.as_str(), wanted);
+    }
+}
+
 #[test]
 fn any_hasher_serves(rt: HostRuntime) {
     let name = ServiceName::new("a").expect(&rt, "a name");

@@ -142,14 +142,6 @@ fn layouts_go_by_size_and_alignment(rt: HostRuntime) {
 }
 
 #[test]
-fn laws_of_details_and_hash_inputs_can_be_called(_rt: HostRuntime) {
-    hash_inputs_differ();
-    details_are_compatible_to_themselves();
-    compatibility_goes_through();
-    details_compatible_both_ways_are_equal();
-}
-
-#[test]
 fn laws_of_hash_texts_can_be_called(rt: HostRuntime) {
     let name = ServiceName::new("a").expect(&rt, "a name");
     let hash = ServiceHash::new::<Sha1Hasher>(&name, PatternKind::Event).expect(&rt, "a hash");

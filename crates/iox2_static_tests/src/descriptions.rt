@@ -276,36 +276,56 @@ fn copies_of_patterns_have_the_same_hash(rt: HostRuntime) {
     }
 }
 
+fn attributes(rt: &impl Abort) -> AttributeSet {
+    let key = AttributeKey::new(b"a").expect(rt, "a key");
+    let value = AttributeValue::new(b"1").expect(rt, "a value");
+    let mut attributes = AttributeSet::new();
+    attributes.add(&key, &value).expect(rt, "room");
+    attributes
+}
+
 #[test]
 fn settings_of_publish_subscribe_can_be_changed(rt: HostRuntime) {
-    let mut service = new_publish_subscribe(&rt, &Config::default());
+    let mut config = Config::default();
+    let mut service = new_publish_subscribe(&rt, &config).with_attributes(&attributes(&rt));
     assert!(rt; service.is_publish_subscribe());
     service.publish_subscribe_mut().max_nodes = 19;
-    assert_eq!(rt; service.publish_subscribe().max_nodes(), 19);
+    config.defaults.publish_subscribe.max_nodes = 19;
+    let wanted = new_publish_subscribe(&rt, &config).with_attributes(&attributes(&rt));
+    assert!(rt; service == wanted);
 }
 
 #[test]
 fn settings_of_event_can_be_changed(rt: HostRuntime) {
-    let mut service = new_event(&rt, &Config::default());
+    let mut config = Config::default();
+    let mut service = new_event(&rt, &config).with_attributes(&attributes(&rt));
     assert!(rt; service.is_event());
     service.event_mut().max_nodes = 18;
-    assert_eq!(rt; service.event().max_nodes(), 18);
+    config.defaults.event.max_nodes = 18;
+    let wanted = new_event(&rt, &config).with_attributes(&attributes(&rt));
+    assert!(rt; service == wanted);
 }
 
 #[test]
 fn settings_of_request_response_can_be_changed(rt: HostRuntime) {
-    let mut service = new_request_response(&rt, &Config::default());
+    let mut config = Config::default();
+    let mut service = new_request_response(&rt, &config).with_attributes(&attributes(&rt));
     assert!(rt; service.is_request_response());
     service.request_response_mut().max_nodes = 17;
-    assert_eq!(rt; service.request_response().max_nodes(), 17);
+    config.defaults.request_response.max_nodes = 17;
+    let wanted = new_request_response(&rt, &config).with_attributes(&attributes(&rt));
+    assert!(rt; service == wanted);
 }
 
 #[test]
 fn settings_of_blackboard_can_be_changed(rt: HostRuntime) {
-    let mut service = new_blackboard(&rt, &Config::default());
+    let mut config = Config::default();
+    let mut service = new_blackboard(&rt, &config).with_attributes(&attributes(&rt));
     assert!(rt; service.is_blackboard());
     service.blackboard_mut().max_nodes = 16;
-    assert_eq!(rt; service.blackboard().max_nodes(), 16);
+    config.defaults.blackboard.max_nodes = 16;
+    let wanted = new_blackboard(&rt, &config).with_attributes(&attributes(&rt));
+    assert!(rt; service == wanted);
 }
 
 #[test]
@@ -320,11 +340,18 @@ fn changed_settings_do_not_make_patterns_the_same(rt: HostRuntime) {
 }
 
 #[test]
+fn services_have_the_same_pattern_whatever_they_set(rt: HostRuntime) {
+    let mut config = Config::default();
+    let one = new_event(&rt, &config);
+    config.defaults.event.max_nodes = 18;
+    let other = new_event(&rt, &config).with_attributes(&attributes(&rt));
+    assert!(rt; one != other);
+    assert!(rt; one.has_same_messaging_pattern(&other));
+}
+
+#[test]
 fn attributes_can_be_changed(rt: HostRuntime) {
-    let key = AttributeKey::new(b"a").expect(&rt, "a key");
-    let value = AttributeValue::new(b"1").expect(&rt, "a value");
-    let mut attributes = AttributeSet::new();
-    attributes.add(&key, &value).expect(&rt, "room");
+    let attributes = attributes(&rt);
     let service = new_blackboard(&rt, &Config::default()).with_attributes(&attributes);
     assert!(rt; service.attributes() == &attributes);
     let service = service.with_attributes(&AttributeSet::new());

@@ -18,7 +18,7 @@ abbrev pub IsName : ℕ → List ℕ → Type 0
 IsName n bytes = IsAllowed (λ b. 1 ≤ length b) n bytes
 
 -- what making a text answers whose legal contents are `Legal`, none of them longer than `n`:
--- too long is told only of what is too long, and everything else that is not legal is an invalid content
+-- too long is reported only of what is too long, and everything else that is not legal is an invalid content
 abbrev pub MakesLegal : (List ℕ → Type 0) → ℕ → List ℕ → Result (List ℕ) SemanticStringError → Type 0
 MakesLegal Legal n bytes (Ok text) = (text ≡ bytes) × (length bytes ≤ n) × Legal bytes
 MakesLegal Legal n bytes (Err ExceedsMaximumLength) = n < length bytes

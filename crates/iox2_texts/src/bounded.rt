@@ -24,7 +24,7 @@ pub enum CallbackProgression {
 /// Why a text was not made or changed.
 #[derive(Clone, Copy, Debug, PartialEq, Eq)]
 pub enum StringModificationError {
-    /// The text would be longer than its capacity. It is told before an illegal byte.
+    /// The text would be longer than its capacity. It is reported before an illegal byte.
     InsertWouldExceedCapacity,
     /// A byte is not from 1 to 127.
     InvalidCharacter,
@@ -35,7 +35,7 @@ pub enum StringModificationError {
 pub enum SemanticStringError {
     /// The bytes are short enough, but are empty where that is forbidden or hold what is forbidden.
     InvalidContent,
-    /// There are more bytes than the greatest length allows. It is told before an illegal byte.
+    /// There are more bytes than the greatest length allows. It is reported before an illegal byte.
     ExceedsMaximumLength,
 }
 

@@ -20,7 +20,7 @@ pub const MAX_SERVICE_NAME_LENGTH: usize = 255;
 pub enum ServiceNameError {
     /// The name is empty, has a byte that is not from 1 to 127, or begins with the prefix where that is refused.
     InvalidContent,
-    /// The name has more than 255 bytes. It is told before an illegal byte.
+    /// The name has more than 255 bytes. It is reported before an illegal byte.
     ExceedsMaximumLength,
 }
 

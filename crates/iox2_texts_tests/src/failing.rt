@@ -1,78 +1,111 @@
-//! Texts that are printed into a writer that fails.
+//! Values that are printed whole, and into a writer that fails.
 
-use iox2_ids::identifiers::{UniqueNodeId, UniquePublisherId};
-use iox2_texts::attribute::{
-    AttributeDefinitionError, AttributeKey, AttributeValue, AttributeVerificationError,
+use iox2_ids::identifiers::{
+    ProcessId, Time, UniqueNodeId, UniquePortId, UniquePublisherId, UniqueReaderId,
 };
-use iox2_texts::bounded::StaticString;
+use iox2_texts::attribute::{
+    Attribute, AttributeDefinitionError, AttributeKey, AttributeSet, AttributeSpecifier,
+    AttributeValue, AttributeVerificationError, AttributeVerifier,
+};
+use iox2_texts::bounded::{
+    CallbackProgression, SemanticStringError, StaticString, StringModificationError,
+};
+use iox2_texts::paths::{FileName, FilePath, Path};
 use iox2_texts::service_name::{ServiceName, ServiceNameError};
-use std::fmt;
-use std::fmt::{Display, Write};
 use std::process::Abort;
+use test_support::printing::{is_printed, is_shown};
 
-/// Takes all that is written to it, but for the call of this number.
-#[derive(Drop)]
-struct Failing {
-    made: u64,
-    failing: u64,
-}
-
-impl Write for Failing {
-    fn write_str(&mut self, _text: &str) -> fmt::Result {
-        let now = self.made;
-        self.made = now.wrapping_add(1);
-        if now == self.failing {
-            Err(fmt::Error)
-        } else {
-            Ok(())
-        }
-    }
-}
-
-/// Whether the value is printed where this call fails, and how many calls it makes.
-fn printed(value: &impl Display, failing: u64) -> (bool, u64) {
-    let mut writer = Failing { made: 0, failing };
-    let printed = write!(writer, "{value}").is_ok();
-    (printed, writer.made)
-}
-
-/// At whichever call the writer fails, so does the printing, and it makes no further call.
-fn fails_with_its_writer(rt: &impl Abort, value: &impl Display) {
-    let (whole, calls) = printed(value, u64::MAX);
-    assert!(rt; whole && calls > 0);
-    for failing in 0..calls {
-        assert_eq!(rt; printed(value, failing), (false, failing + 1));
-    }
+#[test]
+fn texts_fail_with_their_writer(rt: HostRuntime) {
+    let text = StaticString::<2>::try_from("ab").expect(&rt, "a text");
+    let name = ServiceName::new("a").expect(&rt, "a name");
+    let key = AttributeKey::new(b"a").expect(&rt, "a key");
+    let value = AttributeValue::new(b"1").expect(&rt, "a value");
+    let path = Path::new(b"a/b").expect(&rt, "a path");
+    let file = FileName::new(b"b").expect(&rt, "a name");
+    let both = FilePath::new(b"a/b").expect(&rt, "a path");
+    assert_eq!(rt;
+        [
+            is_printed(&text) && is_shown(&text),
+            is_printed(&name) && is_shown(&name),
+            is_printed(&key) && is_shown(&key),
+            is_printed(&value) && is_shown(&value),
+            is_printed(&path) && is_shown(&path),
+            is_printed(&file) && is_shown(&file),
+            is_printed(&both) && is_shown(&both),
+        ],
+        [true; 7]
+    );
 }
 
 #[test]
-fn names_and_ids_fail_with_their_writer(rt: HostRuntime) {
-    fails_with_its_writer(
-        &rt,
-        &StaticString::<2>::try_from("ab").expect(&rt, "a text"),
+fn ids_fail_with_their_writer(rt: HostRuntime) {
+    let node = UniqueNodeId::new(1, 2, 3, 4).expect(&rt, "an id");
+    let port = UniquePublisherId::new(1, 2, 3, 4);
+    assert_eq!(rt;
+        [
+            is_printed(&node) && is_shown(&node),
+            is_printed(&port) && is_shown(&port),
+            is_shown(&UniquePortId::Reader(UniqueReaderId::new(1, 2, 3, 4))),
+            is_shown(&ProcessId::new(1)),
+            is_shown(&Time::new(1, 2)),
+        ],
+        [true; 5]
     );
-    fails_with_its_writer(&rt, &ServiceName::new("a").expect(&rt, "a name"));
-    fails_with_its_writer(&rt, &AttributeKey::new(b"a").expect(&rt, "a key"));
-    fails_with_its_writer(&rt, &UniqueNodeId::new(1, 2, 3, 4).expect(&rt, "an id"));
-    fails_with_its_writer(&rt, &UniquePublisherId::new(1, 2, 3, 4));
 }
 
 #[test]
 fn errors_fail_with_their_writer(rt: HostRuntime) {
-    fails_with_its_writer(&rt, &ServiceNameError::InvalidContent);
-    fails_with_its_writer(&rt, &ServiceNameError::ExceedsMaximumLength);
-    fails_with_its_writer(
-        &rt,
-        &AttributeDefinitionError::ExceedsMaxSupportedAttributes,
+    let key = AttributeKey::new(&[b'k'; 64]).expect(&rt, "a key");
+    let value = AttributeValue::new(&[b'v'; 256]).expect(&rt, "a value");
+    let content = ServiceNameError::InvalidContent;
+    let length = ServiceNameError::ExceedsMaximumLength;
+    let many = AttributeDefinitionError::ExceedsMaxSupportedAttributes;
+    let missing = AttributeVerificationError::NonExistingKey(key.copied());
+    let other = AttributeVerificationError::IncompatibleAttribute((key, value));
+    assert_eq!(rt;
+        [
+            is_printed(&content) && is_shown(&content),
+            is_printed(&length) && is_shown(&length),
+            is_printed(&many) && is_shown(&many),
+            is_printed(&missing) && is_shown(&missing),
+            is_printed(&other) && is_shown(&other),
+            is_shown(&SemanticStringError::InvalidContent),
+            is_shown(&StringModificationError::InvalidCharacter),
+            is_shown(&CallbackProgression::Stop),
+        ],
+        [true; 8]
     );
-    let key = AttributeKey::new(b"a").expect(&rt, "a key");
-    let value = AttributeValue::new(b"1").expect(&rt, "a value");
-    fails_with_its_writer(
-        &rt,
-        &AttributeVerificationError::NonExistingKey(key.copied()),
-    );
-    fails_with_its_writer(
-        &rt,
-        &AttributeVerificationError::IncompatibleAttribute((key, value)),
+}
+
+fn pair(rt: &impl Abort) -> (AttributeKey, AttributeValue) {
+    (
+        AttributeKey::new(b"a").expect(rt, "a key"),
+        AttributeValue::new(b"1").expect(rt, "a value"),
+    )
+}
+
+#[test]
+fn sets_of_attributes_fail_with_their_writer(rt: HostRuntime) {
+    let (key, value) = pair(&rt);
+    let mut set = AttributeSet::new();
+    set.add(&key, &value).expect(&rt, "room");
+    let specifier = AttributeSpecifier::new()
+        .define(&key, &value)
+        .expect(&rt, "room");
+    let verifier = AttributeVerifier::new()
+        .require(&key, &value)
+        .expect(&rt, "room")
+        .require_key(&key)
+        .expect(&rt, "room");
+    let shown = set.as_slice().iter().all(|pair: &Attribute| is_shown(pair));
+    assert_eq!(rt;
+        [
+            shown,
+            is_shown(&set),
+            is_shown(&specifier),
+            is_shown(&verifier)
+        ],
+        [true; 4]
     );
 }

@@ -128,8 +128,6 @@ fn a_port_id_has_the_number_of_its_id(rt: HostRuntime) {
 
 #[test]
 fn laws_of_ids(rt: HostRuntime) {
-    parts_are_packed();
-    packed_is_whole();
     let state = &mut DefaultHasher::new();
     let one = UniqueServiceId::new(0, 0, 1, 0);
     let other = UniqueServiceId::new(0, 0, 0, 9);

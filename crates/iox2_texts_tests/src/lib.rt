@@ -7,6 +7,8 @@ mod failing;
 #[cfg(test)]
 mod ids;
 #[cfg(test)]
+mod lengths;
+#[cfg(test)]
 mod printing;
 #[cfg(test)]
 mod texts;

@@ -12,7 +12,7 @@ pub enum BackpressureStrategy {
     DiscardData,
 }
 
-/// How the room for messages grows where their length is told at run time.
+/// How the room for messages grows where their length is known only at run time.
 #[derive(Clone, Copy, Debug, PartialEq, Eq)]
 pub enum AllocationStrategy {
     /// By as much as the message needs.

@@ -25,7 +25,7 @@ pub struct PublishSubscribe {
     pub backpressure_strategy: BackpressureStrategy,
     /// How many connections of publishers that are gone a subscriber keeps, since samples lie in them.
     pub subscriber_expired_connection_buffer: usize,
-    /// How a publisher's room grows for payloads whose length is told at run time.
+    /// How a publisher's room grows for payloads whose length is known only at run time.
     pub publisher_allocation_strategy: AllocationStrategy,
 }
 

@@ -35,9 +35,9 @@ pub struct RequestResonse {
     pub server_expired_connection_buffer: usize,
     /// Whether a client may send a request and take no response.
     pub enable_fire_and_forget_requests: bool,
-    /// How a client's room grows for requests whose length is told at run time.
+    /// How a client's room grows for requests whose length is known only at run time.
     pub client_allocation_strategy: AllocationStrategy,
-    /// How a server's room grows for responses whose length is told at run time.
+    /// How a server's room grows for responses whose length is known only at run time.
     pub server_allocation_strategy: AllocationStrategy,
 }
 

@@ -16,7 +16,7 @@ pub struct Service {
     pub dynamic_config_storage_suffix: FileName,
     /// The end of the name of a connection between two ports.
     pub connection_suffix: FileName,
-    /// The end of the name of a connection by which events are told.
+    /// The end of the name of a connection by which events are sent.
     pub event_connection_suffix: FileName,
     /// The end of the name of a blackboard's management segment.
     pub blackboard_mgmt_suffix: FileName,

@@ -43,8 +43,8 @@ impl ServiceHash {
 
     /// The text that hashers of the type `H` mean by the service's pattern and name.
     ///
-    /// First told is that the hasher failed, which happens only where it may refuse this input; then that the text is
-    /// not legal.
+    /// It is first reported that the hasher failed, which happens only where it may refuse this input; then
+    /// that the text is not legal.
     pub fn new<H: Hash>(name: &ServiceName, kind: PatternKind) -> Result<Self, ServiceHashError>
         ensures { MakesHash H.meaning H.may_refuse (hash_input kind name.now) result }
     {

@@ -11,7 +11,7 @@ pub const MAX_TYPE_NAME_LENGTH: usize = 256;
 /// The name of a type.
 pub type TypeName = StaticString<MAX_TYPE_NAME_LENGTH>;
 
-/// Whether a message has one value of a type, or a number of them that is told at run time. The default is
+/// Whether a message has one value of a type, or a number of them that is known only at run time. The default is
 /// `FixedSize`.
 #[derive(Clone, Copy, Debug, PartialEq, Eq, Hash)]
 pub enum TypeVariant {
@@ -39,7 +39,7 @@ impl Default for TypeVariant {
 pub enum TypeDetailError {
     /// The name has more than 256 bytes, or a byte that is not from 1 to 127.
     Name(StringModificationError),
-    /// The alignment is no power of two. It is told after what is wrong with the name.
+    /// The alignment is no power of two. It is reported after what is wrong with the name.
     AlignmentNotPowerOfTwo,
 }
 
@@ -105,7 +105,7 @@ impl TypeDetail {
 
     /// The details of the type `T`.
     ///
-    /// Refused is a name that is none.
+    /// Refused is an invalid name.
     pub fn new<T: ZeroCopySend>(variant: TypeVariant) -> Result<Self, TypeDetailError>
         ensures { DescribesType (detail variant T.type_name T.SIZE T.ALIGNMENT) result }
     {
@@ -114,7 +114,7 @@ impl TypeDetail {
 
     /// The details with these parts.
     ///
-    /// Refused is a name that is none, and then an alignment that is no power of two.
+    /// Refused is an invalid name, and then an alignment that is no power of two.
     pub fn from_parts(
         variant: TypeVariant,
         type_name: &str,
@@ -138,7 +138,7 @@ impl TypeDetail {
         })
     }
 
-    /// Whether a message has one value of the type or a number that is told at run time.
+    /// Whether a message has one value of the type or a number that is known only at run time.
     pub fn variant(&self) -> TypeVariant
         ensures { result ≡ self.now.variant }
     {

@@ -18,7 +18,7 @@ use std::marker::Model;
 /// What a set of attributes lacks.
 #[derive(Debug, Drop, PartialEq, Eq)]
 pub enum AttributeVerificationError {
-    /// No pair has this key, the first of the required keys that lacks one. It is told only where no required
+    /// No pair has this key, the first of the required keys that lacks one. It is reported only where no required
     /// pair is missing.
     NonExistingKey(AttributeKey),
     /// This pair is not in the set, the least of the required pairs that are not. The key may have other values,
@@ -157,7 +157,7 @@ impl AttributeVerifier {
     /// Whether `attributes` has each required pair, and for each required key some pair with it. A pair that is
     /// required twice is met by one.
     ///
-    /// Refused by the least required pair that is missing, and where none is by the first required key that is.
+    /// Refused with the least required pair that is missing, or else with the first required key that no pair has.
     pub fn verify_requirements(
         &self,
         attributes: &AttributeSet,

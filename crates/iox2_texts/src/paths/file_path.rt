@@ -10,7 +10,7 @@ use super::path::Path;
 use crate::bounded::{Content, SemanticString, SemanticStringError};
 
 /// The path of a file: 1 to 255 bytes, of which those after the last `/` are a file name. Where there is no `/`,
-/// all of them are. `a/` and `a/..` are none.
+/// all of them are. `a/` and `a/..` are refused.
 pub type FilePath = SemanticString<FilePathContent, MAX_PATH_LENGTH>;
 
 /// What the path of a file allows: a last part that is a file name.

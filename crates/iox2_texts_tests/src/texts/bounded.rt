@@ -1,6 +1,6 @@
 use crate::printing::shown;
 use iox2_texts::bounded::{StaticString, StringModificationError, align};
-use iox2_texts::laws::{least_multiples_are_unique, texts_go_by_bytes};
+use iox2_texts::laws::texts_go_by_bytes;
 use std::cmp::Ordering;
 use std::hash::DefaultHasher;
 use std::process::Abort;
@@ -65,7 +65,6 @@ fn texts_are_ordered_by_bytes(rt: HostRuntime) {
 #[test]
 #[tactic(auto, unfolding(iox2_texts::specs::Multiple::least_multiple))]
 fn least_multiples(rt: HostRuntime) {
-    least_multiples_are_unique();
     let most = 9223372036854775808;
     assert_eq!(rt;
         [

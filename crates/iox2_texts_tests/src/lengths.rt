@@ -1,0 +1,100 @@
+//! What is printed at every length, of the longest faults, and of many ids.
+
+use crate::printing::shown;
+use iox2_ids::identifiers::{UniqueNodeId, UniquePublisherId};
+use iox2_texts::attribute::{AttributeKey, AttributeValue, AttributeVerificationError};
+use iox2_texts::bounded::StaticString;
+use iox2_texts::paths::{FileName, FilePath, Path, RestrictedFileName};
+use iox2_texts::service_name::ServiceName;
+use std::fmt::{Debug, Display};
+use std::process::Abort;
+
+const LONGEST: [u8; 256] = [b'a'; 256];
+
+/// A value that is made of up to `most` bytes is printed as these, and `Debug` prints some text of
+/// it.
+fn is_printed_up_to<T: Display + Debug + Drop>(
+    rt: &(impl Abort + AllocGlobal),
+    most: usize,
+    bytes: &[u8],
+    made: Option<T>,
+) {
+    assert_eq!(rt; made.is_some(), bytes.len() <= most);
+    if let Some(value) = made {
+        assert_eq!(rt; shown(rt, &value).as_bytes(), bytes);
+        assert!(rt; format!(in rt.alloc(); "{value:?}").is_ok());
+    }
+}
+
+#[test]
+fn texts_are_printed_at_every_length(rt: HostRuntime) {
+    for length in 1..=LONGEST.len() {
+        let bytes = &LONGEST[..length];
+        is_printed_up_to(&rt, 7, bytes, StaticString::<7>::from_bytes(bytes).ok());
+        is_printed_up_to(&rt, 256, bytes, StaticString::<256>::from_bytes(bytes).ok());
+        is_printed_up_to(&rt, 64, bytes, AttributeKey::new(bytes).ok());
+        is_printed_up_to(&rt, 256, bytes, AttributeValue::new(bytes).ok());
+    }
+}
+
+#[test]
+fn paths_are_printed_at_every_length(rt: HostRuntime) {
+    for length in 1..=LONGEST.len() {
+        let bytes = &LONGEST[..length];
+        is_printed_up_to(&rt, 255, bytes, Path::new(bytes).ok());
+        is_printed_up_to(&rt, 255, bytes, FileName::new(bytes).ok());
+        is_printed_up_to(&rt, 255, bytes, FilePath::new(bytes).ok());
+        is_printed_up_to(&rt, 9, bytes, RestrictedFileName::<9>::new(bytes).ok());
+    }
+}
+
+#[test]
+fn names_of_services_are_printed_at_every_length(rt: HostRuntime) {
+    for length in 1..=LONGEST.len() {
+        let bytes = &LONGEST[..length];
+        let text = str::from_utf8(bytes).expect(&rt, "a text");
+        is_printed_up_to(&rt, 255, bytes, ServiceName::new(text).ok());
+    }
+}
+
+#[test]
+fn faults_are_printed_at_every_length(rt: HostRuntime) {
+    for length in 1..=LONGEST.len() {
+        let key = AttributeKey::new(&LONGEST[..length.min(64)]).expect(&rt, "a key");
+        let value = AttributeValue::new(&LONGEST[..length]).expect(&rt, "a value");
+        let (key_text, value_text) = (shown(&rt, &key), shown(&rt, &value));
+        let missing = AttributeVerificationError::NonExistingKey(key.copied());
+        let other = AttributeVerificationError::IncompatibleAttribute((key, value));
+        let missing_text = format!(in rt.alloc();
+            "AttributeVerificationError::NonExistingKey(\"{key_text}\")"
+        );
+        let other_text = format!(in rt.alloc();
+            "AttributeVerificationError::IncompatibleAttribute((\"{key_text}\", \"{value_text}\"))"
+        );
+        assert_eq!(rt;
+            (shown(&rt, &missing), shown(&rt, &other)),
+            (
+                missing_text.expect(&rt, "memory"),
+                other_text.expect(&rt, "memory")
+            )
+        );
+    }
+}
+
+#[test]
+fn ids_are_printed_of_many_processes(rt: HostRuntime) {
+    for process in 0..=300 {
+        let node = UniqueNodeId::new(process, 2, 3, 4).expect(&rt, "an id");
+        let port = UniquePublisherId::new(process, 2, 3, 4);
+        let front = if process == 0 {
+            String::new(rt.alloc())
+        } else {
+            format!(in rt.alloc(); "{process:x}0000000").expect(&rt, "memory")
+        };
+        let text = format!(in rt.alloc(); "{front}20000000300000004").expect(&rt, "memory");
+        assert_eq!(rt;
+            [shown(&rt, &node).as_str(), shown(&rt, &port).as_str()],
+            [text.as_str(); 2]
+        );
+    }
+}

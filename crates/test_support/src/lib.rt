@@ -1,0 +1,5 @@
+//! What the tests of several crates share.
+#![tactic(auto)]
+
+pub mod memory;
+pub mod printing;
