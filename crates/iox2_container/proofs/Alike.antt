@@ -15,10 +15,12 @@ use Rattle.iox2_container.specs.declared.container.calls.RegistryCall.TheVariant
 use Rattle.iox2_container.specs.declared.container.calls.RegistryReply.{RegistryReply}
 use Rattle.iox2_container.specs.declared.container.calls.RegistryReply.TheVariants as Reply
 use Rattle.iox2_container.specs.Handle.{Handle}
+use Rattle.iox2_container.specs.ContainerState.{ContainerState}
 use Rattle.iox2_container.specs.State.{Entry, RegistryState, IsRegistry, handle_of}
-use Rattle.iox2_container.specs.Steps.{AddStep, RemoveStep, Recovers, HasRoom, IsFull, Leaves, Enters, is_of, listed, lock_after, release_state}
+use Rattle.iox2_container.specs.Steps.{AddStep, RemoveStep, Recovers, RecoverStep, candidates, HasRoom, IsFull, Leaves, Enters, is_of, listed, lock_after, release_state}
 use Rattle.iox2_container.specs.Histories.{IsNew}
 use Rattle.iox2_container.specs.Calls.{CallStep, CallRun, RemoveGiven, SameReply, SameKind, handle_given, is_outside, reply_of_add, reply_of_remove}
+use Rattle.iox2_container.proofs.Collecting.{answers_by, map-details}
 use Rattle.iox2_container.proofs.Members.{of_all, gained}
 use Rattle.iox2_container.proofs.SameEntries.{Within, same_members, nothing_within, within_after_add, within_after_remove, within_after_filter, passing, answers_of, goes, staying_is, any_is}
 use Rattle.iox2_container.proofs.Histories.{new_is_registry, ticket_of}
@@ -139,13 +141,17 @@ remove_same {T} a b a' b' mode h k (Ok t) (Ok u) l v w v' w' e ka kb p q =
       tickets = tt;
     }
 
-given_same : {T : Type 0} (a b a' b' : RegistryState T) (mode : ReleaseMode) (o p : Option Handle) (r s : RegistryReply T) → Alike a b → IsRegistry a → IsRegistry b → IsRegistry a' → IsRegistry b' → TicketsAgree o p → KnowsGiven a o → KnowsGiven b p → RemoveGiven a o mode r a' → RemoveGiven b p mode s b' → Outcome a' b' r s
+-- the registry of a container that did not change
+unchanged : {T : Type 0} {old new : ContainerState T} → new ≡ old → new.registry ≡ old.registry
+unchanged {T} e = ap (λ (c : ContainerState T). c.registry) e
+
+given_same : {T : Type 0} (a b a' b' : ContainerState T) (mode : ReleaseMode) (o p : Option Handle) (r s : RegistryReply T) → Alike a.registry b.registry → IsRegistry a.registry → IsRegistry b.registry → IsRegistry a'.registry → IsRegistry b'.registry → TicketsAgree o p → KnowsGiven a.registry o → KnowsGiven b.registry p → RemoveGiven a o mode r a' → RemoveGiven b p mode s b' → Outcome a'.registry b'.registry r s
 given_same a b a' b' mode None None r s l v w v' w' e ka kb p q =
-    outcome_by a' b' r Reply.NoHandle s Reply.NoHandle p.0 q.0 (record { same = refl; alike = alike_still a b a' b' p.1 q.1 l; tickets = tt })
+    outcome_by a'.registry b'.registry r Reply.NoHandle s Reply.NoHandle p.0 q.0 (record { same = refl; alike = alike_still a.registry b.registry a'.registry b'.registry (unchanged p.1) (unchanged q.1) l; tickets = tt })
 given_same a b a' b' mode None (Some k) r s l v w v' w' e ka kb p q = absurd e
 given_same a b a' b' mode (Some h) None r s l v w v' w' e ka kb p q = absurd e
 given_same {T} a b a' b' mode (Some h) (Some k) r s l v w v' w' e ka kb p q =
-    outcome_by a' b' r (reply_of_remove p.0) s (reply_of_remove q.0) p.2 q.2 (remove_same a b a' b' mode h k p.0 q.0 l v w v' w' e ka kb p.1 q.1)
+    outcome_by a'.registry b'.registry r (reply_of_remove p.0) s (reply_of_remove q.0) p.2 q.2 (remove_same a.registry b.registry a'.registry b'.registry mode h k p.0 q.0 l v w v' w' e ka kb p.1.0 q.1.0)
 
 stay_within : {T : Type 0} (keep : T → Bool) (ea eb ea' eb' : List (Entry T)) → ea' ≡ passing keep ea → eb' ≡ passing keep eb → Within ea eb → Within ea' eb'
 stay_within {T} keep ea eb ea' eb' e f g =
@@ -195,27 +201,35 @@ agree_at (z ∷ zs) [] k a = absurd a
 agree_at (x ∷ xs) (y ∷ ys) zero a = a.0
 agree_at (x ∷ xs) (y ∷ ys) (suc k) a = agree_at xs ys k a.1
 
-call_same : {T : Type 0} (node number : T → ℕ) (a b a' b' : RegistryState T) (xs ys : List (RegistryReply T)) (call : RegistryCall T) (r s : RegistryReply T) → Alike a b → IsRegistry a → IsRegistry b → IsRegistry a' → IsRegistry b' → AllKnown a xs → AllKnown b ys → AllAgree xs ys → CallStep node number a xs call r a' → CallStep node number b ys call s b' → Outcome a' b' r s
+-- the answers of a callback that says of each candidate what a function says
+answered_by : {T : Type 0} (is_dead answer : T → Bool) (old new : RegistryState T) (mode : ReleaseMode) (state : ReleaseState) → RecoverStep {F = Unit {0}} (λ _ d goes _. goes ≡ answer d) is_dead old tt mode state new tt → Recovers is_dead (answers_of is_dead answer old.entries) old mode state new
+answered_by {T} is_dead answer old new mode state s =
+    subst (λ (answers : List Bool). Recovers is_dead answers old mode state new)
+    (answers_by {F = Unit {0}} {K = Unit {0}} (λ _ d goes _. goes ≡ answer d) (λ q. q) (λ _. answer) (λ q x r v e. (refl, e)) tt _ s.0 tt s.1 ∙ map-details answer (candidates is_dead old.entries)) s.2
+
+call_same : {T : Type 0} (node number : T → ℕ) (a b a' b' : ContainerState T) (xs ys : List (RegistryReply T)) (call : RegistryCall T) (r s : RegistryReply T) → Alike a.registry b.registry → IsRegistry a.registry → IsRegistry b.registry → IsRegistry a'.registry → IsRegistry b'.registry → AllKnown a.registry xs → AllKnown b.registry ys → AllAgree xs ys → CallStep node number a xs call r a' → CallStep node number b ys call s b' → Outcome a'.registry b'.registry r s
 call_same node number a b a' b' xs ys (Call.Add d) r s l v w v' w' ka kb e p q =
-    outcome_by a' b' r (reply_of_add p.0) s (reply_of_add q.0) p.2 q.2 (add_same a b a' b' d p.0 q.0 l v w p.1 q.1)
+    outcome_by a'.registry b'.registry r (reply_of_add p.0) s (reply_of_add q.0) p.2 q.2 (add_same a.registry b.registry a'.registry b'.registry d p.0 q.0 l v w p.1.0 q.1.0)
 call_same node number a b a' b' xs ys (Call.Remove k mode) r s l v w v' w' ka kb e p q =
-    given_same a b a' b' mode (handle_given xs k) (handle_given ys k) r s l v w v' w' (agree_at xs ys k e) (known_at a xs k ka) (known_at b ys k kb) p q
+    given_same a b a' b' mode (handle_given xs k) (handle_given ys k) r s l v w v' w' (agree_at xs ys k e) (known_at a.registry xs k ka) (known_at b.registry ys k kb) p q
 call_same node number a b a' b' xs ys (Call.Recover dead keys mode) r s l v w v' w' ka kb e p q =
-    outcome_by a' b' r (Reply.State p.0) s (Reply.State q.0) p.2 q.2 (recover_same (is_of node dead) (is_outside number keys.items) a b a' b' mode p.0 q.0 l v w v' w' p.1 q.1)
+    let answer = is_outside number keys.items in
+    outcome_by a'.registry b'.registry r (Reply.State p.0) s (Reply.State q.0) p.2 q.2 (recover_same (is_of node dead) answer a.registry b.registry a'.registry b'.registry mode p.0 q.0 l v w v' w'
+    (answered_by (is_of node dead) answer a.registry a'.registry mode p.0 p.1.0) (answered_by (is_of node dead) answer b.registry b'.registry mode q.0 q.1.0))
 call_same {T} node number a b a' b' xs ys Call.List r s l v w v' w' ka kb e p q =
-    outcome_by a' b' r (Reply.Entries p.0) s (Reply.Entries q.0) p.2 q.2 (record {
-      same = subst (λ (z : List T). IsPermutation z q.0.items) (sym p.1) (subst (λ (z : List T). IsPermutation (listed a) z) (sym q.1) (same_listed a b l.there l.back v w));
-      alike = alike_still a b a' b' p.3 q.3 l;
+    outcome_by a'.registry b'.registry r (Reply.Entries p.0) s (Reply.Entries q.0) p.2 q.2 (record {
+      same = subst (λ (z : List T). IsPermutation z q.0.items) (sym p.1) (subst (λ (z : List T). IsPermutation (listed a.registry) z) (sym q.1) (same_listed a.registry b.registry l.there l.back v w));
+      alike = alike_still a.registry b.registry a'.registry b'.registry (unchanged p.3) (unchanged q.3) l;
       tickets = tt;
     })
 call_same {T} node number a b a' b' xs ys Call.Len r s l v w v' w' ka kb e p q =
-    outcome_by a' b' r (Reply.Count (length a.entries)) s (Reply.Count (length b.entries)) p.0 q.0 (record {
-      same = ap (λ (n : ℕ). (let z : RegistryReply T = Reply.Count n in z)) (same_length a b l.there l.back v w);
-      alike = alike_still a b a' b' p.1 q.1 l;
+    outcome_by a'.registry b'.registry r (Reply.Count (length a.registry.entries)) s (Reply.Count (length b.registry.entries)) p.0 q.0 (record {
+      same = ap (λ (n : ℕ). (let z : RegistryReply T = Reply.Count n in z)) (same_length a.registry b.registry l.there l.back v w);
+      alike = alike_still a.registry b.registry a'.registry b'.registry (unchanged p.1) (unchanged q.1) l;
       tickets = tt;
     })
 
-run_same : {T : Type 0} (node number : T → ℕ) (a b a' b' : RegistryState T) (xs ys : List (RegistryReply T)) (calls : List (RegistryCall T)) (rs ss : List (RegistryReply T)) → Alike a b → IsRegistry a → IsRegistry b → AllKnown a xs → AllKnown b ys → AllAgree xs ys → CallRun node number a xs calls rs a' → CallRun node number b ys calls ss b' → SameKind rs ss
+run_same : {T : Type 0} (node number : T → ℕ) (a b a' b' : ContainerState T) (xs ys : List (RegistryReply T)) (calls : List (RegistryCall T)) (rs ss : List (RegistryReply T)) → Alike a.registry b.registry → IsRegistry a.registry → IsRegistry b.registry → AllKnown a.registry xs → AllKnown b.registry ys → AllAgree xs ys → CallRun node number a xs calls rs a' → CallRun node number b ys calls ss b' → SameKind rs ss
 run_same node number a b a' b' xs ys [] [] [] l v w ka kb e p q = tt
 run_same node number a b a' b' xs ys [] (r ∷ rs) ss l v w ka kb e p q = absurd p
 run_same node number a b a' b' xs ys [] [] (s ∷ ss) l v w ka kb e p q = absurd q
@@ -229,7 +243,7 @@ run_same {T} node number a b a' b' xs ys (c ∷ cs) (r ∷ rs) (s ∷ ss) l v w 
     )
 
 -- the same calls on two new registries give replies of one kind
-pub same_kind : {T : Type 0} (node number : T → ℕ) (a b a' b' : RegistryState T) (calls : List (RegistryCall T)) (rs ss : List (RegistryReply T)) → IsNew a × IsNew b → a.capacity ≡ b.capacity → a.budget ≡ b.budget → CallRun node number a [] calls rs a' → CallRun node number b [] calls ss b' → SameKind rs ss
+pub same_kind : {T : Type 0} (node number : T → ℕ) (a b a' b' : ContainerState T) (calls : List (RegistryCall T)) (rs ss : List (RegistryReply T)) → IsNew a.registry × IsNew b.registry → a.registry.capacity ≡ b.registry.capacity → a.registry.budget ≡ b.registry.budget → CallRun node number a [] calls rs a' → CallRun node number b [] calls ss b' → SameKind rs ss
 same_kind node number a b a' b' calls rs ss n c g p q =
     run_same node number a b a' b' ([]) ([]) calls rs ss
     (record {
@@ -237,6 +251,6 @@ same_kind node number a b a' b' calls rs ss n c g p q =
       budget = g;
       used = n.0.2 ∙ sym n.1.2;
       locked = n.0.1 ∙ sym n.1.1;
-      there = nothing_within a.entries b.entries n.0.0;
-      back = nothing_within b.entries a.entries n.1.0;
-    }) (new_is_registry a n.0) (new_is_registry b n.1) tt tt tt p q
+      there = nothing_within a.registry.entries b.registry.entries n.0.0;
+      back = nothing_within b.registry.entries a.registry.entries n.1.0;
+    }) (new_is_registry a.registry n.0) (new_is_registry b.registry n.1) tt tt tt p q

@@ -1,14 +1,16 @@
 -- How many entries a test holds of.
-use Rattle.std.proofs.Common.{◌≡◌, ℕ, suc, ◌+◌, ◌≤◌, Bool, true, false, Option, Some, None, List, [], ◌∷◌, ◌++◌, length, take, refl, sym, ◌∙◌, ap, arith, add-one}
-use Rattle.std.specs.Prelude.{All, if◌then◌else◌, slice_get}
+use Rattle.std.proofs.Common.{◌≡◌, ℕ, zero, suc, ◌+◌, ◌≤◌, ◌<◌, Bool, true, false, Option, Some, None, List, [], ◌∷◌, ◌++◌, length, take, refl, sym, ◌∙◌, ap, subst, arith, add-one, inl, inr}
+use Rattle.std.specs.Prelude.{All, if◌then◌else◌, nat_lt, slice_get}
 use Rattle.std.proofs.lemmas.List.{append-nil}
 use Rattle.std.proofs.lemmas.List.Elements.{All-nil, All-cons}
 use Rattle.iox2_container.specs.declared.container.cell.Occupant.{Occupant}
-use Rattle.iox2_container.specs.Passes.{cell_is_of}
-use Rattle.iox2_container.specs.Places.{entries_from}
+use Rattle.std.proofs.lemmas.Bool.{lt-ltb, le-ltb, cases_order}
+use Rattle.iox2_container.specs.Passes.{AreOthers, PlaceIsOf, cell_is_of}
+use Rattle.iox2_container.specs.Places.{NoneFrom, entries_from}
 use Rattle.iox2_container.specs.State.{Entry}
 use Rattle.iox2_container.specs.Steps.{Gains, candidates, is_of, staying, is_true_first, after_first_answer}
-use Rattle.iox2_container.proofs.AskedInTurn.{taken_free, taken_more}
+use Rattle.iox2_container.proofs.AskedInTurn.{entries_split, taken_free, taken_more}
+use Rattle.iox2_container.proofs.CellEntries.{all_before}
 use Rattle.iox2_container.proofs.Sweeping.{add_zero}
 
 -- how many entries the test holds of
@@ -49,6 +51,68 @@ counted_more node id i n m cells cell b h e em en =
 pub few_more : (n m slot : ℕ) (b : Bool) → m ≡ n + one_if b → n ≤ slot → m ≤ slot + 1
 few_more n m slot true e h = omega arith
 few_more n m slot false e h = omega arith
+
+counted-append : {T : Type 0} (p : T → Bool) (xs ys : List (Entry T)) → counted p (xs ++ ys) ≡ counted p xs + counted p ys
+counted-append p [] ys = omega arith
+counted-append p (e ∷ xs) ys = omega (arith, counted-cons p e (xs ++ ys), counted-cons p e xs, counted-append p xs ys)
+
+-- some entry is the node's, where one stands in a place
+pub some_counted : {T : Type 0} (node : T → ℕ) (id i : ℕ) (cells : List (Option (Occupant T))) (b : Bool) → PlaceIsOf node id cells i b → b ≡ true → nat_lt 0 (counted (is_of node id) (entries_from 0 cells)) ≡ true
+some_counted {T} node id i cells b p t =
+    let s = entries_split 0 (suc i) cells in
+    let more = counted_cell node id i cells p.0 p.1 in
+    let one : one_if (cell_is_of node id p.0) ≡ 1 = ap one_if (sym p.2 ∙ t) in
+    let all = ap (counted (is_of node id)) s.1 ∙ counted-append (is_of node id) (entries_from 0 (take (suc i) cells)) s.0 in
+    lt-ltb 0 (counted (is_of node id) (entries_from 0 cells)) (omega (arith, more, one, all))
+
+-- none is, where none stands in any place
+pub none_counted : {T : Type 0} (node : T → ℕ) (id n : ℕ) (cells : List (Option (Occupant T))) → AreOthers node id cells 0 n → counted (is_of node id) (entries_from 0 (take n cells)) ≡ 0
+none_counted node id zero cells others = refl
+none_counted node id (suc n) cells others =
+    let o = others n (omega arith) (omega arith) in
+    omega (arith, counted_cell node id n cells o.0 o.1, ap one_if (sym o.2), none_counted node id n cells (λ k l h. others k l (omega arith)))
+
+-- one place more
+pub others_more : {T : Type 0} (node : T → ℕ) (id from i : ℕ) (cells : List (Option (Occupant T))) (b : Bool) → AreOthers node id cells from i → PlaceIsOf node id cells i b → b ≡ false → AreOthers node id cells from (i + 1)
+others_more node id from i cells b others is miss k l h =
+    elim (cases_order k i) as (λ _. PlaceIsOf node id cells k false) [
+      | inl e ↦ subst (λ (n : ℕ). PlaceIsOf node id cells n false) (sym e) (is.0, is.1, sym miss ∙ is.2)
+      | inr v ↦ (elim v as (λ _. PlaceIsOf node id cells k false) [
+        | inl less ↦ others k l less
+        | inr more ↦ absurd (omega arith)
+      ])
+    ]
+
+-- other places, and more of them
+pub others_join : {T : Type 0} (node : T → ℕ) (id from i j to : ℕ) (cells : List (Option (Occupant T))) → AreOthers node id cells from i → AreOthers node id cells j to → j ≤ i → AreOthers node id cells from to
+others_join {T} node id from i j to cells before after le k l h =
+    elim (cases_order k i) as (λ _. PlaceIsOf node id cells k false) [
+      | inl e ↦ after k (omega arith) h
+      | inr v ↦ (elim v as (λ _. PlaceIsOf node id cells k false) [
+        | inl less ↦ before k l less
+        | inr more ↦ after k (omega arith) h
+      ])
+    ]
+
+-- one other place
+pub other_at : {T : Type 0} (node : T → ℕ) (id i to : ℕ) (cells : List (Option (Occupant T))) (b : Bool) → PlaceIsOf node id cells i b → b ≡ false → to ≡ i + 1 → AreOthers node id cells i to
+other_at node id i to cells b is miss e k l h =
+    let at : i ≡ k = omega arith in
+    subst (λ (n : ℕ). PlaceIsOf node id cells n false) at (is.0, is.1, sym miss ∙ is.2)
+
+-- a search finds whether some entry is the node's
+pub found_is : {T : Type 0} (node : T → ℕ) (id end at : ℕ) (cells : List (Option (Occupant T))) → at ≤ end → NoneFrom cells end → AreOthers node id cells 0 at → (at < end → PlaceIsOf node id cells at true) → nat_lt at end ≡ nat_lt 0 (counted (is_of node id) (entries_from 0 cells))
+found_is {T} node id end at cells within free others found =
+    elim (cases_order at end) as (λ _. nat_lt at end ≡ nat_lt 0 (counted (is_of node id) (entries_from 0 cells))) [
+      | inl e ↦
+          let all : counted (is_of node id) (entries_from 0 cells) ≡ 0 =
+          ap (counted (is_of node id)) (sym (all_before 0 end cells free)) ∙ (ap (λ (n : ℕ). counted (is_of node id) (entries_from 0 (take n cells))) (sym e) ∙ none_counted node id at cells others) in
+          le-ltb at end (omega arith) ∙ ap (nat_lt 0) (sym all)
+      | inr v ↦ (elim v as (λ _. nat_lt at end ≡ nat_lt 0 (counted (is_of node id) (entries_from 0 cells))) [
+        | inl less ↦ lt-ltb at end less ∙ sym (some_counted node id at cells true (found less) refl)
+        | inr more ↦ absurd (omega arith)
+      ])
+    ]
 
 -- one entry more
 pub counted-Gains : {T : Type 0} (p : T → Bool) (old new : List (Entry T)) (x : Entry T) → Gains old new x → counted p new ≡ counted p old + one_if (p x.details)

@@ -5,7 +5,7 @@ use Rattle.std.proofs.Math.ListN.{length-set}
 use Rattle.std.proofs.lemmas.Option.{slice_get_within}
 use Rattle.std.proofs.lemmas.List.Elements.{All-nil, All-cons, All-head, All-tail}
 use Rattle.iox2_container.specs.declared.container.free_list.FreeList.{FreeList}
-use Rattle.iox2_container.specs.FreeList.{Linked, LeadsThrough, IsFreeAt, TakesFirst, IsFreeList}
+use Rattle.iox2_container.specs.FreeList.{Linked, LeadsThrough, IsFreeAt, TakesFirst, IsFreeList, TakesLastFreed, PutsFirst}
 use Rattle.iox2_container.specs.declared.container.cell.Cell.TheVariants.{Taken, Free}
 use Rattle.iox2_container.specs.Places.{IsTakenAt, entries_from}
 use Rattle.iox2_container.specs.Cells.{occupant, shown}
@@ -78,6 +78,29 @@ took_at {T} cells l t slot m (Some h) (s ∷ slots) room th below counted takes 
       all_counted = omega (arith, takes.2);
       fresh_within = omega (arith, takes.2, t.fresh_within);
     }
+
+-- which slot that was: the one freed last, or the first fresh one
+took_last : {T : Type 0} (cells : List (Linked T)) (head : Option ℕ) (freed : List ℕ) (fresh slot : ℕ) (head' : Option ℕ) (fresh' : ℕ) → LeadsThrough cells head freed → TakesFirst cells head fresh slot head' fresh'
+    → (left : List ℕ) × LeadsThrough cells head' left × All (λ other. other ≢ slot) left × TakesLastFreed freed fresh slot left fresh'
+took_last cells None (s ∷ slots) fresh slot head' fresh' th takes = absurd th
+took_last cells (Some h) [] fresh slot head' fresh' th takes = absurd th
+took_last {T} cells None [] fresh slot head' fresh' th takes =
+    ([], subst (λ (o : Option ℕ). LeadsThrough cells o []) (sym takes.1) tt, All-nil (λ other. other ≢ slot), (takes.0, refl, takes.2))
+took_last {T} cells (Some h) (s ∷ slots) fresh slot head' fresh' th takes =
+    let same : slot ≡ s = takes.0 ∙ th.0 in
+    let next : th.2.0 ≡ head' = (let z : ◌≡◌ {A = Option (Linked T)} (Some (Free th.2.0)) (Some (Free head')) = sym th.2.1 ∙ (ap (slice_get cells) (sym th.0) ∙ takes.1) in cc) in
+    (slots, subst (λ (o : Option ℕ). LeadsThrough cells o slots) next th.2.2, subst (λ (n : ℕ). All (λ other. other ≢ n) slots) (sym same) th.1, (same, refl, takes.2))
+
+pub puts_first : {T : Type 0} (cells s : List (Linked T)) (l : FreeList) (slot : ℕ) (m : FreeList) (ticket : ℕ) (d : T) → TakesFirst cells l.head l.fresh slot m.head m.fresh → s ≡ slice_set cells slot (Taken ticket d) → PutsFirst l cells slot m s
+puts_first {T} cells s l slot m ticket d takes e freed th =
+    let w = took_last cells l.head freed l.fresh slot m.head m.fresh th takes in
+    (w.0, subst (λ (cs : List (Linked T)). LeadsThrough cs m.head w.0) (sym e) (threads_kept cells m.head w.0 slot (Taken ticket d) w.2 w.1), w.3)
+
+pub clears_first : {T : Type 0} (cells s : List (Linked T)) (l : FreeList) (slot : ℕ) → IsTakenAt (map shown cells) slot → s ≡ slice_set cells slot (Free l.head) → (freed : List ℕ) → LeadsThrough cells l.head freed → LeadsThrough s (Some slot) (slot ∷ freed)
+clears_first {T} cells s l slot i e freed th =
+    let shows = taken_at cells slot i.0.ticket i.0.details i.1 in
+    subst (λ (cs : List (Linked T)). LeadsThrough cs (Some slot) (slot ∷ freed)) (sym e)
+    (threads_freed cells l.head freed slot (slice_get_within cells slot (Taken i.0.ticket i.0.details) shows) (taken_apart cells l.head freed slot i.0.ticket i.0.details th shows) th)
 
 not_past : (i n : ℕ) → (n ≤ i → ⊥) → i < n
 not_past i n h = omega arith

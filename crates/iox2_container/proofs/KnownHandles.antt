@@ -1,5 +1,5 @@
 -- The handles that a registry gave: what it knows of them while it is called.
-use Rattle.std.proofs.Common.{◌≡◌, ℕ, zero, suc, ◌+◌, ◌<◌, ◌≤◌, Bool, Option, Some, None, Result, Ok, Err, List, [], ◌∷◌, ◌++◌, map, refl, sym, ◌∙◌, ap, subst, arith, inl, inr, ◌⊎◌}
+use Rattle.std.proofs.Common.{◌≡◌, ℕ, zero, suc, ◌+◌, ◌<◌, ◌≤◌, Bool, Option, Some, None, Result, Ok, Err, List, [], ◌∷◌, ◌++◌, refl, sym, ◌∙◌, ap, subst, arith, inl, inr, ◌⊎◌}
 use Rattle.std.specs.Prelude.{⊤}
 use Rattle.iox2_container.specs.declared.container.role.Role.{Role}
 use Rattle.iox2_container.specs.declared.container.refusal.ContainerAddFailure.{ContainerAddFailure}
@@ -12,9 +12,10 @@ use Rattle.iox2_container.specs.declared.container.calls.RegistryCall.TheVariant
 use Rattle.iox2_container.specs.declared.container.calls.RegistryReply.{RegistryReply}
 use Rattle.iox2_container.specs.declared.container.calls.RegistryReply.TheVariants as Reply
 use Rattle.iox2_container.specs.Handle.{Handle}
+use Rattle.iox2_container.specs.ContainerState.{ContainerState}
 use Rattle.iox2_container.specs.State.{Entry, RegistryState, IsRegistry, handle_of}
-use Rattle.iox2_container.specs.Steps.{AddStep, RemoveStep, Recovers, Leaves, Enters, candidates, staying, is_of}
-use Rattle.iox2_container.specs.Calls.{CallStep, RemoveGiven, handle_given, handle_in, is_outside, reply_of_add, reply_of_remove}
+use Rattle.iox2_container.specs.Steps.{AddStep, RemoveStep, Recovers, Leaves, Enters, staying, is_of}
+use Rattle.iox2_container.specs.Calls.{CallStep, RemoveGiven, handle_given, handle_in, reply_of_add, reply_of_remove}
 use Rattle.iox2_container.proofs.Members.{Among, of_all, moved, among_more, among_less}
 use Rattle.iox2_container.proofs.Leaving.{stays_among}
 use Rattle.iox2_container.proofs.SameEntries.{ticket_in}
@@ -81,9 +82,9 @@ moves_recover {T} is_dead answers old new mode state s =
       entries = λ x a. inl (stays_among is_dead old.entries answers x (moved x new.entries (staying is_dead old.entries answers) (ap (λ (r : RegistryState T). r.entries) s.0) a));
     }
 
-moves_given : {T : Type 0} (old new : RegistryState T) (given : Option Handle) (mode : ReleaseMode) (reply : RegistryReply T) → RemoveGiven old given mode reply new → Moves old new
-moves_given old new None mode reply s = moves_still old new s.1
-moves_given old new (Some handle) mode reply s = moves_remove old new handle mode s.0 s.1
+moves_given : {T : Type 0} (old new : ContainerState T) (given : Option Handle) (mode : ReleaseMode) (reply : RegistryReply T) → RemoveGiven old given mode reply new → Moves old.registry new.registry
+moves_given {T} old new None mode reply s = moves_still old.registry new.registry (ap (λ (c : ContainerState T). c.registry) s.1)
+moves_given old new (Some handle) mode reply s = moves_remove old.registry new.registry handle mode s.0 s.1.0
 
 abbrev pub KnowsGiven : {T : Type 0} → RegistryState T → Option Handle → Type 0
 KnowsGiven r None = ⊤
@@ -115,29 +116,29 @@ knows_removed new (Err e) = tt
 knows_reply : {T : Type 0} (new : RegistryState T) (reply told : RegistryReply T) → reply ≡ told → KnowsGiven new (given_by told) → KnowsGiven new (given_by reply)
 knows_reply {T} new reply told e k = subst (λ (q : RegistryReply T). KnowsGiven new (given_by q)) (sym e) k
 
-knows_given : {T : Type 0} (old new : RegistryState T) (given : Option Handle) (mode : ReleaseMode) (reply : RegistryReply T) → RemoveGiven old given mode reply new → KnowsGiven new (given_by reply)
-knows_given old new None mode reply s = knows_reply new reply Reply.NoHandle s.0 tt
-knows_given {T} old new (Some handle) mode reply s = knows_reply new reply (reply_of_remove s.0) s.2 (knows_removed new s.0)
+knows_given : {T : Type 0} (old new : ContainerState T) (given : Option Handle) (mode : ReleaseMode) (reply : RegistryReply T) → RemoveGiven old given mode reply new → KnowsGiven new.registry (given_by reply)
+knows_given old new None mode reply s = knows_reply new.registry reply Reply.NoHandle s.0 tt
+knows_given {T} old new (Some handle) mode reply s = knows_reply new.registry reply (reply_of_remove s.0) s.2 (knows_removed new.registry s.0)
 
 -- what a call does for the handles that were given
 record Goes {T : Type 0} (old new : RegistryState T) (reply : RegistryReply T) : Type 0 where
   pub moves : Moves old new
   pub knows : KnowsGiven new (given_by reply)
 
-goes_on : {T : Type 0} (node number : T → ℕ) (old : RegistryState T) (earlier : List (RegistryReply T)) (call : RegistryCall T) (reply : RegistryReply T) (new : RegistryState T) → IsRegistry old → CallStep node number old earlier call reply new → Goes old new reply
+goes_on : {T : Type 0} (node number : T → ℕ) (old : ContainerState T) (earlier : List (RegistryReply T)) (call : RegistryCall T) (reply : RegistryReply T) (new : ContainerState T) → IsRegistry old.registry → CallStep node number old earlier call reply new → Goes old.registry new.registry reply
 goes_on node number old earlier (Call.Add d) reply new w s =
-    record { moves = moves_add old new d s.0 s.1; knows = knows_reply new reply (reply_of_add s.0) s.2 (knows_added old new d s.0 w s.1) }
+    record { moves = moves_add old.registry new.registry d s.0 s.1.0; knows = knows_reply new.registry reply (reply_of_add s.0) s.2 (knows_added old.registry new.registry d s.0 w s.1.0) }
 goes_on node number old earlier (Call.Remove k mode) reply new w s =
     record { moves = moves_given old new (handle_given earlier k) mode reply s; knows = knows_given old new (handle_given earlier k) mode reply s }
 goes_on node number old earlier (Call.Recover dead keys mode) reply new w s =
     record {
-      moves = moves_recover (is_of node dead) (map (λ e. is_outside number keys.items e.details) (candidates (is_of node dead) old.entries)) old new mode s.0 s.1;
-      knows = knows_reply new reply (Reply.State s.0) s.2 tt;
+      moves = moves_recover (is_of node dead) s.1.0.0 old.registry new.registry mode s.0 s.1.0.2;
+      knows = knows_reply new.registry reply (Reply.State s.0) s.2 tt;
     }
-goes_on node number old earlier Call.List reply new w s =
-    record { moves = moves_still old new s.3; knows = knows_reply new reply (Reply.Entries s.0) s.2 tt }
-goes_on node number old earlier Call.Len reply new w s =
-    record { moves = moves_still old new s.1; knows = knows_reply new reply (Reply.Count _) s.0 tt }
+goes_on {T} node number old earlier Call.List reply new w s =
+    record { moves = moves_still old.registry new.registry (ap (λ (c : ContainerState T). c.registry) s.3); knows = knows_reply new.registry reply (Reply.Entries s.0) s.2 tt }
+goes_on {T} node number old earlier Call.Len reply new w s =
+    record { moves = moves_still old.registry new.registry (ap (λ (c : ContainerState T). c.registry) s.1); knows = knows_reply new.registry reply (Reply.Count _) s.0 tt }
 
 -- the handles in all replies
 abbrev pub AllKnown : {T : Type 0} → RegistryState T → List (RegistryReply T) → Type 0
@@ -153,8 +154,8 @@ known_push old new [] x g a = (g.knows, tt)
 known_push old new (y ∷ ys) x g a = (known_moved old new (given_by y) g.moves a.0, known_push old new ys x g a.1)
 
 -- after one more call all handles that were given are known
-pub known_on : {T : Type 0} (node number : T → ℕ) (old : RegistryState T) (earlier : List (RegistryReply T)) (call : RegistryCall T) (reply : RegistryReply T) (new : RegistryState T) → IsRegistry old → CallStep node number old earlier call reply new → AllKnown old earlier → AllKnown new (earlier ++ reply ∷ [])
-known_on node number old earlier call reply new w s a = known_push old new earlier reply (goes_on node number old earlier call reply new w s) a
+pub known_on : {T : Type 0} (node number : T → ℕ) (old : ContainerState T) (earlier : List (RegistryReply T)) (call : RegistryCall T) (reply : RegistryReply T) (new : ContainerState T) → IsRegistry old.registry → CallStep node number old earlier call reply new → AllKnown old.registry earlier → AllKnown new.registry (earlier ++ reply ∷ [])
+known_on node number old earlier call reply new w s a = known_push old.registry new.registry earlier reply (goes_on node number old earlier call reply new w s) a
 
 pub known_at : {T : Type 0} (r : RegistryState T) (xs : List (RegistryReply T)) (k : ℕ) → AllKnown r xs → KnowsGiven r (handle_given xs k)
 known_at r [] k a = tt

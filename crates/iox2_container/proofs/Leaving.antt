@@ -73,9 +73,14 @@ pub stays_apart : {T : Type 0} (n : Entry T → ℕ) (is_dead : T → Bool) (es 
 stays_apart n is_dead es answers x y d h k = in_one_only n es (staying is_dead es answers) (leaving is_dead es answers) x y d (parted is_dead es answers) h k
 
 -- a recovery is a change, with the callback's answers and the handles of the entries that went
-pub recovery_changes : {F T : Type 0} (calls : F → T → Bool → F → Type 0) (is_dead : T → Bool) (old : RegistryState T) (f : F) (mode : ReleaseMode) (state : ReleaseState) (new : RegistryState T) (f' : F) → RecoverStep calls is_dead old f mode state new f' → IsRecoveryChange is_dead old mode state new
+pub recovery_changes : {F T : Type 0} (calls : F → T → Bool → F → Type 0) (is_dead : T → Bool) (old : RegistryState T) (f : F) (mode : ReleaseMode) (state : ReleaseState) (new : RegistryState T) (f' : F) → RecoverStep calls is_dead old f mode state new f' → IsRecoveryChange calls is_dead old f mode state new f'
 recovery_changes calls is_dead old f mode state new f' r = (
   r.0,
   map (handle_of old) (leaving is_dead old.entries r.0),
+  r.1,
   (length-Asked calls f _ r.0 f' r.1 ∙ length-map (candidates is_dead old.entries) (λ e. e.details), r.2, refl),
 )
+
+-- and such a change is a recovery
+pub change_recovers : {F T : Type 0} (calls : F → T → Bool → F → Type 0) (is_dead : T → Bool) (old : RegistryState T) (f : F) (mode : ReleaseMode) (state : ReleaseState) (new : RegistryState T) (f' : F) → IsRecoveryChange calls is_dead old f mode state new f' → RecoverStep calls is_dead old f mode state new f'
+change_recovers calls is_dead old f mode state new f' r = (r.0, r.2, r.3.1)

@@ -9,6 +9,8 @@ pub mod Adding
 pub mod Handles
 pub mod Removing
 pub mod AskedInTurn
+pub mod Callable
+pub mod CellsToCome
 pub mod Sweeping
 pub mod Counting
 pub mod Recovering
@@ -22,6 +24,8 @@ pub mod KnownHandles
 pub mod Alike
 pub mod Runs
 pub mod Collecting
+pub mod Tallies
 pub mod Agreeing
 pub mod Mapped
 pub mod LentCallbacks
+pub mod Sending

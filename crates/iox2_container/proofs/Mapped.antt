@@ -12,7 +12,7 @@ use Rattle.iox2_container.specs.declared.container.release.ReleaseState.{Release
 use Rattle.iox2_container.specs.Handle.{Handle}
 use Rattle.iox2_container.specs.ContainerState.{ContainerState}
 use Rattle.iox2_container.specs.State.{Entry, RegistryState, IsRegistry, handle_of}
-use Rattle.iox2_container.specs.Steps.{AddStep, RemoveStep, Gains, candidates, entries_of, is_of, lock_after}
+use Rattle.iox2_container.specs.Steps.{AddStep, RemoveStep, Gains, IsForeign, Stands, TakesEntry, candidates, entries_of, is_of, lock_after}
 use Rattle.iox2_container.proofs.Gaining.{AllPairs-head, AllPairs-tail}
 use Rattle.iox2_container.specs.Changes.{StaysRegistry, Adds, Removes}
 use Rattle.iox2_container.specs.Mapped.{entry_as, registry_as, container_as}
@@ -83,3 +83,14 @@ counted-as g is_dead is_dead' same (e ∷ es) = rw (same e.details) (elim (is_de
 pub entries_of-as : {T U : Type 0} (g : T → U) (node : T → ℕ) (node' : U → ℕ) → ((x : T) → node' (g x) ≡ node x) → (id : ℕ) (r : RegistryState T) → entries_of node' id (registry_as g r) ≡ entries_of node id r
 entries_of-as g node node' same id r =
     counted-as g (is_of node id) (is_of node' id) (λ x. ap (λ n. n == id) (same x)) r.entries
+
+-- who has a handle, and whether there is room, with other details
+pub IsForeign-as : {T U : Type 0} (g : T → U) (r : RegistryState T) (handle : Handle) → IsForeign r handle → IsForeign (registry_as g r) handle
+IsForeign-as g r handle h = All-map (λ x. handle ≢ handle_of (registry_as g r) x) (entry_as g) r.entries h
+
+pub Stands-as : {T U : Type 0} (g : T → U) (r : RegistryState T) (handle : Handle) (details : T) → Stands r handle details → Stands (registry_as g r) handle (g details)
+Stands-as g r handle details h =
+    (entry_as g h.0, h.1, ap g h.2, (map (entry_as g) h.3.0, Gains-as g h.3.0 r.entries h.0 h.3.1))
+
+pub TakesEntry-as : {T U : Type 0} (g : T → U) (r : RegistryState T) → TakesEntry (registry_as g r) ≡ TakesEntry r
+TakesEntry-as g r = ap (λ n. (r.locked ≡ false) × ((n < r.capacity) × (r.used < r.budget))) (length-map r.entries (entry_as g))

@@ -1,5 +1,5 @@
 -- What a sweep leaves.
-use Rattle.std.proofs.Common.{◌≡◌, ℕ, zero, suc, ◌+◌, ◌<◌, ◌≤◌, Bool, true, false, cond, Option, Some, None, List, [], ◌∷◌, ◌++◌, length, take, refl, sym, ◌∙◌, ap, subst, arith, length-append, add-one}
+use Rattle.std.proofs.Common.{◌≡◌, ℕ, zero, suc, ◌+◌, ◌-◌, ◌<◌, ◌≤◌, Bool, true, false, cond, Option, Some, None, List, [], ◌∷◌, ◌++◌, length, take, refl, sym, ◌∙◌, ap, subst, arith, length-append, add-one}
 use Rattle.std.proofs.Math.ListN.{length-set}
 use Rattle.std.specs.Prelude.{All, AllPairs, IsTrue, slice_get, slice_set, if◌then◌else◌, nat_lt, ◌||◌}
 use Rattle.std.specs.List.{list_any}
@@ -13,8 +13,8 @@ use Rattle.iox2_container.specs.declared.container.cell.Occupant.{Occupant}
 use Rattle.iox2_container.specs.Cells.{occupant}
 use Rattle.iox2_container.specs.State.{Entry}
 use Rattle.iox2_container.specs.Places.{entries_from, IsTakenAt}
-use Rattle.iox2_container.specs.Passes.{Swept, SweptCell}
-use Rattle.iox2_container.specs.Steps.{Asked, candidates, staying, is_true_first, after_first_answer}
+use Rattle.iox2_container.specs.Passes.{AreOthers, Swept, SweptCell, cell_is_of}
+use Rattle.iox2_container.specs.Steps.{Asked, candidates, is_of, staying, is_true_first, after_first_answer}
 use Rattle.iox2_container.proofs.Gaining.{AllPairs-head, AllPairs-tail}
 use Rattle.iox2_container.proofs.ListEdits.{get_set_other}
 use Rattle.iox2_container.proofs.AskedInTurn.{Asked-push, details_of, details-append, taken_more, taken_free}
@@ -190,6 +190,34 @@ sweeps_more {F} {T} calls is_dead f g h cs m n i gone gone' goes same s en eg w 
     (subst (λ (k : ℕ). Sweeps calls is_dead f cs (suc i) h (if goes then slice_set m i None else m) k) (sym eg)
     (swept_cell calls is_dead f g h cs m i gone s.0 goes (sym same ∙ s.1) s.1 s.2 w)))
 
+pub add_zero : (n : ℕ) → n ≡ n + 0
+add_zero n = omega arith
+
+pub other_swept : {F T : Type 0} (calls : F → T → Bool → F → Type 0) (node : T → ℕ) (id : ℕ) (g : F) (cell : Option (Occupant T)) → false ≡ cell_is_of node id cell → SweptCell calls (is_of node id) g cell false g
+other_swept calls node id g None e = (refl, refl)
+other_swept calls node id g (Some o) e = subst (λ (b : Bool). MatchBool b (calls g o.details false g) ((false ≡ false) × (g ≡ g))) e (refl, refl)
+
+sweeps_over : {F T : Type 0} (calls : F → T → Bool → F → Type 0) (node : T → ℕ) (id : ℕ) (f g : F) (cs m : List (Option (Occupant T))) (i n gone : ℕ)
+    → ((k : ℕ) → i ≤ k → slice_get m k ≡ slice_get cs k) → AreOthers node id m i (i + n)
+    → Sweeps calls (is_of node id) f cs i g m gone → Sweeps calls (is_of node id) f cs (i + n) g m gone
+sweeps_over calls node id f g cs m i zero gone same others w =
+    subst (λ (k : ℕ). Sweeps calls (is_of node id) f cs k g m gone) (add_zero i) w
+sweeps_over {F} {T} calls node id f g cs m i (suc n) gone same others w =
+    let o = others i (omega arith) (omega arith) in
+    let one = sweeps_more calls (is_of node id) f g g cs m m i gone gone false (same i (omega arith)) (o.0, o.1, other_swept calls node id g o.0 o.2) refl (add_zero gone) w in
+    let e : (i + 1) + n ≡ i + suc n = omega arith in
+    subst (λ (k : ℕ). Sweeps calls (is_of node id) f cs k g m gone) e
+    (sweeps_over calls node id f g cs m (i + 1) n gone (λ k l. same k (omega arith)) (λ k l h. others k (omega arith) (omega arith)) one)
+
+-- places where no entry of the node stands are passed over
+pub sweeps_to : {F T : Type 0} (calls : F → T → Bool → F → Type 0) (node : T → ℕ) (id : ℕ) (f g : F) (cs m : List (Option (Occupant T))) (i j gone : ℕ) → i ≤ j
+    → ((k : ℕ) → i ≤ k → slice_get m k ≡ slice_get cs k) → AreOthers node id m i j
+    → Sweeps calls (is_of node id) f cs i g m gone → Sweeps calls (is_of node id) f cs j g m gone
+sweeps_to calls node id f g cs m i j gone l same others w =
+    let e : i + (j - i) ≡ j = omega arith in
+    subst (λ (k : ℕ). Sweeps calls (is_of node id) f cs k g m gone) e
+    (sweeps_over calls node id f g cs m i (j - i) gone same (λ k a b. others k a (omega arith)) w)
+
 -- the cells after one was swept
 pub cells_swept : {C : Type 0} (m n : List (Option C)) (i : ℕ) (goes : Bool) → (IsTrue goes → n ≡ slice_set m i None) → (goes ≡ false → n ≡ m) → n ≡ (if goes then slice_set m i None else m)
 cells_swept m n i true t f = t refl
@@ -202,9 +230,6 @@ later_kept cs m n i false e h k l = ap (λ cells. slice_get cells k) e ∙ h k (
 pub length_kept : {C : Type 0} (m n : List (Option C)) (i : ℕ) (goes : Bool) → n ≡ (if goes then slice_set m i None else m) → length n ≡ length m
 length_kept m n i true e = ap length e ∙ length-set m i None
 length_kept m n i false e = ap length e
-
-pub add_zero : (n : ℕ) → n ≡ n + 0
-add_zero n = omega arith
 
 pub few_gone : (gone gone' i : ℕ) (goes : Bool) → gone' ≡ gone + (if goes then 1 else 0) → gone ≤ i → gone' ≤ i + 1
 few_gone gone gone' i true e h = omega arith

@@ -1,6 +1,6 @@
 -- Calls on a registry as values, and when the replies of two registries are of one kind.
 use Rattle.std.specs.Prelude.{◌≡◌, ℕ, ◌==◌, Bool, not, ⊤, Option, Some, None, Result, Ok, Err}
-use Rattle.std.specs.Prelude.{List, [], ◌∷◌, ◌++◌, length, map, take, slice_get}
+use Rattle.std.specs.Prelude.{List, [], ◌∷◌, ◌++◌, length, take, slice_get}
 use Rattle.std.specs.Global.{Vec}
 use Rattle.std.specs.List.{list_any, AllZip}
 use Rattle.std.specs.List.Sorted.{IsPermutation}
@@ -13,8 +13,10 @@ use Rattle.iox2_container.specs.declared.container.calls.RegistryCall.TheVariant
 use Rattle.iox2_container.specs.declared.container.calls.RegistryReply.{RegistryReply}
 use Rattle.iox2_container.specs.declared.container.calls.RegistryReply.TheVariants as Reply
 use Rattle.iox2_container.specs.Handle.{Handle}
-use Rattle.iox2_container.specs.State.{RegistryState, IsRegistry}
-use Rattle.iox2_container.specs.Steps.{AddStep, RemoveStep, Recovers, candidates, is_of, listed}
+use Rattle.iox2_container.specs.State.{IsRegistry}
+use Rattle.iox2_container.specs.ContainerState.{ContainerState}
+use Rattle.iox2_container.specs.Changes.{Adds, Removes, RecoversBy}
+use Rattle.iox2_container.specs.Steps.{is_of, listed}
 
 -- the handle in a reply
 abbrev pub handle_in : {T : Type 0} → Option (RegistryReply T) → Option Handle
@@ -31,9 +33,9 @@ is_outside number keys details = not (list_any (λ key. key == number details) k
 
 -- a recovery that keeps the candidates with these keys
 abbrev pub RecoversBut : {T : Type 0} → (T → Bool) → (T → ℕ) → List ℕ
-    → RegistryState T → ReleaseMode → ReleaseState → RegistryState T → Type 0
+    → ContainerState T → ReleaseMode → ReleaseState → ContainerState T → Type 0
 RecoversBut is_dead number keys old mode state new =
-    Recovers is_dead (map (λ e. is_outside number keys e.details) (candidates is_dead old.entries)) old mode state new
+    RecoversBy {F = Unit {0}} (λ _ details goes _. goes ≡ is_outside number keys details) is_dead old tt mode state new tt
 
 -- the reply to an add
 abbrev pub reply_of_add : {T : Type 0} → Result Handle ContainerAddFailure → RegistryReply T
@@ -46,44 +48,44 @@ reply_of_remove (Ok state) = Reply.State state
 reply_of_remove (Err e) = Reply.NotOwned
 
 -- a removal by the handle that an earlier call gave, if it gave one
-abbrev pub RemoveGiven : {T : Type 0} → RegistryState T → Option Handle → ReleaseMode → RegistryReply T → RegistryState T → Type 0
+abbrev pub RemoveGiven : {T : Type 0} → ContainerState T → Option Handle → ReleaseMode → RegistryReply T → ContainerState T → Type 0
 RemoveGiven old None mode reply new = (reply ≡ Reply.NoHandle) × (new ≡ old)
 RemoveGiven old (Some handle) mode reply new =
-    (result : Result ReleaseState ContainerRemoveError) × RemoveStep old handle mode result new × (reply ≡ reply_of_remove result)
+    (result : Result ReleaseState ContainerRemoveError) × Removes old handle mode result new × (reply ≡ reply_of_remove result)
 
--- what a registry may reply to a call, after it gave the earlier replies
+-- what a registry may reply to a call, after it gave the earlier replies, and how often it touches its slots
 abbrev pub CallStep : {T : Type 0} → (T → ℕ) → (T → ℕ)
-    → RegistryState T → List (RegistryReply T) → RegistryCall T → RegistryReply T → RegistryState T → Type 0
+    → ContainerState T → List (RegistryReply T) → RegistryCall T → RegistryReply T → ContainerState T → Type 0
 CallStep node number old earlier (Call.Add details) reply new =
-    (result : Result Handle ContainerAddFailure) × AddStep old details result new × (reply ≡ reply_of_add result)
+    (result : Result Handle ContainerAddFailure) × Adds old details result new × (reply ≡ reply_of_add result)
 CallStep node number old earlier (Call.Remove k mode) reply new = RemoveGiven old (handle_given earlier k) mode reply new
 CallStep node number old earlier (Call.Recover dead keys mode) reply new =
     (state : ReleaseState) × RecoversBut (is_of node dead) number keys.items old mode state new × (reply ≡ Reply.State state)
 CallStep {T} node number old earlier Call.List reply new =
-    (entries : Vec T) × (entries.items ≡ listed old) × (reply ≡ Reply.Entries entries) × (new ≡ old)
-CallStep node number old earlier Call.Len reply new = (reply ≡ Reply.Count (length old.entries)) × (new ≡ old)
+    (entries : Vec T) × (entries.items ≡ listed old.registry) × (reply ≡ Reply.Entries entries) × (new ≡ old)
+CallStep node number old earlier Call.Len reply new = (reply ≡ Reply.Count (length old.registry.entries)) × (new ≡ old)
 
 -- a registry was called, and its reply put after the earlier ones
-pub record Answered {T : Type 0} (node number : T → ℕ) (old : RegistryState T) (earlier : List (RegistryReply T))
-    (call : RegistryCall T) (replies : List (RegistryReply T)) (new : RegistryState T) : Type 0 where
+pub record Answered {T : Type 0} (node number : T → ℕ) (old : ContainerState T) (earlier : List (RegistryReply T))
+    (call : RegistryCall T) (replies : List (RegistryReply T)) (new : ContainerState T) : Type 0 where
   pub reply : RegistryReply T
   pub step : CallStep node number old earlier call reply new
-  pub kept : IsRegistry new
+  pub kept : IsRegistry new.registry
   pub put : replies ≡ earlier ++ reply ∷ []
 
 -- replies to calls in turn, after the earlier ones
 abbrev pub CallRun : {T : Type 0} → (T → ℕ) → (T → ℕ)
-    → RegistryState T → List (RegistryReply T) → List (RegistryCall T) → List (RegistryReply T) → RegistryState T → Type 0
+    → ContainerState T → List (RegistryReply T) → List (RegistryCall T) → List (RegistryReply T) → ContainerState T → Type 0
 CallRun node number old earlier [] [] new = new ≡ old
 CallRun {T} node number old earlier (call ∷ calls) (reply ∷ replies) new =
-    (mid : RegistryState T) × CallStep node number old earlier call reply mid × IsRegistry mid
+    (mid : ContainerState T) × CallStep node number old earlier call reply mid × IsRegistry mid.registry
     × CallRun node number mid (earlier ++ reply ∷ []) calls replies new
 CallRun node number old earlier [] (reply ∷ replies) new = ⊥
 CallRun node number old earlier (call ∷ calls) [] new = ⊥
 
 -- a registry made as many of the calls as there are replies, and these are the replies
-pub record Made {T : Type 0} (node number : T → ℕ) (old : RegistryState T) (calls : List (RegistryCall T))
-    (replies : List (RegistryReply T)) (new : RegistryState T) : Type 0 where
+pub record Made {T : Type 0} (node number : T → ℕ) (old : ContainerState T) (calls : List (RegistryCall T))
+    (replies : List (RegistryReply T)) (new : ContainerState T) : Type 0 where
   pub run : CallRun node number old [] (take (length replies) calls) replies new
 
 -- the same reply, but for handles and the order of listings

@@ -8,6 +8,10 @@ pub record ContainerState (T : Type 0) : Type 0 where
   pub registry : RegistryState T
   pub touches : ℕ
 
+-- a registry that was touched so often
+abbrev pub container : {T : Type 0} → RegistryState T → ℕ → ContainerState T
+container registry touches = record { registry = registry; touches = touches }
+
 -- an empty registry of which nothing was touched
 abbrev pub fresh : {T : Type 0} → ℕ → Role → ℕ → ℕ → ContainerState T
 fresh service role capacity tickets = record {

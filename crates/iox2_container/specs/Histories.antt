@@ -8,7 +8,7 @@ use Rattle.iox2_container.specs.declared.container.release.ReleaseMode.{ReleaseM
 use Rattle.iox2_container.specs.declared.container.release.ReleaseState.{ReleaseState}
 use Rattle.iox2_container.specs.Handle.{Handle}
 use Rattle.iox2_container.specs.State.{Entry, RegistryState, IsRegistry, handle_of}
-use Rattle.iox2_container.specs.Steps.{AddStep, RemoveStep, Recovers, Stands, candidates, is_true_first, after_first_answer}
+use Rattle.iox2_container.specs.Steps.{AddStep, RemoveStep, Recovers, Stands, Asked, asked_about, candidates, is_true_first, after_first_answer}
 
 -- the entries that go, where the candidates were answered so, in order
 abbrev pub leaving : {T : Type 0} → (T → Bool) → List (Entry T) → List Bool → List (Entry T)
@@ -33,10 +33,14 @@ ChangeStep old (Recovering is_dead answers went mode state) new =
     × Recovers is_dead answers old mode state new
     × (went ≡ map (handle_of old) (leaving is_dead old.entries answers))
 
--- some change `Recovering` leads from the old state to the new one
-abbrev pub IsRecoveryChange : {T : Type 0} → (T → Bool) → RegistryState T → ReleaseMode → ReleaseState → RegistryState T → Type 0
-IsRecoveryChange is_dead old mode state new =
-    (answers : List Bool) × (went : List Handle) × ChangeStep old (Recovering is_dead answers went mode state) new
+-- a change `Recovering`, with the answers that a callback gave about the candidates in turn, leads from the old state to
+-- the new one
+abbrev pub IsRecoveryChange : {F T : Type 0} → (F → T → Bool → F → Type 0) → (T → Bool)
+    → RegistryState T → F → ReleaseMode → ReleaseState → RegistryState T → F → Type 0
+IsRecoveryChange calls is_dead old f mode state new f' =
+    (answers : List Bool) × (went : List Handle)
+    × Asked calls f (asked_about is_dead old) answers f'
+    × ChangeStep old (Recovering is_dead answers went mode state) new
 
 -- one change after another; each state is that of a registry
 abbrev pub History : {T : Type 0} → RegistryState T → List (Change T) → RegistryState T → Type 0

@@ -2,6 +2,7 @@
 pub mod Handle
 pub mod State
 pub mod Steps
+pub mod Callbacks
 pub mod ContainerState
 pub mod Mapped
 pub mod Changes

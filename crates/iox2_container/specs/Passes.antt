@@ -1,5 +1,5 @@
 -- What a pass over all places does with one of them, and in all.
-use Rattle.std.specs.Prelude.{◌≡◌, ℕ, ◌+◌, nat_lt, Bool, false, Option, Some, None, List, length, map}
+use Rattle.std.specs.Prelude.{◌≡◌, ℕ, ◌+◌, ◌≤◌, ◌<◌, nat_lt, Bool, false, IsTrue, Option, Some, None, List, length, map, slice_get, ⊤}
 use Rattle.std.specs.Bool.{MatchBool}
 use Rattle.std.specs.List.{list_any}
 use Rattle.iox2_texts.specs.declared.bounded.CallbackProgression.{CallbackProgression}
@@ -14,10 +14,28 @@ abbrev pub AskedOfCell : {F A : Type 0} → (F → A → CallbackProgression →
 AskedOfCell calls f None answer f' = (answer ≡ Continue) × (f' ≡ f)
 AskedOfCell calls f (Some o) answer f' = calls f o.details answer f'
 
+-- a callback may be asked about what is in a cell, if there is anything
+abbrev pub TakesCell : {F A : Type 0} → (F → A → Type 0) → F → Option (Occupant A) → Type 0
+TakesCell takes f None = ⊤
+TakesCell takes f (Some o) = takes f o.details
+
+-- a callback may be asked about what is in a cell, if it is the dead node's
+abbrev pub TakesDead : {F T : Type 0} → (F → T → Type 0) → (T → Bool) → F → Option (Occupant T) → Type 0
+TakesDead takes is_dead f None = ⊤
+TakesDead takes is_dead f (Some o) = IsTrue (is_dead o.details) → takes f o.details
+
 -- whether what is in a cell is the node's
 abbrev pub cell_is_of : {T : Type 0} → (T → ℕ) → ℕ → Option (Occupant T) → Bool
 cell_is_of node id None = false
 cell_is_of node id (Some o) = is_of node id o.details
+
+-- whether this place's cell is one of the node's
+abbrev pub PlaceIsOf : {T : Type 0} → (T → ℕ) → ℕ → List (Option (Occupant T)) → ℕ → Bool → Type 0
+PlaceIsOf {T} node id cells slot is = (cell : Option (Occupant T)) × (slice_get cells slot ≡ Some cell) × (is ≡ cell_is_of node id cell)
+
+-- no entry of the node stands in these places
+abbrev pub AreOthers : {T : Type 0} → (T → ℕ) → ℕ → List (Option (Occupant T)) → ℕ → ℕ → Type 0
+AreOthers node id cells from to = (slot : ℕ) → from ≤ slot → slot < to → PlaceIsOf node id cells slot false
 
 -- whether what is in a cell goes, where a callback is asked about it if it is the dead node's
 abbrev pub SweptCell : {F T : Type 0} → (F → T → Bool → F → Type 0) → (T → Bool) → F → Option (Occupant T) → Bool → F → Type 0

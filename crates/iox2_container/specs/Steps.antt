@@ -25,6 +25,10 @@ pub record Gains {T : Type 0} (old new : List (Entry T)) (x : Entry T) : Type 0 
 abbrev pub HasRoom : {T : Type 0} → RegistryState T → Type 0
 HasRoom r = (length r.entries < r.capacity) × (r.used < r.budget)
 
+-- an add is not refused
+abbrev pub TakesEntry : {T : Type 0} → RegistryState T → Type 0
+TakesEntry r = (r.locked ≡ false) × HasRoom r
+
 -- no entry fits, or there is no ticket for it
 abbrev pub IsFull : {T : Type 0} → RegistryState T → Type 0
 IsFull r = (r.capacity ≤ length r.entries) ⊎ (r.budget ≤ r.used)
@@ -99,6 +103,10 @@ is_of node id details = node details == id
 -- the entries whose details are so
 abbrev pub candidates : {T : Type 0} → (T → Bool) → List (Entry T) → List (Entry T)
 candidates is_dead entries = filter (λ e. is_dead e.details) entries
+
+-- the details of the candidates, by rising slot
+abbrev pub asked_about : {T : Type 0} → (T → Bool) → RegistryState T → List T
+asked_about is_dead r = map (λ e. e.details) (candidates is_dead r.entries)
 
 -- how many entries are those of the node
 abbrev pub entries_of : {T : Type 0} → (T → ℕ) → ℕ → RegistryState T → ℕ

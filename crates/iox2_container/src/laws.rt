@@ -1,33 +1,28 @@
 //! What holds of a container over every list of changes, from a new one on, and how `==` and `clone` see the
 //! values that it takes and gives.
-ghost use Rattle.std.specs.Prelude.{◌≡◌, ◌↔◌, ◌≢◌, IsTrue, IsOkAnd, List, AllPairs, Any, fold};
+ghost use Rattle.std.specs.Prelude.{◌≡◌, ◌↔◌, ◌≢◌, Bool, IsTrue, IsOkAnd, List, AllPairs, Any, fold};
+ghost use Rattle.std.specs.Fn.{CalledAt};
 ghost use Rattle.iox2_container.specs.Handle.{Handle};
 ghost use Rattle.iox2_container.specs.State.{RegistryState};
-ghost use Rattle.iox2_container.specs.Steps.{Stands, is_of};
+ghost use Rattle.iox2_container.specs.Steps.{RecoverStep, Stands};
 ghost use Rattle.iox2_container.specs.Histories.{Change, History, IsNew, IsRecoveryChange};
 ghost use Rattle.iox2_container.specs.Histories.{IsRefused, Remains, TakesOut, handles_given};
 ghost use Rattle.iox2_container.specs.Agreement.{IsSameReplyBy};
 
 use crate::container::{
-    Attached, ContainerAddFailure, ContainerHandle, ContainerRemoveError, Registry, RegistryReply,
-    ReleaseMode, ReleaseState, Role,
+    ContainerAddFailure, ContainerHandle, ContainerRemoveError, RegistryReply, ReleaseMode,
+    ReleaseState, Role,
 };
-use iox2_ids::identifiers::UniqueNodeId;
 use std::alloc::AllocError;
 
-/// A recovery is one of the changes, with its callback's answers and the handles of the entries that went.
-pub fn recoveries_are_changes<T: Attached + Copy, R: Registry<T>, F: FnMut(&T) -> bool>(
-    registry: &mut R,
-    dead: &UniqueNodeId,
-    f: &mut F,
-    mode: ReleaseMode,
-) -> ReleaseState
-    requires { F.IsAlwaysCallable f.old }
-    ensures { IsRecoveryChange (is_of T.node dead.now)
-        (R.state registry.old) mode result (R.state registry.new) }
-{
-    registry.recover(dead, f, mode)
-}
+/// A recovery is exactly one of the changes, with the answers that its callback gave in turn and the handles of the
+/// entries that went.
+pub fn recoveries_are_changes<T, F: FnMut(&T) -> bool>()
+    ensures { (is_dead : T → Bool) (old new : RegistryState T)
+        (f left : F) (mode : ReleaseMode) (state : ReleaseState)
+        → RecoverStep (CalledAt F.FnMut) is_dead old f mode state new left
+        ↔ IsRecoveryChange (CalledAt F.FnMut) is_dead old f mode state new left }
+{}
 
 /// A handle that was removed or recovered is refused for good, whatever changes follow.
 pub fn gone_handles_are_refused<T>()

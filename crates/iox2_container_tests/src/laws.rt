@@ -2,22 +2,7 @@
 use super::nodes::node;
 use iox2_container::container::*;
 use iox2_container::laws::*;
-use iox2_ids::identifiers::UniqueNodeId;
 use std::test::Fail;
-
-#[test]
-fn laws_of_changes(rt: HostRuntime) -> Result<(), Fail> {
-    gone_handles_are_refused::<UniqueNodeId>();
-    entries_are_what_remains::<UniqueNodeId>();
-    handles_are_not_reused::<UniqueNodeId>();
-    let id = node(1, 0, 1)?;
-    let mut all = |_: &UniqueNodeId| true;
-    let mut scan = Container::new(rt.alloc(), 7, Role::Node, 1, 1)?;
-    scan.add(id)?;
-    let state = recoveries_are_changes(&mut scan, &id, &mut all, ReleaseMode::LockIfLastIndex);
-    assert_eq!(rt; (state, scan.len()), (ReleaseState::Locked, 0));
-    Ok(())
-}
 
 #[test]
 fn laws_of_handles(rt: HostRuntime) {
@@ -87,20 +72,5 @@ fn laws_of_replies(rt: HostRuntime) -> Result<(), Fail> {
             assert_eq!(rt; (i, k, replies_go_by_fields(one, other)), (i, k, i == k));
         }
     }
-    Ok(())
-}
-
-#[test]
-fn containers_can_be_printed(rt: HostRuntime) -> Result<(), Fail> {
-    let alloc = rt.alloc();
-    let mut scan = Container::new(alloc, 7, Role::Node, 1, 1)?;
-    let mut list = ListContainer::new(alloc, 7, Role::Node, 1, 1)?;
-    scan.add(node(1, 0, 1)?)?;
-    list.add(node(1, 0, 1)?)?;
-    let texts = [
-        format!(in alloc; "{scan:?}")?,
-        format!(in alloc; "{list:?}")?,
-    ];
-    assert!(rt; texts.iter().all(|text| !text.is_empty()));
     Ok(())
 }

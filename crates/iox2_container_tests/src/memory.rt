@@ -7,6 +7,7 @@ use iox2_ids::identifiers::UniqueNodeId;
 use std::alloc::AllocError;
 use std::process::Abort;
 use std::test::Fail;
+use test_support::memory::may_be_refused;
 
 /// On the first replies of the scan, or all of them.
 fn each_add_gave_its_handle(rt: &impl Abort, replies: &[RegistryReply<UniqueNodeId>]) {
@@ -33,9 +34,11 @@ fn memory_is_taken_for_both_before_either_changes(rt: HostRuntime) -> Result<(),
     ];
     let entries_after = [0, 1, 2, 3, 2, 1, 2, 2];
     let Ok(mut scan) = Container::new(alloc, 1, Role::Node, 3, u64::MAX) else {
+        assert!(rt; may_be_refused(&rt));
         return Ok(());
     };
     let Ok(mut list) = ListContainer::new(alloc, 2, Role::Reader, 3, u64::MAX) else {
+        assert!(rt; may_be_refused(&rt));
         return Ok(());
     };
     let mut of_scan = Vec::new(alloc);
@@ -49,6 +52,7 @@ fn memory_is_taken_for_both_before_either_changes(rt: HostRuntime) -> Result<(),
         &mut of_list,
     );
     let made = of_scan.len();
+    assert!(rt; made == calls.len() || may_be_refused(&rt));
     let answer = if made == calls.len() {
         Ok(true)
     } else {

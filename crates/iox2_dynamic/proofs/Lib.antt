@@ -1,4 +1,5 @@
 pub mod Places
+pub mod Callbacks
 pub mod Recoveries
 pub mod Counts
 pub mod Keeping
@@ -6,3 +7,5 @@ pub mod Moving
 pub mod Dying
 pub mod Making
 pub mod Skipping
+pub mod Rooms
+pub mod Sending

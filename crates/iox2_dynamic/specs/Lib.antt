@@ -7,6 +7,7 @@ pub mod PortsState
 pub mod Steps
 pub mod Recoveries
 pub mod Answers
--- Inner facts: how private fields make what contracts see of a service.
+-- Inner facts: how private fields make what contracts see of a service, and how lists of ports grow.
 pub mod Patterns
 pub mod Fields
+pub mod Lists

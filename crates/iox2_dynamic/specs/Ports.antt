@@ -1,5 +1,5 @@
 -- The ports of a service, and what the calls on them do.
-use Rattle.std.specs.Prelude.{◌≡◌, ◌≢◌, ℕ, nat_lt, ◌||◌, ◌⊎◌, Bool, true, false, Option, Some, None, Result, Err, length}
+use Rattle.std.specs.Prelude.{◌≡◌, ◌≢◌, ℕ, nat_lt, ◌||◌, ◌⊎◌, Bool, true, false, Option, Some, None, Result, Err, List, ◌++◌, length}
 use Rattle.iox2_texts.specs.declared.bounded.CallbackProgression.{CallbackProgression}
 use Rattle.iox2_ids.specs.declared.identifiers.port_id.UniquePortId.{UniquePortId}
 use Rattle.iox2_container.specs.declared.container.refusal.ContainerAddFailure.{ContainerAddFailure}
@@ -10,11 +10,13 @@ use Rattle.iox2_container.specs.declared.container.release.ReleaseState.{Release
 use Rattle.iox2_container.specs.declared.container.role.Role.{Role}
 use Rattle.iox2_container.specs.Handle.{Handle}
 use Rattle.iox2_container.specs.ContainerState.{fresh}
-use Rattle.iox2_container.specs.Steps.{Visit, entries_of, listed}
+use Rattle.iox2_container.specs.Callbacks.{CanVisit}
+use Rattle.iox2_container.specs.State.{RegistryState}
+use Rattle.iox2_container.specs.Steps.{Visit, IsForeign, Stands, TakesEntry, asked_about, entries_of, is_of, listed}
 use Rattle.iox2_dynamic.specs.declared.dynamic_config.cleanup.PortCleanupAction.{PortCleanupAction}
 use Rattle.iox2_dynamic.specs.declared.dynamic_config.port_details.PortDetails.{PortDetails}
 use Rattle.iox2_container.specs.Changes.{Adds, Removes}
-use Rattle.iox2_dynamic.specs.Recoveries.{RecoversPorts}
+use Rattle.iox2_dynamic.specs.Recoveries.{RecoversPorts, ids_asked_about}
 use Rattle.iox2_dynamic.specs.Details.{role_of, node_of}
 use Rattle.iox2_container.specs.Mapped.{container_as}
 use Rattle.iox2_dynamic.specs.PortsState.{PortsState}
@@ -60,6 +62,10 @@ RemovesFrom a b old handle answer new =
     ⊎ ((handle.role ≡ b) × Removes old.second handle Default answer new.second × (new ≡ record old { second = new.second }))
     ⊎ (IsNeither a b handle.role × (answer ≡ Err ContainerHandleNotOwnedByContainer) × (new ≡ old))
 
+-- the ids of the ports of a dead node, those of the first kind before those of the second, each by rising slot
+abbrev pub ports_asked_about : ℕ → Ports → List UniquePortId
+ports_asked_about dead p = ids_asked_about dead p.first ++ ids_asked_about dead p.second
+
 -- the ports of a dead node, the first and then the second, by one callback on port ids
 abbrev pub RecoversBoth : {F : Type 0} → (F → UniquePortId → PortCleanupAction → F → Type 0) → ℕ → Ports → F → Ports → F → Type 0
 RecoversBoth {F} calls dead old f new f' =
@@ -67,11 +73,37 @@ RecoversBoth {F} calls dead old f new f' =
     × RecoversPorts calls dead old.first f new.first between
     × RecoversPorts calls dead old.second between new.second f'
 
+-- what is said of the ports of a role; nothing is said of another role
+abbrev pub OfRole : {A : Type 0} → (RegistryState PortDetails → A → Type 0) → Role → Role → Ports → Role → Option A → Type 0
+OfRole says a b p role None = IsNeither a b role
+OfRole says a b p role (Some x) =
+    ((role ≡ a) × says p.first.registry x) ⊎ ((role ≡ b) × says p.second.registry x)
+
 -- how many ports of a role there are; none is told for another role
 abbrev pub CountsIn : Role → Role → Ports → Role → Option ℕ → Type 0
-CountsIn a b p role None = IsNeither a b role
-CountsIn a b p role (Some n) =
-    ((role ≡ a) × (n ≡ length p.first.registry.entries)) ⊎ ((role ≡ b) × (n ≡ length p.second.registry.entries))
+CountsIn = OfRole (λ r n. n ≡ length r.entries)
+
+-- a port of the role would be added
+abbrev pub TakesIn : Role → Role → Ports → Role → Type 0
+TakesIn a b p role = ((role ≡ a) × TakesEntry p.first.registry) ⊎ ((role ≡ b) × TakesEntry p.second.registry)
+
+-- no port has the handle
+abbrev pub IsNoPort : Ports → Handle → Type 0
+IsNoPort p handle = IsForeign p.first.registry handle × IsForeign p.second.registry handle
+
+-- the port of the handle has these details
+abbrev pub StandsAmong : Ports → Handle → PortDetails → Type 0
+StandsAmong p handle details = Stands p.first.registry handle details ⊎ Stands p.second.registry handle details
+
+-- the ports of a node, those of the first kind before those of the second, each by rising slot
+abbrev pub ports_of_node : ℕ → Ports → List PortDetails
+ports_of_node id p = asked_about (is_of node_of id) p.first.registry ++ asked_about (is_of node_of id) p.second.registry
+
+-- a callback may be shown the ports of a role, if there are such ports
+pub record CanListIn {F : Type 0} (takes : F → PortDetails → Type 0) (calls : F → PortDetails → CallbackProgression → F → Type 0)
+    (a b : Role) (p : Ports) (role : Role) (f : F) : Type 0 where
+  pub first : role ≡ a → CanVisit takes calls f (listed p.first.registry)
+  pub second : role ≡ b → CanVisit takes calls f (listed p.second.registry)
 
 -- a callback was shown the ports of a role, if there are such ports
 abbrev pub ListsIn : {F : Type 0} → (F → PortDetails → CallbackProgression → F → Type 0) → Role → Role → Ports → Role → F → Bool → F → Type 0

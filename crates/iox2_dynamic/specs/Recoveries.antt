@@ -1,11 +1,11 @@
 -- What becomes of the ports and the nodes of a dead node.
-use Rattle.std.specs.Prelude.{Bool, true, false, ◌≡◌, ℕ}
+use Rattle.std.specs.Prelude.{Bool, true, false, ◌≡◌, ℕ, List, map}
 use Rattle.iox2_ids.specs.declared.identifiers.port_id.UniquePortId.{UniquePortId}
 use Rattle.iox2_container.specs.declared.container.release.ReleaseMode.TheVariants.{Default, LockIfLastIndex}
 use Rattle.iox2_container.specs.declared.container.release.ReleaseState.{ReleaseState}
 use Rattle.iox2_container.specs.Changes.{RecoversBy}
 use Rattle.iox2_container.specs.ContainerState.{ContainerState}
-use Rattle.iox2_container.specs.Steps.{is_of}
+use Rattle.iox2_container.specs.Steps.{asked_about, is_of}
 use Rattle.iox2_dynamic.specs.declared.dynamic_config.cleanup.PortCleanupAction.{PortCleanupAction}
 use Rattle.iox2_dynamic.specs.declared.dynamic_config.cleanup.PortCleanupAction.TheVariants.{RemovePort, SkipPort}
 use Rattle.iox2_dynamic.specs.declared.dynamic_config.port_details.PortDetails.{PortDetails}
@@ -20,6 +20,10 @@ removes SkipPort = false
 abbrev pub AskedToGo : {F : Type 0} → (F → UniquePortId → PortCleanupAction → F → Type 0) → F → UniquePortId → Bool → F → Type 0
 AskedToGo calls f port goes f' =
     (action : PortCleanupAction) × calls f port action f' × (goes ≡ removes action)
+
+-- the ids of the ports of the dead node, by rising slot
+abbrev pub ids_asked_about : ℕ → ContainerState PortDetails → List UniquePortId
+ids_asked_about dead c = map port_of (asked_about (is_of node_of dead) c.registry)
 
 -- a callback was asked once about each port of the dead node, by rising slot, and exactly those go that it removes
 abbrev pub RecoversPorts : {F : Type 0} → (F → UniquePortId → PortCleanupAction → F → Type 0) → ℕ → ContainerState PortDetails → F → ContainerState PortDetails → F → Type 0

@@ -11,7 +11,7 @@ use Rattle.iox2_dynamic.specs.declared.dynamic_config.port_details.PortDetails.{
 use Rattle.iox2_dynamic.specs.declared.dynamic_config.settings.MessagingPatternSettings.{MessagingPatternSettings}
 use Rattle.iox2_dynamic.specs.declared.dynamic_config.settings.MessagingPatternSettings.TheVariants as settings
 use Rattle.iox2_dynamic.specs.Details.{node_of}
-use Rattle.iox2_dynamic.specs.Ports.{Ports, IsEither, empty_ports}
+use Rattle.iox2_dynamic.specs.Ports.{Ports, IsEither, TakesIn, empty_ports}
 
 -- the nodes of a service and the ports of its pattern
 pub record Service : Type 0 where
@@ -89,6 +89,11 @@ pub record IsService (s : Service) : Type 0 where
   pub nodes_are : IsRegistry s.nodes.registry
   pub role_is : s.nodes.registry.role ≡ role.Node
   pub ports_are : ArePorts s.nodes.registry s.pattern s.ports
+
+-- a port of the role is attached, if its node is registered
+abbrev pub TakesPort : Service → Role → Type 0
+TakesPort s role =
+    (s.nodes.registry.locked ≡ false) × TakesIn (first_role s.pattern) (second_role s.pattern) s.ports role
 
 -- there is no port
 abbrev pub HasNoPort : Ports → Type 0

@@ -12,9 +12,11 @@ mod port_details;
 mod port_kind;
 mod port_registries;
 pub mod publish_subscribe;
+mod questions;
 mod recovery;
 mod registry;
 pub mod request_response;
+mod roles;
 mod service;
 mod settings;
 
@@ -26,5 +28,6 @@ pub use details::{
 };
 pub use pattern::MessagingPattern;
 pub use port_details::PortDetails;
+pub use roles::PortRoles;
 pub use service::DynamicConfig;
 pub use settings::MessagingPatternSettings;

@@ -1,13 +1,17 @@
 //! What holds of every service, and how details, settings and answers are compared and copied.
-ghost use Rattle.std.specs.Prelude.{◌≡◌, ◌↔◌, ℕ, Bool, IsTrue, List, IsOkAnd, length, not};
+ghost use Rattle.std.specs.Prelude.{◌≡◌, ◌↔◌, ◌<◌, ℕ, Bool, IsTrue, List, IsOk, IsOkAnd, Result, length, not};
 ghost use Rattle.std.specs.Prelude.{count_by};
 ghost use Rattle.iox2_container.specs.declared.container.release.ReleaseMode.{ReleaseMode};
 ghost use Rattle.iox2_container.specs.declared.container.release.ReleaseState.{ReleaseState};
+ghost use Rattle.iox2_container.specs.Handle.{Handle};
 ghost use Rattle.iox2_container.specs.State.{RegistryState};
-ghost use Rattle.iox2_container.specs.Steps.{Recovers, candidates, entries_of, is_of};
+ghost use Rattle.iox2_container.specs.Steps.{Recovers, TakesEntry, candidates, entries_of, is_of};
+ghost use Rattle.iox2_dynamic.specs.declared.dynamic_config.answers.AttachError.{AttachError};
+ghost use Rattle.iox2_dynamic.specs.declared.dynamic_config.answers.RegisterNodeResult.{RegisterNodeResult};
 ghost use Rattle.iox2_dynamic.specs.declared.dynamic_config.port_details.PortDetails.{PortDetails};
-ghost use Rattle.iox2_dynamic.specs.Details.{node_of};
-ghost use Rattle.iox2_dynamic.specs.Service.{Service, IsService, HasNoPort};
+ghost use Rattle.iox2_dynamic.specs.Details.{node_of, role_of};
+ghost use Rattle.iox2_dynamic.specs.Service.{Service, IsService, HasNoPort, TakesPort, entries_of_node};
+ghost use Rattle.iox2_dynamic.specs.Steps.{AttachStep, RegisterStep};
 
 use crate::dynamic_config::{
     AttachError, ClientDetails, DeregisterError, DeregisterNodeState, ListenerDetails,
@@ -30,6 +34,19 @@ pub fn skipped_ports_are_left()
         → length answers ≡ length (candidates (is_of node_of dead) old.entries)
         → Recovers (is_of node_of dead) answers old mode state new
         → entries_of node_of dead new ≡ count_by not answers }
+{}
+
+/// A node is registered exactly where `has_room_for_node` says yes.
+pub fn nodes_are_registered_where_there_is_room()
+    ensures { (old new : Service) (id : ℕ) (answer : Result Handle RegisterNodeResult)
+        → RegisterStep old id answer new → IsOk answer ↔ TakesEntry old.nodes.registry }
+{}
+
+/// A port of a registered node is attached exactly where `has_room` says yes.
+pub fn ports_are_attached_where_there_is_room()
+    ensures { (old new : Service) (details : PortDetails) (answer : Result Handle AttachError)
+        → 0 < entries_of_node (node_of details) old.nodes.registry
+        → AttachStep old details answer new → IsOk answer ↔ TakesPort old (role_of details) }
 {}
 
 /// Details are equal exactly where all their fields are, and a clone of them is equal and takes no memory.

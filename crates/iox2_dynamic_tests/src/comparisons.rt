@@ -129,9 +129,7 @@ fn answers_are_compared_by_what_they_tell(rt: HostRuntime) {
 }
 
 #[test]
-fn laws_hold(rt: HostRuntime) {
-    laws::locked_services_have_no_port();
-    laws::skipped_ports_are_left();
+fn settings_of_any_pattern_are_cloned(rt: HostRuntime) {
     let copy = laws::settings_are_cloned(&settings(PatternKind::Event, 3, 5));
     assert!(rt;
         matches!(

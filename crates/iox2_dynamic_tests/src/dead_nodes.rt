@@ -1,7 +1,9 @@
 //! Nodes that die, and what becomes of their ports.
 use super::rows::{Handle, Row, each_pattern_answers};
 use super::services::*;
+use iox2_container::container::Role;
 use iox2_dynamic::dynamic_config::*;
+use iox2_ids::identifiers::{UniquePortId, UniquePublisherId, UniqueSubscriberId};
 use std::test::Fail;
 
 /// A node with two ports of each kind. The callback keeps one port of each, and none when it is asked again.
@@ -99,4 +101,33 @@ const ALL_HANDLES_GO: [Row; 6] = [
 #[test]
 fn a_dead_node_leaves_with_all_its_handles(rt: HostRuntime) -> Result<(), Fail> {
     each_pattern_answers(&rt, rt.alloc(), (2, 2, 2), &ALL_HANDLES_GO)
+}
+
+/// The callback is told of the publisher and then of the subscriber, each by its kind and its whole id.
+#[test]
+fn a_callback_is_told_of_ports_by_kind_and_id(rt: HostRuntime) -> Result<(), Fail> {
+    let node = ONE_OF_FIVE.id()?;
+    let mut service = service(rt.alloc(), PUBLISH_SUBSCRIBE.kind, (2, 2, 2))?;
+    service.register_node_id(node)?;
+    attach(&rt, &mut service, Role::Publisher, 10, node)??;
+    attach(&rt, &mut service, Role::Subscriber, 11, node)??;
+    let mut asked = Vec::new(rt.alloc());
+    let mut clean = |id: UniquePortId| {
+        // Where there is no memory, a port is missing.
+        let _ = asked.push(id);
+        PortCleanupAction::RemovePort
+    };
+    let owned = has_owners(service.remove_dead_node_id(&node, &mut clean));
+    assert_eq!(rt;
+        (owned, asked.as_slice()),
+        (
+            false,
+            [
+                UniquePortId::Publisher(UniquePublisherId::new(1, 0, 0, 10)),
+                UniquePortId::Subscriber(UniqueSubscriberId::new(1, 0, 0, 11)),
+            ]
+            .as_slice()
+        )
+    );
+    Ok(())
 }

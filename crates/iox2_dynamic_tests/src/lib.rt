@@ -1,6 +1,6 @@
 //! Worked examples of services whose nodes and ports come and go, on each of the four patterns. They are tests of what no
 //! contract says: worked rows, and each public call once with ample memory and with memory refused.
-#![tactic(auto)]
+#![tactic(auto, using(iox2_dynamic::proofs::Callbacks::callbacks))]
 
 #[cfg(test)]
 mod attaching;
@@ -20,6 +20,10 @@ mod making;
 mod many_places;
 #[cfg(test)]
 mod memory;
+#[cfg(test)]
+mod printing;
+#[cfg(test)]
+mod questions;
 #[cfg(test)]
 mod rows;
 #[cfg(test)]

@@ -4,6 +4,7 @@ use super::services::*;
 use arrayvec::ArrayVec;
 use iox2_container::container::Attached;
 use iox2_dynamic::dynamic_config::*;
+use iox2_ids::identifiers::UniqueNodeId;
 use iox2_texts::bounded::CallbackProgression;
 use std::alloc::{AllocError, Global};
 use std::process::Abort;
@@ -118,6 +119,37 @@ fn tells_its_pattern(rt: &impl Abort, alloc: Global, pattern: &Pattern) -> Resul
 fn a_service_tells_its_pattern(rt: HostRuntime) -> Result<(), Fail> {
     for pattern in &PATTERNS {
         tells_its_pattern(&rt, rt.alloc(), pattern)?;
+    }
+    Ok(())
+}
+
+/// The nodes that are listed up to and with the one of this number.
+fn nodes_up_to(alloc: Global, service: &DynamicConfig, most: usize) -> Vec<UniqueNodeId> {
+    let mut seen = Vec::new(alloc);
+    service.list_node_ids(&mut |id: &UniqueNodeId| {
+        // Where there is no memory, a node is missing.
+        let _ = seen.push(*id);
+        if seen.len() == most {
+            CallbackProgression::Stop
+        } else {
+            CallbackProgression::Continue
+        }
+    });
+    seen
+}
+
+#[test]
+fn nodes_are_listed_by_their_ids_up_to_a_stop(rt: HostRuntime) -> Result<(), Fail> {
+    let mut service = service(rt.alloc(), EVENT.kind, (3, 1, 1))?;
+    let ids = [TWO_OF_FIVE.id()?, A.id()?, ONE_OF_FIVE.id()?];
+    for id in ids {
+        service.register_node_id(id)?;
+    }
+    for most in 1..5 {
+        assert_eq!(rt;
+            nodes_up_to(rt.alloc(), &service, most).as_slice(),
+            ids.get(..most).unwrap_or(&ids)
+        );
     }
     Ok(())
 }

@@ -1,9 +1,8 @@
 -- Who is attached to a service.
-use Rattle.std.specs.Prelude.{◌≡◌, ℕ, List, [], ◌∷◌, ◌++◌, map, Bool, true, false, IsPermutation}
+use Rattle.std.specs.Prelude.{◌≡◌, ℕ, ◌+◌, List, ◌++◌, length, map, vec_capacity, vec_len, IsPermutation}
+use Rattle.std.specs.Global.{Vec}
 use Rattle.std.specs.List.Sorted.{IsNonDecreasingBy, IsStableByKey}
 use Rattle.std.specs.Ordering.{nat_cmp}
-use Rattle.iox2_texts.specs.declared.bounded.CallbackProgression.{CallbackProgression}
-use Rattle.iox2_texts.specs.declared.bounded.CallbackProgression.TheVariants.{Continue, Stop}
 use Rattle.iox2_container.specs.ContainerState.{ContainerState}
 use Rattle.iox2_container.specs.Steps.{listed}
 use Rattle.iox2_dynamic.specs.declared.dynamic_config.port_details.PortDetails.{PortDetails}
@@ -35,11 +34,9 @@ pub record IsRoster (s : Service) (members : List Member) : Type 0 where
   pub by_node : IsNonDecreasingBy node_of_member members
   pub in_turn : IsStableByKey node_of_member nat_cmp (members_of s) members
 
--- an item was noted, or memory for it was refused
-abbrev pub Noted : {A : Type 0} → List A × Bool → A → CallbackProgression → List A × Bool → Type 0
-Noted before item Continue after = (after.0 ≡ before.0 ++ item ∷ []) × (after.1 ≡ before.1)
-Noted before item Stop after = after.1 ≡ true
-
--- unless memory was refused, now or before, all these items were noted
-abbrev pub NotesAll : {A : Type 0} → List A → List A × Bool → List A × Bool → Type 0
-NotesAll items before after = after.1 ≡ false → (before.1 ≡ false) × (after.0 ≡ before.0 ++ items)
+-- these were put at the end of a list, and no room was taken for them
+abbrev pub Appends : {A : Type 0} → List A → Vec A → Vec A → Type 0
+Appends added old new =
+    (new.items ≡ old.items ++ added)
+    × (vec_len new ≡ vec_len old + length added)
+    × (vec_capacity new ≡ vec_capacity old)

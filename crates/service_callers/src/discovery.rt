@@ -1,12 +1,13 @@
 //! Discovery: who is attached to a service.
-ghost use Rattle.std.specs.Prelude.{◌≡◌, [], OnOk, OnErr};
+ghost use Rattle.std.specs.Prelude.{◌≡◌, ◌+◌, ◌≤◌, ◌<◌, [], ◌∷◌, IfOk, OnOk, OnErr};
+ghost use Rattle.std.specs.Prelude.{length, vec_capacity, vec_len};
 ghost use Rattle.iox2_dynamic.specs.Service.{first_role, second_role};
-ghost use Rattle.service_callers.specs.Members.{IsRoster, Noted, NotesAll, nodes_in, ports_in};
+ghost use Rattle.service_callers.specs.Members.{Appends, IsRoster, members_of, nodes_in, ports_in};
 ghost use Rattle.service_callers.specs.Members.{node_of_member};
 
-use iox2_config::hash::PatternKind;
+use crate::census::take_census;
 use iox2_container::container::Role;
-use iox2_dynamic::dynamic_config::{DynamicConfig, PortDetails};
+use iox2_dynamic::dynamic_config::{DynamicConfig, PortDetails, PortRoles};
 use iox2_ids::identifiers::UniqueNodeId;
 use iox2_texts::bounded::CallbackProgression;
 use std::alloc::{AllocError, Global};
@@ -34,7 +35,8 @@ impl Member {
 }
 
 /// Puts everybody who is attached to the service into the list, in place of what it held: each node and each port once,
-/// by rising node, and for each node first the node and then its ports. Where memory is refused, the list is empty.
+/// by rising node, and for each node first the node and then its ports. It takes room for all of them at once. Where
+/// memory is refused, the list is empty.
 pub fn list_attached(
     alloc: Global,
     service: &DynamicConfig,
@@ -43,95 +45,93 @@ pub fn list_attached(
     ensures listed { OnOk result (IsRoster service.now members.new.items) }
     ensures cleared { OnErr result (members.new.items ≡ []) }
 {
-    members.clear();
-    let mut listing = Listing {
-        items: mem::replace(members, Vec::new(alloc)),
-        refused: false,
-    };
-    let (first, second) = port_roles(service.kind());
-    note_nodes(service, &mut listing);
-    note_ports(service, first, &mut listing);
-    note_ports(service, second, &mut listing);
-    *members = listing.items;
-    if listing.refused {
-        members.clear();
-        return Err(AllocError);
-    }
-    match members.sort_by_key(|member| member.node_id().value()) {
-        Ok(()) => Ok(()),
-        Err(error) => {
-            members.clear();
-            Err(error)
-        }
-    }
+    let mut list = mem::replace(members, Vec::new(alloc));
+    list.clear();
+    list.reserve(number_attached(service)?)?;
+    let (first, second) = service.kind().port_roles();
+    let mut roster = Roster { members: list };
+    append_nodes(service, &mut roster);
+    append_ports(service, first, &mut roster);
+    append_ports(service, second, &mut roster);
+    roster
+        .members
+        .sort_by_key(|member| member.node_id().value())?;
+    *members = roster.members;
+    Ok(())
 }
 
-/// What was noted, and whether memory for more was refused.
+/// Who was found so far, in a list with room for all.
 #[derive(Drop)]
-struct Listing<T: Copy> {
-    items: Vec<T>,
-    refused: bool,
+struct Roster<T: Copy> {
+    members: Vec<T>,
 }
 
-impl<T: Copy> Listing<T> {
-    /// Notes an item, or stops where memory for it is refused.
-    fn note(&mut self, item: T) -> CallbackProgression
-        ensures { Noted (self.old.items.items, self.old.refused) item result
-            (self.new.items.items, self.new.refused) }
+impl<T: Copy> Roster<T> {
+    /// Puts a member at the end.
+    fn put(&mut self, member: T)
+        requires { vec_len self.old.members < vec_capacity self.old.members }
+        ensures { Appends (member ∷ []) self.old.members self.new.members }
     {
-        match self.items.push(item) {
-            Ok(()) => CallbackProgression::Continue,
-            Err(_) => {
-                self.refused = true;
-                CallbackProgression::Stop
-            }
-        }
+        self.members.push_reserved(member);
     }
 }
 
-/// Notes each entry of a node.
-fn note_nodes(service: &DynamicConfig, listing: &mut Listing<Member>)
-    ensures { NotesAll (nodes_in service.now) (listing.old.items.items, listing.old.refused)
-        (listing.new.items.items, listing.new.refused) }
+/// How many nodes and ports there are. Refused where no list can have so many.
+fn number_attached(service: &DynamicConfig) -> Result<usize, AllocError>
+    ensures { IfOk result (λ number. number ≡ length (members_of service.now)) }
+{
+    let census = take_census(service);
+    let ports = census.first.count.checked_add(census.second.count);
+    let Some(ports) = ports else {
+        return Err(AllocError);
+    };
+    let Some(number) = census.nodes.checked_add(ports) else {
+        return Err(AllocError);
+    };
+    Ok(number)
+}
+
+/// Puts each entry of a node at the end.
+fn append_nodes(service: &DynamicConfig, roster: &mut Roster<Member>)
+    requires { vec_len roster.old.members + length (nodes_in service.now)
+        ≤ vec_capacity roster.old.members }
+    ensures { Appends (nodes_in service.now) roster.old.members roster.new.members }
 {
     let mut note = |id: &UniqueNodeId| -> CallbackProgression
-        ensures noted { Noted (listing.entry.now.items.items, listing.entry.now.refused)
-            (Member.Node id.now) result
-            (listing.exit.now.items.items, listing.exit.now.refused) }
-        ensures same { listing.exit.ghost_name ≡ listing.entry.ghost_name }
-    { listing.note(Member::Node(*id)) };
+        requires { vec_len roster.now.members < vec_capacity roster.now.members }
+        ensures noted { Appends (Member.Node id.now ∷ [])
+            roster.entry.now.members roster.exit.now.members }
+        ensures same { roster.exit.ghost_name ≡ roster.entry.ghost_name }
+        ensures goes_on { result ≡ CallbackProgression.Continue }
+    {
+        roster.put(Member::Node(*id));
+        CallbackProgression::Continue
+    };
     service.list_node_ids(&mut note);
 }
 
-/// Notes each port of one of the two roles of the service's pattern.
-fn note_ports(service: &DynamicConfig, role: Role, listing: &mut Listing<Member>)
-    ensures first { role ≡ first_role service.now.pattern → NotesAll
-        (ports_in service.now.ports.first)
-        (listing.old.items.items, listing.old.refused)
-        (listing.new.items.items, listing.new.refused) }
-    ensures second { role ≡ second_role service.now.pattern → NotesAll
-        (ports_in service.now.ports.second)
-        (listing.old.items.items, listing.old.refused)
-        (listing.new.items.items, listing.new.refused) }
+/// Puts each port of one of the pattern's roles at the end.
+fn append_ports(service: &DynamicConfig, role: Role, roster: &mut Roster<Member>)
+    requires first { role ≡ first_role service.now.pattern
+        → vec_len roster.old.members + length (ports_in service.now.ports.first)
+        ≤ vec_capacity roster.old.members }
+    requires second { role ≡ second_role service.now.pattern
+        → vec_len roster.old.members + length (ports_in service.now.ports.second)
+        ≤ vec_capacity roster.old.members }
+    ensures first { role ≡ first_role service.now.pattern
+        → Appends (ports_in service.now.ports.first) roster.old.members roster.new.members }
+    ensures second { role ≡ second_role service.now.pattern
+        → Appends (ports_in service.now.ports.second) roster.old.members roster.new.members }
 {
     let mut note = |details: &PortDetails| -> CallbackProgression
-        ensures noted { Noted (listing.entry.now.items.items, listing.entry.now.refused)
-            (Member.Port details.now) result
-            (listing.exit.now.items.items, listing.exit.now.refused) }
-        ensures same { listing.exit.ghost_name ≡ listing.entry.ghost_name }
-    { listing.note(Member::Port(*details)) };
+        requires { vec_len roster.now.members < vec_capacity roster.now.members }
+        ensures noted { Appends (Member.Port details.now ∷ [])
+            roster.entry.now.members roster.exit.now.members }
+        ensures same { roster.exit.ghost_name ≡ roster.entry.ghost_name }
+        ensures goes_on { result ≡ CallbackProgression.Continue }
+    {
+        roster.put(Member::Port(*details));
+        CallbackProgression::Continue
+    };
     service.list_ports(role, &mut note);
-}
-
-/// The roles of a pattern's two kinds of ports.
-fn port_roles(kind: PatternKind) -> (Role, Role)
-    ensures first { result.0 ≡ first_role kind }
-    ensures second { result.1 ≡ second_role kind }
-{
-    match kind {
-        PatternKind::PublishSubscribe => (Role::Publisher, Role::Subscriber),
-        PatternKind::Event => (Role::Listener, Role::Notifier),
-        PatternKind::RequestResponse => (Role::Server, Role::Client),
-        PatternKind::Blackboard => (Role::Reader, Role::Writer),
-    }
 }

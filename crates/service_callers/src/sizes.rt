@@ -26,7 +26,7 @@ const _: () = prove!(size_of::<Path>() == 264);
 
 const _: () = prove!(size_of::<TypeDetail>() == 288);
 
-const _: () = prove!(size_of::<DynamicConfig>() == 296);
+const _: () = prove!(size_of::<DynamicConfig>() == 320);
 
 const _: () = prove!(size_of::<Attribute>() == 336);
 

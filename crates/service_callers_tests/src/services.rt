@@ -1,9 +1,10 @@
 //! A service for the callers: its description, its types, its nodes and its ports.
-use iox2_config::config::Config;
+use iox2_config::config::{Config, DataSegmentType};
 use iox2_config::hash::Sha1Hasher;
 use iox2_config::types::{MessageTypeDetails, TypeDetail, TypeVariant};
 use iox2_dynamic::dynamic_config::{
-    DynamicConfig, MessagingPatternSettings, PortDetails, SubscriberDetails, publish_subscribe,
+    DynamicConfig, MessagingPatternSettings, PortDetails, PublisherDetails, SubscriberDetails,
+    publish_subscribe,
 };
 use iox2_ids::identifiers::{UniqueNodeId, UniquePublisherId, UniqueServiceId, UniqueSubscriberId};
 use iox2_static::static_config::StaticConfig;
@@ -90,6 +91,18 @@ pub(super) fn publisher(rt: &impl Abort, counter: u32, node_counter: u32) -> Pub
         max_loaned_samples: 2,
         max_elements: 2,
     }
+}
+
+/// The details of a publisher of the node with this counter.
+pub(super) fn publisher_details(rt: &impl Abort, counter: u32, node_counter: u32) -> PortDetails {
+    PortDetails::Publisher(PublisherDetails {
+        publisher_id: UniquePublisherId::new(1, 0, 0, counter),
+        node_id: node(rt, node_counter),
+        number_of_samples: 1,
+        max_slice_len: 1,
+        data_segment_type: DataSegmentType::Static,
+        max_number_of_segments: 1,
+    })
 }
 
 /// A subscriber of the node with this counter.

@@ -4,7 +4,6 @@ pub mod Fronts
 pub mod Growing
 pub mod Ids
 pub mod Moves
-pub mod Noting
 pub mod Numerals
 pub mod OneReading
 pub mod Runs

@@ -8,7 +8,6 @@ mod id;
 mod line;
 mod line_command;
 mod line_reply;
-mod listing;
 mod number;
 mod reply;
 mod reply_line;

@@ -5,6 +5,7 @@ use service_descriptions::attribute::{
     AttributeKey, AttributeSet, AttributeValue, AttributeVerifier,
 };
 use service_descriptions::config::Config;
+use service_descriptions::container::Role;
 use service_descriptions::hash::Sha1Hasher;
 use service_descriptions::identifiers::{UniqueNodeId, UniqueServiceId};
 use service_descriptions::replay::{Command, MessagePart, ServiceState};
@@ -31,9 +32,28 @@ fn described(messages: MessageTypeDetails) -> Option<StaticConfig> {
     Some(description.with_attributes(&attributes))
 }
 
-/// Describes the service by these messages.
-fn describe(state: &mut ServiceState, messages: MessageTypeDetails) -> Result<(), &'static str> {
-    let Some(description) = described(messages) else {
+/// A request-response service whose requests are three numbers, and whose responses are bytes.
+fn of_requests() -> Option<StaticConfig> {
+    let name = ServiceName::new("a").ok()?;
+    let id = UniqueServiceId::new(1, 0, 0, 1);
+    let config = Config::default();
+    let made = StaticConfig::new_request_response::<Sha1Hasher>(&name, &config, id);
+    let mut description = made.ok()?;
+    let (requests, responses) = (eights()?, bytes()?);
+    if description.is_request_response() {
+        let settings = description.request_response_mut();
+        settings.request_message_type_details = requests;
+        settings.response_message_type_details = responses;
+    }
+    Some(description)
+}
+
+/// Describes the service so.
+fn describe(
+    state: &mut ServiceState,
+    description: Option<StaticConfig>,
+) -> Result<(), &'static str> {
+    let Some(description) = description else {
         return Err("no description");
     };
     if description.messaging_pattern().kind() != state.kind() {
@@ -51,6 +71,11 @@ fn eight(alignment: usize) -> Option<TypeDetail> {
 /// Messages of three numbers of 8 bytes.
 fn eights() -> Option<MessageTypeDetails> {
     MessageTypeDetails::from::<i64, i64, i64>(TypeVariant::FixedSize).ok()
+}
+
+/// Messages of bytes alone.
+fn bytes() -> Option<MessageTypeDetails> {
+    MessageTypeDetails::from::<(), (), u8>(TypeVariant::Dynamic).ok()
 }
 
 /// The same with greater alignments.
@@ -80,8 +105,15 @@ fn undescribed(
     if let Some(node) = UniqueNodeId::new(1, 0, 0, 1) {
         serve(alloc, state, &[Command::Register(node)], out)?;
     }
-    let layout = Command::Layout(MessagePart::Request, 1);
-    serve(alloc, state, &[layout], out)
+    let commands = [
+        Command::Layout(MessagePart::Request, 1),
+        Command::Places(MessagePart::Message, 0),
+        Command::Compatible(MessagePart::Message, MessageTypeDetails::default()),
+        Command::Verify(AttributeVerifier::new()),
+        Command::List(Role::Node),
+        Command::Count(Role::Node),
+    ];
+    serve(alloc, state, &commands, out)
 }
 
 /// With the description of the defaults.
@@ -95,13 +127,20 @@ fn of_defaults(
     let layout = Command::Layout(MessagePart::Request, 1);
     serve(alloc, state, &[layout], out)?;
     let places = Command::Places(MessagePart::Message, 0);
-    serve(alloc, state, &[places], out)
+    serve(alloc, state, &[places], out)?;
+    let of_requests = [
+        Command::Places(MessagePart::Request, 0),
+        Command::Compatible(MessagePart::Request, MessageTypeDetails::default()),
+    ];
+    serve(alloc, state, &of_requests, out)
 }
 
 /// With that of three numbers: a layout, and places for headers at these places.
 fn of_eights(alloc: Global, state: &mut ServiceState, out: &mut Vec<u8>) -> Result<(), AllocError> {
-    let layout = Command::Layout(MessagePart::Message, 2);
-    serve(alloc, state, &[layout], out)?;
+    for elements in [2, usize::MAX] {
+        let layout = Command::Layout(MessagePart::Message, elements);
+        serve(alloc, state, &[layout], out)?;
+    }
     for header in [0, 18446744073709551592, 18446744073709551600] {
         let places = Command::Places(MessagePart::Message, header);
         serve(alloc, state, &[places], out)?;
@@ -116,6 +155,10 @@ fn for_openers(
     state: &mut ServiceState,
     out: &mut Vec<u8>,
 ) -> Result<(), AllocError> {
+    if let Some(types) = eights() {
+        let compatible = Command::Compatible(MessagePart::Message, types);
+        serve(alloc, state, &[compatible], out)?;
+    }
     if let Some(types) = opener() {
         let compatible = Command::Compatible(MessagePart::Message, types);
         serve(alloc, state, &[compatible], out)?;
@@ -131,9 +174,9 @@ fn for_openers(
 /// The description changes between calls.
 fn serve_all(alloc: Global, state: &mut ServiceState, out: &mut Vec<u8>) -> Result<(), Fail> {
     undescribed(alloc, state, out)?;
-    describe(state, MessageTypeDetails::default())?;
+    describe(state, described(MessageTypeDetails::default()))?;
     of_defaults(alloc, state, out)?;
-    describe(state, eights().ok_or("legal names")?)?;
+    describe(state, described(eights().ok_or("legal names")?))?;
     of_eights(alloc, state, out)?;
     for_openers(alloc, state, out)?;
     Ok(())
@@ -146,7 +189,42 @@ fn a_service_is_described_between_calls(rt: HostRuntime) -> Result<(), Fail> {
     serve_all(rt.alloc(), &mut state, &mut out)?;
     assert_eq!(rt;
         out.as_slice(),
-        b"handle 0 0\nno-description\nno-alignments\nwrong-pattern\nno-alignments\nlayout 48 8\nplaces 8 16\nplaces 18446744073709551600 18446744073709551608\nno-places\nincompatible\nrefused AttributeVerificationError::NonExistingKey(\"b\")\nverified\nno-owners\n".as_slice()
+        b"handle 0 0\nno-description\nno-description\nno-description\nno-description\nwrong-pattern\nwrong-pattern\nno-alignments\nwrong-pattern\nno-alignments\nwrong-pattern\nwrong-pattern\nlayout 48 8\nno-layout\nplaces 8 16\nplaces 18446744073709551600 18446744073709551608\nno-places\ncompatible\nincompatible\nrefused AttributeVerificationError::NonExistingKey(\"b\")\nverified\nno-owners\n".as_slice()
+    );
+    Ok(())
+}
+
+/// Each part of an exchange has messages of its own.
+fn of_exchange(
+    alloc: Global,
+    state: &mut ServiceState,
+    out: &mut Vec<u8>,
+) -> Result<(), AllocError> {
+    let layouts = [
+        Command::Layout(MessagePart::Request, 1),
+        Command::Layout(MessagePart::Response, 4),
+        Command::Layout(MessagePart::Message, 1),
+        Command::Places(MessagePart::Request, 0),
+        Command::Places(MessagePart::Response, 0),
+    ];
+    serve(alloc, state, &layouts, out)?;
+    for part in [MessagePart::Request, MessagePart::Response] {
+        if let Some(types) = bytes() {
+            serve(alloc, state, &[Command::Compatible(part, types)], out)?;
+        }
+    }
+    Ok(())
+}
+
+#[test]
+fn requests_and_responses_have_messages_of_their_own(rt: HostRuntime) -> Result<(), Fail> {
+    let mut state = new_service(rt.alloc(), "service request-response 9 2 2 2")?;
+    let mut out = Vec::new(rt.alloc());
+    describe(&mut state, of_requests())?;
+    of_exchange(rt.alloc(), &mut state, &mut out)?;
+    assert_eq!(rt;
+        out.as_slice(),
+        b"layout 40 8\nlayout 4 1\nwrong-pattern\nplaces 8 16\nplaces 0 0\nincompatible\ncompatible\n".as_slice()
     );
     Ok(())
 }

@@ -12,12 +12,7 @@ use std::process::Abort;
 use std::test::Fail;
 
 #[test]
-fn laws_of_scripts(rt: HostRuntime) {
-    runs_join();
-    a_line_spells_one_command();
-    a_line_spells_one_service();
-    a_script_is_bad_at_one_line();
-    a_good_script_is_bad_nowhere();
+fn laws_of_kinds_of_messages(rt: HostRuntime) {
     let (message, request) = (MessagePart::Message, MessagePart::Request);
     assert_eq!(rt;
         [

@@ -1,6 +1,6 @@
 //! Command lines, and the lines of replies.
 
-use service_descriptions::attribute::{AttributeKey, AttributeVerificationError};
+use service_descriptions::attribute::{AttributeKey, AttributeValue, AttributeVerificationError};
 use service_descriptions::config::DataSegmentType;
 use service_descriptions::container::{ContainerHandle, Role};
 use service_descriptions::dynamic_config::{
@@ -191,6 +191,8 @@ fn reply_lines(rt: HostRuntime) -> Result<(), Fail> {
     let alloc = rt.alloc();
     let one = UniqueNodeId::new(1, 0, 0, 1).ok_or("an id")?;
     let key = AttributeKey::new(b"b").ok().ok_or("a key")?;
+    let value = AttributeValue::new(b"1").ok().ok_or("a value")?;
+    let pair = (key.copied(), value);
     let most = usize::MAX;
     let rows = [
         (
@@ -223,6 +225,10 @@ fn reply_lines(rt: HostRuntime) -> Result<(), Fail> {
         (
             Reply::Refused(AttributeVerificationError::NonExistingKey(key)),
             "refused AttributeVerificationError::NonExistingKey(\"b\")\n",
+        ),
+        (
+            Reply::Refused(AttributeVerificationError::IncompatibleAttribute(pair)),
+            "refused AttributeVerificationError::IncompatibleAttribute((\"b\", \"1\"))\n",
         ),
         (Reply::NoLayout, "no-layout\n"),
         (Reply::NoAlignments, "no-alignments\n"),

@@ -11,8 +11,10 @@ use service_descriptions::replay::{
     write_reply,
 };
 use std::alloc::{AllocError, Global};
+use std::env::Env;
 use std::process::Abort;
 use std::test::Fail;
+use test_support::memory::may_be_refused;
 
 const SETTINGS: MessagingPatternSettings = MessagingPatternSettings::PublishSubscribe(
     publish_subscribe::DynamicConfigSettings {
@@ -104,12 +106,14 @@ fn begins(lines: &str, text: &[u8]) -> bool {
 
 /// The script gives all its lines, or is refused memory after some first ones. So does the program, and after the same ones
 /// where both are refused.
-fn gives_whole_lines(rt: &(impl Abort + AllocGlobal), script: &str, lines: &str) {
+fn gives_whole_lines(rt: &(impl Abort + AllocGlobal + Env), script: &str, lines: &str) {
     let mut text = Vec::new(rt.alloc());
     let end = run_script(rt.alloc(), script.as_bytes(), &mut text);
     let Ok((status, output, errors)) = streamed(rt.alloc(), script) else {
+        assert!(rt; may_be_refused(rt));
         return;
     };
+    assert!(rt; (end.is_ok() && status == 0) || may_be_refused(rt));
     match end {
         Ok(()) => assert_eq!(rt; text.as_slice(), lines.as_bytes()),
         Err(ScriptError::BadLine(line)) => assert!(rt; false, "bad line {line}"),
@@ -152,6 +156,7 @@ fn a_reply_is_written_whole_or_not_at_all(rt: HostRuntime) -> Result<(), Fail> {
             Err(_) => "",
         };
         assert_eq!(rt; &out[before..], line.as_bytes());
+        assert!(rt; !line.is_empty() || may_be_refused(&rt));
     }
     Ok(())
 }
@@ -172,7 +177,7 @@ fn a_line_wants_memory_for_its_list_alone(rt: HostRuntime) {
     for (line, sure) in rows {
         match read_line(rt.alloc(), line.as_bytes()) {
             Ok(found) => assert!(rt; found.is_some(), "at {line}"),
-            Err(_) => assert!(rt; !sure, "at {line}"),
+            Err(_) => assert!(rt; !sure && may_be_refused(&rt), "at {line}"),
         }
     }
 }

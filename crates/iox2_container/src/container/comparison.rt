@@ -1,5 +1,6 @@
 //! One list of calls on two registries.
 ghost use Rattle.std.specs.Prelude.{◌≡◌, ◌<◌, [], IsTrue, IfOk, OnErr, OnOk, length};
+ghost use Rattle.iox2_container.specs.ContainerState.{container};
 ghost use Rattle.iox2_container.specs.State.{IsRegistry};
 ghost use Rattle.iox2_container.specs.Steps.{is_of, listed};
 ghost use Rattle.iox2_container.specs.Histories.{IsNew};
@@ -10,28 +11,11 @@ use super::agreement::is_same_kind;
 use super::attached::Attached;
 use super::calls::{RegistryCall, RegistryReply};
 use super::handle::ContainerHandle;
+use super::listing::entries;
 use super::registry::Registry;
 use super::release::{ReleaseMode, ReleaseState};
 use iox2_ids::identifiers::UniqueNodeId;
-use iox2_texts::bounded::CallbackProgression;
 use std::alloc::{AllocError, Global};
-
-/// The details in a registry, by rising slot.
-fn list<T: Attached + Copy, R: Registry<T>>(
-    alloc: Global,
-    registry: &R,
-) -> Result<Vec<T>, AllocError>
-    ensures { IfOk result (λ items. items.items ≡ listed (R.state registry.now)) }
-{
-    let mut items = Vec::with_capacity(alloc, registry.len())?;
-    let mut push = |details: &T| {
-        // Cannot fail, since there is room for all.
-        let _ = items.push(*details);
-        CallbackProgression::Continue
-    };
-    registry.for_each(&mut push);
-    Ok(items)
-}
 
 /// The handle that call `k` gave.
 fn given<T: Copy>(earlier: &[RegistryReply<T>], k: usize) -> Option<ContainerHandle>
@@ -51,7 +35,8 @@ fn recover_but<T: Attached + Copy, R: Registry<T>>(
     mode: ReleaseMode,
 ) -> ReleaseState
     ensures step { RecoversBut (is_of T.node dead.now) T.number keys.now
-        (R.state registry.old) mode result (R.state registry.new) }
+        (container (R.state registry.old) (R.touches registry.old)) mode result
+        (container (R.state registry.new) (R.touches registry.new)) }
     ensures kept { IsRegistry (R.state registry.new) }
 {
     let mut goes = |details: &T| !keys.contains(&details.key());
@@ -67,10 +52,13 @@ fn serve<T: Attached + Copy, R: Registry<T>>(
 ) -> Result<RegistryReply<T>, AllocError>
     requires { IsRegistry (R.state registry.old) }
     ensures step { IfOk result (λ reply. CallStep T.node T.number
-        (R.state registry.old) earlier.now call.now reply (R.state registry.new)) }
+        (container (R.state registry.old) (R.touches registry.old)) earlier.now call.now reply
+        (container (R.state registry.new) (R.touches registry.new))) }
     ensures kept { IsRegistry (R.state registry.new) }
     ensures err { OnErr result
-        ((R.state registry.new ≡ R.state registry.old) × (call.now ≡ RegistryCall.List)) }
+        ((container (R.state registry.new) (R.touches registry.new)
+        ≡ container (R.state registry.old) (R.touches registry.old))
+        × (call.now ≡ RegistryCall.List)) }
 {
     match call {
         RegistryCall::Add(details) => match registry.add(*details) {
@@ -89,7 +77,7 @@ fn serve<T: Attached + Copy, R: Registry<T>>(
             Ok(RegistryReply::State(state))
         }
         RegistryCall::List => {
-            let entries = list(alloc, registry)?;
+            let entries = entries(alloc, registry)?;
             Ok(RegistryReply::Entries(entries))
         }
         RegistryCall::Len => Ok(RegistryReply::Count(registry.len())),
@@ -107,13 +95,19 @@ fn serve_both<T: Attached + Copy, A: Registry<T>, B: Registry<T>>(
 ) -> Result<(), AllocError>
     requires { IsRegistry (A.state a.old) × IsRegistry (B.state b.old) }
     ensures ok_a { OnOk result (Answered T.node T.number
-        (A.state a.old) replies_a.old.items call.now replies_a.new.items (A.state a.new)) }
+        (container (A.state a.old) (A.touches a.old)) replies_a.old.items call.now replies_a.new.items
+        (container (A.state a.new) (A.touches a.new))) }
     ensures ok_b { OnOk result (Answered T.node T.number
-        (B.state b.old) replies_b.old.items call.now replies_b.new.items (B.state b.new)) }
+        (container (B.state b.old) (B.touches b.old)) replies_b.old.items call.now replies_b.new.items
+        (container (B.state b.new) (B.touches b.new))) }
     ensures err_a { OnErr result
-        ((A.state a.new ≡ A.state a.old) × (replies_a.new.items ≡ replies_a.old.items)) }
+        ((container (A.state a.new) (A.touches a.new)
+        ≡ container (A.state a.old) (A.touches a.old))
+        × (replies_a.new.items ≡ replies_a.old.items)) }
     ensures err_b { OnErr result
-        ((B.state b.new ≡ B.state b.old) × (replies_b.new.items ≡ replies_b.old.items)) }
+        ((container (B.state b.new) (B.touches b.new)
+        ≡ container (B.state b.old) (B.touches b.old))
+        × (replies_b.new.items ≡ replies_b.old.items)) }
 {
     replies_a.reserve(1)?;
     replies_b.reserve(1)?;
@@ -143,9 +137,11 @@ pub fn compare<T: Attached + Copy + Eq, A: Registry<T>, B: Registry<T>>(
     requires same_budget { (A.state a.old).budget ≡ (B.state b.old).budget }
     requires empty { (replies_a.old.items ≡ []) × (replies_b.old.items ≡ []) }
     ensures made_a { Made T.node T.number
-        (A.state a.old) calls.now replies_a.new.items (A.state a.new) }
+        (container (A.state a.old) (A.touches a.old)) calls.now replies_a.new.items
+        (container (A.state a.new) (A.touches a.new)) }
     ensures made_b { Made T.node T.number
-        (B.state b.old) calls.now replies_b.new.items (B.state b.new) }
+        (container (B.state b.old) (B.touches b.old)) calls.now replies_b.new.items
+        (container (B.state b.new) (B.touches b.new)) }
     ensures same_kind { SameKind replies_a.new.items replies_b.new.items }
     ensures answer { IfOk result IsTrue }
     ensures all { OnOk result ((length replies_a.new.items ≡ length calls.now)

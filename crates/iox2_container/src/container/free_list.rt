@@ -1,6 +1,11 @@
-//! Places of which the one that was freed last is taken. The free ones are in a list that is threaded through the cells.
-ghost use Rattle.std.specs.Prelude.{◌≡◌, ◌+◌, ◌≤◌, ◌<◌, ◌^◌, length};
+//! Places of which the one that was freed last is taken. The free ones are in a list that is linked through the cells.
+ghost use Rattle.std.specs.Prelude.{◌≡◌, ◌+◌, ◌*◌, ◌≤◌, ◌<◌, ◌^◌, ℕ, List, [], ◌∷◌, Some, None};
+ghost use Rattle.std.specs.Prelude.{length, map, replicate, slice_get, slice_set};
+ghost use Rattle.iox2_container.specs.declared.container.cell.Cell.TheVariants.{Free};
+ghost use Rattle.iox2_container.specs.Cells.{occupant, shown};
+ghost use Rattle.iox2_container.specs.Places.{IsTakenAt, entries_from};
 ghost use Rattle.iox2_container.specs.FreeList.{HasFree, TakesFirst, IsFreeList};
+ghost use Rattle.iox2_container.specs.FreeList.{AreFreed, PutsFirst};
 
 use super::cell::Cell;
 use super::free_slots::FreeSlots;
@@ -52,7 +57,11 @@ impl<T: Copy> FreeSlots<T> for FreeList {
 
     ghost most_for_put = { λ n. 2 };
 
-    fn all_free() -> (Self, Option<usize>) {
+    fn all_free() -> (Self, Option<usize>)
+        ensures fits { (n : ℕ) → IsFreeList {T = T} result.0 (replicate n (Free result.1)) }
+        ensures none_freed { (n : ℕ) → AreFreed {T = T} result.0 (replicate n (Free result.1)) [] }
+        ensures none_used { result.0.fresh ≡ 0 }
+    {
         let list = FreeList {
             head: None,
             fresh: 0,
@@ -64,7 +73,21 @@ impl<T: Copy> FreeSlots<T> for FreeList {
         self.fresh
     }
 
-    fn put(&mut self, places: &mut LinkedPlaces<T>, ticket: u64, details: T) -> usize {
+    /// Puts an entry into the place that was freed last, or else into the first that was never used.
+    fn put(&mut self, places: &mut LinkedPlaces<T>, ticket: u64, details: T) -> usize
+        requires fits { IsFreeList self.old places.old.cells }
+        requires room { length (entries_from 0 (map shown places.old.cells))
+            < length places.old.cells }
+        ensures fits { IsFreeList self.new places.new.cells }
+        ensures free { slice_get (map shown places.old.cells) result ≡ Some None }
+        ensures cells { map shown places.new.cells ≡
+            slice_set (map shown places.old.cells) result (Some (occupant ticket details)) }
+        ensures last_freed { PutsFirst self.old places.old.cells
+            result self.new places.new.cells }
+        ensures touched { places.new.touches ≤ places.old.touches + 2 * length places.old.cells }
+        ensures few { places.new.touches ≤ places.old.touches + 2 }
+        ensures counted { places.old.touches ≤ places.new.touches }
+    {
         // Tells the proof that the number of places fits a `usize`.
         let _fits = places.len();
         let slot = self.take_first(places);
@@ -72,7 +95,18 @@ impl<T: Copy> FreeSlots<T> for FreeList {
         slot
     }
 
-    fn clear(&mut self, places: &mut LinkedPlaces<T>, slot: usize) {
+    /// Takes the entry out of a place, which is taken before all others then.
+    fn clear(&mut self, places: &mut LinkedPlaces<T>, slot: usize)
+        requires fits { IsFreeList self.old places.old.cells }
+        requires taken { IsTakenAt (map shown places.old.cells) slot }
+        ensures fits { IsFreeList self.new places.new.cells }
+        ensures cells { map shown places.new.cells ≡
+            slice_set (map shown places.old.cells) slot None }
+        ensures freed { (freed : List ℕ) → AreFreed self.old places.old.cells freed
+            → AreFreed self.new places.new.cells (slot ∷ freed) }
+        ensures fresh { self.new.fresh ≡ self.old.fresh }
+        ensures touched { places.new.touches ≡ places.old.touches + 1 }
+    {
         places.write(slot, Cell::Free(self.head));
         self.head = Some(slot);
     }

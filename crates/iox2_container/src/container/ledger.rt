@@ -41,6 +41,13 @@ impl Ledger {
         }
     }
 
+    /// The number of the service.
+    pub(super) fn service(&self) -> u64
+        ensures { result ≡ self.now.service }
+    {
+        self.service
+    }
+
     /// How many entries stand in the places.
     pub(super) fn count(&self) -> usize
         ensures { result ≡ self.now.count }

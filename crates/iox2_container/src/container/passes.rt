@@ -1,11 +1,13 @@
 //! What a container does with all its places, one after another.
-ghost use Rattle.std.specs.Prelude.{◌≡◌, ◌+◌, ◌*◌, ◌≤◌, ◌<◌, ℕ, Option, Some, None, IsTrue, false};
+ghost use Rattle.std.specs.Prelude.{◌≡◌, ◌+◌, ◌*◌, ◌≤◌, ◌<◌, ℕ, Option, Some, None, IsTrue, true, false, nat_lt};
 ghost use Rattle.std.specs.Prelude.{length, map, slice_get, slice_set};
-ghost use Rattle.std.specs.Fn.{CalledAt};
+ghost use Rattle.std.specs.Fn.{CalledAt, TakesAt};
 ghost use Rattle.iox2_container.specs.declared.container.cell.Occupant.{Occupant};
 ghost use Rattle.iox2_container.specs.Cells.{shown};
 ghost use Rattle.iox2_container.specs.Places.{details_in, entries_from};
-ghost use Rattle.iox2_container.specs.Passes.{AskedOfCell, SweptCell, Swept, cell_is_of};
+ghost use Rattle.iox2_container.specs.Callbacks.{CanBeAsked, CanVisit};
+ghost use Rattle.iox2_container.specs.Passes.{AskedOfCell, AreOthers, PlaceIsOf, SweptCell, Swept, cell_is_of};
+ghost use Rattle.iox2_container.specs.Passes.{TakesCell, TakesDead};
 ghost use Rattle.iox2_container.specs.Steps.{Visit, candidates, is_of};
 
 use super::attached::Attached;
@@ -17,9 +19,8 @@ use iox2_texts::bounded::CallbackProgression;
 
 /// Asks the callback once.
 fn ask<T: Copy, R, F: FnMut(&T) -> R>(details: T, f: &mut F) -> R
-    requires { F.IsAlwaysCallable f.old }
-    ensures callable { F.IsAlwaysCallable f.new }
-    ensures called { CalledAt F.FnMut f.old details result f.new }
+    requires { TakesAt F.FnMut f.old details }
+    ensures { CalledAt F.FnMut f.old details result f.new }
 {
     f(&details)
 }
@@ -29,9 +30,8 @@ fn show<T: Copy, F: FnMut(&T) -> CallbackProgression>(
     cell: Option<Occupant<T>>,
     f: &mut F,
 ) -> CallbackProgression
-    requires { F.IsAlwaysCallable f.old }
-    ensures callable { F.IsAlwaysCallable f.new }
-    ensures asked { AskedOfCell (CalledAt F.FnMut) f.old cell result f.new }
+    requires { TakesCell (TakesAt F.FnMut) f.old cell }
+    ensures { AskedOfCell (CalledAt F.FnMut) f.old cell result f.new }
 {
     match cell {
         Some(occupant) => ask(occupant.details, f),
@@ -46,9 +46,9 @@ pub(super) fn visit<T: Copy, S: FreeSlots<T>, F: FnMut(&T) -> CallbackProgressio
     f: &mut F,
 )
     requires fits { S.fits free.now places.now.cells }
-    requires callable { F.IsAlwaysCallable f.old }
-    ensures visit { Visit (CalledAt F.FnMut) f.old (details_in (map shown places.now.cells)) f.new }
-    ensures callable { F.IsAlwaysCallable f.new }
+    requires callable { CanVisit (TakesAt F.FnMut) (CalledAt F.FnMut) f.old
+        (details_in (map shown places.now.cells)) }
+    ensures { Visit (CalledAt F.FnMut) f.old (details_in (map shown places.now.cells)) f.new }
 {
     for slot in 0..free.end(places) {
         if let CallbackProgression::Stop = show(places.peek_at(slot), f) {
@@ -65,6 +65,111 @@ fn stands_for<T: Attached + Copy>(cell: Option<Occupant<T>>, node: &UniqueNodeId
         Some(occupant) => occupant.details.node_id() == *node,
         None => false,
     }
+}
+
+/// Whether what stands in this place is the node's.
+pub(super) fn is_of_node<T: Attached + Copy, N: Copy>(
+    places: &Places<T, N>,
+    slot: usize,
+    node: &UniqueNodeId,
+) -> bool
+    requires { slot < length places.now.cells }
+    ensures { PlaceIsOf T.node node.now (map shown places.now.cells) slot result }
+{
+    stands_for(places.peek_at(slot), node)
+}
+
+/// The same as [`next_of`], one place after another.
+fn next_by_one<T: Attached + Copy, N: Copy>(
+    places: &Places<T, N>,
+    start: usize,
+    end: usize,
+    node: &UniqueNodeId,
+) -> usize
+    requires order { start ≤ end }
+    requires within { end ≤ length places.now.cells }
+    ensures order { (start ≤ result) × (result ≤ end) }
+    ensures others { AreOthers T.node node.now (map shown places.now.cells) start result }
+    ensures found { result < end →
+        PlaceIsOf T.node node.now (map shown places.now.cells) result true }
+{
+    for slot in start..end {
+        if is_of_node(places, slot, node) {
+            return slot;
+        }
+    }
+    end
+}
+
+/// Whether no entry of the node stands in four places. It may say no where none does.
+#[inline(always)]
+fn are_four_others<T: Attached + Copy, N: Copy>(
+    places: &Places<T, N>,
+    slot: usize,
+    node: &UniqueNodeId,
+) -> bool
+    requires { slot + 4 ≤ length places.now.cells }
+    ensures { IsTrue result →
+        AreOthers T.node node.now (map shown places.now.cells) slot (slot + 4) }
+{
+    // Tells the proof that the number of places fits a `usize`.
+    let _fits = places.len();
+    let first = is_of_node(places, slot, node);
+    if first {
+        return false;
+    }
+    let second = is_of_node(places, slot + 1, node);
+    if second {
+        return false;
+    }
+    let third = is_of_node(places, slot + 2, node);
+    if third {
+        return false;
+    }
+    let fourth = is_of_node(places, slot + 3, node);
+    if fourth {
+        return false;
+    }
+    true
+}
+
+/// The first place from one on where an entry of the node stands; the end, where none stands before it. Eight places
+/// are passed over at once where none stands in them.
+fn next_of<T: Attached + Copy, N: Copy>(
+    places: &Places<T, N>,
+    start: usize,
+    end: usize,
+    node: &UniqueNodeId,
+) -> usize
+    requires order { start ≤ end }
+    requires within { end ≤ length places.now.cells }
+    ensures order { (start ≤ result) × (result ≤ end) }
+    ensures others { AreOthers T.node node.now (map shown places.now.cells) start result }
+    ensures found { result < end →
+        PlaceIsOf T.node node.now (map shown places.now.cells) result true }
+{
+    let mut slot = start;
+    while end - slot >= 8
+        && are_four_others(places, slot, node)
+        && are_four_others(places, slot + 4, node)
+    {
+        slot += 8;
+    }
+    next_by_one(places, slot, end, node)
+}
+
+/// Whether an entry of the node stands in some place.
+pub(super) fn has_of<T: Attached + Copy, S: FreeSlots<T>>(
+    places: &Places<T, S::Next>,
+    free: &S,
+    node: &UniqueNodeId,
+) -> bool
+    requires { S.fits free.now places.now.cells }
+    ensures { result ≡ nat_lt 0
+        (length (candidates (is_of T.node node.now) (entries_from 0 (map shown places.now.cells)))) }
+{
+    let end = free.end(places);
+    next_of(places, 0, end, node) < end
 }
 
 /// How many entries are those of the node.
@@ -92,9 +197,8 @@ fn asks_to_go<T: Attached + Copy, F: FnMut(&T) -> bool>(
     dead: &UniqueNodeId,
     f: &mut F,
 ) -> bool
-    requires { F.IsAlwaysCallable f.old }
-    ensures callable { F.IsAlwaysCallable f.new }
-    ensures swept { SweptCell (CalledAt F.FnMut) (is_of T.node dead.now) f.old cell result f.new }
+    requires { TakesDead (TakesAt F.FnMut) (is_of T.node dead.now) f.old cell }
+    ensures { SweptCell (CalledAt F.FnMut) (is_of T.node dead.now) f.old cell result f.new }
 {
     match cell {
         Some(occupant) => {
@@ -118,9 +222,10 @@ fn sweep_place<T: Attached + Copy, S: FreeSlots<T>, F: FnMut(&T) -> bool>(
 ) -> bool
     requires slot { slot < length places.old.cells }
     requires fits { S.fits free.old places.old.cells }
-    requires callable { F.IsAlwaysCallable f.old }
+    requires callable { (cell : Option (Occupant T))
+        → slice_get (map shown places.old.cells) slot ≡ Some cell
+        → TakesDead (TakesAt F.FnMut) (is_of T.node dead.now) f.old cell }
     ensures fits { S.fits free.new places.new.cells }
-    ensures callable { F.IsAlwaysCallable f.new }
     ensures swept { (cell : Option (Occupant T))
         × (slice_get (map shown places.old.cells) slot ≡ Some cell)
         × SweptCell (CalledAt F.FnMut) (is_of T.node dead.now) f.old cell result f.new }
@@ -145,9 +250,9 @@ pub(super) fn sweep<T: Attached + Copy, S: FreeSlots<T>, F: FnMut(&T) -> bool>(
     f: &mut F,
 ) -> usize
     requires fits { S.fits free.old places.old.cells }
-    requires callable { F.IsAlwaysCallable f.old }
+    requires callable { CanBeAsked (TakesAt F.FnMut) (CalledAt F.FnMut) f.old
+        (map (λ e. e.details) (candidates (is_of T.node dead.now) (entries_from 0 (map shown places.old.cells)))) }
     ensures fits { S.fits free.new places.new.cells }
-    ensures callable { F.IsAlwaysCallable f.new }
     ensures swept { Swept (CalledAt F.FnMut) (is_of T.node dead.now)
         f.old (entries_from 0 (map shown places.old.cells))
         f.new (entries_from 0 (map shown places.new.cells)) result }
@@ -155,11 +260,17 @@ pub(super) fn sweep<T: Attached + Copy, S: FreeSlots<T>, F: FnMut(&T) -> bool>(
     ensures touched { places.new.touches ≤ places.old.touches + 2 * length places.old.cells }
     ensures counted { places.old.touches ≤ places.new.touches }
 {
+    let end = free.end(places);
     let mut gone = 0;
-    for slot in 0..free.end(places) {
+    let mut slot = next_of(places, 0, end, dead);
+    places.count_reads(slot);
+    while slot < end {
         if sweep_place(places, free, slot, dead, f) {
             gone += 1;
         }
+        let next = next_of(places, slot + 1, end, dead);
+        places.count_reads(next - slot - 1);
+        slot = next;
     }
     gone
 }

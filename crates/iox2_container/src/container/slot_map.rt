@@ -11,7 +11,7 @@ use super::free_slots::FreeSlots;
 use super::handle::ContainerHandle;
 use super::ledger::Ledger;
 use super::lowest_free::LowestFree;
-use super::passes::{count_of, sweep, visit};
+use super::passes::{count_of, has_of, is_of_node, sweep, visit};
 use super::places::{Places, find, take_out};
 use super::refusal::{ContainerAddFailure, ContainerRemoveError};
 use super::registry::Registry;
@@ -38,6 +38,8 @@ pub struct SlotMap<T: Copy, S: FreeSlots<T>> {
     ledger: Ledger,
     places: Places<T, S::Next>,
     free: S,
+    // Where the entry was put that came last, which is likely to be asked for next.
+    recent: usize,
 }
 
 impl<T: Copy, S: FreeSlots<T>> Model for SlotMap<T, S> {
@@ -75,6 +77,7 @@ impl<T: Copy, S: FreeSlots<T>> SlotMap<T, S> {
             ledger: Ledger::new(service, role, tickets),
             places,
             free,
+            recent: 0,
         })
     }
 }
@@ -101,6 +104,7 @@ impl<T: Attached + Copy, S: FreeSlots<T>> Registry<T> for SlotMap<T, S> {
         }
         let ticket = self.ledger.enter();
         let slot = self.free.put(&mut self.places, ticket, details);
+        self.recent = slot;
         Ok(self.ledger.handle(slot, ticket))
     }
 
@@ -159,8 +163,28 @@ impl<T: Attached + Copy, S: FreeSlots<T>> Registry<T> for SlotMap<T, S> {
         count_of(&self.places, &self.free, node)
     }
 
+    fn has_entry_of(&self, node: &UniqueNodeId) -> bool {
+        if self.ledger.count() == 0 {
+            return false;
+        }
+        if self.recent < self.places.len() && is_of_node(&self.places, self.recent, node) {
+            return true;
+        }
+        has_of(&self.places, &self.free, node)
+    }
+
     fn len(&self) -> usize {
         self.ledger.count()
+    }
+
+    fn has_room(&self) -> bool {
+        !self.ledger.is_locked()
+            && self.ledger.has_ticket()
+            && self.ledger.count() < self.places.len()
+    }
+
+    fn service(&self) -> u64 {
+        self.ledger.service()
     }
 
     fn capacity(&self) -> usize {

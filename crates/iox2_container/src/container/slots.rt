@@ -75,4 +75,14 @@ impl<C: Copy> Slots<C> {
     {
         self.cells[index]
     }
+
+    /// Counts so many reads of slots that `peek` made.
+    pub fn count_reads(&mut self, reads: usize)
+        ensures cells { self.new.cells ≡ self.old.cells }
+        ensures touches { self.new.touches ≡ self.old.touches + reads }
+    {
+        for _ in 0..reads {
+            self.touches = self.touches.one_more();
+        }
+    }
 }

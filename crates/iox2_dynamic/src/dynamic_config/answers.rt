@@ -23,7 +23,7 @@ pub enum DeregisterNodeState {
 }
 
 impl DeregisterNodeState {
-    /// What is told of the lock of the nodes.
+    /// Whether the nodes are locked now, as a deregistering reports it.
     pub(super) fn of(state: ReleaseState) -> Self
         ensures { state ≡ state_of result }
     {
@@ -37,13 +37,13 @@ impl DeregisterNodeState {
 /// Why a node was not deregistered.
 #[derive(Clone, Copy, Debug, PartialEq, Eq)]
 pub enum DeregisterError {
-    /// No node of the service has this handle. It is told first.
+    /// No node of the service has this handle. This is reported first.
     ContainerHandleNotOwnedByContainer,
     /// The handle is the only one of its node, and some port has that node.
     PortsStillAttached,
 }
 
-/// Why a port was not attached. The first cause is told.
+/// Why a port was not attached. The first cause is reported.
 #[derive(Clone, Copy, Debug, PartialEq, Eq)]
 pub enum AttachError {
     /// The service is locked for good, since its last node left.

@@ -1,6 +1,7 @@
 //! The ports of a service of the pattern event.
 ghost use Rattle.std.specs.Prelude.{◌≡◌, IfOk, length};
-ghost use Rattle.std.specs.Fn.{CalledAt};
+ghost use Rattle.std.specs.Fn.{CalledAt, TakesAt};
+ghost use Rattle.iox2_container.specs.Callbacks.{CanVisit};
 ghost use Rattle.iox2_container.specs.declared.container.role.Role.TheVariants as role;
 ghost use Rattle.iox2_container.specs.Steps.{Visit, listed};
 ghost use Rattle.iox2_dynamic.specs.Ports.{empty_ports};
@@ -45,9 +46,8 @@ impl DynamicConfig {
 
     /// Calls the callback on the details of the listeners by rising slot, up to and with the first answer `Stop`.
     pub fn list_listeners<F: FnMut(&ListenerDetails) -> CallbackProgression>(&self, f: &mut F)
-        requires { F.IsAlwaysCallable f.old }
-        ensures visit { Visit (CalledAt F.FnMut) f.old (listed self.now.first.registry) f.new }
-        ensures callable { F.IsAlwaysCallable f.new }
+        requires { CanVisit (TakesAt F.FnMut) (CalledAt F.FnMut) f.old (listed self.now.first.registry) }
+        ensures { Visit (CalledAt F.FnMut) f.old (listed self.now.first.registry) f.new }
     {
         self.list_first(f);
     }
@@ -61,9 +61,8 @@ impl DynamicConfig {
 
     /// Calls the callback on the details of the notifiers by rising slot, up to and with the first answer `Stop`.
     pub fn list_notifiers<F: FnMut(&NotifierDetails) -> CallbackProgression>(&self, f: &mut F)
-        requires { F.IsAlwaysCallable f.old }
-        ensures visit { Visit (CalledAt F.FnMut) f.old (listed self.now.second.registry) f.new }
-        ensures callable { F.IsAlwaysCallable f.new }
+        requires { CanVisit (TakesAt F.FnMut) (CalledAt F.FnMut) f.old (listed self.now.second.registry) }
+        ensures { Visit (CalledAt F.FnMut) f.old (listed self.now.second.registry) f.new }
     {
         self.list_second(f);
     }

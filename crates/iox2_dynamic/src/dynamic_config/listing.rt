@@ -1,30 +1,88 @@
 //! Ports shown as details of ports of any kind.
-ghost use Rattle.std.specs.Prelude.{◌≡◌};
-ghost use Rattle.std.specs.Fn.{CalledAt};
-ghost use Rattle.iox2_container.specs.Steps.{Visit, listed};
+ghost use Rattle.std.specs.Prelude.{◌≡◌, ◌+◌, ◌≤◌, ◌<◌, ◌++◌, ◌∷◌, [], IfOk, IsTrue, length, vec_capacity, vec_len};
+ghost use Rattle.std.specs.Fn.{CalledAt, TakesAt};
+ghost use Rattle.iox2_container.specs.Callbacks.{CanVisit};
+ghost use Rattle.iox2_container.specs.Steps.{Visit, asked_about, entries_of, is_of, listed};
 ghost use Rattle.iox2_container.specs.Mapped.{registry_as};
+ghost use Rattle.iox2_dynamic.specs.Details.{node_of};
+ghost use Rattle.iox2_dynamic.specs.Lists.{PutsIf};
 
 use super::port_details::PortDetails;
 use super::port_kind::PortKind;
 use super::registry::ServiceRegistry;
-use iox2_container::container::Registry;
+use iox2_container::container::{Attached, Registry};
+use iox2_ids::identifiers::UniqueNodeId;
 use iox2_texts::bounded::CallbackProgression;
+use std::alloc::{AllocError, Global};
 
 /// Shows each port.
 pub(super) fn list_details<T: PortKind, F: FnMut(&PortDetails) -> CallbackProgression>(
     ports: &ServiceRegistry<T>,
     f: &mut F,
 )
-    requires { F.IsAlwaysCallable f.old }
-    ensures visit { Visit (CalledAt F.FnMut) f.old
+    requires { CanVisit (TakesAt F.FnMut) (CalledAt F.FnMut) f.old
+        (listed (registry_as T.details ports.now.registry)) }
+    ensures { Visit (CalledAt F.FnMut) f.old
         (listed (registry_as T.details ports.now.registry)) f.new }
-    ensures callable { F.IsAlwaysCallable f.new }
 {
     let mut show = |details: &T| -> CallbackProgression
-        requires { F.IsAlwaysCallable f.now }
+        requires { TakesAt F.FnMut f.now (T.details details.now) }
         ensures asked { CalledAt F.FnMut f.entry.now (T.details details.now) result f.exit.now }
-        ensures callable { F.IsAlwaysCallable f.exit.now }
         ensures same { f.exit.ghost_name ≡ f.entry.ghost_name }
     { f(&(*details).into_details()) };
     ports.for_each(&mut show);
+}
+
+/// The details of all ports, by rising slot, in just the room that they need.
+pub(super) fn details<T: PortKind>(
+    alloc: Global,
+    ports: &ServiceRegistry<T>,
+) -> Result<Vec<PortDetails>, AllocError>
+    ensures listed { IfOk result (λ list.
+        list.items ≡ listed (registry_as T.details ports.now.registry)) }
+    ensures exact { IfOk result (λ list. vec_capacity list ≡ length list.items) }
+{
+    let mut list = Vec::with_capacity(alloc, ports.len())?;
+    let mut put = |details: &T| -> CallbackProgression
+        requires { vec_len list < vec_capacity list }
+        ensures put { list.exit.items ≡ list.entry.items ++ T.details details.now ∷ [] }
+        ensures len { vec_len list.exit ≡ vec_len list.entry + 1 }
+        ensures capacity { vec_capacity list.exit ≡ vec_capacity list.entry }
+        ensures goes_on { result ≡ CallbackProgression.Continue }
+    {
+        list.push_reserved((*details).into_details());
+        CallbackProgression::Continue
+    };
+    ports.for_each(&mut put);
+    Ok(list)
+}
+
+/// Puts the details of the node's ports at the end of a list that has room for them.
+pub(super) fn append_details_of<T: PortKind>(
+    ports: &ServiceRegistry<T>,
+    node: &UniqueNodeId,
+    list: &mut Vec<PortDetails>,
+)
+    requires { vec_len list.old + entries_of T.Attached.node node.now ports.now.registry
+        ≤ vec_capacity list.old }
+    ensures items { list.new.items ≡ list.old.items
+        ++ asked_about (is_of node_of node.now) (registry_as T.details ports.now.registry) }
+    ensures len { vec_len list.new ≡ vec_len list.old
+        + entries_of T.Attached.node node.now ports.now.registry }
+    ensures capacity { vec_capacity list.new ≡ vec_capacity list.old }
+{
+    let mut put = |details: &T| -> CallbackProgression
+        requires { IsTrue (is_of T.Attached.node node.now details.now)
+            → vec_len list.now < vec_capacity list.now }
+        ensures put { PutsIf (is_of T.Attached.node node.entry.now details.now)
+            (T.details details.now) list.entry.now list.exit.now }
+        ensures same { list.exit.ghost_name ≡ list.entry.ghost_name }
+        ensures goes_on { result ≡ CallbackProgression.Continue }
+    {
+        if details.node_id() == *node {
+            list.push_reserved((*details).into_details());
+        }
+        CallbackProgression::Continue
+    };
+    ports.for_each(&mut put);
 }

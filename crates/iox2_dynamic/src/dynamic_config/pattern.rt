@@ -1,10 +1,13 @@
 //! The ports of a service, by its pattern.
-ghost use Rattle.std.specs.Prelude.{◌≡◌, ◌↔◌, IfOk, IsTrue};
-ghost use Rattle.std.specs.Fn.{CalledAt};
+ghost use Rattle.std.specs.Prelude.{◌≡◌, ◌↔◌, IfOk, IfSome, IsTrue, MatchOption, length, vec_capacity};
+ghost use Rattle.std.specs.Fn.{CalledAt, TakesAt};
+ghost use Rattle.iox2_container.specs.Callbacks.{CanBeAsked};
+ghost use Rattle.iox2_container.specs.Steps.{listed};
 ghost use Rattle.iox2_dynamic.specs.Details.{role_of};
 ghost use Rattle.iox2_dynamic.specs.Patterns.{kind_of, ports_of};
 ghost use Rattle.iox2_dynamic.specs.Ports.{AddsTo, RemovesFrom, RecoversBoth, CountsIn, ListsIn};
-ghost use Rattle.iox2_dynamic.specs.Ports.{has_ports_of};
+ghost use Rattle.iox2_dynamic.specs.Ports.{IsNoPort, OfRole, StandsAmong, TakesIn, ports_of_node};
+ghost use Rattle.iox2_dynamic.specs.Ports.{CanListIn, has_ports_of, ports_asked_about};
 ghost use Rattle.iox2_dynamic.specs.Service.{HasRole, first_role, second_role, pattern_in};
 ghost use Rattle.iox2_dynamic.specs.Service.{fresh_ports};
 
@@ -174,17 +177,17 @@ impl MessagingPattern {
         }
     }
 
-    /// Asks about each port of a dead node whether it goes.
+    /// Asks about each port of a dead node whether it goes, and says whether one is left.
     pub(super) fn recover<F: FnMut(UniquePortId) -> PortCleanupAction>(
         &mut self,
         dead: &UniqueNodeId,
         f: &mut F,
-    )
-        requires { F.IsAlwaysCallable f.old }
+    ) -> bool
+        requires { CanBeAsked F.pre F.step f.old (ports_asked_about dead.now (ports_of self.old)) }
         ensures recovered { RecoversBoth F.step dead.now
             (ports_of self.old) f.old (ports_of self.new) f.new }
+        ensures left { result ≡ has_ports_of dead.now (ports_of self.new) }
         ensures kind { kind_of self.new ≡ kind_of self.old }
-        ensures callable { F.IsAlwaysCallable f.new }
     {
         match self {
             MessagingPattern::RequestResponse(ports) => ports.recover(dead, f),
@@ -213,16 +216,93 @@ impl MessagingPattern {
         role: Role,
         f: &mut F,
     ) -> bool
-        requires { F.IsAlwaysCallable f.old }
-        ensures visit { ListsIn (CalledAt F.FnMut) (first_role (kind_of self.now))
+        requires { CanListIn (TakesAt F.FnMut) (CalledAt F.FnMut) (first_role (kind_of self.now))
+            (second_role (kind_of self.now)) (ports_of self.now) role f.old }
+        ensures { ListsIn (CalledAt F.FnMut) (first_role (kind_of self.now))
             (second_role (kind_of self.now)) (ports_of self.now) role f.old result f.new }
-        ensures callable { F.IsAlwaysCallable f.new }
     {
         match self {
             MessagingPattern::RequestResponse(ports) => ports.list(role, f),
             MessagingPattern::PublishSubscribe(ports) => ports.list(role, f),
             MessagingPattern::Event(ports) => ports.list(role, f),
             MessagingPattern::Blackboard(ports) => ports.list(role, f),
+        }
+    }
+
+    /// How many ports of the role there may be; `None` where the pattern has no such ports.
+    pub(super) fn capacity(&self, role: Role) -> Option<usize>
+        ensures { OfRole (λ r n. n ≡ r.capacity) (first_role (kind_of self.now))
+            (second_role (kind_of self.now)) (ports_of self.now) role result }
+    {
+        match self {
+            MessagingPattern::RequestResponse(ports) => ports.capacity(role),
+            MessagingPattern::PublishSubscribe(ports) => ports.capacity(role),
+            MessagingPattern::Event(ports) => ports.capacity(role),
+            MessagingPattern::Blackboard(ports) => ports.capacity(role),
+        }
+    }
+
+    /// Whether a port of the role would be added.
+    pub(super) fn has_room(&self, role: Role) -> bool
+        ensures { IsTrue result ↔ TakesIn (first_role (kind_of self.now))
+            (second_role (kind_of self.now)) (ports_of self.now) role }
+    {
+        match self {
+            MessagingPattern::RequestResponse(ports) => ports.has_room(role),
+            MessagingPattern::PublishSubscribe(ports) => ports.has_room(role),
+            MessagingPattern::Event(ports) => ports.has_room(role),
+            MessagingPattern::Blackboard(ports) => ports.has_room(role),
+        }
+    }
+
+    /// The port with this handle.
+    pub(super) fn get(&self, handle: ContainerHandle) -> Option<PortDetails>
+        ensures { MatchOption result (IsNoPort (ports_of self.now) handle)
+            (StandsAmong (ports_of self.now) handle) }
+    {
+        match self {
+            MessagingPattern::RequestResponse(ports) => ports.get(handle),
+            MessagingPattern::PublishSubscribe(ports) => ports.get(handle),
+            MessagingPattern::Event(ports) => ports.get(handle),
+            MessagingPattern::Blackboard(ports) => ports.get(handle),
+        }
+    }
+
+    /// The ports of the role; `None` where the pattern has no such ports.
+    pub(super) fn ports(
+        &self,
+        alloc: Global,
+        role: Role,
+    ) -> Result<Option<Vec<PortDetails>>, AllocError>
+        ensures listed { IfOk result (OfRole (λ r list. list.items ≡ listed r)
+            (first_role (kind_of self.now)) (second_role (kind_of self.now))
+            (ports_of self.now) role) }
+        ensures exact { IfOk result (λ found.
+            IfSome found (λ list. vec_capacity list ≡ length list.items)) }
+    {
+        match self {
+            MessagingPattern::RequestResponse(ports) => ports.ports(alloc, role),
+            MessagingPattern::PublishSubscribe(ports) => ports.ports(alloc, role),
+            MessagingPattern::Event(ports) => ports.ports(alloc, role),
+            MessagingPattern::Blackboard(ports) => ports.ports(alloc, role),
+        }
+    }
+
+    /// The ports of the node, those of the first kind before those of the second.
+    pub(super) fn ports_of(
+        &self,
+        alloc: Global,
+        node: &UniqueNodeId,
+    ) -> Result<Vec<PortDetails>, AllocError>
+        ensures listed { IfOk result (λ list.
+            list.items ≡ ports_of_node node.now (ports_of self.now)) }
+        ensures exact { IfOk result (λ list. vec_capacity list ≡ length list.items) }
+    {
+        match self {
+            MessagingPattern::RequestResponse(ports) => ports.ports_of(alloc, node),
+            MessagingPattern::PublishSubscribe(ports) => ports.ports_of(alloc, node),
+            MessagingPattern::Event(ports) => ports.ports_of(alloc, node),
+            MessagingPattern::Blackboard(ports) => ports.ports_of(alloc, node),
         }
     }
 }

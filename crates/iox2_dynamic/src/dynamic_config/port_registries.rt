@@ -1,12 +1,15 @@
 //! The two registries of a pattern's ports.
-ghost use Rattle.std.specs.Prelude.{◌≡◌, ◌↔◌, IfOk, IsTrue};
-ghost use Rattle.std.specs.Fn.{CalledAt};
+ghost use Rattle.std.specs.Prelude.{◌≡◌, ◌↔◌, IfOk, IfSome, IsTrue, MatchOption, length, vec_capacity};
+ghost use Rattle.std.specs.Fn.{CalledAt, TakesAt};
+ghost use Rattle.iox2_container.specs.Callbacks.{CanBeAsked, CanVisit};
 ghost use Rattle.iox2_container.specs.Steps.{Visit, listed};
 ghost use Rattle.iox2_dynamic.specs.Ports.{ports_as, empty_ports, has_ports_of, IsEither};
-ghost use Rattle.iox2_dynamic.specs.Ports.{AddsTo, RemovesFrom, RecoversBoth, CountsIn, ListsIn};
+ghost use Rattle.iox2_dynamic.specs.Ports.{AddsTo, RemovesFrom, RecoversBoth, CountsIn, CanListIn, ListsIn};
+ghost use Rattle.iox2_dynamic.specs.Ports.{IsNoPort, OfRole, StandsAmong, TakesIn};
+ghost use Rattle.iox2_dynamic.specs.Ports.{ports_asked_about, ports_of_node};
 
 use super::cleanup::PortCleanupAction;
-use super::listing::list_details;
+use super::listing::{append_details_of, details, list_details};
 use super::port_details::PortDetails;
 use super::port_kind::PortKind;
 use super::recovery::recover_ports;
@@ -55,18 +58,16 @@ impl<A: PortKind, B: PortKind> PortRegistries<A, B> {
 
     /// Shows the ports of the first kind.
     pub(super) fn list_first<F: FnMut(&A) -> CallbackProgression>(&self, f: &mut F)
-        requires { F.IsAlwaysCallable f.old }
-        ensures visit { Visit (CalledAt F.FnMut) f.old (listed self.now.first.registry) f.new }
-        ensures callable { F.IsAlwaysCallable f.new }
+        requires { CanVisit (TakesAt F.FnMut) (CalledAt F.FnMut) f.old (listed self.now.first.registry) }
+        ensures { Visit (CalledAt F.FnMut) f.old (listed self.now.first.registry) f.new }
     {
         self.first.for_each(f);
     }
 
     /// Shows the ports of the second kind.
     pub(super) fn list_second<F: FnMut(&B) -> CallbackProgression>(&self, f: &mut F)
-        requires { F.IsAlwaysCallable f.old }
-        ensures visit { Visit (CalledAt F.FnMut) f.old (listed self.now.second.registry) f.new }
-        ensures callable { F.IsAlwaysCallable f.new }
+        requires { CanVisit (TakesAt F.FnMut) (CalledAt F.FnMut) f.old (listed self.now.second.registry) }
+        ensures { Visit (CalledAt F.FnMut) f.old (listed self.now.second.registry) f.new }
     {
         self.second.for_each(f);
     }
@@ -82,7 +83,7 @@ impl<A: PortKind, B: PortKind> PortRegistries<A, B> {
     pub(super) fn has_ports_of(&self, node: &UniqueNodeId) -> bool
         ensures { result ≡ has_ports_of node.now (ports_as A.details B.details self.now) }
     {
-        self.first.entries_of(node) > 0 || self.second.entries_of(node) > 0
+        self.first.has_entry_of(node) || self.second.has_entry_of(node)
     }
 
     /// Adds a port of the first kind.
@@ -119,20 +120,23 @@ impl<A: PortKind, B: PortKind> PortRegistries<A, B> {
         Err(of_neither_kind)
     }
 
-    /// Asks about each port of a dead node whether it goes, first about those of the first kind.
+    /// Asks about each port of a dead node whether it goes, first about those of the first kind, and says whether one is
+    /// left.
     pub(super) fn recover<F: FnMut(UniquePortId) -> PortCleanupAction>(
         &mut self,
         dead: &UniqueNodeId,
         f: &mut F,
-    )
-        requires { F.IsAlwaysCallable f.old }
+    ) -> bool
+        requires { CanBeAsked F.pre F.step f.old
+            (ports_asked_about dead.now (ports_as A.details B.details self.old)) }
         ensures recovered { RecoversBoth F.step dead.now
             (ports_as A.details B.details self.old) f.old
             (ports_as A.details B.details self.new) f.new }
-        ensures callable { F.IsAlwaysCallable f.new }
+        ensures left { result ≡ has_ports_of dead.now (ports_as A.details B.details self.new) }
     {
-        recover_ports(&mut self.first, dead, f);
-        recover_ports(&mut self.second, dead, f);
+        let first = recover_ports(&mut self.first, dead, f);
+        let second = recover_ports(&mut self.second, dead, f);
+        first || second
     }
 
     /// How many ports of the role there are; `None` for a role of neither kind.
@@ -148,16 +152,92 @@ impl<A: PortKind, B: PortKind> PortRegistries<A, B> {
         None
     }
 
+    /// How many ports of the role there may be; `None` for a role of neither kind.
+    pub(super) fn capacity(&self, role: Role) -> Option<usize>
+        ensures { OfRole (λ r n. n ≡ r.capacity) A.ROLE B.ROLE
+            (ports_as A.details B.details self.now) role result }
+    {
+        if role == A::ROLE {
+            return Some(self.first.capacity());
+        }
+        if role == B::ROLE {
+            return Some(self.second.capacity());
+        }
+        None
+    }
+
+    /// Whether a port of the role would be added.
+    pub(super) fn has_room(&self, role: Role) -> bool
+        ensures { IsTrue result
+            ↔ TakesIn A.ROLE B.ROLE (ports_as A.details B.details self.now) role }
+    {
+        (role == A::ROLE && self.first.has_room()) || (role == B::ROLE && self.second.has_room())
+    }
+
+    /// The port with this handle.
+    pub(super) fn get(&self, handle: ContainerHandle) -> Option<PortDetails>
+        ensures { MatchOption result (IsNoPort (ports_as A.details B.details self.now) handle)
+            (StandsAmong (ports_as A.details B.details self.now) handle) }
+    {
+        match self.first.get(handle) {
+            Some(port) => Some(port.into_details()),
+            None => match self.second.get(handle) {
+                Some(port) => Some(port.into_details()),
+                None => None,
+            },
+        }
+    }
+
+    /// The ports of the role; `None` for a role of neither kind.
+    pub(super) fn ports(
+        &self,
+        alloc: Global,
+        role: Role,
+    ) -> Result<Option<Vec<PortDetails>>, AllocError>
+        ensures listed { IfOk result (OfRole (λ r list. list.items ≡ listed r) A.ROLE B.ROLE
+            (ports_as A.details B.details self.now) role) }
+        ensures exact { IfOk result (λ found.
+            IfSome found (λ list. vec_capacity list ≡ length list.items)) }
+    {
+        if role == A::ROLE {
+            return Ok(Some(details(alloc, &self.first)?));
+        }
+        if role == B::ROLE {
+            return Ok(Some(details(alloc, &self.second)?));
+        }
+        Ok(None)
+    }
+
+    /// The ports of the node, those of the first kind before those of the second.
+    pub(super) fn ports_of(
+        &self,
+        alloc: Global,
+        node: &UniqueNodeId,
+    ) -> Result<Vec<PortDetails>, AllocError>
+        ensures listed { IfOk result (λ list.
+            list.items ≡ ports_of_node node.now (ports_as A.details B.details self.now)) }
+        ensures exact { IfOk result (λ list. vec_capacity list ≡ length list.items) }
+    {
+        let first = self.first.entries_of(node);
+        let Some(count) = first.checked_add(self.second.entries_of(node)) else {
+            return Err(AllocError);
+        };
+        let mut list = Vec::with_capacity(alloc, count)?;
+        append_details_of(&self.first, node, &mut list);
+        append_details_of(&self.second, node, &mut list);
+        Ok(list)
+    }
+
     /// Shows the ports of the role; `false` for a role of neither kind.
     pub(super) fn list<F: FnMut(&PortDetails) -> CallbackProgression>(
         &self,
         role: Role,
         f: &mut F,
     ) -> bool
-        requires { F.IsAlwaysCallable f.old }
-        ensures visit { ListsIn (CalledAt F.FnMut) A.ROLE B.ROLE
+        requires { CanListIn (TakesAt F.FnMut) (CalledAt F.FnMut) A.ROLE B.ROLE
+            (ports_as A.details B.details self.now) role f.old }
+        ensures { ListsIn (CalledAt F.FnMut) A.ROLE B.ROLE
             (ports_as A.details B.details self.now) role f.old result f.new }
-        ensures callable { F.IsAlwaysCallable f.new }
     {
         if role == A::ROLE {
             list_details(&self.first, f);

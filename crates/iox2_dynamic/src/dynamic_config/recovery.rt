@@ -1,8 +1,10 @@
 //! Ports and nodes of a dead node.
-ghost use Rattle.std.specs.Prelude.{◌≡◌, true};
-ghost use Rattle.iox2_container.specs.Mapped.{container_as};
-ghost use Rattle.iox2_dynamic.specs.Recoveries.{AskedToGo, RecoversPorts, RecoversNodes};
-ghost use Rattle.iox2_dynamic.specs.Details.{port_of};
+ghost use Rattle.std.specs.Prelude.{◌≡◌, ◌||◌, true, nat_lt, not};
+ghost use Rattle.iox2_container.specs.Callbacks.{CanBeAsked};
+ghost use Rattle.iox2_container.specs.Mapped.{container_as, registry_as};
+ghost use Rattle.iox2_container.specs.Steps.{entries_of};
+ghost use Rattle.iox2_dynamic.specs.Recoveries.{AskedToGo, RecoversPorts, RecoversNodes, ids_asked_about};
+ghost use Rattle.iox2_dynamic.specs.Details.{node_of, port_of};
 
 use super::cleanup::PortCleanupAction;
 use super::port_kind::PortKind;
@@ -10,25 +12,35 @@ use super::registry::ServiceRegistry;
 use iox2_container::container::{Registry, ReleaseMode, ReleaseState};
 use iox2_ids::identifiers::{UniqueNodeId, UniquePortId};
 
-/// Asks about each port of the node whether it goes.
+/// Asks about each port of the node whether it goes, and says whether one is left.
 pub(super) fn recover_ports<T: PortKind, F: FnMut(UniquePortId) -> PortCleanupAction>(
     ports: &mut ServiceRegistry<T>,
     dead: &UniqueNodeId,
     f: &mut F,
-)
-    requires { F.IsAlwaysCallable f.old }
+) -> bool
+    requires { CanBeAsked F.pre F.step f.old
+        (ids_asked_about dead.now (container_as T.details ports.old)) }
     ensures recovered { RecoversPorts F.step dead.now
         (container_as T.details ports.old) f.old (container_as T.details ports.new) f.new }
-    ensures callable { F.IsAlwaysCallable f.new }
+    ensures left { result ≡
+        nat_lt 0 (entries_of node_of dead.now (registry_as T.details ports.new.registry)) }
 {
+    let mut left = false;
     let mut goes = |details: &T| -> bool
-        requires { F.IsAlwaysCallable f.now }
+        requires { F.pre f.now (port_of (T.details details.now)) }
         ensures asked { AskedToGo F.step f.entry.now
             (port_of (T.details details.now)) result f.exit.now }
-        ensures callable { F.IsAlwaysCallable f.exit.now }
+        ensures noted { left.exit ≡ (left.entry || not result) }
         ensures same { f.exit.ghost_name ≡ f.entry.ghost_name }
-    { f((*details).into_details().port_id()) == PortCleanupAction::RemovePort };
+    {
+        let goes = f((*details).into_details().port_id()) == PortCleanupAction::RemovePort;
+        if !goes {
+            left = true;
+        }
+        goes
+    };
     ports.recover(dead, &mut goes, ReleaseMode::Default);
+    left
 }
 
 /// Removes each entry of the node.

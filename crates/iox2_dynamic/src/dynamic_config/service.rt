@@ -1,12 +1,13 @@
 //! A service: its nodes and the ports of its pattern.
 ghost use Rattle.std.specs.Prelude.{◌≡◌, ◌<◌, ◌↔◌, IfOk, IsTrue};
-ghost use Rattle.std.specs.Fn.{CalledAt};
+ghost use Rattle.std.specs.Fn.{CalledAt, TakesAt};
 ghost use Rattle.iox2_config.specs.declared.hash.input.PatternKind.TheVariants as kind;
+ghost use Rattle.iox2_container.specs.Callbacks.{CanBeAsked, CanVisit};
 ghost use Rattle.iox2_container.specs.Steps.{Visit, listed, release_state};
 ghost use Rattle.iox2_dynamic.specs.declared.dynamic_config.port_details.PortDetails.TheVariants as of;
 ghost use Rattle.iox2_dynamic.specs.Answers.{state_of};
 ghost use Rattle.iox2_dynamic.specs.Details.{role_of};
-ghost use Rattle.iox2_dynamic.specs.Ports.{ports_as, CountsIn, ListsIn};
+ghost use Rattle.iox2_dynamic.specs.Ports.{ports_as, ports_asked_about, CountsIn, CanListIn, ListsIn};
 ghost use Rattle.iox2_dynamic.specs.Service.{IsService, HasRole, first_role, second_role};
 ghost use Rattle.iox2_dynamic.specs.Service.{entries_of_node, fresh_service};
 ghost use Rattle.iox2_dynamic.specs.Steps.{RegisterStep, DeregisterStep, AttachStep, ReleaseStep};
@@ -36,8 +37,8 @@ use std::marker::Model;
 /// no port. A refused call changes no entry, no lock and no ticket. No call on a service that was made takes memory.
 #[derive(Debug, Drop)]
 pub struct DynamicConfig {
-    pattern: MessagingPattern,
-    nodes: ServiceRegistry<UniqueNodeId>,
+    pub(super) pattern: MessagingPattern,
+    pub(super) nodes: ServiceRegistry<UniqueNodeId>,
 }
 
 impl Model for DynamicConfig {
@@ -128,14 +129,13 @@ impl DynamicConfig {
     fn is_last_of_ports(&self, id: &UniqueNodeId) -> bool
         ensures { result ≡ is_last_of_ports id.now self.now }
     {
-        self.nodes.entries_of(id) == 1 && self.pattern.has_ports_of(id)
+        self.pattern.has_ports_of(id) && self.nodes.entries_of(id) == 1
     }
 
     /// Calls the callback on the nodes by rising slot, one time for each handle, up to and with the first answer `Stop`.
     pub fn list_node_ids<F: FnMut(&UniqueNodeId) -> CallbackProgression>(&self, f: &mut F)
-        requires { F.IsAlwaysCallable f.old }
+        requires { CanVisit (TakesAt F.FnMut) (CalledAt F.FnMut) f.old (listed self.now.nodes.registry) }
         ensures visit { Visit (CalledAt F.FnMut) f.old (listed self.now.nodes.registry) f.new }
-        ensures callable { F.IsAlwaysCallable f.new }
         ensures kept { IsService self.now }
     {
         self.nodes.for_each(f);
@@ -153,7 +153,7 @@ impl DynamicConfig {
     fn is_registered(&self, id: &UniqueNodeId) -> bool
         ensures { IsTrue result ↔ (0 < entries_of_node id.now self.now.nodes.registry) }
     {
-        self.nodes.entries_of(id) > 0
+        self.nodes.has_entry_of(id)
     }
 
     /// Attaches a port of one of the pattern's roles, as `has_role` tells. Refused where the service is locked, else where
@@ -195,14 +195,12 @@ impl DynamicConfig {
         dead: &UniqueNodeId,
         f: &mut F,
     ) -> DeregisterNodeState
-        requires { F.IsAlwaysCallable f.old }
+        requires { CanBeAsked F.pre F.step f.old (ports_asked_about dead.now self.old.ports) }
         ensures step { DeadStep F.step self.old f.old dead.now result self.new f.new }
         ensures lock { state_of result ≡ release_state self.new.nodes.registry.locked }
         ensures kept { IsService self.new }
-        ensures callable { F.IsAlwaysCallable f.new }
     {
-        self.pattern.recover(dead, f);
-        if self.pattern.has_ports_of(dead) {
+        if self.pattern.recover(dead, f) {
             return DeregisterNodeState::HasOwners;
         }
         DeregisterNodeState::of(recover_nodes(&mut self.nodes, dead))
@@ -232,10 +230,10 @@ impl DynamicConfig {
         role: Role,
         f: &mut F,
     ) -> bool
-        requires { F.IsAlwaysCallable f.old }
+        requires { CanListIn (TakesAt F.FnMut) (CalledAt F.FnMut) (first_role self.now.pattern)
+            (second_role self.now.pattern) self.now.ports role f.old }
         ensures visit { ListsIn (CalledAt F.FnMut) (first_role self.now.pattern)
             (second_role self.now.pattern) self.now.ports role f.old result f.new }
-        ensures callable { F.IsAlwaysCallable f.new }
         ensures kept { IsService self.now }
     {
         self.pattern.list(role, f)

@@ -100,6 +100,7 @@ pub(super) fn id_before(bytes: &[u8]) -> Option<(UniqueNodeId, &[u8])>
 }
 
 /// The role of ports that is named at the front, and what follows it.
+#[inline(always)]
 pub(super) fn role_before(bytes: &[u8]) -> Option<(Role, &[u8])>
     ensures { Reads IsRoleFront role_front (option_map (λ found. (found.0, found.1.now)) result)
         bytes.now }

@@ -54,7 +54,9 @@ fn append_numbers(word: &[u8], first: u64, second: u64, out: &mut Vec<u8>) -> Re
     let at = write_word(word, &mut line, at);
     out.extend_from_slice(&line[at..])
 }
+
 /// Appends a space and an id.
+#[inline(always)]
 fn append_id(id: u128, out: &mut Vec<u8>) -> Result<(), AllocError>
     ensures ok { OnOk result (out.new.items ≡ out.old.items ++ id_word id) }
     ensures err { OnErr result (take (vec_len out.old) out.new.items ≡ out.old.items) }

@@ -33,6 +33,21 @@ impl From<AllocError> for ScriptError {
     }
 }
 
+/// How many bytes a line has on average, or more.
+const BYTES_OF_LINE: usize = 16;
+
+/// How many bytes of lines there are for a byte of replies, or more.
+const BYTES_FOR_REPLY: usize = 2;
+
+/// Takes at once the room that the lines and their replies are likely to need, or is refused. More is taken bit by bit.
+fn make_room(state: &mut ServiceState, lines: &[u8], out: &mut Vec<u8>) -> Result<(), AllocError>
+    ensures state { state.new ≡ state.old }
+    ensures out { out.new.items ≡ out.old.items }
+{
+    state.reserve(lines.len() / BYTES_OF_LINE)?;
+    out.reserve(lines.len() / BYTES_FOR_REPLY)
+}
+
 /// Runs the first line, and gives the lines after it. `None` where it is no command's line.
 #[inline(always)]
 fn run_line<'a>(
@@ -93,5 +108,6 @@ pub fn run_script(alloc: Global, script: &[u8], out: &mut Vec<u8>) -> Result<(),
         return Err(ScriptError::BadLine(1));
     };
     let mut state = ServiceState::new(alloc, &service.settings, service.max_nodes, service.number)?;
+    make_room(&mut state, lines, out)?;
     run_lines(alloc, &mut state, lines, out)
 }

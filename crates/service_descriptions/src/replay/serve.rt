@@ -13,7 +13,6 @@ use super::description::{compatible, layout, places, verify};
 use super::earlier::Earlier;
 use super::line_command::LineCommand;
 use super::line_reply::LineReply;
-use super::listing::{nodes_of, ports_of};
 use super::reply::Reply;
 use iox2_container::container::{ContainerHandle, Role};
 use iox2_dynamic::dynamic_config::{
@@ -80,7 +79,7 @@ fn nodes(
     ensures { IfOk result (λ reply. Acts service.now (handles_in number earlier.now)
         commands.Nodes (reply_of reply) service.now) }
 {
-    Ok(LineReply::Nodes(nodes_of(alloc, service)?))
+    Ok(LineReply::Nodes(service.nodes(alloc)?))
 }
 
 fn add(
@@ -130,7 +129,7 @@ fn list(
     ensures { IfOk result (λ reply. Acts service.now (handles_in number earlier.now)
         (commands.List role) (reply_of reply) service.now) }
 {
-    Ok(match ports_of(alloc, service, role)? {
+    Ok(match service.ports(alloc, role)? {
         Some(ports) => LineReply::Ports(ports),
         None => LineReply::WrongPattern,
     })

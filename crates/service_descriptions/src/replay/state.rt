@@ -44,7 +44,7 @@ impl Model for ServiceState {
 
 impl ServiceState {
     /// A service without nodes, ports and description, for at most `max_nodes` entries of nodes at a time, and for
-    /// 2^64 - 1 entries of each kind in all. The number is told in its handles. Takes all the memory of the service
+    /// 2^64 - 1 entries of each kind in all. Its handles carry the number. Takes all the memory of the service
     /// itself, or is refused.
     pub fn new(
         alloc: Global,
@@ -76,6 +76,13 @@ impl ServiceState {
         ensures { self.new ≡ record self.old { description = Some description } }
     {
         self.description = Some(description);
+    }
+
+    /// Takes the room for what is kept of so many more commands, or is refused.
+    pub(super) fn reserve(&mut self, commands: usize) -> Result<(), AllocError>
+        ensures { self.new ≡ self.old }
+    {
+        self.earlier.reserve(commands)
     }
 
     /// One command. All its memory is taken before anything changes.

@@ -1,4 +1,4 @@
-use Rattle.std.proofs.Common.{◌≡◌, ◌∙◌, List, [], ◌++◌, ap, rules, subst}
+use Rattle.std.proofs.Common.{◌≡◌, ◌∙◌, ◌+◌, ◌≤◌, List, [], ◌++◌, ap, rules, subst, arith, length}
 use Rattle.std.specs.Prelude.{IsPermutation}
 use Rattle.std.specs.List.Sorted.{IsStableByKey}
 use Rattle.std.specs.Ordering.{nat_cmp}
@@ -6,20 +6,21 @@ use Rattle.std.proofs.lemmas.List.Sorted.{IsNonDecreasingBy-from_sort_by_key, an
 use Rattle.iox2_dynamic.specs.Service.{first_role, second_role}
 use Rattle.service_callers.specs.declared.discovery.Member.{Member}
 use Rattle.service_callers.specs.Members.{members_of, node_of_member, nodes_in, ports_in}
+use Rattle.service_callers.proofs.Listing.{members_counted}
 use Rattle.service_callers.proofs.discovery.list_attached.Goals as goal
 
-pub returns-in-Ok-clause-listed : goal.returns-in-Ok-clause-listed
-returns-in-Ok-clause-listed c =
+pub returns-clause-listed : goal.returns-clause-listed
+returns-clause-listed c =
     let s = c.args.service.now in
-    let second = c.note_ports-2.ensures.second (c.port_roles-first.ensures.second ∙ ap second_role c.kind.ensures.kind) c.if-listing.false in
-    let first = c.note_ports.ensures.first (c.port_roles-first.ensures.first ∙ ap first_role c.kind.ensures.kind) second.0 in
-    let nodes = c.note_nodes.ensures first.0 in
-    let none : c.replace.result.items ≡ [] = ap (λ v. v.items) c.replace.ensures.value ∙ c.clear.ensures.items in
-    let all : c.note_ports-2.new.listing.items.items ≡ members_of s =
-    second.1
-    ∙ (ap (λ (l : List Member). l ++ ports_in s.ports.second) (first.1 ∙ ap (λ (l : List Member). l ++ ports_in s.ports.first) (nodes.1 ∙ ap (λ (l : List Member). l ++ nodes_in s) none))) in
+    let nodes = c.append_nodes.ensures in
+    let first = c.append_ports.ensures.first (c.port_roles-first.ensures.first ∙ ap first_role c.kind.ensures.kind) in
+    let second = c.append_ports-2.ensures.second (c.port_roles-first.ensures.second ∙ ap second_role c.kind.ensures.kind) in
+    let none : c.reserve.new.self.items ≡ [] = c.reserve.ensures.items ∙ c.clear.ensures.items in
+    let all : c.append_ports-2.new.roster.members.items ≡ members_of s =
+    second.0
+    ∙ (ap (λ (l : List Member). l ++ ports_in s.ports.second) (first.0 ∙ ap (λ (l : List Member). l ++ ports_in s.ports.first) (nodes.0 ∙ ap (λ (l : List Member). l ++ nodes_in s) none))) in
     record {
       each_once = subst (λ l. IsPermutation l c.sort_by_key.new.self.items) all c.sort_by_key.ensures.permutation;
-      by_node = IsNonDecreasingBy-from_sort_by_key node_of_member _ c.in-Ok.ensures.sorted (λ a r f e. search rules);
+      by_node = IsNonDecreasingBy-from_sort_by_key node_of_member _ c.in_ok-sort_by_key.ensures.sorted (λ a r f e. search rules);
       in_turn = subst (λ l. IsStableByKey node_of_member nat_cmp l c.sort_by_key.new.self.items) all (c.sort_by_key.ensures.stable node_of_member (answers_always _ _ _ (λ f a r h e. search rules)));
     }

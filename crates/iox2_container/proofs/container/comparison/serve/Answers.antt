@@ -1,4 +1,5 @@
 use Rattle.std.proofs.Common.{refl, sym, subst}
+use Rattle.iox2_container.specs.ContainerState.{container}
 use Rattle.iox2_container.specs.Calls.{CallStep}
 use Rattle.iox2_container.specs.declared.container.calls.RegistryReply.TheVariants.{Entries}
 use Rattle.iox2_container.proofs.container.comparison.serve.Goals as goal
@@ -6,6 +7,6 @@ use Rattle.iox2_container.proofs.container.comparison.serve.Goals as goal
 pub returns-in_ok-entries-in-List-clause-step : goal.returns-in_ok-entries-in-List-clause-step
 returns-in_ok-entries-in-List-clause-step g c =
     let entries = c.in_ok-entries-in-List.entries in
-    let registry = g.R.Registry.state c.args.registry.now in
+    let registry = container (g.R.Registry.state c.args.registry.now) (g.R.Registry.touches c.args.registry.now) in
     subst (λ call. CallStep g.T.Attached.node g.T.Attached.number registry c.args.earlier.now call (Entries entries) registry) (sym c.in-List.is)
-    (entries, c.in_ok-entries-in-List.ensures, refl, refl)
+    (entries, c.in_ok-entries-in-List.ensures.listed, refl, refl)

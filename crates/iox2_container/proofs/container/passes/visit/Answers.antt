@@ -1,27 +1,36 @@
-use Rattle.std.proofs.Common.{◌≡◌, ℕ, take, arith, add-one, sym, subst, map}
-use Rattle.std.specs.Fn.{CalledAt}
+use Rattle.std.proofs.Common.{◌≡◌, ℕ, take, arith, add-one, refl, sym, subst, map}
+use Rattle.std.specs.Fn.{CalledAt, TakesAt}
 use Rattle.iox2_container.specs.Cells.{shown}
 use Rattle.iox2_container.specs.Places.{entries_from}
 use Rattle.iox2_container.proofs.CellEntries.{all_before}
 use Rattle.iox2_container.proofs.AskedInTurn.{details_of, GoesOn, goes_on, stops, ends, not_stop}
+use Rattle.iox2_container.proofs.CellsToCome.{visit_comes_to, visit_goes_on}
 use Rattle.iox2_container.proofs.container.passes.visit.Goals as goal
 
-pub returns-in-Stop-clause-visit : goal.returns-in-Stop-clause-visit
-returns-in-Stop-clause-visit g c =
-    stops (CalledAt g.F.FnMut) c.args.f.now c.loop-slot.f c.show.new.f (map shown c.args.places.now.cells) c.loop-slot.slot c.peek_at.result c.show.result c.peek_at.ensures c.show.ensures.asked c.in-Stop.is c.loop-slot.invariant.asked
+pub loop-slot-init : goal.loop-slot-init
+loop-slot-init g c = record { callable = c.requires.callable.visits; asked = refl }
+
+pub show-requires : goal.show-requires
+show-requires g c =
+    visit_comes_to (TakesAt g.F.FnMut) (CalledAt g.F.FnMut) c.loop-slot.f (map shown c.args.places.now.cells) c.loop-slot.slot c.peek_at.result c.peek_at.ensures c.loop-slot.invariant.callable
+
+pub returns-in-Stop : goal.returns-in-Stop
+returns-in-Stop g c =
+    stops (CalledAt g.F.FnMut) c.args.f.now c.loop-slot.f c.show.new.f (map shown c.args.places.now.cells) c.loop-slot.slot c.peek_at.result c.show.result c.peek_at.ensures c.show.ensures c.in-Stop.is c.loop-slot.invariant.asked
 
 pub loop-slot-preserved : goal.loop-slot-preserved
 loop-slot-preserved g c =
     let cells = map shown c.args.places.now.cells in
+    let goes = not_stop c.show.result c.in_default.not-Stop in
     record {
-      callable = c.show.ensures.callable;
+      callable = visit_goes_on (TakesAt g.F.FnMut) (CalledAt g.F.FnMut) c.loop-slot.f c.show.new.f cells c.loop-slot.slot c.peek_at.result c.show.result c.peek_at.ensures c.show.ensures goes c.loop-slot.invariant.callable;
       asked =
           subst (λ (n : ℕ). GoesOn (CalledAt g.F.FnMut) c.args.f.now (details_of (entries_from 0 (take n cells))) c.show.new.f) (sym (add-one c.loop-slot.slot))
-          (goes_on (CalledAt g.F.FnMut) c.args.f.now c.loop-slot.f c.show.new.f cells c.loop-slot.slot c.peek_at.result c.show.result c.peek_at.ensures c.show.ensures.asked (not_stop c.show.result c.in_default.not-Stop) c.loop-slot.invariant.asked);
+          (goes_on (CalledAt g.F.FnMut) c.args.f.now c.loop-slot.f c.show.new.f cells c.loop-slot.slot c.peek_at.result c.show.result c.peek_at.ensures c.show.ensures goes c.loop-slot.invariant.asked);
     }
 
-pub returns-clause-visit : goal.returns-clause-visit
-returns-clause-visit g c =
+pub returns : goal.returns
+returns g c =
     let cells = map shown c.args.places.now.cells in
     let all : entries_from 0 (take c.loop-slot.slot cells) ≡ entries_from 0 cells = all_before 0 c.loop-slot.slot cells (λ slot later. c.end-slot-end.ensures.free slot (omega arith)) in
     ends (CalledAt g.F.FnMut) c.args.f.now c.loop-slot.f (details_of (entries_from 0 cells))

@@ -1,13 +1,14 @@
 use Rattle.std.proofs.Common.{take, map}
-use Rattle.std.specs.Fn.{CalledAt}
-use denote.Param.Always.{always_mut}
+use Rattle.std.specs.Fn.{CalledAt, TakesAt}
+use Rattle.iox2_container.specs.Callbacks.{MayVisit}
 use Rattle.iox2_container.specs.Cells.{shown}
 use Rattle.iox2_container.specs.Places.{entries_from}
 use Rattle.iox2_container.proofs.AskedInTurn.{details_of, GoesOn}
+use Rattle.iox2_container.proofs.CellsToCome.{details_from}
 use Rattle.iox2_container.proofs.container.passes.visit.Given as goal
 
 abbrev pub invariant-loop-slot : goal.invariant-loop-slot
 invariant-loop-slot g l = record {
-  callable : always_mut g.F.FnMut l.f;
+  callable : MayVisit (TakesAt g.F.FnMut) (CalledAt g.F.FnMut) l.f (details_from l.slot (map shown l.places.cells));
   asked : GoesOn (CalledAt g.F.FnMut) l.fn.f (details_of (entries_from 0 (take l.slot (map shown l.places.cells)))) l.f;
 }

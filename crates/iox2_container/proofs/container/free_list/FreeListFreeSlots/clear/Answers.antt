@@ -1,6 +1,6 @@
 use Rattle.iox2_container.specs.declared.container.cell.Cell.TheVariants.{Free}
 use Rattle.iox2_container.proofs.ShownCells.{shown_set}
-use Rattle.iox2_container.proofs.FreeSlots.{threaded_clear}
+use Rattle.iox2_container.proofs.FreeSlots.{threaded_clear, clears_first}
 use Rattle.iox2_container.proofs.container.free_list.FreeListFreeSlots.clear.Goals as goal
 
 pub returns-clause-fits : goal.returns-clause-fits
@@ -10,3 +10,7 @@ returns-clause-fits g c =
 pub returns-clause-cells : goal.returns-clause-cells
 returns-clause-cells g c =
     shown_set c.args.places.now.cells c.write.new.self.cells c.args.slot (Free c.args.self.now.head) c.write.ensures.cells
+
+pub returns-clause-freed : goal.returns-clause-freed
+returns-clause-freed g c =
+    λ freed th. clears_first c.args.places.now.cells c.write.new.self.cells c.args.self.now c.args.slot c.requires.taken c.write.ensures.cells freed th

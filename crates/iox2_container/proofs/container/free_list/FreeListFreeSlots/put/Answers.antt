@@ -4,7 +4,7 @@ use Rattle.iox2_container.specs.FreeList.{Linked}
 use Rattle.iox2_container.specs.declared.container.cell.Cell.TheVariants.{Taken}
 use Rattle.iox2_container.proofs.FreeList.{shown_free}
 use Rattle.iox2_container.proofs.ShownCells.{shown_set}
-use Rattle.iox2_container.proofs.FreeSlots.{took, threaded_put}
+use Rattle.iox2_container.proofs.FreeSlots.{took, threaded_put, puts_first}
 use Rattle.iox2_container.proofs.container.free_list.FreeListFreeSlots.put.Goals as goal
 
 pub returns-clause-fits : goal.returns-clause-fits
@@ -21,4 +21,9 @@ returns-clause-free g c =
 pub returns-clause-cells : goal.returns-clause-cells
 returns-clause-cells g c =
     shown_set c.args.places.now.cells c.write.new.self.cells c.take_first-slot.result (Taken c.args.ticket c.args.details)
+    (c.write.ensures.cells ∙ ap (λ (cs : List (Linked g.row.T.Denot)). slice_set cs c.take_first-slot.result (Taken c.args.ticket c.args.details)) c.take_first-slot.ensures.cells)
+
+pub returns-clause-last_freed : goal.returns-clause-last_freed
+returns-clause-last_freed g c =
+    puts_first c.args.places.now.cells c.write.new.self.cells c.args.self.now c.take_first-slot.result c.take_first-slot.new.self c.args.ticket c.args.details c.take_first-slot.ensures.taken
     (c.write.ensures.cells ∙ ap (λ (cs : List (Linked g.row.T.Denot)). slice_set cs c.take_first-slot.result (Taken c.args.ticket c.args.details)) c.take_first-slot.ensures.cells)

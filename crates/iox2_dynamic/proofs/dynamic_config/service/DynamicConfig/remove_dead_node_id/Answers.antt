@@ -1,15 +1,20 @@
 use Rattle.std.proofs.Common.{rules, ◌≡◌, true, false, sym, ap, subst}
-use Rattle.std.specs.Fn.{Called}
+use Rattle.std.specs.Fn.{Called, Takes}
+use Rattle.iox2_container.specs.Callbacks.{CanBeAsked}
 use Rattle.iox2_config.specs.declared.hash.input.PatternKind.{PatternKind}
 use Rattle.iox2_container.specs.Steps.{release_state}
 use Rattle.iox2_dynamic.specs.declared.dynamic_config.answers.DeregisterNodeState.TheVariants.{HasOwners}
 use Rattle.iox2_dynamic.specs.Fields.{service_in}
-use Rattle.iox2_dynamic.specs.Ports.{has_ports_of}
+use Rattle.iox2_dynamic.specs.Ports.{has_ports_of, ports_asked_about}
 use Rattle.iox2_dynamic.specs.Service.{Service}
 use Rattle.iox2_dynamic.specs.Steps.{DeadStep}
 use Rattle.iox2_dynamic.proofs.Keeping.{ports_open}
 use Rattle.iox2_dynamic.proofs.Dying.{skipped_kept, dead_kept, nodes_stay, nodes_after}
 use Rattle.iox2_dynamic.proofs.dynamic_config.service.DynamicConfig.remove_dead_node_id.Goals as goal
+
+pub recover-requires : goal.recover-requires
+recover-requires g c =
+    subst (λ (s : Service). CanBeAsked (λ f x. Takes g.F.FnMut f (x, tt)) (λ f x r h. Called g.F.FnMut f (x, tt) r h) c.args.f.now (ports_asked_about c.args.dead.now s.ports)) (sym c.self.view_is) c.requires
 
 pub invariant_of-self : goal.invariant_of-self
 invariant_of-self g c =
@@ -17,17 +22,17 @@ invariant_of-self g c =
     let new : Service = service_in (record c.self.inside { pattern = c.recover.new.self }) in
     skipped_kept calls (service_in c.self.inside) c.args.f.now c.args.dead.now new.pattern new.ports c.recover.new.f c.recover.ensures.kind c.recover.ensures.recovered c.self.invariant
 
-pub returns-then-has_ports_of-clause-kept : goal.returns-then-has_ports_of-clause-kept
-returns-then-has_ports_of-clause-kept g c = invariant_of-self g c
+pub returns-then-recover-clause-kept : goal.returns-then-recover-clause-kept
+returns-then-recover-clause-kept g c = invariant_of-self g c
 
-pub returns-then-has_ports_of-clause-lock : goal.returns-then-has_ports_of-clause-lock
-returns-then-has_ports_of-clause-lock g c =
+pub returns-then-recover-clause-lock : goal.returns-then-recover-clause-lock
+returns-then-recover-clause-lock g c =
     let new : Service = service_in (record c.self.inside { pattern = c.recover.new.self }) in
     let some : has_ports_of c.args.dead.now new.ports ≡ true = search rules in
     sym (ap release_state (ports_open new c.args.dead.now (invariant_of-self g c) some))
 
-pub returns-then-has_ports_of-clause-step : goal.returns-then-has_ports_of-clause-step
-returns-then-has_ports_of-clause-step g c =
+pub returns-then-recover-clause-step : goal.returns-then-recover-clause-step
+returns-then-recover-clause-step g c =
     let calls : g.row.F.Denot → _ → _ → g.row.F.Denot → Type 0 = λ f x r h. Called g.F.FnMut f (x, tt) r h in
     let old : Service = service_in c.self.inside in
     let new : Service = service_in (record c.self.inside { pattern = c.recover.new.self }) in

@@ -1,0 +1,28 @@
+//! Lists of who is attached to a service.
+use super::Called;
+use iox2_dynamic::dynamic_config::{DynamicConfig, MessagingPatternSettings, event};
+use iox2_ids::identifiers::UniqueNodeId;
+use service_callers::discovery::list_attached;
+use std::alloc::{AllocError, Global};
+
+/// A list of so many members.
+fn listed(alloc: Global, members: usize) -> Result<(), AllocError> {
+    let ports = event::DynamicConfigSettings {
+        number_of_listeners: 1,
+        number_of_notifiers: 1,
+    };
+    let settings = MessagingPatternSettings::Event(ports);
+    let mut service = DynamicConfig::new(alloc, &settings, members, 7)?;
+    if let Some(node) = UniqueNodeId::new(1, 0, 0, 1) {
+        for _ in 0..members {
+            // There is a place for each.
+            let _ = service.register_node_id(node);
+        }
+    }
+    let mut list = Vec::new(alloc);
+    list_attached(alloc, &service, &mut list)
+}
+
+pub(super) fn calls(alloc: Global, size: usize) -> [Called; 1] {
+    [("list_attached", listed(alloc, size).is_ok())]
+}

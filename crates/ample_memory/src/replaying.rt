@@ -1,0 +1,107 @@
+//! Commands in one call and over many, their listings, and the lines of these.
+use super::Called;
+use service_descriptions::container::Role;
+use service_descriptions::dynamic_config::{
+    ListenerDetails, MessagingPatternSettings, PortDetails, event,
+};
+use service_descriptions::identifiers::{UniqueListenerId, UniqueNodeId};
+use service_descriptions::replay::{Command, ServiceState, replay, replay_line, write_reply};
+use std::alloc::{AllocError, Global};
+
+/// A service with so many places for nodes and for listeners.
+fn state(alloc: Global, places: usize) -> Result<ServiceState, AllocError> {
+    let ports = event::DynamicConfigSettings {
+        number_of_listeners: places,
+        number_of_notifiers: 1,
+    };
+    ServiceState::new(alloc, &MessagingPatternSettings::Event(ports), places, 7)
+}
+
+/// So many commands in one call.
+fn at_once(alloc: Global, commands: usize) -> Result<(), AllocError> {
+    let mut all = Vec::new(alloc);
+    for _ in 0..commands {
+        all.push(Command::Count(Role::Listener))?;
+    }
+    let mut replies = Vec::new(alloc);
+    replay(alloc, &mut state(alloc, 1)?, &all, &mut replies)
+}
+
+/// So many calls of the same commands.
+fn in_turn(
+    alloc: Global,
+    state: &mut ServiceState,
+    commands: &[Command],
+    calls: usize,
+) -> Result<(), AllocError> {
+    let mut replies = Vec::new(alloc);
+    for _ in 0..calls {
+        replies.clear();
+        replay(alloc, state, commands, &mut replies)?;
+    }
+    Ok(())
+}
+
+/// So many calls of one command.
+fn over_many(alloc: Global, calls: usize) -> Result<(), AllocError> {
+    in_turn(
+        alloc,
+        &mut state(alloc, 1)?,
+        &[Command::Count(Role::Listener)],
+        calls,
+    )
+}
+
+/// So many lines, of which each is a call.
+fn over_many_lines(alloc: Global, calls: usize) -> Result<(), AllocError> {
+    let mut state = state(alloc, 1)?;
+    let mut out = Vec::new(alloc);
+    for _ in 0..calls {
+        let _ = replay_line(alloc, &mut state, b"count listener", &mut out)?;
+    }
+    Ok(())
+}
+
+/// A node and a port of it come.
+fn coming() -> Option<[Command; 2]> {
+    let node_id = UniqueNodeId::new(1, 0, 0, 1)?;
+    let details = ListenerDetails {
+        listener_id: UniqueListenerId::new(1, 0, 0, 9),
+        node_id,
+    };
+    Some([
+        Command::Register(node_id),
+        Command::Add(PortDetails::Listener(details)),
+    ])
+}
+
+/// Listings of so many nodes and ports, and their lines.
+fn listed(alloc: Global, entries: usize) -> Result<(), AllocError> {
+    let mut state = state(alloc, entries)?;
+    if let Some(commands) = coming() {
+        in_turn(alloc, &mut state, &commands, entries)?;
+    }
+    let listings = [Command::Nodes, Command::List(Role::Listener)];
+    let mut replies = Vec::new(alloc);
+    replay(alloc, &mut state, &listings, &mut replies)?;
+    let mut out = Vec::new(alloc);
+    for reply in &replies {
+        write_reply(reply, &mut out)?;
+    }
+    Ok(())
+}
+
+pub(super) fn calls(alloc: Global, size: usize) -> [Called; 4] {
+    [
+        ("replay by commands", at_once(alloc, size).is_ok()),
+        ("replay by earlier commands", over_many(alloc, size).is_ok()),
+        (
+            "replay_line by earlier commands",
+            over_many_lines(alloc, size).is_ok(),
+        ),
+        (
+            "replay and write_reply by entries",
+            listed(alloc, size).is_ok(),
+        ),
+    ]
+}

@@ -1,0 +1,126 @@
+//! The makers of services and of the ports of each pattern.
+use super::Called;
+use iox2_dynamic::dynamic_config::{
+    DynamicConfig, MessagingPatternSettings, blackboard, event, publish_subscribe, request_response,
+};
+use service_descriptions::replay::ServiceState;
+use std::alloc::{AllocError, Global};
+
+/// How many first ports, second ports and nodes a service has room for.
+type Places = (usize, usize, usize);
+
+/// The settings of each pattern, with so many places for the ports that are recovered first, and
+/// for the others.
+fn settings(first: usize, second: usize) -> [MessagingPatternSettings; 4] {
+    [
+        MessagingPatternSettings::PublishSubscribe(publish_subscribe::DynamicConfigSettings {
+            number_of_publishers: first,
+            number_of_subscribers: second,
+        }),
+        MessagingPatternSettings::Event(event::DynamicConfigSettings {
+            number_of_listeners: first,
+            number_of_notifiers: second,
+        }),
+        MessagingPatternSettings::RequestResponse(request_response::DynamicConfigSettings {
+            number_of_servers: first,
+            number_of_clients: second,
+        }),
+        MessagingPatternSettings::Blackboard(blackboard::DynamicConfigSettings {
+            number_of_readers: first,
+            number_of_writers: second,
+        }),
+    ]
+}
+
+/// The ports alone, by the maker of the pattern.
+fn make_ports(alloc: Global, settings: &MessagingPatternSettings) -> Result<(), AllocError> {
+    match settings {
+        MessagingPatternSettings::PublishSubscribe(places) => {
+            let _ = publish_subscribe::DynamicConfig::new(alloc, places, 7)?;
+        }
+        MessagingPatternSettings::Event(places) => {
+            let _ = event::DynamicConfig::new(alloc, places, 7)?;
+        }
+        MessagingPatternSettings::RequestResponse(places) => {
+            let _ = request_response::DynamicConfig::new(alloc, places, 7)?;
+        }
+        MessagingPatternSettings::Blackboard(places) => {
+            let _ = blackboard::DynamicConfig::new(alloc, places, 7)?;
+        }
+    }
+    Ok(())
+}
+
+/// The ports of each pattern.
+fn ports(alloc: Global, first: usize, second: usize) -> Result<(), AllocError> {
+    for settings in &settings(first, second) {
+        make_ports(alloc, settings)?;
+    }
+    Ok(())
+}
+
+/// A service of each pattern.
+fn services(alloc: Global, (nodes, first, second): Places) -> Result<(), AllocError> {
+    for settings in &settings(first, second) {
+        let _ = DynamicConfig::new(alloc, settings, nodes, 7)?;
+    }
+    Ok(())
+}
+
+/// A service of each pattern with so many tickets.
+fn by_tickets(alloc: Global, tickets: u64) -> Result<(), AllocError> {
+    for settings in &settings(1, 1) {
+        let _ = DynamicConfig::with_tickets(alloc, settings, 1, 7, tickets)?;
+    }
+    Ok(())
+}
+
+/// The state of a service of each pattern.
+fn states(alloc: Global, (nodes, first, second): Places) -> Result<(), AllocError> {
+    for settings in &settings(first, second) {
+        let _ = ServiceState::new(alloc, settings, nodes, 7)?;
+    }
+    Ok(())
+}
+
+pub(super) fn calls(alloc: Global, size: usize) -> [Called; 9] {
+    let tickets = size as u64;
+    [
+        (
+            "the ports of a pattern by first",
+            ports(alloc, size, 1).is_ok(),
+        ),
+        (
+            "the ports of a pattern by second",
+            ports(alloc, 1, size).is_ok(),
+        ),
+        (
+            "DynamicConfig::new by nodes",
+            services(alloc, (size, 1, 1)).is_ok(),
+        ),
+        (
+            "DynamicConfig::new by first",
+            services(alloc, (1, size, 1)).is_ok(),
+        ),
+        (
+            "DynamicConfig::new by second",
+            services(alloc, (1, 1, size)).is_ok(),
+        ),
+        (
+            "DynamicConfig::with_tickets",
+            by_tickets(alloc, tickets).is_ok(),
+        ),
+        (
+            "ServiceState::new by nodes",
+            states(alloc, (size, 1, 1)).is_ok(),
+        ),
+        (
+            "ServiceState::new by first",
+            states(alloc, (1, size, 1)).is_ok(),
+        ),
+        (
+            "ServiceState::new by second",
+            states(alloc, (1, 1, size)).is_ok(),
+        ),
+    ]
+}

@@ -1,0 +1,7 @@
+use Rattle.std.proofs.Common.{map}
+use Rattle.iox2_container.specs.Cells.{shown}
+use Rattle.iox2_container.specs.Passes.{AreOthers}
+use Rattle.iox2_container.proofs.container.passes.next_by_one.Given as goal
+
+abbrev pub invariant-loop-slot : goal.invariant-loop-slot
+invariant-loop-slot g l = AreOthers g.T.Attached.node l.node (map shown l.places.cells) l.start l.slot

@@ -1,0 +1,14 @@
+use Rattle.std.proofs.Common.{◌-◌, ◌≤◌, map}
+use Rattle.iox2_container.specs.Cells.{shown}
+use Rattle.iox2_container.specs.Passes.{AreOthers}
+use Rattle.iox2_container.proofs.container.passes.next_of.Given as goal
+
+abbrev pub invariant-loop-slot : goal.invariant-loop-slot
+invariant-loop-slot g l = record {
+  order : l.start ≤ l.slot;
+  within : l.slot ≤ l.end;
+  others : AreOthers g.T.Attached.node l.node (map shown l.places.cells) l.start l.slot;
+}
+
+abbrev pub decreases-loop-slot : goal.decreases-loop-slot
+decreases-loop-slot g l = l.end - l.slot

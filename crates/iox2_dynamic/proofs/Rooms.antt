@@ -1,0 +1,75 @@
+-- What is registered or attached is what there is room for.
+use Rattle.std.proofs.Common.{◌≡◌, ◌≢◌, ℕ, ◌<◌, true, false, Result, Ok, Err, refl, sym, ◌∙◌, arith, inl, inr}
+use Rattle.std.specs.Prelude.{IsOk}
+use Rattle.iox2_config.specs.declared.hash.input.PatternKind.{PatternKind}
+use Rattle.iox2_config.specs.declared.hash.input.PatternKind.TheVariants as kind
+use Rattle.iox2_container.specs.declared.container.refusal.ContainerAddFailure.{ContainerAddFailure}
+use Rattle.iox2_container.specs.declared.container.refusal.ContainerAddFailure.TheVariants.{IsLocked, OutOfSpace}
+use Rattle.iox2_container.specs.Handle.{Handle}
+use Rattle.iox2_container.specs.State.{RegistryState}
+use Rattle.iox2_container.specs.Steps.{AddStep, TakesEntry}
+use Rattle.iox2_dynamic.specs.declared.dynamic_config.answers.AttachError.{AttachError}
+use Rattle.iox2_dynamic.specs.declared.dynamic_config.answers.AttachError.TheVariants as attach
+use Rattle.iox2_dynamic.specs.declared.dynamic_config.answers.RegisterNodeResult.{RegisterNodeResult}
+use Rattle.iox2_dynamic.specs.declared.dynamic_config.answers.RegisterNodeResult.TheVariants.{MarkedForDestruction, ExceedsMaxNumberOfNodes}
+use Rattle.iox2_dynamic.specs.declared.dynamic_config.port_details.PortDetails.{PortDetails}
+use Rattle.iox2_dynamic.specs.Details.{node_of, role_of}
+use Rattle.iox2_dynamic.specs.Ports.{AddsTo, Ports, TakesIn}
+use Rattle.iox2_dynamic.specs.Service.{Service, TakesPort, entries_of_node, first_role, second_role}
+use Rattle.iox2_dynamic.specs.Steps.{AttachStep, RegisterStep}
+
+pub roles_differ : (pattern : PatternKind) → first_role pattern ≢ second_role pattern
+roles_differ kind.PublishSubscribe e = (cc)
+roles_differ kind.Event e = (cc)
+roles_differ kind.RequestResponse e = (cc)
+roles_differ kind.Blackboard e = (cc)
+
+added_where : {T : Type 0} (old : RegistryState T) (details : T) (answer : Result Handle ContainerAddFailure) (new : RegistryState T) → AddStep old details answer new
+    → (IsOk answer → TakesEntry old) × (TakesEntry old → IsOk answer)
+added_where old details (Ok handle) new s = (λ _. (s.0, s.1), λ _. refl)
+added_where old details (Err IsLocked) new s = (
+  λ e. (let z : false ≡ true = e in cc),
+  λ t. (let z : false ≡ true = sym t.0 ∙ s.0 in cc),
+)
+added_where old details (Err OutOfSpace) new s = (
+  λ e. (let z : false ≡ true = e in cc),
+  λ t. elim s.1 [
+    | inl full ↦ absurd (omega (arith, full, t.1.0))
+    | inr spent ↦ absurd (omega (arith, spent, t.1.1))
+  ],
+)
+
+pub registered_where : (old : Service) (id : ℕ) (answer : Result Handle RegisterNodeResult) (new : Service) → RegisterStep old id answer new
+    → (IsOk answer → TakesEntry old.nodes.registry) × (TakesEntry old.nodes.registry → IsOk answer)
+registered_where old id (Ok handle) new s = added_where old.nodes.registry id (Ok handle) new.nodes.registry s.0.0
+registered_where old id (Err MarkedForDestruction) new s = added_where old.nodes.registry id (Err IsLocked) new.nodes.registry s.0.0
+registered_where old id (Err ExceedsMaxNumberOfNodes) new s = added_where old.nodes.registry id (Err OutOfSpace) new.nodes.registry s.0.0
+
+-- a port that was added, and one that was not
+taken : (pattern : PatternKind) (old new : Ports) (details : PortDetails) (handle : Handle) → AddsTo (first_role pattern) (second_role pattern) old details (Ok handle) new
+    → TakesIn (first_role pattern) (second_role pattern) old (role_of details)
+taken pattern old new details handle (inl a) = inl (a.0, (a.1.0.0, a.1.0.1))
+taken pattern old new details handle (inr b) = inr (b.0, (b.1.0.0, b.1.0.1))
+
+not_taken : (pattern : PatternKind) (old new : Ports) (details : PortDetails) → AddsTo (first_role pattern) (second_role pattern) old details (Err OutOfSpace) new
+    → TakesIn (first_role pattern) (second_role pattern) old (role_of details) → ⊥
+not_taken pattern old new details (inl a) (inl t) = (let z : false ≡ true = (added_where old.first.registry details (Err OutOfSpace) new.first.registry a.1.0).1 t.1 in cc)
+not_taken pattern old new details (inl a) (inr t) = roles_differ pattern (sym a.0 ∙ t.0)
+not_taken pattern old new details (inr b) (inl t) = roles_differ pattern (sym t.0 ∙ b.0)
+not_taken pattern old new details (inr b) (inr t) = (let z : false ≡ true = (added_where old.second.registry details (Err OutOfSpace) new.second.registry b.1.0).1 t.1 in cc)
+
+pub attached_where : (old : Service) (details : PortDetails) (answer : Result Handle AttachError) (new : Service) → 0 < entries_of_node (node_of details) old.nodes.registry → AttachStep old details answer new
+    → (IsOk answer → TakesPort old (role_of details)) × (TakesPort old (role_of details) → IsOk answer)
+attached_where old details (Ok handle) new there s = (λ _. (s.0.0, taken old.pattern old.ports new.ports details handle s.1.0), λ _. refl)
+attached_where old details (Err attach.ServiceIsLocked) new there s = (
+  λ e. (let z : false ≡ true = e in cc),
+  λ t. (let z : false ≡ true = sym t.0 ∙ s.0 in cc),
+)
+attached_where old details (Err attach.NodeNotRegistered) new there s = (
+  λ e. (let z : false ≡ true = e in cc),
+  λ t. absurd (omega (arith, there, s.1)),
+)
+attached_where old details (Err attach.OutOfSpace) new there s = (
+  λ e. (let z : false ≡ true = e in cc),
+  λ t. absurd (not_taken old.pattern old.ports new.ports details s.1.0 t.1),
+)

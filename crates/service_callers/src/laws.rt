@@ -1,0 +1,54 @@
+//! How what the callers tell is compared and copied.
+ghost use Rattle.std.specs.Prelude.{◌≡◌, ◌↔◌, IsTrue, IsOkAnd};
+
+use crate::builder::OpenError;
+use crate::discovery::Member;
+use crate::factory::{DataSegment, Publisher, PublisherError};
+use std::alloc::AllocError;
+
+/// Members are equal exactly where they are the same node or the same port, and a clone of one is
+/// it and takes no memory.
+pub fn members_go_by_fields(one: &Member, other: &Member) -> (bool, Result<Member, AllocError>)
+    ensures equal { IsTrue result.0 ↔ (one.now ≡ other.now) }
+    ensures cloned { IsOkAnd result.1 (λ copy. copy ≡ one.now) }
+{
+    (one == other, one.clone())
+}
+
+/// Segments are equal exactly where all their fields are, and a clone of one is equal and takes no
+/// memory.
+pub fn segments_go_by_fields(
+    one: &DataSegment,
+    other: &DataSegment,
+) -> (bool, Result<DataSegment, AllocError>)
+    ensures equal { IsTrue result.0 ↔ (one.now ≡ other.now) }
+    ensures cloned { IsOkAnd result.1 (λ copy. copy ≡ one.now) }
+{
+    (one == other, one.clone())
+}
+
+/// A clone of a publisher is equal and takes no memory.
+pub fn publishers_are_cloned(publisher: &Publisher) -> Result<Publisher, AllocError>
+    ensures { IsOkAnd result (λ copy. copy ≡ publisher.now) }
+{
+    publisher.clone()
+}
+
+/// Why a publisher was not attached is equal exactly where it is the same, and a clone of it is it
+/// and takes no memory.
+pub fn publisher_errors_go_by_variant(
+    one: &PublisherError,
+    other: &PublisherError,
+) -> (bool, Result<PublisherError, AllocError>)
+    ensures equal { IsTrue result.0 ↔ (one.now ≡ other.now) }
+    ensures cloned { IsOkAnd result.1 (λ copy. copy ≡ one.now) }
+{
+    (one == other, one.clone())
+}
+
+/// Why a service was not opened is equal exactly where it is the same.
+pub fn open_errors_go_by_fields(one: &OpenError, other: &OpenError) -> bool
+    ensures { IsTrue result ↔ (one.now ≡ other.now) }
+{
+    one == other
+}
