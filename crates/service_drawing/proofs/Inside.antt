@@ -19,3 +19,9 @@ pub element_inside : (start element elements i end : ℕ) → end ≡ start + el
 element_inside start element elements i end is there =
     let more : i + 1 ≤ elements = omega arith in
     omega (arith, is, mul-le-mul_right element more)
+
+-- elements begin where the payload ends, or before
+pub elements_inside : (start element elements i end : ℕ) → end ≡ start + element * elements → i ≤ elements
+    → start + i * element ≤ end
+elements_inside start element elements i end is there =
+    omega (arith, is, mul-le-mul_right element there)

@@ -1,2 +1,5 @@
+mod Answered
+mod FirstLine
 mod Inside
+mod Naming
 mod Writes

@@ -1,4 +1,6 @@
 -- Promises: how a description is spelled, and what the streams of the program get.
+pub mod Arguments
+pub mod Causes
 pub mod Lines
 pub mod Settings
 pub mod Streams
@@ -6,3 +8,4 @@ pub mod Streams
 pub mod Extent
 pub mod Layout
 pub mod Segments
+pub mod Sentences

@@ -1,5 +1,6 @@
 -- How a description is spelled.
-use Rattle.std.specs.Prelude.{◌≡◌, ℕ, List, [], ◌∷◌, ◌++◌, codes, Option, Some, None}
+use Rattle.std.specs.Prelude.{◌≡◌, ℕ, List, [], ◌∷◌, ◌++◌, codes, Option, Some, None, IsTrue, nat_eq}
+use Rattle.std.specs.List.{starts_with}
 use Rattle.std.specs.Fmt.{decimal}
 use Rattle.iox2_config.specs.Hashing.{hash_input, sha1_text}
 use Rattle.iox2_config.specs.TypeDetailParts.{TypeDetailParts}
@@ -11,6 +12,8 @@ use Rattle.iox2_config.specs.declared.types.type_detail.TypeVariant.TheVariants.
 use Rattle.service_drawing.specs.declared.description.Exchange.{Exchange}
 use Rattle.service_drawing.specs.declared.description.Exchange.TheVariants as exchange
 use Rattle.service_drawing.specs.declared.description.Message.{Message}
+use Rattle.service_drawing.specs.declared.reading.cause.Reason.{Reason}
+use Rattle.service_drawing.specs.declared.reading.cause.Reason.TheVariants as reason
 use Rattle.service_drawing.specs.declared.reading.service.Service.{Service}
 
 -- the size, the alignment and the name of a type
@@ -93,3 +96,19 @@ service_front s rest = pattern_word s.kind ++ s.name ++ 10 ∷ rest
 -- the hash text is that of the pattern and the name
 abbrev pub IsHashed : Service → Type 0
 IsHashed s = s.hash ≡ sha1_text (hash_input s.kind s.name)
+
+-- no pattern begins the line
+abbrev pub HasNoPattern : List ℕ → Type 0
+HasNoPattern line = (kind : PatternKind) (name : List ℕ) → ¬ (line ≡ pattern_word kind ++ name)
+
+-- the line names a service as those of the system itself are named
+abbrev pub IsInternal : List ℕ → Type 0
+IsInternal line =
+    (kind : PatternKind) × (name : List ℕ) × (line ≡ pattern_word kind ++ name)
+    × IsTrue (starts_with nat_eq name (codes "iox2://"))
+
+-- for this reason the line spells no service: an internal name is told wherever there is one
+abbrev pub IsNoService : List ℕ → Reason → Type 0
+IsNoService line reason.InternalName = IsInternal line
+IsNoService line reason.OtherForm = ¬ IsInternal line
+IsNoService line other = ⊥

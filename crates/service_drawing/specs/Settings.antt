@@ -1,5 +1,6 @@
 -- The settings of services, by their numbers.
-use Rattle.std.specs.Prelude.{◌≡◌, ℕ, List, [], ◌∷◌, ◌++◌, codes, Some, None, true, false, slice_get, slice_set}
+use Rattle.std.specs.Prelude.{◌≡◌, ◌==◌, ◌⊎◌, ℕ, List, [], ◌∷◌, ◌++◌, Bool, codes, cond, nat_eq, ◌<◌, length, Some, None, true, false, slice_get, slice_index, slice_set}
+use Rattle.std.specs.List.{before_first}
 use Rattle.std.specs.Fmt.{decimal}
 use Rattle.std.specs.Duration.{as_nanos}
 use Rattle.iox2_config.specs.declared.config.choices.BackpressureStrategy.TheVariants.{RetryUntilDelivered, DiscardData}
@@ -8,6 +9,8 @@ use Rattle.iox2_config.specs.declared.config.blackboard.Blackboard.{Blackboard}
 use Rattle.iox2_config.specs.declared.config.event.Event.{Event}
 use Rattle.iox2_config.specs.declared.config.publish_subscribe.PublishSubscribe.{PublishSubscribe}
 use Rattle.iox2_config.specs.declared.config.request_response.RequestResonse.{RequestResonse}
+use Rattle.service_drawing.specs.declared.reading.cause.Reason.{Reason}
+use Rattle.service_drawing.specs.declared.reading.cause.Reason.TheVariants.{InternalName, UnknownSetting, SetTwice, OtherForm}
 use Rattle.service_drawing.specs.declared.settings.value.Value.{Value}
 use Rattle.service_drawing.specs.declared.settings.value.Value.TheVariants.{Number, Switch, Perhaps, Deadline, Backpressure, Allocation}
 
@@ -88,11 +91,57 @@ blackboard_names =
 abbrev pub blackboard_values : Blackboard → List Value
 blackboard_values s = Number s.max_readers ∷ Number s.max_nodes ∷ []
 
--- the text names one of the settings and a value, and that setting alone has got that value
-pub record Sets (names : List (List ℕ)) (old : List Value) (text : List ℕ) (new : List Value) : Type 0 where
-  pub index : ℕ
+-- names one after the other, with a comma and a space between two of them
+abbrev pub listed : List (List ℕ) → List ℕ
+listed [] = []
+listed (name ∷ []) = name
+listed (name ∷ other ∷ names) = name ++ codes ", " ++ listed (other ∷ names)
+
+-- the byte, or a dash in the place of an underscore
+abbrev pub dash_for : ℕ → ℕ
+dash_for b = cond (nat_eq b 95) 45 b
+
+-- the word is the name as configuration files have it: with dashes in the place of underscores
+abbrev pub IsDashed : List ℕ → List ℕ → Type 0
+IsDashed word name =
+    (length word ≡ length name)
+    × ((k : ℕ) → k < length name → slice_index word k ≡ dash_for (slice_index name k))
+
+-- the word is the name, in either spelling
+abbrev pub IsNamed : List ℕ → List ℕ → Type 0
+IsNamed word name = (word ≡ name) ⊎ IsDashed word name
+
+-- the setting of this number has the name
+pub record HasName (names : List (List ℕ)) (index : ℕ) (word : List ℕ) : Type 0 where
   pub name : List ℕ
+  pub stands : slice_get names index ≡ Some name
+  pub named : IsNamed word name
+
+-- what stands before the first space
+abbrev pub word_of : List ℕ → List ℕ
+word_of text = before_first (λ b. b == 32) text
+
+-- the text names one of the settings, which no line before has set, and a value, and that setting alone has got that value
+-- and is marked as set
+pub record Sets (names : List (List ℕ)) (old : List Value) (given : List Bool) (text : List ℕ) (new : List Value)
+    (marked : List Bool) : Type 0 where
+  pub index : ℕ
   pub value : Value
-  pub named : slice_get names index ≡ Some name
-  pub spelled : text ≡ name ++ 32 ∷ value_text value
+  pub named : HasName names index (word_of text)
+  pub spelled : text ≡ word_of text ++ 32 ∷ value_text value
+  pub first : slice_get given index ≡ Some false
   pub changed : new ≡ slice_set old index value
+  pub noted : marked ≡ slice_set given index true
+
+-- the text names a setting that is marked so
+pub record NamesMarked (names : List (List ℕ)) (given : List Bool) (text : List ℕ) (mark : Bool) : Type 0 where
+  pub index : ℕ
+  pub named : HasName names index (word_of text)
+  pub marked : slice_get given index ≡ Some mark
+
+-- for this reason no setting is set: the name is looked at first, then whether it was set before
+abbrev pub IsNotSet : List (List ℕ) → List Bool → List ℕ → Reason → Type 0
+IsNotSet names given text UnknownSetting = (index : ℕ) → ¬ HasName names index (word_of text)
+IsNotSet names given text SetTwice = NamesMarked names given text true
+IsNotSet names given text OtherForm = (word_of text ≡ text) ⊎ NamesMarked names given text false
+IsNotSet names given text InternalName = ⊥

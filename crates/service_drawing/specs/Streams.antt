@@ -1,24 +1,55 @@
 -- What the streams of the program get.
-use Rattle.std.specs.Prelude.{◌≡◌, ℕ, List, [], ◌∷◌, ◌++◌, codes, Result, Ok, Err, Option, String, string_bytes}
+use Rattle.std.specs.Prelude.{◌≡◌, ℕ, ◌+◌, List, [], ◌∷◌, ◌++◌, ◌==◌, codes, count_by, Result, Ok, Err, Option, String, string_bytes}
 use Rattle.std.specs.Fmt.{decimal}
-use Rattle.std.specs.Io.KnownBytes.{Appends}
+use Rattle.std.specs.Io.KnownBytes.{Appends, IsAtEnd}
 use Rattle.std.specs.declared.alloc.Global.{Global}
-use Rattle.service_drawing.specs.declared.streams.Fault.{Fault}
-use Rattle.service_drawing.specs.declared.streams.Fault.TheVariants.{BadArgument, BadLine, NoMemory}
+use Rattle.std.specs.declared.io.Error.{Error}
+use Rattle.std.specs.declared.vec.IntoIter.{IntoIter}
+use Rattle.service_drawing.specs.Arguments.{AsksFor, Answers, IsDrawing}
+use Rattle.service_drawing.specs.Causes.{IsCause}
+use Rattle.service_drawing.specs.declared.arguments.Asked.{Asked}
+use Rattle.service_drawing.specs.declared.fault.Fault.{Fault}
+use Rattle.service_drawing.specs.declared.fault.Fault.TheVariants.{BadArgument, BadLine, NoMemory}
+use Rattle.service_drawing.specs.declared.reading.cause.Cause.{Cause}
+use Rattle.service_drawing.specs.declared.reading.cause.Cause.TheVariants.{NoNewline, CarriageReturn, ForeignByte, TwoSpaces, Read}
+use Rattle.service_drawing.specs.declared.reading.cause.Reason.TheVariants.{InternalName, UnknownSetting, SetTwice, OtherForm}
+use Rattle.service_drawing.specs.declared.reading.wanted.Wanted.{Wanted}
+
+-- why a line is bad
+abbrev pub cause_text : Cause → List ℕ
+cause_text NoNewline = codes ": no newline ends it; "
+cause_text CarriageReturn = codes ": it ends in a carriage return and a newline, and not in a newline alone; "
+cause_text (ForeignByte byte) =
+    codes ": it holds the byte " ++ decimal byte ++ codes ", and a line holds bytes from 32 to 126; "
+cause_text TwoSpaces = codes ": two spaces stand where one separates words; "
+cause_text (Read InternalName) = codes ": names that begin with iox2:// are those of internal services; "
+cause_text (Read UnknownSetting) = codes ": the pattern has no such setting; "
+cause_text (Read SetTwice) = codes ": the setting was set before; "
+cause_text (Read OtherForm) = codes ": "
 
 -- what was expected, and a newline
 abbrev pub expected : List ℕ → List ℕ → List ℕ
-expected prefix form = codes ": expected " ++ prefix ++ (form ++ codes "\n")
+expected prefix form = codes "expected " ++ prefix ++ (form ++ codes "\n")
 
 -- the line that tells of a bad line
-abbrev pub bad_line_text : ℕ → List ℕ → List ℕ → List ℕ
-bad_line_text line prefix form = codes "bad line " ++ decimal line ++ expected prefix form
+abbrev pub bad_line_text : ℕ → Cause → List ℕ → List ℕ → List ℕ
+bad_line_text line cause prefix form =
+    codes "bad line " ++ decimal line ++ (cause_text cause ++ expected prefix form)
 
 -- the line that tells of a fault
 abbrev pub fault_text : Fault → List ℕ
-fault_text (BadLine line prefix form) = bad_line_text line prefix.now form.now
-fault_text BadArgument = codes "bad argument: expected svg, or no argument" ++ 10 ∷ []
+fault_text (BadLine line cause prefix form) = bad_line_text line cause prefix.now form.now
+fault_text BadArgument = codes "bad argument: expected svg, --help, --version, or no argument" ++ 10 ∷ []
 fault_text NoMemory = codes "no memory" ++ 10 ∷ []
+
+-- the fault of the line with which what is left begins: its number, the cause, and what was expected
+abbrev pub TellsBadLine : List ℕ → Wanted → Fault → Type 0
+TellsBadLine bytes wanted (BadLine line cause prefix form) =
+    ((read : List ℕ) → bytes ≡ read ++ wanted.rest.now → line ≡ count_by (λ b. b == 10) read + 1)
+    × IsCause wanted.rest.now wanted.reason cause
+    × (prefix.now ≡ wanted.prefix.now) × (form.now ≡ wanted.form.now)
+TellsBadLine bytes wanted BadArgument = ⊥
+TellsBadLine bytes wanted NoMemory = ⊥
 
 -- what the output gets
 abbrev pub output_text : Result (String Global) Fault → List ℕ
@@ -33,12 +64,19 @@ error_text (Err fault) = fault_text fault
 -- the status
 abbrev pub status_of : Result (String Global) Fault → ℕ
 status_of (Ok text) = 0
-status_of (Err (BadLine line prefix form)) = 1
+status_of (Err (BadLine line cause prefix form)) = 1
 status_of (Err BadArgument) = 1
 status_of (Err NoMemory) = 2
 
--- something was drawn or there was a fault: that is the status, and the writers got what fits it
-abbrev pub Reported : ℕ → Option (List ℕ) → Option (List ℕ) → Option (List ℕ) → Option (List ℕ) → Type 0
-Reported status out_old out_new err_old err_new =
-    (end : Result (String Global) Fault) × (status ≡ status_of end)
-    × Appends out_old out_new (output_text end) × Appends err_old err_new (error_text end)
+-- what was asked for was answered or there was a fault: that is the status, the writers got what fits it, and for a drawing
+-- the input was read to its end
+pub record Reported (arguments : Result (IntoIter (String Global) Global) Error) (status : ℕ)
+    (left out_old out_new err_old err_new : Option (List ℕ)) : Type 0 where
+  pub asked : Result Asked Fault
+  pub end : Result (String Global) Fault
+  pub asks : AsksFor arguments asked
+  pub answered : Answers asked end
+  pub told : status ≡ status_of end
+  pub read : status ≡ 0 → IsDrawing asked → IsAtEnd left
+  pub output : Appends out_old out_new (output_text end)
+  pub errors : Appends err_old err_new (error_text end)

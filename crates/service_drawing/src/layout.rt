@@ -85,6 +85,19 @@ impl MessageLayout {
         Span::new(start, start + self.element)
     }
 
+    /// Where the elements from this number on lie.
+    #[tactic(auto, using(crate::proofs::Inside::elements_inside))]
+    pub(crate) fn elements_from(&self, i: usize) -> Span
+        requires whole { IsWhole self.now }
+        requires there { i ≤ self.now.elements }
+        ensures { result ≡ record {
+          start = self.now.payload.start + i * self.now.element;
+          end = self.now.payload.end;
+        } }
+    {
+        Span::new(self.payload.start() + i * self.element, self.payload.end())
+    }
+
     /// What lies at the byte of this offset.
     pub(crate) fn part_at(&self, offset: usize) -> Part
         requires { IsWhole self.now }

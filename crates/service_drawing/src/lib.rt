@@ -5,7 +5,9 @@
 //! tested.
 #![tactic(auto)]
 
+mod arguments;
 mod description;
+mod fault;
 mod files;
 mod layout;
 mod reading;

@@ -3,6 +3,7 @@ ghost use Rattle.std.specs.Prelude.{◌≡◌, codes, IfOk};
 ghost use Rattle.service_drawing.specs.Lines.{type_front, exchange_front, kind_of};
 
 mod attributes;
+pub(crate) mod cause;
 mod message;
 mod service;
 mod settings;
@@ -21,24 +22,13 @@ pub(crate) use wanted::Wanted;
 
 /// The lines of the settings, with which the configuration is changed.
 fn configuration_before(bytes: &[u8], kind: PatternKind) -> Result<(Config, &[u8]), Wanted<'_>> {
-    let usual = Config::default().defaults;
     let mut config = Config::default();
     let defaults = &mut config.defaults;
     let rest = match kind {
-        PatternKind::PublishSubscribe => settings_before(
-            bytes,
-            &mut defaults.publish_subscribe,
-            &usual.publish_subscribe,
-        ),
-        PatternKind::Event => settings_before(bytes, &mut defaults.event, &usual.event),
-        PatternKind::RequestResponse => settings_before(
-            bytes,
-            &mut defaults.request_response,
-            &usual.request_response,
-        ),
-        PatternKind::Blackboard => {
-            settings_before(bytes, &mut defaults.blackboard, &usual.blackboard)
-        }
+        PatternKind::PublishSubscribe => settings_before(bytes, &mut defaults.publish_subscribe),
+        PatternKind::Event => settings_before(bytes, &mut defaults.event),
+        PatternKind::RequestResponse => settings_before(bytes, &mut defaults.request_response),
+        PatternKind::Blackboard => settings_before(bytes, &mut defaults.blackboard),
     }?;
     Ok((config, rest))
 }

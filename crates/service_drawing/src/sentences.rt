@@ -1,9 +1,39 @@
 //! What text and picture both say.
+ghost use Rattle.std.specs.Prelude.{Some};
+ghost use Rattle.service_drawing.specs.Sentences.{counted_text};
 
 use crate::description::Message;
 use crate::layout::{Clash, MessageLayout, first_clash};
 use crate::segments::Segment;
 use std::alloc::AllocError;
+use std::fmt;
+
+/// A number of things of one name: `1 byte`, `2 bytes`.
+#[derive(Clone, Copy)]
+pub(crate) struct Counted {
+    number: usize,
+    name: &'static str,
+}
+
+impl Counted {
+    /// So many things of this name.
+    pub(crate) fn new(number: usize, name: &'static str) -> Self {
+        Counted { number, name }
+    }
+}
+
+impl fmt::Display for Counted {
+    ghost output = { λ counted. Some (counted_text counted) };
+
+    fn fmt<W: fmt::Write>(&self, f: &mut fmt::Formatter<W>) -> fmt::Result {
+        let number = self.number;
+        let name = self.name;
+        match number {
+            1 => write!(f, "{number} {name}"),
+            _ => write!(f, "{number} {name}s"),
+        }
+    }
+}
 
 /// Whether the opener of a message may use it, and if not, why. `None` where there is no opener.
 pub(crate) fn opener_sentence(message: &Message) -> Option<&'static str> {
@@ -30,9 +60,14 @@ pub(crate) fn write_memory(
     let Some(chunks) = segment.chunks else {
         return write!(out, "more than 18446744073709551615 chunks, too many");
     };
-    write!(out, "{chunks} chunks of {} bytes, ", layout.size)?;
+    write!(
+        out,
+        "{} of {}, ",
+        Counted::new(chunks, "chunk"),
+        Counted::new(layout.size, "byte")
+    )?;
     match layout.memory(chunks) {
-        Some(bytes) => write!(out, "{bytes} bytes"),
+        Some(bytes) => write!(out, "{}", Counted::new(bytes, "byte")),
         None => write!(out, "more than 18446744073709551615 bytes, too many"),
     }
 }

@@ -1,5 +1,6 @@
 //! The settings of a service, by their own names.
-ghost use Rattle.std.specs.Prelude.{◌≡◌, ℕ, List, IsTrue, false, slice_get, slice_set};
+ghost use Rattle.std.specs.Prelude.{◌≡◌, ◌<◌, ℕ, List, IsTrue, IfSome, false, slice_get, slice_set};
+ghost use Rattle.service_drawing.specs.Settings.{listed};
 ghost use Rattle.std.specs.Option.{option_map};
 ghost use Rattle.service_drawing.specs.declared.settings.value.Value.{Value};
 
@@ -19,10 +20,15 @@ pub(crate) trait Settings {
     /// The values by their numbers.
     ghost values: { Self → List Value };
 
-    /// The name and the value of the setting of this number, if there is one.
+    /// All names, one after the other.
+    fn all_names() -> &'static str
+        ensures { result.now ≡ listed names };
+
+    /// The name and the value of the setting of this number, if there is one. There are at most 32.
     fn row(&self, index: usize) -> Option<(&'static str, Value)>
         ensures name { option_map (λ row. row.0.now) result ≡ slice_get names index }
-        ensures value { option_map (λ row. row.1) result ≡ slice_get (values self.now) index };
+        ensures value { option_map (λ row. row.1) result ≡ slice_get (values self.now) index }
+        ensures few { IfSome result (λ row. index < 32) };
 
     /// Sets the setting of this number. Refused is a number that no setting has, and a value of another kind than the
     /// setting's.

@@ -1,11 +1,14 @@
 //! Whole drawings, worked out by hand.
 
-use super::expected::pictures::{PICTURE, TWO_MESSAGES, WITHOUT_MESSAGES};
+use super::expected::pictures::{
+    COLORS, KEYS, MANY, NARROW, PICTURE, TWO_MESSAGES, WITHOUT_MESSAGES,
+};
 use super::expected::request_response::{REQUEST_RESPONSE, UNBOUNDED};
 use super::expected::{BLACKBOARD, EVENT, LARGE, PUBLISH_SUBSCRIBE, SMALLEST};
 use super::running::run;
 use std::alloc::Global;
 use std::process::Abort;
+use std::test::Fail;
 
 /// Asserts that a run of a description gives this drawing and no error.
 fn assert_drawn(rt: &impl Abort, alloc: Global, words: &[&str], input: &str, drawing: &str) {
@@ -31,12 +34,15 @@ fn each_pattern(rt: HostRuntime) {
     assert_drawn(&rt, alloc, &words, UNBOUNDED.0, UNBOUNDED.1);
 }
 
-/// Pictures of no message, of one and of two, with an opener and without one, with a layout and without one.
+/// Pictures of no message, of one and of two, with an opener and without one, with a layout and without one, and with more
+/// elements than are drawn one by one.
 #[test]
-fn pictures(rt: HostRuntime) {
+fn pictures(rt: HostRuntime) -> Result<(), Fail> {
     let alloc = rt.alloc();
     let words = ["iox2-describe", "svg"];
-    assert_drawn(&rt, alloc, &words, WITHOUT_MESSAGES.0, WITHOUT_MESSAGES.1);
-    assert_drawn(&rt, alloc, &words, PICTURE.0, PICTURE.1);
-    assert_drawn(&rt, alloc, &words, TWO_MESSAGES.0, TWO_MESSAGES.1);
+    for picture in [WITHOUT_MESSAGES, KEYS, PICTURE, TWO_MESSAGES, MANY, NARROW] {
+        let drawing = format!(in alloc; "{}{COLORS}{}", picture.begin, picture.end)?;
+        assert_drawn(&rt, alloc, &words, picture.input, drawing.as_str());
+    }
+    Ok(())
 }

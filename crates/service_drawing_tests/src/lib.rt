@@ -9,6 +9,8 @@ mod expected;
 #[cfg(test)]
 mod failing;
 #[cfg(test)]
+mod good;
+#[cfg(test)]
 mod memory;
 #[cfg(test)]
 mod refusals;

@@ -1,12 +1,14 @@
 //! Drawings where memory is refused. With ample memory they are whole; where one request is refused (`bench/refuse_memory`
 //! does that), nothing is drawn, and the program says why.
 
-use super::expected::pictures::PICTURE;
+use super::expected::pictures::{COLORS, PICTURE};
 use super::expected::{EVENT, PUBLISH_SUBSCRIBE};
 use super::running::arguments;
 use service_drawing::describe_streams;
 use std::alloc::{AllocError, Global};
+use std::env::Env;
 use std::process::Abort;
+use test_support::memory::may_be_refused;
 
 /// The status of a run, and what it writes to its output and its errors, which have room for it.
 fn run(alloc: Global, words: &[&str], input: &str) -> Result<(u8, Vec<u8>, Vec<u8>), AllocError> {
@@ -20,14 +22,16 @@ fn run(alloc: Global, words: &[&str], input: &str) -> Result<(u8, Vec<u8>, Vec<u
 
 /// A run draws all, or memory is refused and it draws nothing.
 fn draws_all_or_nothing(
-    rt: &(impl Abort + AllocGlobal),
+    rt: &(impl Abort + AllocGlobal + Env),
     words: &[&str],
     (input, drawing): (&str, &str),
 ) {
     let Ok((status, output, errors)) = run(rt.alloc(), words, input) else {
+        assert!(rt; may_be_refused(rt));
         return;
     };
     if status == 2 {
+        assert!(rt; may_be_refused(rt));
         assert_eq!(rt;
             (output.len(), errors.as_slice()),
             (0, b"no memory\n".as_slice())
@@ -48,5 +52,12 @@ fn a_text_is_whole_or_none(rt: HostRuntime) {
 
 #[test]
 fn a_picture_is_whole_or_none(rt: HostRuntime) {
-    draws_all_or_nothing(&rt, &["iox2-describe", "svg"], PICTURE);
+    let Ok(drawing) = format!(in rt.alloc(); "{}{COLORS}{}", PICTURE.begin, PICTURE.end) else {
+        return;
+    };
+    draws_all_or_nothing(
+        &rt,
+        &["iox2-describe", "svg"],
+        (PICTURE.input, drawing.as_str()),
+    );
 }

@@ -138,11 +138,7 @@ pub(super) fn fixed_before<'a>(
             return Ok((detail, rest));
         }
     }
-    Err(Wanted {
-        rest: bytes,
-        prefix,
-        form,
-    })
+    Err(Wanted::prefixed(bytes, prefix, form))
 }
 
 /// The line of the payload's type.
@@ -157,11 +153,11 @@ fn payload_before<'a>(
             return Ok((detail, rest));
         }
     }
-    Err(Wanted {
-        rest: bytes,
+    Err(Wanted::prefixed(
+        bytes,
         prefix,
-        form: "payload VARIANT SIZE ALIGNMENT NAME: fixed or dynamic, two numbers, the second a power of two, and 1 to 256 bytes",
-    })
+        "payload VARIANT SIZE ALIGNMENT NAME: fixed or dynamic, two numbers, the second a power of two, and 1 to 256 bytes",
+    ))
 }
 
 /// The line of the number of elements, which a dynamic payload has and a fixed one has not.
@@ -182,11 +178,7 @@ fn elements_before<'a>(
             return Ok((elements, rest));
         }
     }
-    Err(Wanted {
-        rest: bytes,
-        prefix,
-        form: "elements NUMBER",
-    })
+    Err(Wanted::prefixed(bytes, prefix, "elements NUMBER"))
 }
 
 /// The line of an opener's alignments, if it stands there.
@@ -204,11 +196,11 @@ fn opener_before<'a>(
     };
     match opener_in(text, service) {
         Some(opener) => Ok((Some(opener), rest)),
-        None => Err(Wanted {
-            rest: bytes,
+        None => Err(Wanted::prefixed(
+            bytes,
             prefix,
-            form: "opener HEADER USER-HEADER PAYLOAD: three alignments, each a power of two",
-        }),
+            "opener HEADER USER-HEADER PAYLOAD: three alignments, each a power of two",
+        )),
     }
 }
 

@@ -1,7 +1,9 @@
 //! The first line.
-ghost use Rattle.std.specs.Prelude.{◌≡◌, ◌++◌, IfSome, IfOk};
+ghost use Rattle.std.specs.Prelude.{◌≡◌, ◌++◌, IfOk, IfErr, MatchOption};
 ghost use Rattle.service_drawing.specs.Lines.{pattern_word, service_front, IsHashed};
+ghost use Rattle.service_drawing.specs.Lines.{HasNoPattern, IsNoService};
 
+use super::cause::Reason;
 use super::wanted::Wanted;
 use super::words::{after_word, next_line};
 use iox2_config::hash::{PatternKind, ServiceHash, Sha1Hasher};
@@ -9,7 +11,8 @@ use iox2_texts::service_name::ServiceName;
 
 /// The pattern that begins the line, and the name after it.
 fn pattern_in(line: &str) -> Option<(PatternKind, &str)>
-    ensures { IfSome result (λ found. line.now ≡ pattern_word found.0 ++ found.1.now) }
+    ensures { MatchOption result (HasNoPattern line.now)
+        (λ found. line.now ≡ pattern_word found.0 ++ found.1.now) }
 {
     if let Some(name) = after_word(line, "publish-subscribe ") {
         Some((PatternKind::PublishSubscribe, name))
@@ -32,21 +35,25 @@ pub(super) struct Service {
     pub(super) hash: ServiceHash,
 }
 
-/// The service that a line spells.
-fn service_in(line: &str) -> Option<Service>
-    ensures spelled { IfSome result (λ service.
+/// The service that a line spells, or why it spells none.
+fn service_in(line: &str) -> Result<Service, Reason>
+    ensures spelled { IfOk result (λ service.
         line.now ≡ pattern_word service.kind ++ service.name) }
-    ensures hash { IfSome result IsHashed }
+    ensures hash { IfOk result IsHashed }
+    ensures reason { IfErr result (λ reason. IsNoService line.now reason) }
 {
     let Some((kind, name)) = pattern_in(line) else {
-        return None;
+        return Err(Reason::OtherForm);
     };
+    if ServiceName::has_iox2_prefix(name) {
+        return Err(Reason::InternalName);
+    }
     let Ok(name) = ServiceName::new(name) else {
-        return None;
+        return Err(Reason::OtherForm);
     };
     match ServiceHash::new::<Sha1Hasher>(&name, kind) {
-        Ok(hash) => Some(Service { kind, name, hash }),
-        Err(_) => None,
+        Ok(hash) => Ok(Service { kind, name, hash }),
+        Err(_) => Err(Reason::OtherForm),
     }
 }
 
@@ -55,13 +62,15 @@ pub(super) fn service_before(bytes: &[u8]) -> Result<(Service, &[u8]), Wanted<'_
     ensures spelled { IfOk result (λ found. bytes.now ≡ service_front found.0 found.1.now) }
     ensures hash { IfOk result (λ found. IsHashed found.0) }
 {
-    if let Some((line, rest)) = next_line(bytes) {
-        if let Some(service) = service_in(line) {
-            return Ok((service, rest));
-        }
-    }
-    Err(Wanted::plain(
+    let wanted = Wanted::plain(
         bytes,
         "PATTERN NAME: publish-subscribe, event, request-response or blackboard, and the name of a service, 1 to 255 bytes",
-    ))
+    );
+    let Some((line, rest)) = next_line(bytes) else {
+        return Err(wanted);
+    };
+    match service_in(line) {
+        Ok(service) => Ok((service, rest)),
+        Err(reason) => Err(Wanted { reason, ..wanted }),
+    }
 }

@@ -1,63 +1,110 @@
 //! The lines of settings.
-ghost use Rattle.std.specs.Prelude.{◌≡◌, IsTrue, Some, IfSome, slice_get};
-ghost use Rattle.service_drawing.specs.Settings.{Sets};
+ghost use Rattle.std.specs.Prelude.{◌≡◌, ◌<◌, ◌↔◌, ℕ, IsTrue, Some, IfOk, IfSome, IfErr, MatchOption, slice_get};
+ghost use Rattle.service_drawing.specs.Settings.{HasName, IsDashed, IsNamed, IsNotSet, Sets, dash_for};
 
+use super::cause::Reason;
 use super::message::line_after;
 use super::wanted::Wanted;
 use super::words::split_word;
 use crate::settings::{Settings, Value};
 
-/// The number and the value of the setting of this name, if there is one.
-fn find<S: Settings>(settings: &S, name: &str) -> Option<(usize, Value)>
-    ensures name { IfSome result (λ found. slice_get S.names found.0 ≡ Some name.now) }
-    ensures value { IfSome result (λ found.
-        slice_get (S.values settings.now) found.0 ≡ Some found.1) }
+/// The byte, or a dash in the place of an underscore.
+fn with_dash(byte: u8) -> u8
+    ensures { result ≡ dash_for byte }
 {
-    for index in 0..32 {
-        let Some((found, value)) = settings.row(index) else {
-            return None;
-        };
-        if found == name {
+    if byte == b'_' { b'-' } else { byte }
+}
+
+/// Whether the word is this name with dashes in the place of underscores.
+fn is_dashed(word: &str, name: &str) -> bool
+    ensures { IsTrue result ↔ IsDashed word.now name.now }
+{
+    let word = word.as_bytes();
+    let name = name.as_bytes();
+    if word.len() != name.len() {
+        return false;
+    }
+    for i in 0..word.len() {
+        if word[i] != with_dash(name[i]) {
+            return false;
+        }
+    }
+    true
+}
+
+/// Whether the word is this name, as the code or as configuration files spell it.
+fn is_named(word: &str, name: &str) -> bool
+    ensures { IsTrue result ↔ IsNamed word.now name.now }
+{
+    word == name || is_dashed(word, name)
+}
+
+/// The number and the value of the setting of this name, if there is one.
+fn find<S: Settings>(settings: &S, word: &str) -> Option<(usize, Value)>
+    ensures name { MatchOption result ((index : ℕ) → ¬ HasName S.names index word.now)
+        (λ found. HasName S.names found.0 word.now) }
+    ensures value { IfSome result (λ found.
+        (found.0 < 32) × (slice_get (S.values settings.now) found.0 ≡ Some found.1)) }
+{
+    let mut index = 0;
+    while let Some((name, value)) = settings.row(index) {
+        if is_named(word, name) {
             return Some((index, value));
         }
+        index += 1;
     }
     None
 }
 
-/// Sets the setting whose name and value the text spells. Refused is one that is set already, and a value that it has
-/// anyway.
-fn set<S: Settings>(settings: &mut S, defaults: &S, text: &str) -> bool
-    ensures { IsTrue result →
-        Sets S.names (S.values settings.old) text.now (S.values settings.new) }
+/// Sets the setting whose name and value the text spells, and marks it as set, or answers why it does not.
+fn set<S: Settings>(settings: &mut S, given: &mut [bool; 32], text: &str) -> Result<(), Reason>
+    ensures set { IfOk result (λ done. Sets S.names (S.values settings.old) given.old text.now
+        (S.values settings.new) given.new) }
+    ensures refused { IfErr result (λ reason. IsNotSet S.names given.old text.now reason) }
 {
-    let Some((name, text)) = split_word(text) else {
-        return false;
+    let Some((word, text)) = split_word(text) else {
+        return Err(Reason::OtherForm);
     };
-    let Some((index, usual)) = find(defaults, name) else {
-        return false;
+    let Some((index, value)) = find(settings, word) else {
+        return Err(Reason::UnknownSetting);
     };
-    let Some(value) = usual.of_kind(text) else {
-        return false;
-    };
-    match settings.row(index) {
-        Some((_, now)) => now == usual && value != usual && settings.set(index, value),
-        None => false,
+    if given[index] {
+        return Err(Reason::SetTwice);
+    }
+    match value.of_kind(text) {
+        Some(value) if settings.set(index, value) => {
+            given[index] = true;
+            Ok(())
+        }
+        _ => Err(Reason::OtherForm),
     }
 }
 
-/// The lines of the settings that differ from the defaults.
+/// What was expected in the place of a line that sets nothing.
+fn expected<S: Settings>(bytes: &[u8], reason: Reason) -> Wanted<'_> {
+    let (prefix, form) = match reason {
+        Reason::UnknownSetting => ("set NAME VALUE with one of the names ", S::all_names()),
+        Reason::SetTwice => ("each setting once", ""),
+        _ => ("set NAME VALUE with a value that the setting may have", ""),
+    };
+    Wanted {
+        rest: bytes,
+        reason,
+        prefix,
+        form,
+    }
+}
+
+/// The lines of the settings.
 pub(super) fn settings_before<'a, S: Settings>(
     bytes: &'a [u8],
     settings: &mut S,
-    defaults: &S,
 ) -> Result<&'a [u8], Wanted<'a>> {
+    let mut given = [false; 32];
     let mut rest = bytes;
     while let Some((text, tail)) = line_after(rest, "", "set ") {
-        if !set(settings, defaults, text) {
-            return Err(Wanted::plain(
-                rest,
-                "set NAME VALUE: a setting of the pattern, once, and another value than its default",
-            ));
+        if let Err(reason) = set(settings, &mut given, text) {
+            return Err(expected::<S>(rest, reason));
         }
         rest = tail;
     }

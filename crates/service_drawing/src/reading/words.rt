@@ -1,5 +1,7 @@
 //! Lines, words and numbers, each in one spelling.
-ghost use Rattle.std.specs.Prelude.{◌≡◌, ◌∷◌, ◌++◌, ◌<◌, length, IfSome, decimal};
+ghost use Rattle.std.specs.Prelude.{◌≡◌, ◌==◌, ◌∷◌, ◌++◌, ◌<◌, ℕ, List, length, IfSome, MatchOption};
+ghost use Rattle.std.specs.Prelude.{decimal};
+ghost use Rattle.std.specs.List.{before_first};
 
 use itoa::Buffer;
 use std::str;
@@ -24,14 +26,17 @@ pub(super) fn next_line(bytes: &[u8]) -> Option<(&str, &[u8])>
 
 /// What follows this word.
 pub(super) fn after_word<'a>(text: &'a str, word: &str) -> Option<&'a str>
-    ensures { IfSome result (λ rest. text.now ≡ word.now ++ rest.now) }
+    ensures { MatchOption result ((rest : List ℕ) → ¬ (text.now ≡ word.now ++ rest))
+        (λ rest. text.now ≡ word.now ++ rest.now) }
 {
     text.strip_prefix(word)
 }
 
 /// What stands before the first space, and what follows it.
 pub(super) fn split_word(text: &str) -> Option<(&str, &str)>
-    ensures { IfSome result (λ found. text.now ≡ found.0.now ++ 32 ∷ found.1.now) }
+    ensures parts { IfSome result (λ found. text.now ≡ found.0.now ++ 32 ∷ found.1.now) }
+    ensures first { MatchOption result (before_first (λ b. b == 32) text.now ≡ text.now)
+        (λ found. found.0.now ≡ before_first (λ b. b == 32) text.now) }
 {
     text.split_once(' ')
 }

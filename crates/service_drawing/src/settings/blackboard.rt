@@ -10,6 +10,10 @@ impl Settings for Blackboard {
 
     ghost values = { blackboard_values };
 
+    fn all_names() -> &'static str {
+        "max_readers, max_nodes"
+    }
+
     fn row(&self, index: usize) -> Option<(&'static str, Value)> {
         match index {
             0 => Some(("max_readers", Value::Number(self.max_readers))),

@@ -10,6 +10,10 @@ impl Settings for Event {
 
     ghost values = { event_values };
 
+    fn all_names() -> &'static str {
+        "max_listeners, max_notifiers, max_nodes, event_id_max_value, deadline, notifier_created_event, notifier_dropped_event, notifier_dead_event"
+    }
+
     fn row(&self, index: usize) -> Option<(&'static str, Value)> {
         match index {
             0 => Some(("max_listeners", Value::Number(self.max_listeners))),

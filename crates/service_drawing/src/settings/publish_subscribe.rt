@@ -11,6 +11,10 @@ impl Settings for PublishSubscribe {
 
     ghost values = { publish_subscribe_values };
 
+    fn all_names() -> &'static str {
+        "max_subscribers, max_publishers, max_nodes, subscriber_max_buffer_size, subscriber_max_borrowed_samples, publisher_max_loaned_samples, publisher_history_size, enable_safe_overflow, backpressure_strategy, subscriber_expired_connection_buffer, publisher_allocation_strategy"
+    }
+
     fn row(&self, index: usize) -> Option<(&'static str, Value)> {
         match index {
             0 => Some(("max_subscribers", Value::Number(self.max_subscribers))),

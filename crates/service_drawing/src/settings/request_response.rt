@@ -11,6 +11,10 @@ impl Settings for RequestResonse {
 
     ghost values = { request_response_values };
 
+    fn all_names() -> &'static str {
+        "enable_safe_overflow_for_requests, enable_safe_overflow_for_responses, max_active_requests_per_client, max_response_buffer_size, max_servers, max_clients, max_nodes, max_borrowed_responses_per_pending_response, max_loaned_requests, server_max_loaned_responses_per_request, client_backpressure_strategy, server_backpressure_strategy, client_expired_connection_buffer, server_expired_connection_buffer, enable_fire_and_forget_requests, client_allocation_strategy, server_allocation_strategy"
+    }
+
     fn row(&self, index: usize) -> Option<(&'static str, Value)> {
         match index {
             0 => Some((

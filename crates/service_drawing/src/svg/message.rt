@@ -1,276 +1,174 @@
 //! The layout of a message as a picture.
-ghost use Rattle.std.specs.Prelude.{◌≡◌, ◌+◌, ◌*◌, ◌/◌, ◌≤◌, max};
 ghost use Rattle.service_drawing.specs.Layout.{IsWhole};
 
-use super::write_escaped;
+use super::bar::{drawn_apart, write_bar};
+use super::sheet::{NOTE, Sheet, TYPE};
 use crate::description::Message;
 use crate::layout::MessageLayout;
 use crate::segments::Segment;
-use crate::sentences::{opener_sentence, write_memory};
+use crate::sentences::{Counted, opener_sentence, write_memory};
 use crate::span::Span;
 use iox2_config::types::TypeDetail;
-use itoa::Buffer;
 use std::alloc::AllocError;
 
-/// The height of a message's part of the picture.
-pub(super) const BLOCK: usize = 3000;
-
-/// Where a bar begins.
-const LEFT: usize = 200;
-
-/// How wide a bar is.
-const WIDTH: usize = 7200;
-
-/// How many elements are drawn one by one.
-const DRAWN: usize = 16;
-
-const HEADER: &str = "#4e79a7";
-
-const USER_HEADER: &str = "#f28e2b";
-
-const PAYLOAD: &str = "#8cd17d";
-
-const ELEMENT: &str = "#59a14f";
-
-const NOTHING: &str = "#dddddd";
-
-/// Appends the layout of a message at this height, and the memory of a port that sends it.
-pub(super) fn write_message(
-    out: &mut String,
-    segment: Segment<'_>,
-    top: usize,
-) -> Result<(), AllocError> {
+/// Draws the layout of a message, and tells the memory of a port that sends it.
+pub(super) fn write_message(sheet: &mut Sheet, segment: Segment<'_>) -> Result<(), AllocError> {
     let title = segment.title;
     let message = segment.message;
-    writeln!(out, "<g transform=\"translate(0 {top})\">")?;
-    match MessageLayout::of(&message.details, message.elements) {
-        None => writeln!(
-            out,
-            "<text x=\"200\" y=\"150\">{title}: no layout, since it would pass 9223372036854775807 bytes</text>"
-        )?,
-        Some(layout) => {
-            let size = layout.size;
-            let alignment = message.details.header.alignment();
-            writeln!(
-                out,
-                "<text x=\"200\" y=\"150\" font-size=\"150\">{title}: {size} bytes at multiples of {alignment}</text>"
-            )?;
-            write_bar(out, &layout)?;
-            write_marks(out, &layout)?;
-            write_rows(out, message, &layout)?;
-            write_notes(out, segment, &layout)?;
-        }
-    }
-    writeln!(out, "</g>")
+    let top = sheet.top();
+    write!(
+        sheet.text(),
+        "<text x=\"200\" y=\"{top}\" dy=\"150\" font-size=\"150\">{title}: "
+    )?;
+    sheet.skip(240);
+    let Some(layout) = MessageLayout::of(&message.details, message.elements) else {
+        writeln!(
+            sheet.text(),
+            "no layout, since it would pass 9223372036854775807 bytes</text>"
+        )?;
+        sheet.skip(120);
+        return Ok(());
+    };
+    let size = Counted::new(layout.size, "byte");
+    let alignment = message.details.header.alignment();
+    writeln!(sheet.text(), "{size} at multiples of {alignment}</text>")?;
+    let top = sheet.top();
+    writeln!(sheet.text(), "<g transform=\"translate(0 {top})\">")?;
+    write_bar(sheet.text(), &layout)?;
+    writeln!(sheet.text(), "</g>")?;
+    sheet.skip(740);
+    write_rows(sheet, message, &layout)?;
+    write_notes(sheet, segment, &layout)?;
+    sheet.skip(160);
+    Ok(())
 }
 
-/// How far to the right the byte at this offset of a message of this size is drawn.
-fn place(offset: usize, size: usize) -> usize
-    requires { offset ≤ size }
-    ensures value { result ≡ LEFT + offset * WIDTH / max size 1 }
-    ensures bound { result ≤ LEFT + WIDTH }
-{
-    LEFT + (offset as u128 * WIDTH as u128 / size.max(1) as u128) as usize
+/// Appends a sentence that tells where the parts of a message lie.
+pub(super) fn write_summary(out: &mut String, segment: Segment<'_>) -> Result<(), AllocError> {
+    let title = segment.title;
+    let message = segment.message;
+    let Some(layout) = MessageLayout::of(&message.details, message.elements) else {
+        return write!(out, "A {title} without a layout.");
+    };
+    write!(
+        out,
+        "A {title} of {}: a header of {} at offset 0, a user header of {} at offset {}, a payload of {} at offset {}.",
+        Counted::new(layout.size, "byte"),
+        Counted::new(layout.header.len(), "byte"),
+        Counted::new(layout.user_header.len(), "byte"),
+        layout.user_header.start(),
+        Counted::new(layout.elements, "element"),
+        layout.payload.start()
+    )
 }
 
-/// Appends the rectangle of bytes that lie within the message, if there are any.
-fn write_rectangle(out: &mut String, span: Span, size: usize, color: &str) -> Result<(), AllocError>
-    requires { span.end ≤ size }
-{
+/// Draws the color of a part, what it is and where it lies.
+fn write_row(sheet: &mut Sheet, color: &str, what: &str, span: Span) -> Result<(), AllocError> {
+    let top = sheet.top();
+    let offset = span.start();
+    let size = Counted::new(span.len(), "byte");
+    writeln!(
+        sheet.text(),
+        "<rect x=\"200\" y=\"{top}\" width=\"140\" height=\"140\" class=\"part {color}\"/>"
+    )?;
+    writeln!(
+        sheet.text(),
+        "<text x=\"440\" y=\"{top}\" dy=\"115\">{what}: offset {offset}, {size}</text>"
+    )?;
+    sheet.skip(200);
+    Ok(())
+}
+
+/// Draws the row of bytes at which nothing lies, if there are any.
+fn write_empty(sheet: &mut Sheet, what: &str, span: Span) -> Result<(), AllocError> {
     if span.len() == 0 {
         return Ok(());
     }
-    let left = place(span.start(), size);
-    let width = place(span.end(), size).saturating_sub(left);
-    writeln!(
-        out,
-        "<rect x=\"{left}\" y=\"240\" width=\"{width}\" height=\"460\" fill=\"{color}\" stroke=\"#222222\" stroke-width=\"8\"/>"
-    )
-}
-
-/// Appends the parts of a message one beside the other, to scale.
-fn write_bar(out: &mut String, layout: &MessageLayout) -> Result<(), AllocError>
-    requires { IsWhole layout.now }
-{
-    let size = layout.size;
-    write_rectangle(out, layout.header, size, HEADER)?;
-    write_rectangle(out, layout.first_gap, size, NOTHING)?;
-    write_rectangle(out, layout.user_header, size, USER_HEADER)?;
-    write_rectangle(out, layout.second_gap, size, NOTHING)?;
-    write_rectangle(out, layout.payload, size, PAYLOAD)?;
-    write_elements(out, layout)?;
-    write_rectangle(out, layout.spare, size, NOTHING)
-}
-
-/// Appends the first elements of the payload, every other one in another color.
-fn write_elements(out: &mut String, layout: &MessageLayout) -> Result<(), AllocError>
-    requires { IsWhole layout.now }
-{
-    for i in 0..layout.elements.min(DRAWN) {
-        let color = if i % 2 == 0 { PAYLOAD } else { ELEMENT };
-        write_rectangle(out, layout.element(i), layout.size, color)?;
-    }
+    write_row(sheet, "empty", what, span)?;
+    sheet.skip(40);
     Ok(())
 }
 
-/// How wide the offsets of a message of this size are drawn at most, with the room between two of them.
-fn mark_width(size: usize) -> usize
-    ensures { result ≤ 5000 }
-{
-    let mut digits = Buffer::new();
-    100 + 70 * digits.format(size).len()
-}
-
-/// Appends an offset below its place in the bar, unless that lies left of `free`, and answers what is left free then.
-fn write_mark(
-    out: &mut String,
-    offset: usize,
-    size: usize,
-    free: usize,
-) -> Result<usize, AllocError>
-    requires { offset ≤ size }
-{
-    let x = place(offset, size);
-    if x < free {
-        return Ok(free);
-    }
-    writeln!(
-        out,
-        "<text x=\"{x}\" y=\"850\" font-size=\"110\" text-anchor=\"middle\">{offset}</text>"
-    )?;
-    Ok(x + mark_width(size))
-}
-
-/// Appends the offsets of the first elements, as far as there is room for them.
-#[tactic(auto, using(crate::proofs::Inside::element_inside))]
-fn write_element_marks(
-    out: &mut String,
-    layout: &MessageLayout,
-    free: usize,
-) -> Result<usize, AllocError>
-    requires { IsWhole layout.now }
-{
-    let mut free = free;
-    for i in 0..layout.elements.min(DRAWN) {
-        free = write_mark(out, layout.element(i).start(), layout.size, free)?;
-    }
-    Ok(free)
-}
-
-/// Appends the offsets at which parts begin and end, as far as there is room for them.
-fn write_marks(out: &mut String, layout: &MessageLayout) -> Result<(), AllocError>
-    requires { IsWhole layout.now }
-{
-    let size = layout.size;
-    let free = write_mark(out, 0, size, 0)?;
-    let free = write_mark(out, layout.header.end(), size, free)?;
-    let free = write_mark(out, layout.user_header.start(), size, free)?;
-    let free = write_mark(out, layout.user_header.end(), size, free)?;
-    let free = write_element_marks(out, layout, free)?;
-    let free = write_mark(out, layout.payload.end(), size, free)?;
-    write_mark(out, size, size, free)?;
-    Ok(())
-}
-
-/// Appends the row of a part at this height: its color, what it is and where it lies.
-fn write_row(
-    out: &mut String,
-    y: usize,
-    color: &str,
-    what: &str,
-    span: Span,
-) -> Result<(), AllocError> {
-    let offset = span.start();
-    let size = span.len();
-    writeln!(
-        out,
-        "<rect x=\"200\" y=\"{y}\" width=\"140\" height=\"140\" fill=\"{color}\" stroke=\"#222222\" stroke-width=\"8\"/>"
-    )?;
-    write!(
-        out,
-        "<text x=\"440\" y=\"{y}\" dy=\"115\">{what}: offset {offset}, {size} bytes"
-    )
-}
-
-/// Appends the row of a part of some type, with its alignments.
-fn write_typed_row(
-    out: &mut String,
-    y: usize,
+/// Draws the row of a part of some type, with its alignments and its name.
+fn write_typed(
+    sheet: &mut Sheet,
     color: &str,
     what: &str,
     span: Span,
     detail: &TypeDetail,
     opener: Option<&TypeDetail>,
 ) -> Result<(), AllocError> {
-    write_row(out, y, color, what, span)?;
-    write!(out, ", alignment {}", detail.alignment())?;
+    write_row(sheet, color, what, span)?;
+    let alignment = detail.alignment();
+    let name = detail.type_name();
+    let mut text = format!(in sheet.alloc(); "alignment {alignment}, ")?;
     if let Some(opener) = opener {
-        write!(out, " (opener's {})", opener.alignment())?;
+        write!(text, "opener's {}, ", opener.alignment())?;
     }
-    write!(out, ", ")?;
-    write_escaped(out, detail.type_name().as_str())?;
-    writeln!(out, "</text>")
+    write!(text, "{name}")?;
+    sheet.write_lines(TYPE, text.as_str())?;
+    sheet.skip(40);
+    Ok(())
 }
 
-/// Appends a row for each part and gap of a message.
+/// Draws a row for each part of a message, and for each gap that has bytes.
 fn write_rows(
-    out: &mut String,
+    sheet: &mut Sheet,
     message: &Message,
     layout: &MessageLayout,
 ) -> Result<(), AllocError> {
     let types = &message.details;
     let opener = message.opener.as_ref();
-    write_typed_row(
-        out,
-        1000,
-        HEADER,
+    write_typed(
+        sheet,
+        "header",
         "header",
         layout.header,
         &types.header,
         opener.map(|o| &o.header),
     )?;
-    write_row(out, 1220, NOTHING, "gap", layout.first_gap)?;
-    writeln!(out, "</text>")?;
-    write_typed_row(
-        out,
-        1440,
-        USER_HEADER,
+    write_empty(sheet, "gap", layout.first_gap)?;
+    write_typed(
+        sheet,
+        "user-header",
         "user header",
         layout.user_header,
         &types.user_header,
         opener.map(|o| &o.user_header),
     )?;
-    write_row(out, 1660, NOTHING, "gap", layout.second_gap)?;
-    writeln!(out, "</text>")?;
-    write_typed_row(
-        out,
-        1880,
-        PAYLOAD,
+    write_empty(sheet, "gap", layout.second_gap)?;
+    write_typed(
+        sheet,
+        "payload",
         "payload",
         layout.payload,
         &types.payload,
         opener.map(|o| &o.payload),
     )?;
-    write_row(out, 2100, NOTHING, "spare", layout.spare)?;
-    writeln!(out, "</text>")
+    write_empty(sheet, "spare", layout.spare)
 }
 
-/// Appends whether the opener is compatible, and the memory of a port.
+/// Draws how many elements there are, the memory of a port, and whether the opener is compatible.
 fn write_notes(
-    out: &mut String,
+    sheet: &mut Sheet,
     segment: Segment<'_>,
     layout: &MessageLayout,
 ) -> Result<(), AllocError> {
-    let elements = layout.elements;
-    let element = layout.element;
-    write!(
-        out,
-        "<text x=\"200\" y=\"2480\">{elements} elements of {element} bytes; "
-    )?;
-    write_memory(out, segment, layout)?;
-    writeln!(out, "</text>")?;
+    let elements = Counted::new(layout.elements, "element");
+    let size = Counted::new(layout.element, "byte");
+    let apart = drawn_apart(layout);
+    sheet.skip(60);
+    let mut text = format!(in sheet.alloc(); "{elements} of {size}")?;
+    if 0 < apart && apart < layout.elements {
+        let others = layout.elements - apart;
+        write!(text, ": {apart} one by one, and {others} more")?;
+    }
+    sheet.write_lines(NOTE, text.as_str())?;
+    let mut text = String::new(sheet.alloc());
+    write_memory(&mut text, segment, layout)?;
+    sheet.write_lines(NOTE, text.as_str())?;
     match opener_sentence(segment.message) {
-        Some(sentence) => writeln!(out, "<text x=\"200\" y=\"2700\">{sentence}</text>"),
+        Some(sentence) => sheet.write_lines(NOTE, sentence),
         None => Ok(()),
     }
 }

@@ -1,9 +1,0 @@
-use Rattle.std.proofs.Common.{◌++◌, codes, refl}
-use Rattle.service_drawing.specs.Streams.{expected}
-use Rattle.service_drawing.proofs.Writes.{appends_then}
-use Rattle.service_drawing.proofs.streams.write_bad_line.Goals as goal
-
-pub returns : goal.returns
-returns g c =
-    appends_then _ _ _ (codes "bad line " ++ c.as_bytes.result.now) (expected c.args.prefix.now c.args.form.now) _ c.write_expected.result
-    c.in_ok-write_both.ensures c.write_expected.ensures (rw (c.as_bytes.ensures.value, c.format.ensures.text) refl)

@@ -1,0 +1,58 @@
+-- What the program's arguments ask for.
+use Rattle.std.specs.Prelude.{◌≡◌, ◌≢◌, List, [], ◌∷◌, ℕ, codes, map, drop, Result, Ok, Err, String, string_bytes}
+use Rattle.std.specs.IoError.{error_kind}
+use Rattle.std.specs.Vec.Iter.{into_iter_items}
+use Rattle.std.specs.declared.alloc.Global.{Global}
+use Rattle.std.specs.declared.vec.IntoIter.{IntoIter}
+use Rattle.std.specs.declared.io.Error.{Error}
+use Rattle.std.specs.declared.io.ErrorKind.TheVariants.{OutOfMemory}
+use Rattle.service_drawing.specs.declared.arguments.Asked.{Asked}
+use Rattle.service_drawing.specs.declared.arguments.Asked.TheVariants.{Drawing, Help, Version}
+use Rattle.service_drawing.specs.declared.arguments.Form.TheVariants.{Text, Svg}
+use Rattle.service_drawing.specs.declared.arguments.TheConstants.{HELP, VERSION}
+use Rattle.service_drawing.specs.declared.fault.Fault.{Fault}
+use Rattle.service_drawing.specs.declared.fault.Fault.TheVariants.{BadArgument, BadLine, NoMemory}
+
+-- the arguments
+abbrev pub words_of : IntoIter (String Global) Global → List (List ℕ)
+words_of words = map string_bytes (into_iter_items words)
+
+-- the words ask for nothing that there is
+abbrev pub IsNoRequest : List (List ℕ) → Type 0
+IsNoRequest words =
+    (words ≢ []) × (words ≢ codes "svg" ∷ []) × (words ≢ codes "--help" ∷ [])
+    × (words ≢ codes "--version" ∷ [])
+
+-- what the words after the program's name ask for
+abbrev pub Asks : List (List ℕ) → Result Asked Fault → Type 0
+Asks words (Ok (Drawing Text)) = words ≡ []
+Asks words (Ok (Drawing Svg)) = words ≡ codes "svg" ∷ []
+Asks words (Ok Help) = words ≡ codes "--help" ∷ []
+Asks words (Ok Version) = words ≡ codes "--version" ∷ []
+Asks words (Err BadArgument) = IsNoRequest words
+Asks words (Err NoMemory) = ⊥
+Asks words (Err (BadLine line cause prefix form)) = ⊥
+
+-- what the arguments ask for: where they could not be had, there is no memory or they are bad
+abbrev pub AsksFor : Result (IntoIter (String Global) Global) Error → Result Asked Fault → Type 0
+AsksFor (Ok words) asked = Asks (drop 1 (words_of words)) asked
+AsksFor (Err why) (Err NoMemory) = error_kind why ≡ OutOfMemory
+AsksFor (Err why) (Err BadArgument) = error_kind why ≢ OutOfMemory
+AsksFor (Err why) other = ⊥
+
+-- a drawing is asked for
+abbrev pub IsDrawing : Result Asked Fault → Type 0
+IsDrawing (Ok (Drawing form)) = Unit {0}
+IsDrawing asked = ⊥
+
+-- this text, or there is no memory for it
+abbrev pub IsTextOrNoMemory : List ℕ → Result (String Global) Fault → Type 0
+IsTextOrNoMemory text (Ok copy) = string_bytes copy ≡ text
+IsTextOrNoMemory text (Err fault) = fault ≡ NoMemory
+
+-- what is answered: a drawing or why there is none, or the text that was asked for unless there is no memory for it
+abbrev pub Answers : Result Asked Fault → Result (String Global) Fault → Type 0
+Answers (Err fault) end = end ≡ Err fault
+Answers (Ok (Drawing form)) end = Unit {0}
+Answers (Ok Help) end = IsTextOrNoMemory HELP.now end
+Answers (Ok Version) end = IsTextOrNoMemory VERSION.now end

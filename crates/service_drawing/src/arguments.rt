@@ -1,0 +1,78 @@
+//! What the program's arguments ask for.
+ghost use Rattle.std.specs.Prelude.{drop};
+ghost use Rattle.service_drawing.specs.Arguments.{Asks, AsksFor, words_of};
+
+use crate::fault::Fault;
+use std::env::Args;
+use std::io;
+use std::io::ErrorKind;
+
+/// What a description is drawn as.
+#[derive(Clone, Copy)]
+pub(crate) enum Form {
+    /// As text.
+    Text,
+    /// As a picture, an SVG document.
+    Svg,
+}
+
+/// What is asked for.
+#[derive(Clone, Copy)]
+pub(crate) enum Asked {
+    /// To draw the description that is read.
+    Drawing(Form),
+    /// To say how the program is used.
+    Help,
+    /// To say the version.
+    Version,
+}
+
+/// How the program is used.
+pub(crate) const HELP: &str = "usage: iox2-describe [svg | --help | --version] < DESCRIPTION
+
+Reads the description of one service from standard input, and writes what the service is: its
+name, hash text and files, its settings, where the parts of its messages lie, the memory of its
+ports, and its attributes.
+
+  svg        write a picture of the messages, an SVG document
+  --help     write this text and read nothing
+  --version  write the version and read nothing
+
+docs/DESCRIBE.md has the lines of descriptions. The status is 0 after a drawing, 1 after a bad
+argument or line, 2 where memory was refused, 3 where reading or writing failed.
+";
+
+/// The version, that of the iceoryx2 whose layer is drawn.
+pub(crate) const VERSION: &str = "iox2-describe 0.9.3\n";
+
+/// What the arguments, of which the first is the program's name, ask for.
+pub(crate) fn asked_by(arguments: io::Result<Args>) -> Result<Asked, Fault>
+    ensures { AsksFor arguments result }
+{
+    match arguments {
+        Ok(words) => asked_in(words),
+        Err(why) if why.kind() == ErrorKind::OutOfMemory => Err(Fault::NoMemory),
+        Err(_) => Err(Fault::BadArgument),
+    }
+}
+
+/// What the words after the first ask for.
+fn asked_in(words: Args) -> Result<Asked, Fault>
+    ensures { Asks (drop 1 (words_of words)) result }
+{
+    let mut words = words;
+    // The program's name asks for nothing.
+    let _program = words.next();
+    let Some(word) = words.next() else {
+        return Ok(Asked::Drawing(Form::Text));
+    };
+    if words.next().is_some() {
+        return Err(Fault::BadArgument);
+    }
+    match word.as_str() {
+        "svg" => Ok(Asked::Drawing(Form::Svg)),
+        "--help" => Ok(Asked::Help),
+        "--version" => Ok(Asked::Version),
+        _ => Err(Fault::BadArgument),
+    }
+}

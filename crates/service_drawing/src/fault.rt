@@ -1,0 +1,153 @@
+//! Why nothing was drawn, and how it is told.
+ghost use Rattle.std.specs.Prelude.{◌≡◌, ℕ, List, ◌+◌, ◌++◌, ◌==◌, OnOk, count_by};
+ghost use Rattle.std.specs.Io.KnownBytes.{Appends};
+ghost use Rattle.service_drawing.specs.Streams.{expected, cause_text, bad_line_text, fault_text};
+ghost use Rattle.service_drawing.specs.Streams.{TellsBadLine};
+ghost use Rattle.service_drawing.specs.declared.reading.cause.Cause.TheVariants.{ForeignByte};
+
+use crate::reading::Wanted;
+use crate::reading::cause::{Cause, Reason, cause_of};
+use byte_streams::write_whole;
+use itoa::Buffer;
+use std::io;
+use std::io::Write;
+
+/// Why nothing was drawn.
+#[derive(Clone, Copy)]
+pub(crate) enum Fault {
+    /// The arguments are neither none nor one of the words that there are.
+    BadArgument,
+    /// The line of this number is bad for this cause, and a line of this form, after the prefix, was expected. Lines are
+    /// numbered from 1.
+    BadLine {
+        line: usize,
+        cause: Cause,
+        prefix: &'static str,
+        form: &'static str,
+    },
+    /// Memory was refused.
+    NoMemory,
+}
+
+/// The number of the line where what is left begins: 1, and one more for each newline that was read before.
+fn line_number(bytes: &[u8], rest: &[u8]) -> usize
+    ensures { (read : List ℕ) → bytes.now ≡ read ++ rest.now
+        → result ≡ count_by (λ b. b == 10) read + 1 }
+{
+    let read = bytes.len().saturating_sub(rest.len());
+    bytes[..read].iter().filter(|b| **b == b'\n').count() + 1
+}
+
+/// The fault of a line in whose place something else was expected.
+pub(crate) fn bad_line(bytes: &[u8], wanted: Wanted<'_>) -> Fault
+    ensures { TellsBadLine bytes.now wanted.entry result }
+{
+    Fault::BadLine {
+        line: line_number(bytes, wanted.rest),
+        cause: cause_of(wanted.rest, wanted.reason),
+        prefix: wanted.prefix,
+        form: wanted.form,
+    }
+}
+
+/// Writes one after the other.
+fn write_both<W: Write>(writer: &mut W, first: &[u8], second: &[u8]) -> io::Result<()>
+    ensures { OnOk result
+        (Appends (W.contents writer.old) (W.contents writer.new) (first.now ++ second.now)) }
+{
+    write_whole(writer, first)?;
+    write_whole(writer, second)
+}
+
+/// Writes what was expected in the place of a bad line, and a newline.
+fn write_expected<E: Write>(errors: &mut E, prefix: &str, form: &str) -> io::Result<()>
+    ensures { OnOk result
+        (Appends (E.contents errors.old) (E.contents errors.new) (expected prefix.now form.now)) }
+{
+    write_both(errors, b"expected ", prefix.as_bytes())?;
+    write_both(errors, form.as_bytes(), b"\n")
+}
+
+/// Writes why a line is bad.
+fn write_cause<E: Write>(errors: &mut E, cause: Cause) -> io::Result<()>
+    ensures { OnOk result
+        (Appends (E.contents errors.old) (E.contents errors.new) (cause_text cause)) }
+{
+    match cause {
+        Cause::NoNewline => write_whole(errors, b": no newline ends it; "),
+        Cause::CarriageReturn => write_whole(
+            errors,
+            b": it ends in a carriage return and a newline, and not in a newline alone; ",
+        ),
+        Cause::ForeignByte(byte) => write_byte(errors, byte),
+        Cause::TwoSpaces => write_whole(errors, b": two spaces stand where one separates words; "),
+        Cause::Read(Reason::InternalName) => write_whole(
+            errors,
+            b": names that begin with iox2:// are those of internal services; ",
+        ),
+        Cause::Read(Reason::UnknownSetting) => {
+            write_whole(errors, b": the pattern has no such setting; ")
+        }
+        Cause::Read(Reason::SetTwice) => write_whole(errors, b": the setting was set before; "),
+        Cause::Read(Reason::OtherForm) => write_whole(errors, b": "),
+    }
+}
+
+/// Writes that a line holds this byte.
+fn write_byte<E: Write>(errors: &mut E, byte: u8) -> io::Result<()>
+    ensures { OnOk result (Appends (E.contents errors.old) (E.contents errors.new)
+        (cause_text (ForeignByte byte))) }
+{
+    let mut digits = Buffer::new();
+    write_both(
+        errors,
+        b": it holds the byte ",
+        digits.format(byte).as_bytes(),
+    )?;
+    write_whole(errors, b", and a line holds bytes from 32 to 126; ")
+}
+
+/// Writes the line that tells of a bad line.
+fn write_bad_line<E: Write>(
+    errors: &mut E,
+    line: usize,
+    cause: Cause,
+    prefix: &str,
+    form: &str,
+) -> io::Result<()>
+    ensures { OnOk result (Appends (E.contents errors.old) (E.contents errors.new)
+        (bad_line_text line cause prefix.now form.now)) }
+{
+    let mut digits = Buffer::new();
+    write_both(errors, b"bad line ", digits.format(line).as_bytes())?;
+    write_reason(errors, cause, prefix, form)
+}
+
+/// Writes why a line is bad, and what was expected.
+fn write_reason<E: Write>(errors: &mut E, cause: Cause, prefix: &str, form: &str) -> io::Result<()>
+    ensures { OnOk result (Appends (E.contents errors.old) (E.contents errors.new)
+        (cause_text cause ++ expected prefix.now form.now)) }
+{
+    write_cause(errors, cause)?;
+    write_expected(errors, prefix, form)
+}
+
+/// Writes the line that tells why nothing was drawn.
+pub(crate) fn write_fault<E: Write>(errors: &mut E, fault: &Fault) -> io::Result<()>
+    ensures { OnOk result
+        (Appends (E.contents errors.old) (E.contents errors.new) (fault_text fault.now)) }
+{
+    match fault {
+        Fault::BadLine {
+            line,
+            cause,
+            prefix,
+            form,
+        } => write_bad_line(errors, *line, *cause, prefix, form),
+        Fault::BadArgument => write_whole(
+            errors,
+            b"bad argument: expected svg, --help, --version, or no argument\n",
+        ),
+        Fault::NoMemory => write_whole(errors, b"no memory\n"),
+    }
+}

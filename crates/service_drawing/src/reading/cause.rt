@@ -1,0 +1,104 @@
+//! Why a line is bad.
+ghost use Rattle.std.specs.Prelude.{◌≡◌, ◌==◌, ◌↔◌, ◌≤◌, length, not, IsTrue, MatchOption};
+ghost use Rattle.std.specs.List.{find, position};
+ghost use Rattle.service_drawing.specs.Causes.{line_of, is_plain, HasTwoSpaces, IsMisspelled};
+ghost use Rattle.service_drawing.specs.Causes.{IsSpelled, IsCause};
+
+/// What was found out where a line was read.
+#[derive(Clone, Copy, PartialEq, Eq)]
+pub(crate) enum Reason {
+    /// The service has a name as those of the system itself.
+    InternalName,
+    /// No setting of the pattern has the name.
+    UnknownSetting,
+    /// An earlier line has set the setting.
+    SetTwice,
+    /// A line of another form was expected.
+    OtherForm,
+}
+
+/// Why a line is bad.
+#[derive(Clone, Copy)]
+pub(crate) enum Cause {
+    /// No newline ends it.
+    NoNewline,
+    /// A carriage return stands before its newline.
+    CarriageReturn,
+    /// It holds this byte, which is not from 32 to 126.
+    ForeignByte(u8),
+    /// One space follows another.
+    TwoSpaces,
+    /// It is a line, but another one was expected.
+    Read(Reason),
+}
+
+/// Where the first newline stands.
+fn newline_at(bytes: &[u8]) -> Option<usize>
+    ensures { result ≡ position (λ b. b == 10) bytes.now }
+{
+    bytes.iter().position(|b| *b == b'\n')
+}
+
+/// What stands before the first newline.
+fn first_line(bytes: &[u8]) -> &[u8]
+    ensures value { result.now ≡ line_of bytes.now }
+    ensures shorter { length result.now ≤ length bytes.now }
+    ensures whole { length result.now ≡ length bytes.now → result.now ≡ bytes.now }
+{
+    match newline_at(bytes) {
+        Some(end) => &bytes[..end],
+        None => bytes,
+    }
+}
+
+/// The first byte that is not from 32 to 126.
+fn foreign_byte(line: &[u8]) -> Option<u8>
+    ensures { result ≡ find (λ b. not (is_plain b)) line.now }
+{
+    line.iter().copied().find(|b| !(b' ' <= *b && *b <= b'~'))
+}
+
+/// Whether one space follows another.
+fn has_two_spaces(line: &[u8]) -> bool
+    ensures { IsTrue result ↔ HasTwoSpaces line.now }
+{
+    for i in 1..line.len() {
+        if line[i - 1] == b' ' && line[i] == b' ' {
+            return true;
+        }
+    }
+    false
+}
+
+/// Why what is left does not begin with a line, whatever that should say.
+fn misspelling(bytes: &[u8]) -> Option<Cause>
+    ensures { MatchOption result (IsSpelled bytes.now) (λ cause. IsMisspelled bytes.now cause) }
+{
+    if bytes.is_empty() {
+        return None;
+    }
+    let line = first_line(bytes);
+    if line.len() == bytes.len() {
+        return Some(Cause::NoNewline);
+    }
+    if line.ends_with(b"\r") {
+        return Some(Cause::CarriageReturn);
+    }
+    match foreign_byte(line) {
+        Some(byte) => Some(Cause::ForeignByte(byte)),
+        None => None,
+    }
+}
+
+/// Why the line is bad with which what is left begins: first because it is none, then because its service has an internal
+/// name, then because of two spaces, and then for what else was found out.
+pub(crate) fn cause_of(bytes: &[u8], reason: Reason) -> Cause
+    ensures { IsCause bytes.now reason result }
+{
+    match misspelling(bytes) {
+        Some(cause) => cause,
+        None if reason == Reason::InternalName => Cause::Read(reason),
+        None if has_two_spaces(first_line(bytes)) => Cause::TwoSpaces,
+        None => Cause::Read(reason),
+    }
+}
