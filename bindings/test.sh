@@ -6,8 +6,6 @@ cd "$(dirname "$0")"
 work=$(mktemp -d)
 trap 'rm -rf "$work"' EXIT
 passed=0 failed=0
-archive=out/libiox2_ffi.a
-
 has() { command -v "$1" > "$work/which" 2>&1 || { echo "not found: $1"; return 1; }; }
 
 run() {
@@ -25,19 +23,35 @@ run() {
 
 leaks() { valgrind --quiet --leak-check=full --show-leak-kinds=all --error-exitcode=9 "$@"; }
 
-# compiler, language, source
+# compiler, library, source, standard and further options
 caller() {
     has "$1" || return 0
-    local program=$work/$1
-    run "$1 compiles" "$1" "${@:3}" -Wall -Wextra -Wpedantic -Werror -O2 -I../include "$2" "$archive" -o "$program"
-    run "$1 runs" "$program"
-    if has valgrind; then run "$1 under valgrind" leaks "$program"; fi
+    local name="$1 $3" program=$work/caller
+    run "$name compiles" "$1" "${@:4}" -Wall -Wextra -Wpedantic -Werror -O2 -I../include "$3" "out/lib$2.a" -pthread -o "$program"
+    run "$name runs" "$program"
+    if has valgrind; then run "$name under valgrind" leaks "$program"; fi
 }
 
-caller gcc c/test.c -std=c99
-caller clang c/test.c -std=c99
-caller g++ c/test.cpp -std=c++11
-caller clang++ c/test.cpp -std=c++11
+# The names that a library exports, from outside.
+exported() { nm "$@" | awk 'NF == 3 { print $3 }' | sort -u; }
+
+same_exports() {
+    exported -g --defined-only out/libiox2sd.a > "$work/archive"
+    exported -D --defined-only out/libiox2sd.so.0 > "$work/shared"
+    [ -s "$work/archive" ] && ! grep -v '^iox2sd_' "$work/archive" && diff "$work/archive" "$work/shared"
+}
+
+caller gcc iox2_ffi c/test.c -std=c99
+caller clang iox2_ffi c/test.c -std=c99
+caller g++ iox2_ffi c/test.cpp -std=c++11
+caller clang++ iox2_ffi c/test.cpp -std=c++11
+for compiler in gcc clang; do
+    caller "$compiler" iox2sd c/test_service.c -std=c99 -D_GNU_SOURCE
+    caller "$compiler" iox2sd c/test_values.c -std=c99
+done
+caller g++ iox2sd c/test_values.cpp -std=c++11
+caller clang++ iox2sd c/test_values.cpp -std=c++11
+if has nm; then run "libiox2sd exports iox2sd_* alone" same_exports; fi
 if has cargo; then
     run "cargo test" env CARGO_TARGET_DIR="$work/rust" cargo test --quiet --offline --manifest-path rust/Cargo.toml
 fi

@@ -63,11 +63,11 @@ class NoService(Error):
 
 
 class UnknownPattern(Error, ValueError):
-    """The number is none of a messaging pattern."""
+    """The number is not that of a messaging pattern."""
 
 
 class UnknownVariant(Error, ValueError):
-    """The number is none of a variant."""
+    """The number is not that of a variant."""
 
 
 class AlignmentNotPowerOfTwo(Error, ValueError):

@@ -98,7 +98,7 @@ impl MessageTypeDetails<'_> {
     /// Whether an opener with these details may use the messages of a service with the details `service`: the headers
     /// are equal, and user headers and payloads are equal but for alignments, which are at most those of the service.
     ///
-    /// Refused are details with a name or an alignment that is none.
+    /// Refused are details with an invalid name or alignment.
     pub fn is_compatible_to(&self, service: &MessageTypeDetails<'_>) -> Result<bool, Error> {
         // SAFETY: as in `sample_layout`.
         match unsafe { sys::iox2_message_compatible(&self.lent(), &service.lent()) } {

@@ -60,7 +60,7 @@ fn read_part(part: &Part<'_>) -> Result<TypeDetail, Status>
     }
 }
 
-/// The types of all parts, or why the first part that is none has none.
+/// The types of all parts, or why the first invalid part has none.
 pub(super) fn read_details(details: &Details<'_>) -> Result<MessageTypeDetails, Status>
     ensures { ReadsDetails details.now result }
 {

@@ -100,7 +100,7 @@ pub extern "C" fn iox2_message_places(details: &Details<'_>, header: usize) -> P
 /// service.
 ///
 /// Refused are an opener that may not (`Incompatible`), and before that details that are none, the opener's first, and of
-/// these the first part that is none, for the first of its causes: a number that is none of a variant
+/// these the first invalid part, for the first of its causes: a number that is not that of a variant
 /// (`UnknownVariant`), a name that is no UTF-8 (`NotUtf8`), has more than 256 bytes (`TooLong`) or a byte that is not from 1
 /// to 127 (`InvalidContent`), an alignment that is no power of two (`BadAlignment`).
 #[unsafe(no_mangle)]

@@ -85,7 +85,7 @@ fn settings_of(pattern: u32, first: usize, second: usize) -> Option<MessagingPat
 /// are the room for the ports of its pattern, those that are recovered first (publishers, listeners, servers, readers)
 /// before the others.
 ///
-/// Refused are a handle that holds a service already, which stays (`HasService`), then a number that is none of a pattern
+/// Refused are a handle that holds a service already, which stays (`HasService`), then a number that is not that of a pattern
 /// (`UnknownPattern`), and then want of memory (`NoMemory`).
 #[unsafe(no_mangle)]
 pub extern "C" fn iox2_service_make(

@@ -27,9 +27,9 @@ pub enum Status {
     NoService = 7,
     /// The handle holds a service already.
     HasService = 8,
-    /// The number is none of a messaging pattern.
+    /// The number is not that of a messaging pattern.
     UnknownPattern = 9,
-    /// The number is none of a variant.
+    /// The number is not that of a variant.
     UnknownVariant = 10,
     /// An alignment is no power of two.
     BadAlignment = 11,

@@ -97,7 +97,7 @@ fn hash_of(pattern: u32, name: &[u8]) -> Result<ServiceHash, Status>
 
 /// Writes the hash text of a service's pattern and name, by SHA-1: 27 bytes.
 ///
-/// Refused are a number that is none of a pattern (`UnknownPattern`), and then a name that `iox2_service_name_check`
+/// Refused are a number that is not that of a pattern (`UnknownPattern`), and then a name that `iox2_service_name_check`
 /// refuses, for the same cause.
 #[unsafe(no_mangle)]
 pub extern "C" fn iox2_hash_text(pattern: u32, name: &[u8], out: &mut [u8]) -> TextAnswer

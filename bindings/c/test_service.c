@@ -1,0 +1,479 @@
+/* Calls each function of iox2sd.h on services, ids and statuses, and each of their refusals, with unequal values in all places.
+ * Compiled as C99 and linked with libiox2sd.a and -pthread. The last line is 'N checks, N failed'. */
+#include "iox2sd.h"
+
+#include <malloc.h>
+#include <pthread.h>
+#include <stdio.h>
+#include <string.h>
+
+static int checks, failed;
+
+static void check(bool holds, int line, const char *what) {
+    checks++;
+    if (!holds) {
+        failed++;
+        printf("line %d: %s\n", line, what);
+    }
+}
+
+#define CHECK(condition) check(condition, __LINE__, #condition)
+
+static bool same_text(const uint8_t *out, iox2sd_text_answer answer, const char *wanted) {
+    return answer.status == IOX2SD_DONE && answer.length == strlen(wanted) && memcmp(out, wanted, answer.length) == 0;
+}
+
+static iox2sd_id id(uint32_t process, uint32_t seconds, uint32_t nanoseconds, uint32_t counter) {
+    iox2sd_id made;
+    made.process = process;
+    made.seconds = seconds;
+    made.nanoseconds = nanoseconds;
+    made.counter = counter;
+    return made;
+}
+
+static bool same_id(iox2sd_id a, iox2sd_id b) { return memcmp(&a, &b, sizeof a) == 0; }
+
+static iox2sd_handle handle(uint64_t service, uint64_t role, size_t slot, uint64_t ticket) {
+    iox2sd_handle made;
+    made.service = service;
+    made.role = role;
+    made.slot = slot;
+    made.ticket = ticket;
+    return made;
+}
+
+static bool same_handle(iox2sd_handle a, iox2sd_handle b) { return memcmp(&a, &b, sizeof a) == 0; }
+
+static bool gives(iox2sd_handle_answer answer, iox2sd_handle wanted) {
+    return answer.status == IOX2SD_DONE && same_handle(answer.handle, wanted);
+}
+
+static bool refuses(iox2sd_handle_answer answer, uint32_t status) {
+    return answer.status == status && same_handle(answer.handle, handle(0, 0, 0, 0));
+}
+
+static bool counts(iox2sd_count_answer answer, uint32_t status, size_t count) {
+    return answer.status == status && answer.count == count;
+}
+
+static bool tells(iox2sd_number_answer answer, uint32_t status, uint64_t number) {
+    return answer.status == status && answer.number == number;
+}
+
+static bool says(iox2sd_flag_answer answer, uint32_t status, bool yes) {
+    return answer.status == status && answer.yes == yes;
+}
+
+static bool finds(iox2sd_id_answer answer, uint32_t status, iox2sd_id wanted) {
+    return answer.status == status && memcmp(&answer.id, &wanted, sizeof wanted) == 0;
+}
+
+static bool went(iox2sd_death_answer answer, uint32_t status, size_t first, size_t second) {
+    return answer.status == status && answer.first == first && answer.second == second;
+}
+
+static iox2sd_capacities capacities(size_t nodes, size_t first, size_t second) {
+    iox2sd_capacities made;
+    made.nodes = nodes;
+    made.first = first;
+    made.second = second;
+    return made;
+}
+
+static iox2sd_port port(uint64_t role, iox2sd_id its, iox2sd_id node) {
+    iox2sd_port made;
+    memset(&made, 0, sizeof made);
+    made.role = role;
+    made.port = its;
+    made.node = node;
+    return made;
+}
+
+static bool same_port(const iox2sd_port *a, const iox2sd_port *b) {
+    return a->role == b->role && same_id(a->port, b->port) && same_id(a->node, b->node) &&
+           a->number_of_samples == b->number_of_samples && a->buffer_size == b->buffer_size &&
+           a->request_buffer_size == b->request_buffer_size && a->number_of_responses == b->number_of_responses &&
+           a->number_of_requests == b->number_of_requests && a->response_buffer_size == b->response_buffer_size &&
+           a->max_slice_len == b->max_slice_len && a->data_segment == b->data_segment &&
+           a->max_number_of_segments == b->max_number_of_segments;
+}
+
+static void statuses(void) {
+    static const uint32_t known[] = {0, 1, 2, 3, 4, 5, 6, 7, 8, 9, 10, 11, 12, 13, 14, 15, 20, 21};
+    uint8_t out[64], before[64];
+    for (size_t i = 0; i < sizeof known / sizeof *known; i++) {
+        iox2sd_text_answer needed = iox2sd_status_text(known[i], NULL, 0);
+        CHECK(needed.status == IOX2SD_BUFFER_TOO_SHORT && 0 < needed.length && needed.length <= sizeof out);
+        memset(out, 7, sizeof out);
+        memcpy(before, out, sizeof out);
+        CHECK(iox2sd_status_text(known[i], out, needed.length - 1).status == IOX2SD_BUFFER_TOO_SHORT);
+        CHECK(memcmp(out, before, sizeof out) == 0);
+        CHECK(iox2sd_status_text(known[i], out, needed.length).status == IOX2SD_DONE);
+        CHECK(needed.length == sizeof out || out[needed.length] == 7);
+    }
+    CHECK(same_text(out, iox2sd_status_text(IOX2SD_DONE, out, sizeof out), "done"));
+    CHECK(same_text(out, iox2sd_status_text(IOX2SD_OUT_OF_SPACE, out, sizeof out), "no place or no ticket is left"));
+    CHECK(same_text(out, iox2sd_status_text(IOX2SD_NULL, out, sizeof out), "NULL"));
+    iox2sd_text_answer unknown = iox2sd_status_text(UINT32_MAX, out, sizeof out);
+    CHECK(unknown.status == IOX2SD_UNKNOWN_STATUS && unknown.length == 0);
+    CHECK(iox2sd_abi() == IOX2SD_ABI);
+}
+
+static void ids(void) {
+    iox2sd_id a = id(1, 2, 3, 4), most = id(UINT32_MAX, UINT32_MAX, UINT32_MAX, UINT32_MAX);
+    uint8_t out[33];
+    CHECK(iox2sd_id_is_node(a) && iox2sd_id_is_node(id(1, 0, 0, 0)) && iox2sd_id_is_node(id(0, 0, 0, 1)));
+    CHECK(!iox2sd_id_is_node(id(0, 5, 6, 0)));
+    CHECK(iox2sd_id_owner(a) == 0x100000004u && iox2sd_id_owner(id(0, 5, 6, 0)) == 0);
+    CHECK(iox2sd_id_owner(most) == UINT64_MAX);
+    CHECK(iox2sd_id_is_before(a, id(2, 0, 0, 0)) && !iox2sd_id_is_before(id(2, 0, 0, 0), a));
+    CHECK(iox2sd_id_is_before(a, id(1, 3, 0, 0)) && iox2sd_id_is_before(a, id(1, 2, 4, 0)));
+    CHECK(iox2sd_id_is_before(a, id(1, 2, 3, 5)) && !iox2sd_id_is_before(a, a));
+    CHECK(same_text(out, iox2sd_id_text(a, out, sizeof out), "1000000020000000300000004"));
+    CHECK(same_text(out, iox2sd_id_text(most, out, 32), "ffffffffffffffffffffffffffffffff"));
+    memset(out, 7, sizeof out);
+    iox2sd_text_answer shorter = iox2sd_id_text(most, out, 31);
+    CHECK(shorter.status == IOX2SD_BUFFER_TOO_SHORT && shorter.length == 32 && out[0] == 7 && out[30] == 7);
+    CHECK(same_text(out, iox2sd_id_text(id(0, 0, 0, 0), out, 1), "0"));
+}
+
+static void null_and_empty_places(void) {
+    iox2sd_service none = IOX2SD_SERVICE_NONE;
+    iox2sd_id node = id(1, 2, 3, 4);
+    iox2sd_handle some = handle(5, 0, 6, 7);
+    iox2sd_port its = port(IOX2SD_PUBLISHER, id(9, 9, 9, 9), node);
+    CHECK(iox2sd_service_make(NULL, IOX2SD_EVENT, 5, capacities(2, 3, 4), 9) == IOX2SD_NULL);
+    CHECK(iox2sd_service_free(NULL) == IOX2SD_NULL);
+    CHECK(refuses(iox2sd_register(NULL, node), IOX2SD_NULL));
+    CHECK(iox2sd_deregister(NULL, some) == IOX2SD_NULL);
+    CHECK(refuses(iox2sd_attach(NULL, &its), IOX2SD_NULL));
+    CHECK(refuses(iox2sd_attach(&none, NULL), IOX2SD_NULL));
+    CHECK(refuses(iox2sd_attach(NULL, NULL), IOX2SD_NULL));
+    CHECK(iox2sd_release(NULL, some) == IOX2SD_NULL);
+    CHECK(went(iox2sd_dead(NULL, node, NULL, 0), IOX2SD_NULL, 0, 0));
+    CHECK(went(iox2sd_dead(&none, node, NULL, 1), IOX2SD_NULL, 0, 0));
+    CHECK(counts(iox2sd_ports(NULL, IOX2SD_PUBLISHER, NULL, 0), IOX2SD_NULL, 0));
+    CHECK(counts(iox2sd_ports(&none, IOX2SD_PUBLISHER, NULL, 1), IOX2SD_NULL, 0));
+    iox2sd_service *places[] = {NULL, &none};
+    uint32_t wanted[] = {IOX2SD_NULL, IOX2SD_NO_SERVICE};
+    for (size_t i = 0; i < 2; i++) {
+        CHECK(tells(iox2sd_pattern(places[i]), wanted[i], 0));
+        CHECK(tells(iox2sd_service_number(places[i]), wanted[i], 0));
+        iox2sd_roles_answer roles = iox2sd_roles(places[i]);
+        CHECK(roles.status == wanted[i] && roles.first == 0 && roles.second == 0);
+        CHECK(says(iox2sd_has_role(places[i], 99), wanted[i], false));
+        CHECK(says(iox2sd_is_locked(places[i]), wanted[i], false));
+        CHECK(counts(iox2sd_number_of_nodes(places[i]), wanted[i], 0));
+        CHECK(counts(iox2sd_max_nodes(places[i]), wanted[i], 0));
+        CHECK(says(iox2sd_has_room_for_node(places[i]), wanted[i], false));
+        CHECK(counts(iox2sd_count_ports(places[i], 99), wanted[i], 0));
+        CHECK(counts(iox2sd_max_ports(places[i], 99), wanted[i], 0));
+        CHECK(says(iox2sd_has_room(places[i], 99), wanted[i], false));
+        CHECK(finds(iox2sd_find_node(places[i], handle(5, 99, 6, 7)), wanted[i], id(0, 0, 0, 0)));
+        iox2sd_port_answer found = iox2sd_find_port(places[i], handle(5, 99, 6, 7));
+        iox2sd_port zero = port(0, id(0, 0, 0, 0), id(0, 0, 0, 0));
+        CHECK(found.status == wanted[i] && same_port(&found.port, &zero));
+        CHECK(counts(iox2sd_nodes(places[i], NULL, 0), wanted[i], 0));
+    }
+    CHECK(counts(iox2sd_nodes(&none, NULL, 1), IOX2SD_NULL, 0));
+    CHECK(iox2sd_service_free(&none) == IOX2SD_NO_SERVICE);
+    CHECK(refuses(iox2sd_register(&none, id(0, 1, 1, 0)), IOX2SD_NO_SERVICE));
+    CHECK(iox2sd_deregister(&none, handle(5, 99, 6, 7)) == IOX2SD_NO_SERVICE);
+    CHECK(refuses(iox2sd_attach(&none, &its), IOX2SD_NO_SERVICE));
+    CHECK(iox2sd_release(&none, some) == IOX2SD_NO_SERVICE);
+    CHECK(went(iox2sd_dead(&none, id(0, 1, 1, 0), NULL, 0), IOX2SD_NO_SERVICE, 0, 0));
+    CHECK(counts(iox2sd_ports(&none, 99, &its, 1), IOX2SD_NO_SERVICE, 0));
+}
+
+static void making(void) {
+    iox2sd_service service = IOX2SD_SERVICE_NONE;
+    CHECK(iox2sd_service_make(&service, 4, 5, capacities(SIZE_MAX, 3, 4), 9) == IOX2SD_UNKNOWN_PATTERN);
+    CHECK(iox2sd_service_make(&service, IOX2SD_EVENT, 5, capacities(SIZE_MAX, 3, 4), 9) == IOX2SD_NO_MEMORY);
+    CHECK(iox2sd_service_make(&service, IOX2SD_EVENT, 5, capacities(2, SIZE_MAX, 4), 9) == IOX2SD_NO_MEMORY);
+    CHECK(iox2sd_service_make(&service, IOX2SD_EVENT, 5, capacities(2, 3, SIZE_MAX), 9) == IOX2SD_NO_MEMORY);
+    CHECK(iox2sd_service_free(&service) == IOX2SD_NO_SERVICE);
+    CHECK(iox2sd_service_make(&service, IOX2SD_EVENT, 5, capacities(2, 3, 4), 9) == IOX2SD_DONE);
+    CHECK(iox2sd_service_make(&service, 4, 6, capacities(1, 1, 1), 1) == IOX2SD_HAS_SERVICE);
+    CHECK(gives(iox2sd_register(&service, id(1, 2, 3, 4)), handle(5, IOX2SD_NODE, 0, 0)));
+    CHECK(iox2sd_service_free(&service) == IOX2SD_DONE);
+    CHECK(iox2sd_service_free(&service) == IOX2SD_NO_SERVICE);
+}
+
+static void nodes(void) {
+    iox2sd_service service = IOX2SD_SERVICE_NONE;
+    iox2sd_id a = id(1, 2, 3, 4), b = id(5, 6, 7, 8);
+    iox2sd_service_make(&service, IOX2SD_BLACKBOARD, 77, capacities(2, 3, 4), 3);
+    CHECK(refuses(iox2sd_register(&service, id(0, 6, 7, 0)), IOX2SD_NO_NODE));
+    CHECK(gives(iox2sd_register(&service, a), handle(77, IOX2SD_NODE, 0, 0)));
+    CHECK(gives(iox2sd_register(&service, b), handle(77, IOX2SD_NODE, 1, 1)));
+    CHECK(refuses(iox2sd_register(&service, b), IOX2SD_OUT_OF_SPACE));
+    CHECK(iox2sd_deregister(&service, handle(77, 9, 0, 0)) == IOX2SD_UNKNOWN_ROLE);
+    CHECK(iox2sd_deregister(&service, handle(77, UINT64_C(1) << 32, 0, 0)) == IOX2SD_UNKNOWN_ROLE);
+    CHECK(iox2sd_deregister(&service, handle(78, IOX2SD_NODE, 0, 0)) == IOX2SD_FOREIGN_HANDLE);
+    CHECK(iox2sd_deregister(&service, handle(77, IOX2SD_READER, 0, 0)) == IOX2SD_FOREIGN_HANDLE);
+    CHECK(iox2sd_deregister(&service, handle(77, IOX2SD_NODE, 1, 0)) == IOX2SD_FOREIGN_HANDLE);
+    CHECK(iox2sd_deregister(&service, handle(77, IOX2SD_NODE, 0, 1)) == IOX2SD_FOREIGN_HANDLE);
+    CHECK(iox2sd_deregister(&service, handle(77, IOX2SD_NODE, 0, 0)) == IOX2SD_DONE);
+    CHECK(gives(iox2sd_register(&service, a), handle(77, IOX2SD_NODE, 0, 2)));
+    CHECK(iox2sd_deregister(&service, handle(77, IOX2SD_NODE, 1, 1)) == IOX2SD_DONE);
+    CHECK(refuses(iox2sd_register(&service, b), IOX2SD_OUT_OF_SPACE)); /* no ticket is left */
+    CHECK(iox2sd_deregister(&service, handle(77, IOX2SD_NODE, 0, 2)) == IOX2SD_DONE_LOCKED);
+    CHECK(refuses(iox2sd_register(&service, id(0, 6, 7, 0)), IOX2SD_NO_NODE));
+    CHECK(refuses(iox2sd_register(&service, b), IOX2SD_IS_LOCKED));
+    iox2sd_service_free(&service);
+}
+
+/* A port of each kind, with a value of its own in each field, those that its kind does not have too. */
+static iox2sd_port full(uint64_t role, uint32_t counter, iox2sd_id node) {
+    iox2sd_port made = port(role, id(11, 12, 13, counter), node);
+    made.number_of_samples = 101;
+    made.buffer_size = 102;
+    made.request_buffer_size = 103;
+    made.number_of_responses = 104;
+    made.number_of_requests = 105;
+    made.response_buffer_size = 106;
+    made.max_slice_len = 107;
+    made.data_segment = IOX2SD_STATIC_SEGMENT;
+    made.max_number_of_segments = 108;
+    return made;
+}
+
+/* What is told of it. */
+static iox2sd_port told(uint64_t role, uint32_t counter, iox2sd_id node) {
+    iox2sd_port made = port(role, id(11, 12, 13, counter), node);
+    bool sends = role == IOX2SD_PUBLISHER || role == IOX2SD_SERVER || role == IOX2SD_CLIENT;
+    if (role == IOX2SD_PUBLISHER) made.number_of_samples = 101;
+    if (role == IOX2SD_SUBSCRIBER) made.buffer_size = 102;
+    if (role == IOX2SD_SERVER) made.request_buffer_size = 103;
+    if (role == IOX2SD_SERVER) made.number_of_responses = 104;
+    if (role == IOX2SD_CLIENT) made.number_of_requests = 105;
+    if (role == IOX2SD_CLIENT) made.response_buffer_size = 106;
+    if (sends) made.max_slice_len = 107;
+    if (sends) made.data_segment = IOX2SD_STATIC_SEGMENT;
+    if (sends) made.max_number_of_segments = 108;
+    return made;
+}
+
+static const uint64_t first_roles[] = {IOX2SD_PUBLISHER, IOX2SD_LISTENER, IOX2SD_SERVER, IOX2SD_READER};
+static const uint64_t second_roles[] = {IOX2SD_SUBSCRIBER, IOX2SD_NOTIFIER, IOX2SD_CLIENT, IOX2SD_WRITER};
+
+static void ports_of_pattern(uint32_t pattern) {
+    uint64_t first = first_roles[pattern], second = second_roles[pattern];
+    iox2sd_service service = IOX2SD_SERVICE_NONE;
+    iox2sd_id node = id(1, 2, 3, 4), other = id(5, 6, 7, 8);
+    iox2sd_port out[5], before[5], wanted;
+    CHECK(iox2sd_service_make(&service, pattern, 77, capacities(2, 2, 3), 9) == IOX2SD_DONE);
+    CHECK(gives(iox2sd_register(&service, node), handle(77, IOX2SD_NODE, 0, 0)));
+    CHECK(gives(iox2sd_register(&service, other), handle(77, IOX2SD_NODE, 1, 1)));
+    for (uint32_t i = 0; i < 2; i++) {
+        iox2sd_port its = full(first, 20 + i, i == 0 ? node : other);
+        CHECK(gives(iox2sd_attach(&service, &its), handle(77, first, i, i)));
+    }
+    for (uint32_t i = 0; i < 3; i++) {
+        iox2sd_port its = full(second, 30 + i, i == 1 ? node : other);
+        CHECK(gives(iox2sd_attach(&service, &its), handle(77, second, i, i)));
+    }
+    iox2sd_port its = full(first, 40, node);
+    CHECK(refuses(iox2sd_attach(&service, &its), IOX2SD_OUT_OF_SPACE));
+    for (size_t i = 0; i < 5; i++) out[i] = full(IOX2SD_NODE, 50, other);
+    memcpy(before, out, sizeof out);
+    CHECK(counts(iox2sd_ports(&service, second, NULL, 0), IOX2SD_BUFFER_TOO_SHORT, 3));
+    CHECK(counts(iox2sd_ports(&service, second, out, 2), IOX2SD_BUFFER_TOO_SHORT, 3));
+    CHECK(counts(iox2sd_ports(&service, IOX2SD_NODE, out, 5), IOX2SD_ROLE_NOT_IN_PATTERN, 0));
+    CHECK(counts(iox2sd_ports(&service, first_roles[(pattern + 1) % 4], out, 5), IOX2SD_ROLE_NOT_IN_PATTERN, 0));
+    CHECK(counts(iox2sd_ports(&service, 9, out, 5), IOX2SD_UNKNOWN_ROLE, 0));
+    for (size_t i = 0; i < 5; i++) CHECK(same_port(&out[i], &before[i]));
+    CHECK(counts(iox2sd_ports(&service, second, out, 3), IOX2SD_DONE, 3));
+    for (uint32_t i = 0; i < 3; i++) {
+        wanted = told(second, 30 + i, i == 1 ? node : other);
+        CHECK(same_port(&out[i], &wanted));
+    }
+    CHECK(same_port(&out[3], &before[3]) && same_port(&out[4], &before[4]));
+    CHECK(counts(iox2sd_ports(&service, first, out, 5), IOX2SD_DONE, 2));
+    wanted = told(first, 21, other);
+    CHECK(same_port(&out[1], &wanted) && same_port(&out[4], &before[4]));
+    CHECK(iox2sd_release(&service, handle(77, 10, 0, 0)) == IOX2SD_UNKNOWN_ROLE);
+    CHECK(iox2sd_release(&service, handle(77, IOX2SD_NODE, 0, 0)) == IOX2SD_FOREIGN_HANDLE);
+    CHECK(iox2sd_release(&service, handle(77, first, 2, 2)) == IOX2SD_FOREIGN_HANDLE);
+    CHECK(iox2sd_release(&service, handle(77, second, 2, 2)) == IOX2SD_DONE);
+    CHECK(iox2sd_release(&service, handle(77, second, 2, 2)) == IOX2SD_FOREIGN_HANDLE);
+    CHECK(iox2sd_deregister(&service, handle(77, IOX2SD_NODE, 0, 0)) == IOX2SD_PORTS_STILL_ATTACHED);
+    /* a death of which one port is kept, then of which none is */
+    iox2sd_id kept[2] = {id(99, 99, 99, 99), id(11, 12, 13, 31)};
+    CHECK(went(iox2sd_dead(&service, id(0, 2, 3, 0), kept, 2), IOX2SD_NO_NODE, 0, 0));
+    CHECK(went(iox2sd_dead(&service, node, kept, 2), IOX2SD_DONE, 1, 0));
+    CHECK(iox2sd_deregister(&service, handle(77, IOX2SD_NODE, 0, 0)) == IOX2SD_PORTS_STILL_ATTACHED);
+    CHECK(went(iox2sd_dead(&service, node, kept, 1), IOX2SD_DONE, 0, 1));
+    CHECK(iox2sd_deregister(&service, handle(77, IOX2SD_NODE, 0, 0)) == IOX2SD_FOREIGN_HANDLE);
+    CHECK(went(iox2sd_dead(&service, other, NULL, 0), IOX2SD_DONE_LOCKED, 1, 1));
+    CHECK(went(iox2sd_dead(&service, other, NULL, 0), IOX2SD_DONE_LOCKED, 0, 0));
+    CHECK(counts(iox2sd_ports(&service, first, NULL, 0), IOX2SD_DONE, 0));
+    iox2sd_service_free(&service);
+}
+
+/* What a service tells of itself, with unequal numbers in all places. */
+static void questions_of_pattern(uint32_t pattern) {
+    uint64_t first = first_roles[pattern], second = second_roles[pattern], foreign = first_roles[(pattern + 1) % 4];
+    iox2sd_service service = IOX2SD_SERVICE_NONE;
+    iox2sd_id a = id(1, 2, 3, 4), b = id(5, 6, 7, 8), out[4], before[4];
+    iox2sd_service_make(&service, pattern, 77, capacities(3, 1, 2), 9);
+    iox2sd_register(&service, a);
+    iox2sd_register(&service, b);
+    iox2sd_port one = full(first, 20, a), other = full(second, 30, b);
+    iox2sd_attach(&service, &one);
+    iox2sd_attach(&service, &other);
+    CHECK(tells(iox2sd_pattern(&service), IOX2SD_DONE, pattern));
+    CHECK(tells(iox2sd_service_number(&service), IOX2SD_DONE, 77));
+    iox2sd_roles_answer roles = iox2sd_roles(&service);
+    CHECK(roles.status == IOX2SD_DONE && roles.first == first && roles.second == second);
+    CHECK(says(iox2sd_has_role(&service, first), IOX2SD_DONE, true));
+    CHECK(says(iox2sd_has_role(&service, second), IOX2SD_DONE, true));
+    CHECK(says(iox2sd_has_role(&service, foreign), IOX2SD_DONE, false));
+    CHECK(says(iox2sd_has_role(&service, IOX2SD_NODE), IOX2SD_DONE, false));
+    CHECK(says(iox2sd_has_role(&service, 9), IOX2SD_UNKNOWN_ROLE, false));
+    CHECK(says(iox2sd_is_locked(&service), IOX2SD_DONE, false));
+    CHECK(counts(iox2sd_number_of_nodes(&service), IOX2SD_DONE, 2));
+    CHECK(counts(iox2sd_max_nodes(&service), IOX2SD_DONE, 3));
+    CHECK(says(iox2sd_has_room_for_node(&service), IOX2SD_DONE, true));
+    CHECK(counts(iox2sd_count_ports(&service, first), IOX2SD_DONE, 1));
+    CHECK(counts(iox2sd_count_ports(&service, foreign), IOX2SD_ROLE_NOT_IN_PATTERN, 0));
+    CHECK(counts(iox2sd_count_ports(&service, IOX2SD_NODE), IOX2SD_ROLE_NOT_IN_PATTERN, 0));
+    CHECK(counts(iox2sd_count_ports(&service, 9), IOX2SD_UNKNOWN_ROLE, 0));
+    CHECK(counts(iox2sd_max_ports(&service, first), IOX2SD_DONE, 1));
+    CHECK(counts(iox2sd_max_ports(&service, second), IOX2SD_DONE, 2));
+    CHECK(counts(iox2sd_max_ports(&service, foreign), IOX2SD_ROLE_NOT_IN_PATTERN, 0));
+    CHECK(counts(iox2sd_max_ports(&service, 9), IOX2SD_UNKNOWN_ROLE, 0));
+    CHECK(says(iox2sd_has_room(&service, first), IOX2SD_DONE, false));
+    CHECK(says(iox2sd_has_room(&service, second), IOX2SD_DONE, true));
+    CHECK(says(iox2sd_has_room(&service, foreign), IOX2SD_ROLE_NOT_IN_PATTERN, false));
+    CHECK(says(iox2sd_has_room(&service, 9), IOX2SD_UNKNOWN_ROLE, false));
+    CHECK(finds(iox2sd_find_node(&service, handle(77, IOX2SD_NODE, 1, 1)), IOX2SD_DONE, b));
+    CHECK(finds(iox2sd_find_node(&service, handle(77, IOX2SD_NODE, 1, 2)), IOX2SD_FOREIGN_HANDLE, id(0, 0, 0, 0)));
+    CHECK(finds(iox2sd_find_node(&service, handle(77, first, 0, 0)), IOX2SD_FOREIGN_HANDLE, id(0, 0, 0, 0)));
+    CHECK(finds(iox2sd_find_node(&service, handle(77, 9, 0, 0)), IOX2SD_UNKNOWN_ROLE, id(0, 0, 0, 0)));
+    iox2sd_port_answer found = iox2sd_find_port(&service, handle(77, second, 0, 0));
+    iox2sd_port wanted = told(second, 30, b), zero = port(0, id(0, 0, 0, 0), id(0, 0, 0, 0));
+    CHECK(found.status == IOX2SD_DONE && same_port(&found.port, &wanted));
+    found = iox2sd_find_port(&service, handle(77, second, 0, 1));
+    CHECK(found.status == IOX2SD_FOREIGN_HANDLE && same_port(&found.port, &zero));
+    CHECK(iox2sd_find_port(&service, handle(77, IOX2SD_NODE, 0, 0)).status == IOX2SD_FOREIGN_HANDLE);
+    CHECK(iox2sd_find_port(&service, handle(77, 9, 0, 0)).status == IOX2SD_UNKNOWN_ROLE);
+    memset(out, 7, sizeof out);
+    memcpy(before, out, sizeof out);
+    CHECK(counts(iox2sd_nodes(&service, NULL, 0), IOX2SD_BUFFER_TOO_SHORT, 2));
+    CHECK(counts(iox2sd_nodes(&service, out, 1), IOX2SD_BUFFER_TOO_SHORT, 2));
+    CHECK(memcmp(out, before, sizeof out) == 0);
+    CHECK(counts(iox2sd_nodes(&service, out, 2), IOX2SD_DONE, 2));
+    CHECK(same_id(out[0], a) && same_id(out[1], b) && same_id(out[2], before[2]));
+    iox2sd_dead(&service, a, NULL, 0);
+    CHECK(counts(iox2sd_nodes(&service, out, 4), IOX2SD_DONE, 1));
+    CHECK(same_id(out[0], b) && same_id(out[1], b) && same_id(out[3], before[3]));
+    iox2sd_dead(&service, b, NULL, 0);
+    CHECK(says(iox2sd_is_locked(&service), IOX2SD_DONE, true));
+    CHECK(says(iox2sd_has_room_for_node(&service), IOX2SD_DONE, false));
+    CHECK(says(iox2sd_has_room(&service, first), IOX2SD_DONE, false));
+    CHECK(counts(iox2sd_nodes(&service, NULL, 0), IOX2SD_DONE, 0));
+    iox2sd_service_free(&service);
+}
+
+/* Each refusal of attaching, in its order: each call has all the faults of the later ones too. */
+static void attaching(void) {
+    iox2sd_service service = IOX2SD_SERVICE_NONE;
+    iox2sd_id node = id(1, 2, 3, 4);
+    iox2sd_port its = full(9, 20, id(0, 2, 3, 0));
+    iox2sd_service_make(&service, IOX2SD_EVENT, 77, capacities(1, 0, 1), 1);
+    its.data_segment = 2;
+    CHECK(refuses(iox2sd_attach(&service, &its), IOX2SD_NO_NODE));
+    its.node = id(1, 2, 3, 5);
+    CHECK(refuses(iox2sd_attach(&service, &its), IOX2SD_UNKNOWN_ROLE));
+    its.role = IOX2SD_NODE;
+    CHECK(refuses(iox2sd_attach(&service, &its), IOX2SD_UNKNOWN_ROLE));
+    its.role = IOX2SD_SERVER;
+    CHECK(refuses(iox2sd_attach(&service, &its), IOX2SD_UNKNOWN_SEGMENT));
+    its.role = IOX2SD_READER; /* its kind has no segment, so the number is not looked at */
+    CHECK(refuses(iox2sd_attach(&service, &its), IOX2SD_ROLE_NOT_IN_PATTERN));
+    its.role = IOX2SD_LISTENER;
+    iox2sd_register(&service, node);
+    CHECK(refuses(iox2sd_attach(&service, &its), IOX2SD_NODE_NOT_REGISTERED));
+    its.node = node;
+    CHECK(refuses(iox2sd_attach(&service, &its), IOX2SD_OUT_OF_SPACE));
+    its.role = IOX2SD_NOTIFIER;
+    CHECK(gives(iox2sd_attach(&service, &its), handle(77, IOX2SD_NOTIFIER, 0, 0)));
+    CHECK(iox2sd_release(&service, handle(77, IOX2SD_NOTIFIER, 0, 0)) == IOX2SD_DONE);
+    CHECK(refuses(iox2sd_attach(&service, &its), IOX2SD_OUT_OF_SPACE)); /* no ticket is left */
+    CHECK(iox2sd_deregister(&service, handle(77, IOX2SD_NODE, 0, 0)) == IOX2SD_DONE_LOCKED);
+    its.node = id(1, 2, 3, 5);
+    CHECK(refuses(iox2sd_attach(&service, &its), IOX2SD_IS_LOCKED));
+    iox2sd_service_free(&service);
+}
+
+/* So many calls as fast as they go: how many were not as they should be. */
+static long many(iox2sd_service *service, long rounds) {
+    long bad = 0;
+    iox2sd_id stays = id(9, 9, 9, 9), node = id(1, 2, 3, 4);
+    iox2sd_port its = full(IOX2SD_SUBSCRIBER, 20, stays), out[2];
+    bad += iox2sd_register(service, stays).status != IOX2SD_DONE;
+    for (long i = 0; i < rounds; i++) {
+        node.counter = (uint32_t)i;
+        iox2sd_handle_answer made = iox2sd_register(service, node);
+        bad += made.status != IOX2SD_DONE || made.handle.ticket != (uint64_t)i + 1;
+        iox2sd_handle_answer attached = iox2sd_attach(service, &its);
+        bad += attached.status != IOX2SD_DONE || attached.handle.ticket != (uint64_t)i;
+        bad += !counts(iox2sd_ports(service, IOX2SD_SUBSCRIBER, out, 2), IOX2SD_DONE, 1);
+        bad += iox2sd_release(service, attached.handle) != IOX2SD_DONE;
+        bad += iox2sd_deregister(service, made.handle) != IOX2SD_DONE;
+    }
+    return bad;
+}
+
+/* Ten million calls take no memory that they do not give back. */
+static void flat_memory(void) {
+    iox2sd_service service = IOX2SD_SERVICE_NONE;
+    iox2sd_service_make(&service, IOX2SD_PUBLISH_SUBSCRIBE, 1, capacities(20, 2, 8), UINT64_MAX);
+    size_t before = mallinfo2().uordblks;
+    CHECK(many(&service, 2000000) == 0);
+    CHECK(mallinfo2().uordblks == before);
+    iox2sd_service_free(&service);
+}
+
+static void *own_service(void *number) {
+    iox2sd_service service = IOX2SD_SERVICE_NONE;
+    uint64_t n = *(uint64_t *)number;
+    long bad = iox2sd_service_make(&service, IOX2SD_PUBLISH_SUBSCRIBE, n, capacities(20, 2, 8), UINT64_MAX) != IOX2SD_DONE;
+    bad += many(&service, 10000);
+    iox2sd_handle_answer made = iox2sd_register(&service, id(1, 2, 3, 4));
+    bad += made.handle.service != n;
+    bad += iox2sd_service_free(&service) != IOX2SD_DONE;
+    *(uint64_t *)number = (uint64_t)bad;
+    return NULL;
+}
+
+/* A service in each of sixteen threads. */
+static void threads(void) {
+    pthread_t made[16];
+    uint64_t numbers[16];
+    for (uint64_t i = 0; i < 16; i++) {
+        numbers[i] = 1000 + i;
+        CHECK(pthread_create(&made[i], NULL, own_service, &numbers[i]) == 0);
+    }
+    for (size_t i = 0; i < 16; i++) {
+        CHECK(pthread_join(made[i], NULL) == 0);
+        CHECK(numbers[i] == 0);
+    }
+}
+
+int main(void) {
+    statuses();
+    ids();
+    null_and_empty_places();
+    making();
+    nodes();
+    for (uint32_t pattern = 0; pattern < 4; pattern++) ports_of_pattern(pattern);
+    for (uint32_t pattern = 0; pattern < 4; pattern++) questions_of_pattern(pattern);
+    attaching();
+    flat_memory();
+    threads();
+    printf("%d checks, %d failed\n", checks, failed);
+    return failed != 0;
+}

@@ -1,0 +1,460 @@
+/* A caller in C and C++ of the calls on values: each call, each refusal, and buffers that are short by one. */
+#include "iox2sd_values.h"
+
+#include <stdio.h>
+#include <stdlib.h>
+#include <string.h>
+
+static int wrong = 0;
+
+#define CHECK(condition)                                              \
+    do {                                                              \
+        if (!(condition)) {                                           \
+            fprintf(stderr, "line %d: %s\n", __LINE__, #condition);   \
+            wrong = 1;                                                \
+        }                                                             \
+    } while (0)
+
+static const uint8_t *bytes(const char *text) { return (const uint8_t *)text; }
+
+/* Whether all bytes from `from` on are as they were set. */
+static bool untouched(const uint8_t *out, size_t from, size_t end) {
+    for (; from < end; from++) {
+        if (out[from] != 0xAA) return false;
+    }
+    return true;
+}
+
+static bool is_place(iox2sd_place_answer answer, uint32_t status, size_t at) {
+    return answer.status == status && answer.at == at;
+}
+
+static bool is_text(iox2sd_text_answer answer, uint32_t status, size_t length) {
+    return answer.status == status && answer.length == length;
+}
+
+static bool is_count(iox2sd_count_answer answer, uint32_t status, size_t count) {
+    return answer.status == status && answer.count == count;
+}
+
+/* A text of bytes 'x' with one other byte. */
+static const uint8_t *with_byte(size_t at, uint8_t byte) {
+    static uint8_t text[300];
+    memset(text, 'x', sizeof text);
+    text[at] = byte;
+    return text;
+}
+
+typedef iox2sd_place_answer (*check)(const uint8_t *text, size_t length);
+
+/* What all checks of names of 1 to `most` bytes share. */
+static void name_check(check checks, size_t most) {
+    CHECK(is_place(checks(with_byte(0, 'y'), most), IOX2SD_DONE, 0));
+    CHECK(is_place(checks(with_byte(0, 'y'), 1), IOX2SD_DONE, 0));
+    CHECK(is_place(checks(NULL, 0), IOX2SD_EMPTY, 0));
+    CHECK(is_place(checks(with_byte(3, 0), most + 1), IOX2SD_TOO_LONG, most));
+    CHECK(is_place(checks(with_byte(3, 0), most), IOX2SD_ILLEGAL_BYTE, 3));
+    CHECK(is_place(checks(with_byte(most - 1, 128), most), IOX2SD_ILLEGAL_BYTE, most - 1));
+    CHECK(is_place(checks(with_byte(0, 255), 1), IOX2SD_ILLEGAL_BYTE, 0));
+}
+
+static void checks(void) {
+    name_check(iox2sd_service_name_check, 255);
+    name_check(iox2sd_internal_service_name_check, 255);
+    name_check(iox2sd_attribute_key_check, 64);
+    name_check(iox2sd_attribute_value_check, 256);
+    name_check(iox2sd_file_name_check, 255);
+    name_check(iox2sd_file_path_check, 255);
+    name_check(iox2sd_restricted_name_check, 64);
+
+    CHECK(is_place(iox2sd_path_check(NULL, 0), IOX2SD_DONE, 0));
+    CHECK(is_place(iox2sd_path_check(with_byte(0, '/'), 255), IOX2SD_DONE, 0));
+    CHECK(is_place(iox2sd_path_check(with_byte(0, 0), 256), IOX2SD_TOO_LONG, 255));
+    CHECK(is_place(iox2sd_path_check(with_byte(9, 128), 255), IOX2SD_ILLEGAL_BYTE, 9));
+
+    CHECK(is_place(iox2sd_service_name_check(bytes("iox2://\xff"), 8), IOX2SD_RESERVED_PREFIX, 0));
+    CHECK(is_place(iox2sd_service_name_check(bytes("iox2:/x"), 7), IOX2SD_DONE, 0));
+    CHECK(is_place(iox2sd_internal_service_name_check(bytes("iox2://\xff"), 8), IOX2SD_ILLEGAL_BYTE, 7));
+    CHECK(is_place(iox2sd_internal_service_name_check(bytes("iox2://x"), 8), IOX2SD_DONE, 0));
+
+    CHECK(is_place(iox2sd_file_name_check(bytes("a/b"), 3), IOX2SD_ILLEGAL_BYTE, 1));
+    CHECK(is_place(iox2sd_file_name_check(bytes("."), 1), IOX2SD_NO_FILE_NAME, 0));
+    CHECK(is_place(iox2sd_file_name_check(bytes(".."), 2), IOX2SD_NO_FILE_NAME, 0));
+    CHECK(is_place(iox2sd_file_name_check(bytes("..."), 3), IOX2SD_DONE, 0));
+    CHECK(is_place(iox2sd_file_path_check(bytes("a/b"), 3), IOX2SD_DONE, 0));
+    CHECK(is_place(iox2sd_file_path_check(bytes("a/"), 2), IOX2SD_NO_FILE_NAME, 0));
+    CHECK(is_place(iox2sd_file_path_check(bytes("a/.."), 4), IOX2SD_NO_FILE_NAME, 0));
+    CHECK(is_place(iox2sd_restricted_name_check(bytes("aZ9-.:_"), 7), IOX2SD_DONE, 0));
+    CHECK(is_place(iox2sd_restricted_name_check(bytes("a b"), 3), IOX2SD_ILLEGAL_BYTE, 1));
+    CHECK(is_place(iox2sd_restricted_name_check(bytes(".."), 2), IOX2SD_NO_FILE_NAME, 0));
+}
+
+static void names(void) {
+    uint8_t out[300];
+    CHECK(iox2sd_has_internal_prefix(bytes("iox2://"), 7) && !iox2sd_has_internal_prefix(bytes("iox2://"), 6));
+    CHECK(!iox2sd_has_internal_prefix(NULL, 0));
+
+    memset(out, 0xAA, sizeof out);
+    CHECK(is_text(iox2sd_internal_service_name(bytes("ab"), 2, out, 8), IOX2SD_BUFFER_TOO_SHORT, 9));
+    CHECK(untouched(out, 0, sizeof out));
+    CHECK(is_text(iox2sd_internal_service_name(bytes("ab"), 2, out, 9), IOX2SD_DONE, 9));
+    CHECK(memcmp(out, "iox2://ab", 9) == 0 && untouched(out, 9, sizeof out));
+    CHECK(is_text(iox2sd_internal_service_name(NULL, 0, out, sizeof out), IOX2SD_DONE, 7));
+    CHECK(is_text(iox2sd_internal_service_name(with_byte(0, 'y'), 248, out, sizeof out), IOX2SD_DONE, 255));
+    memset(out, 0xAA, sizeof out);
+    CHECK(is_text(iox2sd_internal_service_name(with_byte(0, 0), 249, out, sizeof out), IOX2SD_TOO_LONG, 0));
+    CHECK(is_text(iox2sd_internal_service_name(with_byte(0, 0), 248, out, sizeof out), IOX2SD_ILLEGAL_BYTE, 0));
+    CHECK(is_text(iox2sd_internal_service_name(with_byte(0, 255), 249, out, sizeof out), IOX2SD_NOT_UTF8, 0));
+    CHECK(untouched(out, 0, sizeof out));
+
+    CHECK(is_text(iox2sd_hash_text(IOX2SD_EVENT, bytes("a"), 1, out, 26), IOX2SD_BUFFER_TOO_SHORT, 27));
+    CHECK(untouched(out, 0, sizeof out));
+    CHECK(is_text(iox2sd_hash_text(IOX2SD_EVENT, bytes("a"), 1, out, 27), IOX2SD_DONE, 27));
+    CHECK(memcmp(out, "mywygMzqC6QIJwxFGFv7zTYWQjc", 27) == 0 && untouched(out, 27, sizeof out));
+    CHECK(is_text(iox2sd_hash_text(IOX2SD_REQUEST_RESPONSE, bytes("My/Service"), 10, out, 27), IOX2SD_DONE, 27));
+    CHECK(memcmp(out, "h8eTEKlg0S7w-piembOTeKmjrxo", 27) == 0);
+    memset(out, 0xAA, sizeof out);
+    CHECK(is_text(iox2sd_hash_text(4, bytes("\xff"), 1, out, sizeof out), IOX2SD_UNKNOWN_PATTERN, 0));
+    CHECK(is_text(iox2sd_hash_text(IOX2SD_EVENT, bytes("\xff"), 1, out, sizeof out), IOX2SD_NOT_UTF8, 0));
+    CHECK(is_text(iox2sd_hash_text(IOX2SD_EVENT, NULL, 0, out, sizeof out), IOX2SD_BAD_SERVICE_NAME, 0));
+    CHECK(is_text(iox2sd_hash_text(IOX2SD_BLACKBOARD, bytes("iox2://x"), 8, out, sizeof out), IOX2SD_BAD_SERVICE_NAME, 0));
+    CHECK(untouched(out, 0, sizeof out));
+    CHECK(is_text(iox2sd_internal_hash_text(IOX2SD_BLACKBOARD, bytes("iox2://x"), 8, out, 27), IOX2SD_DONE, 27));
+    CHECK(memcmp(out, "dBa6f4MAuXbGPrWuZe58tIdzmlw", 27) == 0 && untouched(out, 27, sizeof out));
+    memset(out, 0xAA, sizeof out);
+    CHECK(is_text(iox2sd_internal_hash_text(IOX2SD_EVENT, bytes("a"), 1, out, 26), IOX2SD_BUFFER_TOO_SHORT, 27));
+    CHECK(is_text(iox2sd_internal_hash_text(4, bytes("\xff"), 1, out, sizeof out), IOX2SD_UNKNOWN_PATTERN, 0));
+    CHECK(is_text(iox2sd_internal_hash_text(IOX2SD_EVENT, bytes("\xff"), 1, out, sizeof out), IOX2SD_NOT_UTF8, 0));
+    CHECK(is_text(iox2sd_internal_hash_text(IOX2SD_EVENT, NULL, 0, out, sizeof out), IOX2SD_BAD_SERVICE_NAME, 0));
+    CHECK(untouched(out, 0, sizeof out));
+}
+
+static void paths(void) {
+    uint8_t out[300];
+    memset(out, 0xAA, sizeof out);
+    CHECK(is_text(iox2sd_path_join(bytes("a"), 1, bytes("bc"), 2, out, 3), IOX2SD_BUFFER_TOO_SHORT, 4));
+    CHECK(untouched(out, 0, sizeof out));
+    CHECK(is_text(iox2sd_path_join(bytes("a"), 1, bytes("bc"), 2, out, 4), IOX2SD_DONE, 4));
+    CHECK(memcmp(out, "a/bc", 4) == 0 && untouched(out, 4, sizeof out));
+    CHECK(is_text(iox2sd_path_join(bytes("a/"), 2, bytes("bc"), 2, out, 4), IOX2SD_DONE, 4));
+    CHECK(is_text(iox2sd_path_join(NULL, 0, bytes("bc"), 2, out, 4), IOX2SD_DONE, 2) && memcmp(out, "bc", 2) == 0);
+    CHECK(is_text(iox2sd_path_join(NULL, 0, NULL, 0, NULL, 0), IOX2SD_DONE, 0));
+    CHECK(is_text(iox2sd_path_join(with_byte(0, 'y'), 127, with_byte(0, 'y'), 127, out, sizeof out), IOX2SD_DONE, 255));
+    memset(out, 0xAA, sizeof out);
+    CHECK(is_text(iox2sd_path_join(with_byte(0, 'y'), 127, with_byte(0, 'y'), 128, out, sizeof out), IOX2SD_TOO_LONG, 0));
+    CHECK(is_text(iox2sd_path_join(bytes("\xff"), 1, bytes("\xff"), 1, out, sizeof out), IOX2SD_BAD_PATH, 0));
+    CHECK(is_text(iox2sd_path_join(bytes("a"), 1, bytes("\xff"), 1, out, sizeof out), IOX2SD_BAD_ENTRY, 0));
+    CHECK(untouched(out, 0, sizeof out));
+
+    CHECK(is_text(iox2sd_file_path_join(bytes("a"), 1, bytes("bc"), 2, out, 3), IOX2SD_BUFFER_TOO_SHORT, 4));
+    CHECK(untouched(out, 0, sizeof out));
+    CHECK(is_text(iox2sd_file_path_join(bytes("a"), 1, bytes("bc"), 2, out, 4), IOX2SD_DONE, 4));
+    CHECK(memcmp(out, "a/bc", 4) == 0 && untouched(out, 4, sizeof out));
+    memset(out, 0xAA, sizeof out);
+    CHECK(is_text(iox2sd_file_path_join(bytes("a"), 1, bytes("b/c"), 3, out, sizeof out), IOX2SD_BAD_ENTRY, 0));
+    CHECK(is_text(iox2sd_file_path_join(bytes("\xff"), 1, NULL, 0, out, sizeof out), IOX2SD_BAD_PATH, 0));
+    CHECK(is_text(iox2sd_file_path_join(bytes("a"), 1, with_byte(0, 'y'), 254, out, sizeof out), IOX2SD_TOO_LONG, 0));
+    CHECK(untouched(out, 0, sizeof out));
+}
+
+static iox2sd_attribute pair(const char *key, const char *value) {
+    iox2sd_attribute made;
+    made.key = bytes(key);
+    made.key_length = strlen(key);
+    made.value = bytes(value);
+    made.value_length = strlen(value);
+    return made;
+}
+
+static iox2sd_key key_of(const char *text) {
+    iox2sd_key made;
+    made.text = bytes(text);
+    made.length = strlen(text);
+    return made;
+}
+
+static void sets(void) {
+    iox2sd_attribute pairs[17];
+    iox2sd_attribute before[17];
+    uint8_t out[8];
+    size_t i;
+    for (i = 0; i < 17; i++) pairs[i] = pair("k", "v");
+    CHECK(is_place(iox2sd_attributes_check(NULL, 0), IOX2SD_DONE, 0));
+    CHECK(is_place(iox2sd_attributes_check(pairs, 16), IOX2SD_DONE, 0));
+    CHECK(is_place(iox2sd_attributes_check(pairs, 17), IOX2SD_TOO_MANY, 16));
+    pairs[16] = pair("k", "");
+    CHECK(is_place(iox2sd_attributes_check(pairs, 17), IOX2SD_BAD_VALUE, 16));
+    pairs[5] = pair("", "");
+    CHECK(is_place(iox2sd_attributes_check(pairs, 17), IOX2SD_BAD_KEY, 5));
+    pairs[3] = pair("k", "\xff");
+    CHECK(is_place(iox2sd_attributes_check(pairs, 17), IOX2SD_BAD_VALUE, 3));
+
+    pairs[0] = pair("b", "1");
+    pairs[1] = pair("a", "2");
+    pairs[2] = pair("b", "0");
+    pairs[3] = pair("a", "10");
+    memcpy(before, pairs, sizeof pairs);
+    CHECK(is_place(iox2sd_attributes_sort(pairs, 6), IOX2SD_BAD_KEY, 5));
+    CHECK(memcmp(before, pairs, sizeof pairs) == 0);
+    CHECK(is_place(iox2sd_attributes_sort(pairs, 4), IOX2SD_DONE, 0));
+    CHECK(memcmp(&pairs[0], &before[3], sizeof pairs[0]) == 0 && memcmp(&pairs[1], &before[1], sizeof pairs[0]) == 0);
+    CHECK(memcmp(&pairs[2], &before[2], sizeof pairs[0]) == 0 && memcmp(&pairs[3], &before[0], sizeof pairs[0]) == 0);
+    CHECK(memcmp(&pairs[4], &before[4], 13 * sizeof pairs[0]) == 0);
+    CHECK(is_place(iox2sd_attributes_sort(NULL, 0), IOX2SD_DONE, 0));
+
+    CHECK(is_count(iox2sd_attribute_values(before, 4, bytes("b"), 1), IOX2SD_DONE, 2));
+    CHECK(is_count(iox2sd_attribute_values(before, 4, bytes("c"), 1), IOX2SD_DONE, 0));
+    CHECK(is_count(iox2sd_attribute_values(NULL, 0, bytes("b"), 1), IOX2SD_DONE, 0));
+    CHECK(is_count(iox2sd_attribute_values(before, 4, NULL, 0), IOX2SD_BAD_ASKED_KEY, 0));
+    CHECK(is_count(iox2sd_attribute_values(before, 6, NULL, 0), IOX2SD_BAD_KEY, 0));
+
+    memset(out, 0xAA, sizeof out);
+    CHECK(is_text(iox2sd_attribute_value(before, 4, bytes("a"), 1, 0, out, 1), IOX2SD_BUFFER_TOO_SHORT, 2));
+    CHECK(untouched(out, 0, sizeof out));
+    CHECK(is_text(iox2sd_attribute_value(before, 4, bytes("a"), 1, 0, out, 2), IOX2SD_DONE, 2));
+    CHECK(memcmp(out, "10", 2) == 0 && untouched(out, 2, sizeof out));
+    CHECK(is_text(iox2sd_attribute_value(before, 4, bytes("a"), 1, 1, out, 8), IOX2SD_DONE, 1) && out[0] == '2');
+    memset(out, 0xAA, sizeof out);
+    CHECK(is_text(iox2sd_attribute_value(before, 4, bytes("a"), 1, 2, out, 8), IOX2SD_NO_SUCH_VALUE, 0));
+    CHECK(is_text(iox2sd_attribute_value(before, 4, NULL, 0, 2, out, 8), IOX2SD_BAD_ASKED_KEY, 0));
+    CHECK(is_text(iox2sd_attribute_value(before, 6, NULL, 0, 2, out, 8), IOX2SD_BAD_KEY, 0));
+    CHECK(untouched(out, 0, sizeof out));
+}
+
+static void requirements(void) {
+    iox2sd_attribute pairs[3];
+    iox2sd_attribute required[17];
+    iox2sd_key keys[17];
+    size_t i;
+    pairs[0] = pair("b", "1");
+    pairs[1] = pair("a", "2");
+    pairs[2] = pair("b", "0");
+    for (i = 0; i < 17; i++) {
+        required[i] = pair("b", "0");
+        keys[i] = key_of("a");
+    }
+    CHECK(is_place(iox2sd_attributes_verify(pairs, 3, NULL, 0, NULL, 0), IOX2SD_DONE, 0));
+    CHECK(is_place(iox2sd_attributes_verify(pairs, 3, required, 16, NULL, 0), IOX2SD_DONE, 0));
+    CHECK(is_place(iox2sd_attributes_verify(pairs, 3, required, 3, keys, 13), IOX2SD_DONE, 0));
+    CHECK(is_place(iox2sd_attributes_verify(pairs, 3, required, 17, keys, 0), IOX2SD_TOO_MANY_REQUIRED, 16));
+    CHECK(is_place(iox2sd_attributes_verify(pairs, 3, required, 3, keys, 14), IOX2SD_TOO_MANY_REQUIRED, 13));
+
+    required[1] = pair("b", "3");
+    required[2] = pair("b", "2");
+    required[3] = pair("b", "2");
+    keys[1] = key_of("c");
+    keys[2] = key_of("0");
+    keys[3] = key_of("c");
+    CHECK(is_place(iox2sd_attributes_verify(pairs, 3, required, 4, keys, 4), IOX2SD_MISSING_PAIR, 2));
+    CHECK(is_place(iox2sd_attributes_verify(pairs, 3, required, 1, keys, 4), IOX2SD_MISSING_KEY, 1));
+    CHECK(is_place(iox2sd_attributes_verify(NULL, 0, required, 1, keys, 4), IOX2SD_MISSING_PAIR, 0));
+
+    keys[4] = key_of("");
+    CHECK(is_place(iox2sd_attributes_verify(pairs, 3, required, 4, keys, 5), IOX2SD_BAD_ASKED_KEY, 4));
+    required[6] = pair("b", "");
+    CHECK(is_place(iox2sd_attributes_verify(pairs, 3, required, 7, keys, 5), IOX2SD_BAD_REQUIRED_VALUE, 6));
+    required[5] = pair("", "");
+    CHECK(is_place(iox2sd_attributes_verify(pairs, 3, required, 7, keys, 5), IOX2SD_BAD_REQUIRED_KEY, 5));
+    pairs[1] = pair("a", "");
+    CHECK(is_place(iox2sd_attributes_verify(pairs, 3, required, 7, keys, 5), IOX2SD_BAD_VALUE, 1));
+}
+
+static iox2sd_type_detail type_of(const char *name, size_t size, size_t alignment) {
+    iox2sd_type_detail detail;
+    detail.name = bytes(name);
+    detail.name_length = strlen(name);
+    detail.variant = IOX2SD_FIXED_SIZE;
+    detail.size = size;
+    detail.alignment = alignment;
+    return detail;
+}
+
+static iox2sd_message_details details_of(size_t payload_size, size_t payload_alignment) {
+    iox2sd_message_details details;
+    details.header = type_of("Header", 8, 8);
+    details.user_header = type_of("UserHeader", 4, 4);
+    details.payload = type_of("Payload", payload_size, payload_alignment);
+    return details;
+}
+
+static bool is_part(iox2sd_part_answer answer, uint32_t status, uint32_t side, uint32_t part) {
+    return answer.status == status && answer.side == side && answer.part == part;
+}
+
+static void layouts(void) {
+    iox2sd_message_details details = details_of(8, 8);
+    iox2sd_layout_answer room = iox2sd_message_layout(&details, 2);
+    iox2sd_places_answer places = iox2sd_message_places(&details, 64);
+    /* 8 + 4 and at most 3 before it, 2 * 8 and at most 7 before it: 38, in eights */
+    CHECK(room.status == IOX2SD_DONE && room.size == 40 && room.alignment == 8);
+    CHECK(places.status == IOX2SD_DONE && places.user_header == 72 && places.payload == 80);
+
+    room = iox2sd_message_layout(NULL, 2);
+    places = iox2sd_message_places(NULL, 64);
+    CHECK(room.status == IOX2SD_NULL && room.size == 0 && room.alignment == 0);
+    CHECK(places.status == IOX2SD_NULL && places.user_header == 0 && places.payload == 0);
+    details = details_of(SIZE_MAX, 3);
+    room = iox2sd_message_layout(&details, SIZE_MAX);
+    places = iox2sd_message_places(&details, SIZE_MAX);
+    CHECK(room.status == IOX2SD_BAD_ALIGNMENT && room.size == 0 && room.alignment == 0);
+    CHECK(places.status == IOX2SD_BAD_ALIGNMENT && places.user_header == 0 && places.payload == 0);
+    details = details_of(SIZE_MAX, 8);
+    room = iox2sd_message_layout(&details, 1);
+    places = iox2sd_message_places(&details, SIZE_MAX);
+    CHECK(room.status == IOX2SD_TOO_LARGE && room.size == 0 && room.alignment == 0);
+    CHECK(places.status == IOX2SD_TOO_LARGE && places.user_header == 0 && places.payload == 0);
+}
+
+static void compatible(void) {
+    iox2sd_message_details opener = details_of(8, 8);
+    iox2sd_message_details service = details_of(8, 16);
+    char long_name[258];
+    memset(long_name, 'x', sizeof long_name);
+    long_name[257] = 0;
+    CHECK(is_part(iox2sd_message_compatible(&opener, &service), IOX2SD_DONE, 0, 0));
+    CHECK(is_part(iox2sd_message_compatible(&service, &opener), IOX2SD_GREATER_ALIGNMENT, 0, IOX2SD_PAYLOAD));
+    CHECK(is_part(iox2sd_message_compatible(NULL, NULL), IOX2SD_NULL, 0, 0));
+    CHECK(is_part(iox2sd_message_compatible(&opener, NULL), IOX2SD_NULL, 1, 0));
+
+    opener.payload.size = 9;
+    CHECK(is_part(iox2sd_message_compatible(&opener, &service), IOX2SD_OTHER_SIZE, 0, IOX2SD_PAYLOAD));
+    opener.payload.variant = IOX2SD_DYNAMIC;
+    CHECK(is_part(iox2sd_message_compatible(&opener, &service), IOX2SD_OTHER_VARIANT, 0, IOX2SD_PAYLOAD));
+    opener.user_header.name = bytes("Userheader");
+    CHECK(is_part(iox2sd_message_compatible(&opener, &service), IOX2SD_OTHER_NAME, 0, IOX2SD_USER_HEADER));
+    opener.header.alignment = 4;
+    CHECK(is_part(iox2sd_message_compatible(&opener, &service), IOX2SD_OTHER_ALIGNMENT, 0, IOX2SD_HEADER));
+    opener.header.size = 4;
+    CHECK(is_part(iox2sd_message_compatible(&opener, &service), IOX2SD_OTHER_SIZE, 0, IOX2SD_HEADER));
+
+    service.payload.alignment = 12;
+    CHECK(is_part(iox2sd_message_compatible(&opener, &service), IOX2SD_BAD_ALIGNMENT, 1, IOX2SD_PAYLOAD));
+    service.user_header.name = bytes("\xc3\xa4");
+    service.user_header.name_length = 2;
+    CHECK(is_part(iox2sd_message_compatible(&opener, &service), IOX2SD_ILLEGAL_BYTE, 1, IOX2SD_USER_HEADER));
+    service.header = type_of(long_name, 8, 8);
+    CHECK(is_part(iox2sd_message_compatible(&opener, &service), IOX2SD_TOO_LONG, 1, IOX2SD_HEADER));
+    opener.payload = type_of("\xff", 8, 3);
+    CHECK(is_part(iox2sd_message_compatible(&opener, &service), IOX2SD_NOT_UTF8, 0, IOX2SD_PAYLOAD));
+    opener.user_header.variant = 2;
+    CHECK(is_part(iox2sd_message_compatible(&opener, &service), IOX2SD_UNKNOWN_VARIANT, 0, IOX2SD_USER_HEADER));
+}
+
+static void chunks(void) {
+    const size_t most = SIZE_MAX;
+    CHECK(is_count(iox2sd_publisher_chunks(3, 5, 7, 11, 13), IOX2SD_DONE, 3 * (5 + 7) + 11 + 13));
+    CHECK(is_count(iox2sd_client_chunks(3, 5, 7), IOX2SD_DONE, 3 * 2 * 5 + 7));
+    CHECK(is_count(iox2sd_client_chunks(5, 3, 0), IOX2SD_DONE, 5 * 2 * 3));
+    CHECK(is_count(iox2sd_server_chunks(3, 5, 7, 11, 13), IOX2SD_DONE, 3 * 2 * 5 * (7 + 11 + 13)));
+    CHECK(is_count(iox2sd_publisher_chunks(1, most, 0, 0, 0), IOX2SD_DONE, most));
+    CHECK(is_count(iox2sd_publisher_chunks(1, most, 0, 0, 1), IOX2SD_TOO_LARGE, 0));
+    CHECK(is_count(iox2sd_client_chunks(0, most, most), IOX2SD_DONE, most));
+    CHECK(is_count(iox2sd_client_chunks(most, most, most), IOX2SD_TOO_LARGE, 0));
+    CHECK(is_count(iox2sd_server_chunks(most, most, most, most, most), IOX2SD_TOO_LARGE, 0));
+}
+
+static void settings(void) {
+    const iox2sd_publish_subscribe_settings p = iox2sd_publish_subscribe_defaults();
+    const iox2sd_event_settings e = iox2sd_event_defaults();
+    const iox2sd_request_response_settings r = iox2sd_request_response_defaults();
+    const iox2sd_blackboard_settings b = iox2sd_blackboard_defaults();
+    CHECK(p.max_subscribers == 8 && p.max_publishers == 2 && p.max_nodes == 20 && p.subscriber_max_buffer_size == 2);
+    CHECK(p.subscriber_max_borrowed_samples == 2 && p.publisher_max_loaned_samples == 2 && p.publisher_history_size == 0);
+    CHECK(p.subscriber_expired_connection_buffer == 128 && p.backpressure_strategy == IOX2SD_RETRY_UNTIL_DELIVERED);
+    CHECK(p.publisher_allocation_strategy == IOX2SD_STATIC && p.enable_safe_overflow);
+    CHECK(e.max_listeners == 16 && e.max_notifiers == 16 && e.max_nodes == 36 && e.event_id_max_value == 255);
+    CHECK(!e.deadline.is_some && e.deadline.seconds == 0 && e.deadline.nanoseconds == 0);
+    CHECK(!e.notifier_created_event.is_some && e.notifier_created_event.number == 0);
+    CHECK(!e.notifier_dropped_event.is_some && !e.notifier_dead_event.is_some);
+    CHECK(r.max_active_requests_per_client == 4 && r.max_response_buffer_size == 2 && r.max_servers == 2);
+    CHECK(r.max_clients == 8 && r.max_nodes == 20 && r.max_borrowed_responses_per_pending_response == 2);
+    CHECK(r.max_loaned_requests == 2 && r.server_max_loaned_responses_per_request == 2);
+    CHECK(r.client_expired_connection_buffer == 128 && r.server_expired_connection_buffer == 128);
+    CHECK(r.client_backpressure_strategy == IOX2SD_RETRY_UNTIL_DELIVERED && r.server_backpressure_strategy == 0);
+    CHECK(r.client_allocation_strategy == IOX2SD_STATIC && r.server_allocation_strategy == IOX2SD_STATIC);
+    CHECK(r.enable_safe_overflow_for_requests && r.enable_safe_overflow_for_responses);
+    CHECK(r.enable_fire_and_forget_requests);
+    CHECK(b.max_readers == 8 && b.max_nodes == 20);
+}
+
+static void chunks_of(void) {
+    iox2sd_publish_subscribe_settings p = iox2sd_publish_subscribe_defaults();
+    iox2sd_request_response_settings r = iox2sd_request_response_defaults();
+    p.max_subscribers = 3;
+    p.subscriber_max_buffer_size = 5;
+    p.subscriber_max_borrowed_samples = 7;
+    p.publisher_history_size = 11;
+    p.publisher_max_loaned_samples = 13;
+    CHECK(is_count(iox2sd_samples_of(&p), IOX2SD_DONE, 3 * (5 + 7) + 11 + 13));
+    p.max_subscribers = SIZE_MAX;
+    CHECK(is_count(iox2sd_samples_of(&p), IOX2SD_TOO_LARGE, 0));
+    CHECK(is_count(iox2sd_samples_of(NULL), IOX2SD_NULL, 0));
+    r.max_servers = 3;
+    r.max_clients = 17;
+    r.max_active_requests_per_client = 5;
+    r.max_response_buffer_size = 7;
+    r.max_borrowed_responses_per_pending_response = 11;
+    r.max_loaned_requests = 13;
+    r.server_max_loaned_responses_per_request = 19;
+    CHECK(is_count(iox2sd_requests_of(&r), IOX2SD_DONE, 3 * 2 * 5 + 13));
+    CHECK(is_count(iox2sd_responses_of(&r), IOX2SD_DONE, 17 * 2 * 5 * (7 + 11 + 19)));
+    r.max_active_requests_per_client = SIZE_MAX;
+    CHECK(is_count(iox2sd_requests_of(&r), IOX2SD_TOO_LARGE, 0));
+    CHECK(is_count(iox2sd_responses_of(&r), IOX2SD_TOO_LARGE, 0));
+    CHECK(is_count(iox2sd_requests_of(NULL), IOX2SD_NULL, 0));
+    CHECK(is_count(iox2sd_responses_of(NULL), IOX2SD_NULL, 0));
+}
+
+typedef iox2sd_text_answer (*teller)(uint8_t *out, size_t capacity);
+
+/* Whether the call tells this text, into a buffer of its length alone. */
+static bool tells(teller tell, const char *expected) {
+    uint8_t out[64];
+    const size_t length = strlen(expected);
+    memset(out, 0xAA, sizeof out);
+    return is_text(tell(out, length - 1), IOX2SD_BUFFER_TOO_SHORT, length) && untouched(out, 0, sizeof out)
+           && is_text(tell(out, length), IOX2SD_DONE, length) && memcmp(out, expected, length) == 0
+           && untouched(out, length, sizeof out) && is_text(tell(NULL, 0), IOX2SD_BUFFER_TOO_SHORT, length);
+}
+
+static uint32_t asked;
+
+static iox2sd_text_answer tell_asked(uint8_t *out, size_t capacity) { return iox2sd_default_text(asked, out, capacity); }
+
+static void files(void) {
+    static const char *const expected[] = {
+        "/tmp/iceoryx2/", "iox2_", "services", ".data", ".service", ".dynamic", ".connection", ".event",
+        ".blackboard_mgmt", ".blackboard_data", "nodes", ".node_monitor", ".details", ".service_tag", ".port_tag",
+        ".global_mgmt", "iceoryx2.toml", "config/iceoryx2.toml", "iceoryx2", "iceoryx2/iceoryx2.toml"};
+    uint8_t out[300];
+    for (asked = 0; asked < 20; asked++) CHECK(tells(tell_asked, expected[asked]));
+    memset(out, 0xAA, sizeof out);
+    CHECK(is_text(iox2sd_default_text(20, out, sizeof out), IOX2SD_UNKNOWN_TEXT, 0));
+    CHECK(is_text(iox2sd_service_directory(bytes("/a"), 2, out, 10), IOX2SD_BUFFER_TOO_SHORT, 11));
+    CHECK(is_text(iox2sd_node_directory(bytes("/a"), 2, out, 7), IOX2SD_BUFFER_TOO_SHORT, 8));
+    CHECK(is_text(iox2sd_service_directory(bytes("\xff"), 1, out, sizeof out), IOX2SD_BAD_PATH, 0));
+    CHECK(is_text(iox2sd_node_directory(bytes("\xff"), 1, out, sizeof out), IOX2SD_BAD_PATH, 0));
+    CHECK(is_text(iox2sd_service_directory(with_byte(0, 'y'), 247, out, sizeof out), IOX2SD_TOO_LONG, 0));
+    CHECK(is_text(iox2sd_node_directory(with_byte(0, 'y'), 250, out, sizeof out), IOX2SD_TOO_LONG, 0));
+    CHECK(untouched(out, 0, sizeof out));
+    CHECK(is_text(iox2sd_service_directory(bytes("/a"), 2, out, 11), IOX2SD_DONE, 11));
+    CHECK(memcmp(out, "/a/services", 11) == 0 && untouched(out, 11, sizeof out));
+    CHECK(is_text(iox2sd_node_directory(bytes("/a/"), 3, out, 8), IOX2SD_DONE, 8) && memcmp(out, "/a/nodes", 8) == 0);
+    CHECK(is_text(iox2sd_node_directory(NULL, 0, out, 5), IOX2SD_DONE, 5) && memcmp(out, "nodes", 5) == 0);
+    CHECK(tells(iox2sd_version, "0.1.0") && tells(iox2sd_layer_version, "0.9.3"));
+}
+
+int main(void) {
+    checks();
+    names();
+    paths();
+    sets();
+    requirements();
+    layouts();
+    compatible();
+    chunks();
+    settings();
+    chunks_of();
+    files();
+    return wrong ? EXIT_FAILURE : EXIT_SUCCESS;
+}

@@ -1,0 +1,2 @@
+// The same caller, in C++.
+#include "test_values.c"

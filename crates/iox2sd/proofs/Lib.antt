@@ -1,0 +1,6 @@
+pub mod Heap
+pub mod Steps
+pub mod There
+pub mod Roles
+pub mod Listings
+pub mod Dying

@@ -1,0 +1,21 @@
+-- What the library is, and what its statuses say.
+use Rattle.std.specs.Prelude.{◌≡◌, ℕ, Option, Some, None, List}
+use Rattle.iox2sd.specs.Answers.{text_answer, Written}
+use Rattle.iox2sd.specs.Status.{ReadsStatus, status_text}
+use Rattle.iox2sd.specs.declared.answers.TextAnswer.{TextAnswer}
+use Rattle.iox2sd.specs.declared.status.Status.{Status}
+use Rattle.iox2sd.specs.declared.status.Status.TheVariants as status
+
+-- the number of the structs and exports of today
+abbrev pub the_abi : ℕ
+the_abi = 1
+
+-- what a status says was written, where there is one
+abbrev pub Says : Option Status → List ℕ → TextAnswer → List ℕ → Type 0
+Says (Some s) old answer new = Written (status_text s) old answer new
+Says None old answer new = (answer ≡ text_answer status.UnknownStatus 0) × (new ≡ old)
+
+-- the same for the number of a status
+abbrev pub TellsStatus : ℕ → List ℕ → TextAnswer → List ℕ → Type 0
+TellsStatus number old answer new =
+    (read : Option Status) × ReadsStatus number read × Says read old answer new

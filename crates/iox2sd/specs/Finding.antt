@@ -1,0 +1,48 @@
+-- What a handle stands for.
+use Rattle.std.specs.Prelude.{◌≡◌, ℕ, Some, None, Result, Ok, Err}
+use Rattle.iox2_container.specs.Handle.{Handle as Named}
+use Rattle.iox2_container.specs.Steps.{IsForeign, Stands}
+use Rattle.iox2_dynamic.specs.declared.dynamic_config.port_details.PortDetails.{PortDetails}
+use Rattle.iox2_dynamic.specs.Ports.{IsNoPort, StandsAmong}
+use Rattle.iox2_dynamic.specs.Service.{Service as Held}
+use Rattle.iox2sd.specs.Handles.{ReadsHandle}
+use Rattle.iox2sd.specs.Ids.{id_of}
+use Rattle.iox2sd.specs.Ports.{no_port, told_port}
+use Rattle.iox2sd.specs.Status.{code}
+use Rattle.iox2sd.specs.declared.handle.Handle.{Handle}
+use Rattle.iox2sd.specs.declared.id.Id.{Id}
+use Rattle.iox2sd.specs.declared.port.Port.{Port}
+use Rattle.iox2sd.specs.declared.service.finding.IdAnswer.{IdAnswer}
+use Rattle.iox2sd.specs.declared.service.finding.PortAnswer.{PortAnswer}
+use Rattle.iox2sd.specs.declared.status.Status.{Status}
+use Rattle.iox2sd.specs.declared.status.Status.TheVariants as status
+
+-- a node, or the status of a refusal
+abbrev pub id_answer : Result Id Status → IdAnswer
+id_answer (Ok id) = record { status = code status.Done; id = id }
+id_answer (Err s) = record { status = code s; id = id_of 0 }
+
+-- a port, or the status of a refusal
+abbrev pub port_answer : Result Port Status → PortAnswer
+port_answer (Ok port) = record { status = code status.Done; port = port }
+port_answer (Err s) = record { status = code s; port = no_port }
+
+-- the node of a handle
+abbrev pub FindsNode : Handle → Held → Result Id Status → Type 0
+FindsNode handle s (Ok id) =
+    (named : Named) × ReadsHandle handle (Some named)
+    × (node : ℕ) × Stands s.nodes.registry named node × (id ≡ id_of node)
+FindsNode handle s (Err status.UnknownRole) = ReadsHandle handle None
+FindsNode handle s (Err status.ForeignHandle) =
+    (named : Named) × ReadsHandle handle (Some named) × IsForeign s.nodes.registry named
+FindsNode handle s (Err _) = ⊥
+
+-- the port of a handle
+abbrev pub FindsPort : Handle → Held → Result Port Status → Type 0
+FindsPort handle s (Ok port) =
+    (named : Named) × ReadsHandle handle (Some named)
+    × (d : PortDetails) × StandsAmong s.ports named d × (port ≡ told_port d)
+FindsPort handle s (Err status.UnknownRole) = ReadsHandle handle None
+FindsPort handle s (Err status.ForeignHandle) =
+    (named : Named) × ReadsHandle handle (Some named) × IsNoPort s.ports named
+FindsPort handle s (Err _) = ⊥

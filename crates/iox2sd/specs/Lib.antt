@@ -1,0 +1,19 @@
+-- Promises: what each export answers, and what the caller's memory holds then.
+pub mod Status
+pub mod Answers
+pub mod About
+pub mod Ids
+pub mod Handles
+pub mod Ports
+pub mod Places
+pub mod Services
+pub mod Changes
+pub mod Counts
+pub mod Deaths
+pub mod Queries
+pub mod Numbers
+pub mod Finding
+pub mod Listings
+-- Inner facts: what a slot owns.
+pub mod Slots
+pub mod Heap

@@ -1,0 +1,43 @@
+-- Questions for numbers of nodes and ports, and for room.
+use Rattle.std.specs.Prelude.{◌↔◌, ℕ, Bool, IsTrue, Some, None, Result, Ok, Err}
+use Rattle.iox2_container.specs.State.{RegistryState}
+use Rattle.iox2_container.specs.Steps.{TakesEntry}
+use Rattle.iox2_container.specs.declared.container.role.Role.{Role}
+use Rattle.iox2_dynamic.specs.declared.dynamic_config.port_details.PortDetails.{PortDetails}
+use Rattle.iox2_dynamic.specs.Ports.{OfRole}
+use Rattle.iox2_dynamic.specs.Service.{Service as Held, HasRole, TakesPort, first_role, second_role}
+use Rattle.iox2sd.specs.Answers.{count_answer}
+use Rattle.iox2sd.specs.Handles.{ReadsRole}
+use Rattle.iox2sd.specs.declared.answers.CountAnswer.{CountAnswer}
+use Rattle.iox2sd.specs.declared.status.Status.{Status}
+use Rattle.iox2sd.specs.declared.status.Status.TheVariants as status
+
+-- how many, or the status of a refusal
+abbrev pub told_count : Result ℕ Status → CountAnswer
+told_count (Ok n) = count_answer status.Done n
+told_count (Err s) = count_answer s 0
+
+-- whether there is room for a node
+abbrev pub AsksNodeRoom : Held → Result Bool Status → Type 0
+AsksNodeRoom s (Ok is_so) = IsTrue is_so ↔ TakesEntry s.nodes.registry
+AsksNodeRoom s (Err _) = ⊥
+
+-- what is said of the ports of a role: a number, or why none is told
+abbrev pub AsksPorts : (RegistryState PortDetails → ℕ → Type 0) → ℕ → Held → Result ℕ Status → Type 0
+AsksPorts says number s (Ok n) =
+    (role : Role) × ReadsRole number (Some role)
+    × OfRole says (first_role s.pattern) (second_role s.pattern) s.ports role (Some n)
+AsksPorts says number s (Err status.UnknownRole) = ReadsRole number None
+AsksPorts says number s (Err status.RoleNotInPattern) =
+    (role : Role) × ReadsRole number (Some role)
+    × OfRole says (first_role s.pattern) (second_role s.pattern) s.ports role None
+AsksPorts says number s (Err _) = ⊥
+
+-- whether there is room for a port of a role
+abbrev pub AsksRoom : ℕ → Held → Result Bool Status → Type 0
+AsksRoom number s (Ok is_so) =
+    (role : Role) × ReadsRole number (Some role) × HasRole s.pattern role × (IsTrue is_so ↔ TakesPort s role)
+AsksRoom number s (Err status.UnknownRole) = ReadsRole number None
+AsksRoom number s (Err status.RoleNotInPattern) =
+    (role : Role) × ReadsRole number (Some role) × (¬ (HasRole s.pattern role))
+AsksRoom number s (Err _) = ⊥

@@ -1,0 +1,147 @@
+-- Ports as C sees them.
+use Rattle.std.specs.Prelude.{◌≡◌, ℕ, Bool, true, false, Option, Some, None, Result, Ok, Err, ◌⊎◌}
+use Rattle.iox2_ids.specs.PortId.{port_value}
+use Rattle.iox2_config.specs.declared.config.choices.DataSegmentType.{DataSegmentType}
+use Rattle.iox2_config.specs.declared.config.choices.DataSegmentType.TheVariants.{Dynamic, Static}
+use Rattle.iox2_container.specs.Handle.{Handle as Named}
+use Rattle.iox2_container.specs.declared.container.role.Role.{Role}
+use Rattle.iox2_container.specs.declared.container.role.Role.TheVariants as role
+use Rattle.iox2_dynamic.specs.declared.dynamic_config.answers.AttachError.TheVariants as attach
+use Rattle.iox2_dynamic.specs.declared.dynamic_config.port_details.PortDetails.{PortDetails}
+use Rattle.iox2_dynamic.specs.declared.dynamic_config.port_details.PortDetails.TheVariants as of
+use Rattle.iox2_dynamic.specs.Details.{role_of, node_of, port_of}
+use Rattle.iox2_dynamic.specs.Service.{Service as Held, HasRole}
+use Rattle.iox2_dynamic.specs.Steps.{AttachStep}
+use Rattle.iox2sd.specs.Handles.{told, role_number, ReadsRole}
+use Rattle.iox2sd.specs.Ids.{number_of, id_of, ReadsNode}
+use Rattle.iox2sd.specs.declared.handle.Handle.{Handle}
+use Rattle.iox2sd.specs.declared.port.Port.{Port}
+use Rattle.iox2sd.specs.declared.status.Status.{Status}
+use Rattle.iox2sd.specs.declared.status.Status.TheVariants as status
+
+-- the number of a kind of data segment
+abbrev pub segment_number : DataSegmentType → ℕ
+segment_number Dynamic = 0
+segment_number Static = 1
+
+-- the kind of data segment of a number
+abbrev pub ReadsSegment : ℕ → Option DataSegmentType → Type 0
+ReadsSegment number (Some s) = segment_number s ≡ number
+ReadsSegment number None = (s : DataSegmentType) → ¬ (segment_number s ≡ number)
+
+-- the port's kind and each field of its kind are those that the caller told
+abbrev pub Tells : Port → PortDetails → Type 0
+Tells p (of.Publisher d) =
+    ReadsRole p.role (Some role.Publisher) × (d.publisher_id ≡ number_of p.port) × ReadsNode p.node (Some d.node_id)
+    × (d.number_of_samples ≡ p.number_of_samples) × (d.max_slice_len ≡ p.max_slice_len)
+    × ReadsSegment p.data_segment (Some d.data_segment_type) × (d.max_number_of_segments ≡ p.max_number_of_segments)
+Tells p (of.Subscriber d) =
+    ReadsRole p.role (Some role.Subscriber) × (d.subscriber_id ≡ number_of p.port) × ReadsNode p.node (Some d.node_id)
+    × (d.buffer_size ≡ p.buffer_size)
+Tells p (of.Listener d) =
+    ReadsRole p.role (Some role.Listener) × (d.listener_id ≡ number_of p.port) × ReadsNode p.node (Some d.node_id)
+Tells p (of.Notifier d) =
+    ReadsRole p.role (Some role.Notifier) × (d.notifier_id ≡ number_of p.port) × ReadsNode p.node (Some d.node_id)
+Tells p (of.Server d) =
+    ReadsRole p.role (Some role.Server) × (d.server_id ≡ number_of p.port) × ReadsNode p.node (Some d.node_id)
+    × (d.request_buffer_size ≡ p.request_buffer_size) × (d.number_of_responses ≡ p.number_of_responses)
+    × (d.max_slice_len ≡ p.max_slice_len)
+    × ReadsSegment p.data_segment (Some d.data_segment_type) × (d.max_number_of_segments ≡ p.max_number_of_segments)
+Tells p (of.Client d) =
+    ReadsRole p.role (Some role.Client) × (d.client_id ≡ number_of p.port) × ReadsNode p.node (Some d.node_id)
+    × (d.number_of_requests ≡ p.number_of_requests) × (d.response_buffer_size ≡ p.response_buffer_size)
+    × (d.max_slice_len ≡ p.max_slice_len)
+    × ReadsSegment p.data_segment (Some d.data_segment_type) × (d.max_number_of_segments ≡ p.max_number_of_segments)
+Tells p (of.Reader d) =
+    ReadsRole p.role (Some role.Reader) × (d.reader_id ≡ number_of p.port) × ReadsNode p.node (Some d.node_id)
+Tells p (of.Writer d) =
+    ReadsRole p.role (Some role.Writer) × (d.writer_id ≡ number_of p.port) × ReadsNode p.node (Some d.node_id)
+
+-- the role is that of no port
+abbrev pub IsNoPortRole : ℕ → Type 0
+IsNoPortRole number = ReadsRole number None ⊎ ReadsRole number (Some role.Node)
+
+-- whether the ports of a role have a data segment
+abbrev pub has_segment : Role → Bool
+has_segment role.Publisher = true
+has_segment role.Server = true
+has_segment role.Client = true
+has_segment _ = false
+
+-- the parts of the node's id are those of a node
+abbrev pub HasNode : Port → Type 0
+HasNode p = (node : ℕ) × ReadsNode p.node (Some node)
+
+-- the details that a port tells, or why there are none
+abbrev pub ReadsPort : Port → Result PortDetails Status → Type 0
+ReadsPort p (Ok details) = Tells p details
+ReadsPort p (Err status.NoNode) = ReadsNode p.node None
+ReadsPort p (Err status.UnknownRole) = HasNode p × IsNoPortRole p.role
+ReadsPort p (Err status.UnknownSegment) =
+    HasNode p × (role : Role) × ReadsRole p.role (Some role) × (has_segment role ≡ true)
+    × ReadsSegment p.data_segment None
+ReadsPort p (Err _) = ⊥
+
+-- the port whose fields are all 0
+abbrev pub no_port : Port
+no_port = record {
+  role = 0;
+  port = id_of 0;
+  node = id_of 0;
+  number_of_samples = 0;
+  buffer_size = 0;
+  request_buffer_size = 0;
+  number_of_responses = 0;
+  number_of_requests = 0;
+  response_buffer_size = 0;
+  max_slice_len = 0;
+  data_segment = 0;
+  max_number_of_segments = 0;
+}
+
+-- what the details of every kind tell; all other fields are 0
+abbrev pub blank : PortDetails → Port
+blank d = record no_port { role = role_number (role_of d); port = id_of (port_value (port_of d)); node = id_of (node_of d) }
+
+-- what the details tell
+abbrev pub told_port : PortDetails → Port
+told_port (of.Publisher d) = record (blank (of.Publisher d)) {
+  number_of_samples = d.number_of_samples;
+  max_slice_len = d.max_slice_len;
+  data_segment = segment_number d.data_segment_type;
+  max_number_of_segments = d.max_number_of_segments;
+}
+told_port (of.Subscriber d) = record (blank (of.Subscriber d)) { buffer_size = d.buffer_size }
+told_port (of.Server d) = record (blank (of.Server d)) {
+  request_buffer_size = d.request_buffer_size;
+  number_of_responses = d.number_of_responses;
+  max_slice_len = d.max_slice_len;
+  data_segment = segment_number d.data_segment_type;
+  max_number_of_segments = d.max_number_of_segments;
+}
+told_port (of.Client d) = record (blank (of.Client d)) {
+  number_of_requests = d.number_of_requests;
+  response_buffer_size = d.response_buffer_size;
+  max_slice_len = d.max_slice_len;
+  data_segment = segment_number d.data_segment_type;
+  max_number_of_segments = d.max_number_of_segments;
+}
+told_port other = blank other
+
+-- attaching a port to a service: the handle that C sees, or the refusal
+abbrev pub Attaches : Port → Held → Result Handle Status → Held → Type 0
+Attaches p old (Ok handle) new =
+    (d : PortDetails) × Tells p d × HasRole old.pattern (role_of d)
+    × (named : Named) × AttachStep old d (Ok named) new × (handle ≡ told named)
+Attaches p old (Err status.NoNode) new = ReadsPort p (Err status.NoNode) × (new ≡ old)
+Attaches p old (Err status.UnknownRole) new = ReadsPort p (Err status.UnknownRole) × (new ≡ old)
+Attaches p old (Err status.UnknownSegment) new = ReadsPort p (Err status.UnknownSegment) × (new ≡ old)
+Attaches p old (Err status.RoleNotInPattern) new =
+    (d : PortDetails) × Tells p d × (¬ (HasRole old.pattern (role_of d))) × (new ≡ old)
+Attaches p old (Err status.IsLocked) new =
+    (d : PortDetails) × Tells p d × HasRole old.pattern (role_of d) × AttachStep old d (Err attach.ServiceIsLocked) new
+Attaches p old (Err status.NodeNotRegistered) new =
+    (d : PortDetails) × Tells p d × HasRole old.pattern (role_of d) × AttachStep old d (Err attach.NodeNotRegistered) new
+Attaches p old (Err status.OutOfSpace) new =
+    (d : PortDetails) × Tells p d × HasRole old.pattern (role_of d) × AttachStep old d (Err attach.OutOfSpace) new
+Attaches p old (Err _) new = ⊥

@@ -1,0 +1,56 @@
+//! Services that a caller from C keeps.
+ghost use Rattle.std.specs.Prelude.{◌≡◌, Some, None, IfSome, IfNone};
+ghost use Rattle.iox2sd.specs.Places.{IsSound, held};
+
+pub mod changes;
+pub mod death;
+pub mod finding;
+pub mod listing;
+mod loose;
+pub mod making;
+pub mod node_listing;
+pub mod numbers;
+pub mod queries;
+mod roles;
+mod slot;
+mod steps;
+
+use iox2_dynamic::dynamic_config::DynamicConfig;
+use loose::Loose;
+use slot::Slot;
+use std::alloc::Global;
+
+/// A service, or none where all bytes are 0.
+#[repr(C)]
+pub struct Service {
+    full: bool,
+    slot: Slot,
+}
+
+impl Service {
+    /// Takes the service out, where there is one.
+    pub(super) fn take(&mut self, alloc: Global) -> Option<Box<DynamicConfig>>
+        requires { IsSound self.old }
+        ensures some { IfSome result (λ service. held self.old ≡ Some service.value) }
+        ensures none { IfNone result (held self.old ≡ None) }
+        ensures left { held self.new ≡ None }
+        ensures sound { IsSound self.new }
+    {
+        if !self.full {
+            return None;
+        }
+        self.full = false;
+        Some(self.slot.take(alloc))
+    }
+
+    /// Puts a service in, where there is none.
+    pub(super) fn put(&mut self, service: Box<DynamicConfig>)
+        requires sound { IsSound self.old }
+        requires none { held self.old ≡ None }
+        ensures service { held self.new ≡ Some service.value }
+        ensures sound { IsSound self.new }
+    {
+        self.full = true;
+        self.slot.put(Loose::of(service));
+    }
+}

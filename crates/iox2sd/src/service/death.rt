@@ -1,0 +1,151 @@
+//! Deaths of nodes.
+ghost use Rattle.std.specs.Prelude.{◌≡◌, ◌≤◌, All};
+ghost use Rattle.iox2_dynamic.specs.Steps.{DeadStep};
+ghost use Rattle.iox2sd.specs.Counts.{counted};
+ghost use Rattle.iox2sd.specs.Deaths.{is_kept, action_for, Keeps, Dies, Went};
+ghost use Rattle.iox2sd.specs.Deaths.{told_death, death_answer};
+ghost use Rattle.iox2sd.specs.Places.{IsSound, At, Nothing};
+ghost use Rattle.iox2sd.specs.declared.service.death.Death.TheVariants as death;
+
+use super::Service;
+use super::roles::Counts;
+use crate::id::Id;
+use crate::status::Status;
+use iox2_dynamic::dynamic_config::{DeregisterNodeState, DynamicConfig, PortCleanupAction};
+use iox2_ids::identifiers::{UniqueNodeId, UniquePortId};
+use std::alloc::Global;
+
+/// How many ports went with a dead node.
+#[repr(C)]
+#[derive(Clone, Copy)]
+pub struct DeathAnswer {
+    /// The number of a [`Status`].
+    pub status: u32,
+    /// How many publishers, listeners, servers or readers went.
+    pub first: usize,
+    /// How many subscribers, notifiers, clients or writers went.
+    pub second: usize,
+}
+
+/// What became of a dead node.
+enum Death {
+    /// The service stays open; so many ports went.
+    Open(Counts),
+    /// The service is locked for good; so many ports went.
+    Locked(Counts),
+    /// The call was refused.
+    Refused(Status),
+}
+
+impl DeathAnswer {
+    /// The answer of this status with these numbers.
+    fn new(status: Status, gone: Counts) -> DeathAnswer
+        ensures { result ≡ told_death status gone }
+    {
+        DeathAnswer {
+            status: status.code(),
+            first: gone.first,
+            second: gone.second,
+        }
+    }
+
+    /// The answer that tells it.
+    fn of(death: Death) -> DeathAnswer
+        ensures { result ≡ death_answer death }
+    {
+        match death {
+            Death::Open(gone) => DeathAnswer::new(Status::Done, gone),
+            Death::Locked(gone) => DeathAnswer::new(Status::DoneLocked, gone),
+            Death::Refused(status) => DeathAnswer::new(status, Counts::none()),
+        }
+    }
+}
+
+/// Whether the number is that of one of these ids.
+fn is_kept(kept: &[Id], value: u128) -> bool
+    ensures { result ≡ is_kept kept.now value }
+{
+    kept.iter().any(|id| id.number() == value)
+}
+
+/// The answer on a port, where ports of these ids stay.
+fn answer(kept: &[Id], port: &UniquePortId) -> PortCleanupAction
+    ensures { result ≡ action_for kept.now port.now }
+{
+    if is_kept(kept, port.value()) {
+        PortCleanupAction::SkipPort
+    } else {
+        PortCleanupAction::RemovePort
+    }
+}
+
+/// Removes a dead node, and those of its ports that are not kept.
+fn clean_up(service: &mut DynamicConfig, dead: &UniqueNodeId, kept: &[Id]) -> DeregisterNodeState
+    ensures { DeadStep (Keeps kept.now) service.old tt dead.now result service.new tt }
+{
+    let mut answers = move |port: UniquePortId| -> PortCleanupAction
+        ensures first { result ≡ action_for kept.entry.now port }
+        ensures same { kept.exit.now ≡ kept.entry.now }
+    { answer(kept, &port) };
+    service.remove_dead_node_id(dead, &mut answers)
+}
+
+/// The same, and how many ports went.
+fn count_gone(
+    service: &mut DynamicConfig,
+    dead: &UniqueNodeId,
+    kept: &[Id],
+) -> (DeregisterNodeState, Counts)
+    ensures step { DeadStep (Keeps kept.now) service.old tt dead.now result.0 service.new tt }
+    ensures went { Went (counted service.old) result.1 (counted service.new) }
+{
+    let before = Counts::of(service);
+    let state = clean_up(service, dead, kept);
+    let after = Counts::of(service);
+    let gone = Counts {
+        first: before.first - after.first,
+        second: before.second - after.second,
+    };
+    (state, gone)
+}
+
+/// Removes a dead node of these parts, and those of its ports that are not kept.
+fn die(service: &mut DynamicConfig, dead: Id, kept: &[Id]) -> Death
+    ensures { Dies dead kept.now service.old result service.new }
+{
+    let Some(dead) = dead.of_node() else {
+        return Death::Refused(Status::NoNode);
+    };
+    let (state, gone) = count_gone(service, &dead, kept);
+    match state {
+        DeregisterNodeState::HasOwners => Death::Open(gone),
+        DeregisterNodeState::NoMoreOwners => Death::Locked(gone),
+    }
+}
+
+/// Removes those ports of a dead node whose ids are not among `kept`, and tells how many went. Where none of its ports is
+/// left, the node goes too, with all its handles; where it was the last one, the service is locked for good, as it is told
+/// to be where it was before.
+///
+/// Refused are, in this order, NULL, a place that holds no service, and an id of no node.
+#[unsafe(no_mangle)]
+pub extern "C" fn iox2sd_dead_at(
+    alloc: Global,
+    places: &mut [Service],
+    dead: Id,
+    kept: &[Id],
+) -> DeathAnswer
+    requires { All IsSound places.old }
+    ensures { At death_answer death.Refused Nothing (Dies dead kept.now)
+        places.old result places.new }
+{
+    let [place, ..] = places else {
+        return DeathAnswer::of(Death::Refused(Status::Null));
+    };
+    let Some(mut held) = place.take(alloc) else {
+        return DeathAnswer::of(Death::Refused(Status::NoService));
+    };
+    let death = die(&mut held, dead, kept);
+    place.put(held);
+    DeathAnswer::of(death)
+}

@@ -1,0 +1,140 @@
+//! What a handle stands for.
+ghost use Rattle.std.specs.Prelude.{◌≡◌, All, Err};
+ghost use Rattle.iox2sd.specs.Finding.{id_answer, port_answer, FindsNode, FindsPort};
+ghost use Rattle.iox2sd.specs.Places.{IsSound, At, Nothing};
+
+use super::Service;
+use crate::handle::Handle;
+use crate::id::Id;
+use crate::port::Port;
+use crate::status::Status;
+use iox2_dynamic::dynamic_config::DynamicConfig;
+use std::alloc::Global;
+
+/// A node.
+#[repr(C)]
+#[derive(Clone, Copy)]
+pub struct IdAnswer {
+    /// The number of a [`Status`].
+    pub status: u32,
+    /// Its id; all 0 where the status is not that of `Done`.
+    pub id: Id,
+}
+
+/// A port.
+#[repr(C)]
+#[derive(Clone, Copy)]
+pub struct PortAnswer {
+    /// The number of a [`Status`].
+    pub status: u32,
+    /// What it tells; all 0 where the status is not that of `Done`.
+    pub port: Port,
+}
+
+impl IdAnswer {
+    /// The answer that tells a node, or why there is none.
+    fn of(found: Result<Id, Status>) -> IdAnswer
+        ensures { result ≡ id_answer found }
+    {
+        match found {
+            Ok(id) => IdAnswer {
+                status: Status::Done.code(),
+                id,
+            },
+            Err(status) => IdAnswer {
+                status: status.code(),
+                id: Id::zero(),
+            },
+        }
+    }
+}
+
+impl PortAnswer {
+    /// The answer that tells a port, or why there is none.
+    fn of(found: Result<Port, Status>) -> PortAnswer
+        ensures { result ≡ port_answer found }
+    {
+        match found {
+            Ok(port) => PortAnswer {
+                status: Status::Done.code(),
+                port,
+            },
+            Err(status) => PortAnswer {
+                status: status.code(),
+                port: Port::zero(),
+            },
+        }
+    }
+}
+
+/// The node of the handle.
+fn find_node(service: &DynamicConfig, handle: Handle) -> Result<Id, Status>
+    ensures { FindsNode handle service.now result }
+{
+    let Some(handle) = handle.read() else {
+        return Err(Status::UnknownRole);
+    };
+    match service.node(handle) {
+        Some(node) => Ok(Id::of_number(node.value())),
+        None => Err(Status::ForeignHandle),
+    }
+}
+
+/// The port of the handle.
+fn find_port(service: &DynamicConfig, handle: Handle) -> Result<Port, Status>
+    ensures { FindsPort handle service.now result }
+{
+    let Some(handle) = handle.read() else {
+        return Err(Status::UnknownRole);
+    };
+    match service.port(handle) {
+        Some(details) => Ok(Port::of(&details)),
+        None => Err(Status::ForeignHandle),
+    }
+}
+
+/// The node that was registered with this handle. Refused are, in this order, NULL, a place that holds no service, a number
+/// of no role, and each handle that is not that of a node here.
+#[unsafe(no_mangle)]
+pub extern "C" fn iox2sd_find_node_at(
+    alloc: Global,
+    places: &mut [Service],
+    handle: Handle,
+) -> IdAnswer
+    requires { All IsSound places.old }
+    ensures { At id_answer Err Nothing (λ old made new. FindsNode handle old made × (new ≡ old))
+        places.old result places.new }
+{
+    let [place, ..] = places else {
+        return IdAnswer::of(Err(Status::Null));
+    };
+    let Some(held) = place.take(alloc) else {
+        return IdAnswer::of(Err(Status::NoService));
+    };
+    let found = find_node(&held, handle);
+    place.put(held);
+    IdAnswer::of(found)
+}
+
+/// The port that was attached with this handle. Refused are, in this order, NULL, a place that holds no service, a number
+/// of no role, and each handle that is not that of a port here.
+#[unsafe(no_mangle)]
+pub extern "C" fn iox2sd_find_port_at(
+    alloc: Global,
+    places: &mut [Service],
+    handle: Handle,
+) -> PortAnswer
+    requires { All IsSound places.old }
+    ensures { At port_answer Err Nothing (λ old made new. FindsPort handle old made × (new ≡ old))
+        places.old result places.new }
+{
+    let [place, ..] = places else {
+        return PortAnswer::of(Err(Status::Null));
+    };
+    let Some(held) = place.take(alloc) else {
+        return PortAnswer::of(Err(Status::NoService));
+    };
+    let found = find_port(&held, handle);
+    place.put(held);
+    PortAnswer::of(found)
+}

@@ -1,0 +1,124 @@
+//! Making and freeing services.
+ghost use Rattle.std.specs.Prelude.{◌≡◌, All};
+ghost use Rattle.iox2sd.specs.Places.{IsSound, held};
+ghost use Rattle.iox2sd.specs.Services.{ReadsSettings, MakesAt, FreesAt, Makes};
+
+use super::Service;
+use crate::status::Status;
+use iox2_dynamic::dynamic_config::{
+    DynamicConfig, MessagingPatternSettings, blackboard, event, publish_subscribe, request_response,
+};
+use std::alloc::Global;
+
+/// For how many nodes and ports at a time a service has room.
+#[repr(C)]
+#[derive(Clone, Copy)]
+pub struct Capacities {
+    /// For nodes.
+    pub nodes: usize,
+    /// For publishers, listeners, servers or readers.
+    pub first: usize,
+    /// For subscribers, notifiers, clients or writers.
+    pub second: usize,
+}
+
+/// The settings of the pattern of this number, with these capacities.
+fn settings_of(pattern: u32, capacities: Capacities) -> Option<MessagingPatternSettings>
+    ensures { ReadsSettings pattern capacities result }
+{
+    let Capacities { first, second, .. } = capacities;
+    match pattern {
+        0 => Some(MessagingPatternSettings::PublishSubscribe(
+            publish_subscribe::DynamicConfigSettings {
+                number_of_subscribers: second,
+                number_of_publishers: first,
+            },
+        )),
+        1 => Some(MessagingPatternSettings::Event(event::DynamicConfigSettings {
+            number_of_listeners: first,
+            number_of_notifiers: second,
+        })),
+        2 => Some(MessagingPatternSettings::RequestResponse(
+            request_response::DynamicConfigSettings {
+                number_of_servers: first,
+                number_of_clients: second,
+            },
+        )),
+        3 => Some(MessagingPatternSettings::Blackboard(blackboard::DynamicConfigSettings {
+            number_of_readers: first,
+            number_of_writers: second,
+        })),
+        _ => None,
+    }
+}
+
+/// Makes a service in the place of none.
+fn make(
+    alloc: Global,
+    place: &mut Service,
+    pattern: u32,
+    number: u64,
+    capacities: Capacities,
+    tickets: u64,
+) -> u32
+    requires { IsSound place.old }
+    ensures sound { IsSound place.new }
+    ensures made { Makes pattern number capacities tickets (held place.old) result
+        (held place.new) }
+{
+    if let Some(held) = place.take(alloc) {
+        place.put(held);
+        return Status::HasService.code();
+    }
+    let Some(settings) = settings_of(pattern, capacities) else {
+        return Status::UnknownPattern.code();
+    };
+    let Ok(made) = DynamicConfig::with_tickets(alloc, &settings, capacities.nodes, number, tickets)
+    else {
+        return Status::NoMemory.code();
+    };
+    let Ok(made) = Box::new(alloc, made) else {
+        return Status::NoMemory.code();
+    };
+    place.put(made);
+    Status::Done.code()
+}
+
+/// Makes a service with nothing attached: its number is told in its handles, and so many tickets are given out for nodes
+/// and for each kind of ports.
+///
+/// Refused are, in this order, NULL, a place that holds a service, which it keeps, a number that is not that of a pattern, and
+/// want of memory.
+#[unsafe(no_mangle)]
+pub extern "C" fn iox2sd_service_make_at(
+    alloc: Global,
+    places: &mut [Service],
+    pattern: u32,
+    number: u64,
+    capacities: Capacities,
+    tickets: u64,
+) -> u32
+    requires { All IsSound places.old }
+    ensures { MakesAt pattern number capacities tickets places.old result places.new }
+{
+    match places {
+        [] => Status::Null.code(),
+        [place, ..] => make(alloc, place, pattern, number, capacities, tickets),
+    }
+}
+
+/// Frees the service, and leaves its place for another. Refused are NULL and a place that holds none.
+#[unsafe(no_mangle)]
+pub extern "C" fn iox2sd_service_free_at(alloc: Global, places: &mut [Service]) -> u32
+    requires { All IsSound places.old }
+    ensures { FreesAt places.old result places.new }
+{
+    let [place, ..] = places else {
+        return Status::Null.code();
+    };
+    let Some(held) = place.take(alloc) else {
+        return Status::NoService.code();
+    };
+    drop(held);
+    Status::Done.code()
+}

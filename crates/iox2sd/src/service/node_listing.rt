@@ -1,0 +1,68 @@
+//! Listings of nodes into a caller's array.
+ghost use Rattle.std.specs.Prelude.{◌≡◌, All};
+ghost use Rattle.iox2sd.specs.Ids.{id_of};
+ghost use Rattle.iox2sd.specs.Listings.{Puts, PutsAll, nodes_in, ListsNodes, listed_answer};
+ghost use Rattle.iox2sd.specs.Places.{IsSound, At};
+ghost use Rattle.iox2sd.specs.declared.service.listing.Listed.TheVariants as listed;
+
+use super::Service;
+use super::listing::{Listed, put};
+use crate::answers::CountAnswer;
+use crate::id::Id;
+use crate::status::Status;
+use iox2_dynamic::dynamic_config::DynamicConfig;
+use iox2_ids::identifiers::UniqueNodeId;
+use iox2_texts::bounded::CallbackProgression;
+use std::alloc::Global;
+
+/// Puts the ids of the nodes at the front of the array.
+fn put_nodes(service: &DynamicConfig, out: &mut [Id], used: &mut usize)
+    ensures { PutsAll (nodes_in service.now.nodes) (out.old, used.old) (out.new, used.new) }
+{
+    let mut note = |node: &UniqueNodeId| -> CallbackProgression
+        ensures noted { Puts (out.entry.now, used.entry.now)
+            (id_of node.now) result (out.exit.now, used.exit.now) }
+        ensures same { out.exit.ghost_name ≡ out.entry.ghost_name }
+    { put(out, used, Id::of_number(node.value())) };
+    service.list_node_ids(&mut note);
+}
+
+/// Lists the ids of the nodes.
+fn list_nodes(service: &DynamicConfig, out: &mut [Id]) -> Listed
+    ensures { ListsNodes out.old service.now result out.new }
+{
+    let number = service.number_of_nodes();
+    if number > out.len() {
+        return Listed::TooShort(number);
+    }
+    let mut used = 0;
+    put_nodes(service, out, &mut used);
+    Listed::All(number)
+}
+
+/// Lists the ids of the nodes by rising slot, one for each handle, at the front of an array, whose other places stay as they
+/// were, and tells how many there are. Where the array is too short for all, it stays as it was, and the number that it
+/// needs is told.
+///
+/// Refused are, in this order, NULL, a place that holds no service, and too short an array.
+#[unsafe(no_mangle)]
+pub extern "C" fn iox2sd_nodes_at(
+    alloc: Global,
+    places: &mut [Service],
+    out: &mut [Id],
+) -> CountAnswer
+    requires { All IsSound places.old }
+    ensures { At listed_answer listed.Refused (out.new ≡ out.old)
+        (λ old made new. ListsNodes out.old old made out.new × (new ≡ old))
+        places.old result places.new }
+{
+    let [place, ..] = places else {
+        return Listed::Refused(Status::Null).answer();
+    };
+    let Some(held) = place.take(alloc) else {
+        return Listed::Refused(Status::NoService).answer();
+    };
+    let listed = list_nodes(&held, out);
+    place.put(held);
+    listed.answer()
+}

@@ -1,0 +1,188 @@
+//! How many nodes and ports there are, how many there may be, and whether there is room for one more.
+ghost use Rattle.std.specs.Prelude.{◌≡◌, All, Err, length};
+ghost use Rattle.iox2sd.specs.Numbers.{told_count, AsksPorts, AsksRoom, AsksNodeRoom};
+ghost use Rattle.iox2sd.specs.Places.{IsSound, At, Nothing};
+ghost use Rattle.iox2sd.specs.Queries.{Gives, flag_answer};
+
+use super::Service;
+use super::queries::FlagAnswer;
+use crate::answers::{CountAnswer, count};
+use crate::handle::role_of;
+use crate::status::Status;
+use iox2_dynamic::dynamic_config::DynamicConfig;
+use std::alloc::Global;
+
+/// The answer that tells how many, or why it does not.
+fn told(asked: Result<usize, Status>) -> CountAnswer
+    ensures { result ≡ told_count asked }
+{
+    match asked {
+        Ok(number) => count(Status::Done, number),
+        Err(status) => count(status, 0),
+    }
+}
+
+/// How many ports of the role of this number there are.
+fn count_ports(service: &DynamicConfig, role: u64) -> Result<usize, Status>
+    ensures { AsksPorts (λ r n. n ≡ length r.entries) role service.now result }
+{
+    let Some(role) = role_of(role) else {
+        return Err(Status::UnknownRole);
+    };
+    match service.count_ports(role) {
+        Some(number) => Ok(number),
+        None => Err(Status::RoleNotInPattern),
+    }
+}
+
+/// How many ports of the role of this number there may be.
+fn max_ports(service: &DynamicConfig, role: u64) -> Result<usize, Status>
+    ensures { AsksPorts (λ r n. n ≡ r.capacity) role service.now result }
+{
+    let Some(role) = role_of(role) else {
+        return Err(Status::UnknownRole);
+    };
+    match service.max_ports(role) {
+        Some(number) => Ok(number),
+        None => Err(Status::RoleNotInPattern),
+    }
+}
+
+/// Whether there is room for a port of the role of this number.
+fn has_room(service: &DynamicConfig, role: u64) -> Result<bool, Status>
+    ensures { AsksRoom role service.now result }
+{
+    let Some(role) = role_of(role) else {
+        return Err(Status::UnknownRole);
+    };
+    if !service.has_role(role) {
+        return Err(Status::RoleNotInPattern);
+    }
+    Ok(service.has_room(role))
+}
+
+/// Whether there is room for a node.
+fn has_room_for_node(service: &DynamicConfig) -> Result<bool, Status>
+    ensures { AsksNodeRoom service.now result }
+{
+    Ok(service.has_room_for_node())
+}
+
+/// How many handles of nodes there are. Refused are NULL and a place that holds no service.
+#[unsafe(no_mangle)]
+pub extern "C" fn iox2sd_number_of_nodes_at(alloc: Global, places: &mut [Service]) -> CountAnswer
+    requires { All IsSound places.old }
+    ensures { At told_count Err Nothing (Gives (λ s. length s.nodes.registry.entries))
+        places.old result places.new }
+{
+    let [place, ..] = places else {
+        return told(Err(Status::Null));
+    };
+    let Some(held) = place.take(alloc) else {
+        return told(Err(Status::NoService));
+    };
+    let number = held.number_of_nodes();
+    place.put(held);
+    told(Ok(number))
+}
+
+/// How many handles of nodes there may be at a time. Refused are NULL and a place that holds no service.
+#[unsafe(no_mangle)]
+pub extern "C" fn iox2sd_max_nodes_at(alloc: Global, places: &mut [Service]) -> CountAnswer
+    requires { All IsSound places.old }
+    ensures { At told_count Err Nothing (Gives (λ s. s.nodes.registry.capacity))
+        places.old result places.new }
+{
+    let [place, ..] = places else {
+        return told(Err(Status::Null));
+    };
+    let Some(held) = place.take(alloc) else {
+        return told(Err(Status::NoService));
+    };
+    let number = held.max_nodes();
+    place.put(held);
+    told(Ok(number))
+}
+
+/// Whether `iox2sd_register` would register a node. Refused are NULL and a place that holds no service.
+#[unsafe(no_mangle)]
+pub extern "C" fn iox2sd_has_room_for_node_at(alloc: Global, places: &mut [Service]) -> FlagAnswer
+    requires { All IsSound places.old }
+    ensures { At flag_answer Err Nothing (λ old made new. AsksNodeRoom old made × (new ≡ old))
+        places.old result places.new }
+{
+    let [place, ..] = places else {
+        return FlagAnswer::of(Err(Status::Null));
+    };
+    let Some(held) = place.take(alloc) else {
+        return FlagAnswer::of(Err(Status::NoService));
+    };
+    let made = has_room_for_node(&held);
+    place.put(held);
+    FlagAnswer::of(made)
+}
+
+/// How many ports of the role there are. Refused are, in this order, NULL, a place that holds no service, a number of no
+/// role, and a role that the pattern does not have.
+#[unsafe(no_mangle)]
+pub extern "C" fn iox2sd_count_ports_at(
+    alloc: Global,
+    places: &mut [Service],
+    role: u64,
+) -> CountAnswer
+    requires { All IsSound places.old }
+    ensures { At told_count Err Nothing
+        (λ old made new. AsksPorts (λ r n. n ≡ length r.entries) role old made × (new ≡ old))
+        places.old result places.new }
+{
+    let [place, ..] = places else {
+        return told(Err(Status::Null));
+    };
+    let Some(held) = place.take(alloc) else {
+        return told(Err(Status::NoService));
+    };
+    let made = count_ports(&held, role);
+    place.put(held);
+    told(made)
+}
+
+/// How many ports of the role there may be at a time. Refused as `iox2sd_count_ports` is.
+#[unsafe(no_mangle)]
+pub extern "C" fn iox2sd_max_ports_at(
+    alloc: Global,
+    places: &mut [Service],
+    role: u64,
+) -> CountAnswer
+    requires { All IsSound places.old }
+    ensures { At told_count Err Nothing
+        (λ old made new. AsksPorts (λ r n. n ≡ r.capacity) role old made × (new ≡ old))
+        places.old result places.new }
+{
+    let [place, ..] = places else {
+        return told(Err(Status::Null));
+    };
+    let Some(held) = place.take(alloc) else {
+        return told(Err(Status::NoService));
+    };
+    let made = max_ports(&held, role);
+    place.put(held);
+    told(made)
+}
+
+/// Whether `iox2sd_attach` would attach a port of the role, if its node is registered. Refused as `iox2sd_count_ports` is.
+#[unsafe(no_mangle)]
+pub extern "C" fn iox2sd_has_room_at(alloc: Global, places: &mut [Service], role: u64) -> FlagAnswer
+    requires { All IsSound places.old }
+    ensures { At flag_answer Err Nothing (λ old made new. AsksRoom role old made × (new ≡ old))
+        places.old result places.new }
+{
+    let [place, ..] = places else {
+        return FlagAnswer::of(Err(Status::Null));
+    };
+    let Some(held) = place.take(alloc) else {
+        return FlagAnswer::of(Err(Status::NoService));
+    };
+    let made = has_room(&held, role);
+    place.put(held);
+    FlagAnswer::of(made)
+}

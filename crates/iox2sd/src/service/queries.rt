@@ -1,0 +1,231 @@
+//! Questions to a service: its pattern, its number, its lock, and what its ports are.
+ghost use Rattle.std.specs.Prelude.{◌≡◌, All, Ok, Err};
+ghost use Rattle.iox2_config.specs.Hashing.{pattern_number};
+ghost use Rattle.iox2sd.specs.Places.{IsSound, At, Nothing};
+ghost use Rattle.iox2sd.specs.Queries.{Gives, AsksRole, number_answer, roles_answer, flag_answer};
+ghost use Rattle.iox2sd.specs.Queries.{roles_in};
+
+use super::Service;
+use crate::handle::{role_number, role_of};
+use crate::status::Status;
+use iox2_config::hash::PatternKind;
+use iox2_dynamic::dynamic_config::{DynamicConfig, PortRoles};
+use std::alloc::Global;
+
+/// A number of the service.
+#[repr(C)]
+#[derive(Clone, Copy)]
+pub struct NumberAnswer {
+    /// The number of a [`Status`].
+    pub status: u32,
+    /// The number; 0 where the status is not that of `Done`.
+    pub number: u64,
+}
+
+/// The roles of the two kinds of ports of a pattern, that first which is recovered first.
+#[repr(C)]
+#[derive(Clone, Copy)]
+pub struct RolesAnswer {
+    /// The number of a [`Status`].
+    pub status: u32,
+    /// The role of publishers, listeners, servers or readers; 0 where the status is not that of `Done`.
+    pub first: u64,
+    /// The role of subscribers, notifiers, clients or writers; 0 where the status is not that of `Done`.
+    pub second: u64,
+}
+
+/// Yes or no.
+#[repr(C)]
+#[derive(Clone, Copy)]
+pub struct FlagAnswer {
+    /// The number of a [`Status`].
+    pub status: u32,
+    /// Whether it is so; no where the status is not that of `Done`.
+    pub yes: bool,
+}
+
+/// The numbers of two roles.
+#[derive(Clone, Copy)]
+struct Roles {
+    first: u64,
+    second: u64,
+}
+
+impl NumberAnswer {
+    /// The answer that tells a number, or why there is none.
+    fn of(asked: Result<u64, Status>) -> NumberAnswer
+        ensures { result ≡ number_answer asked }
+    {
+        match asked {
+            Ok(number) => NumberAnswer {
+                status: Status::Done.code(),
+                number,
+            },
+            Err(status) => NumberAnswer {
+                status: status.code(),
+                number: 0,
+            },
+        }
+    }
+}
+
+impl RolesAnswer {
+    /// The answer that tells two roles, or why there are none.
+    fn of(asked: Result<Roles, Status>) -> RolesAnswer
+        ensures { result ≡ roles_answer asked }
+    {
+        match asked {
+            Ok(roles) => RolesAnswer {
+                status: Status::Done.code(),
+                first: roles.first,
+                second: roles.second,
+            },
+            Err(status) => RolesAnswer {
+                status: status.code(),
+                first: 0,
+                second: 0,
+            },
+        }
+    }
+}
+
+impl FlagAnswer {
+    /// The answer that says yes or no, or why it does not.
+    pub(super) fn of(asked: Result<bool, Status>) -> FlagAnswer
+        ensures { result ≡ flag_answer asked }
+    {
+        match asked {
+            Ok(yes) => FlagAnswer {
+                status: Status::Done.code(),
+                yes,
+            },
+            Err(status) => FlagAnswer {
+                status: status.code(),
+                yes: false,
+            },
+        }
+    }
+}
+
+/// The number of the pattern.
+fn pattern(service: &DynamicConfig) -> u64
+    ensures { result ≡ pattern_number service.now.pattern }
+{
+    match service.kind() {
+        PatternKind::PublishSubscribe => 0,
+        PatternKind::Event => 1,
+        PatternKind::RequestResponse => 2,
+        PatternKind::Blackboard => 3,
+    }
+}
+
+/// The roles of the pattern's ports.
+fn roles_of(service: &DynamicConfig) -> Roles
+    ensures { result ≡ roles_in service.now }
+{
+    let (first, second) = service.kind().port_roles();
+    Roles {
+        first: role_number(first),
+        second: role_number(second),
+    }
+}
+
+/// Whether the pattern has ports of the role of this number.
+fn has_role(service: &DynamicConfig, role: u64) -> Result<bool, Status>
+    ensures { AsksRole role service.now result }
+{
+    match role_of(role) {
+        Some(role) => Ok(service.has_role(role)),
+        None => Err(Status::UnknownRole),
+    }
+}
+
+/// The number of the pattern. Refused are NULL and a place that holds no service.
+#[unsafe(no_mangle)]
+pub extern "C" fn iox2sd_pattern_at(alloc: Global, places: &mut [Service]) -> NumberAnswer
+    requires { All IsSound places.old }
+    ensures { At number_answer Err Nothing (Gives (λ s. pattern_number s.pattern))
+        places.old result places.new }
+{
+    let [place, ..] = places else {
+        return NumberAnswer::of(Err(Status::Null));
+    };
+    let Some(held) = place.take(alloc) else {
+        return NumberAnswer::of(Err(Status::NoService));
+    };
+    let number = pattern(&held);
+    place.put(held);
+    NumberAnswer::of(Ok(number))
+}
+
+/// The roles of the pattern's two kinds of ports. Refused are NULL and a place that holds no service.
+#[unsafe(no_mangle)]
+pub extern "C" fn iox2sd_roles_at(alloc: Global, places: &mut [Service]) -> RolesAnswer
+    requires { All IsSound places.old }
+    ensures { At roles_answer Err Nothing (Gives roles_in) places.old result places.new }
+{
+    let [place, ..] = places else {
+        return RolesAnswer::of(Err(Status::Null));
+    };
+    let Some(held) = place.take(alloc) else {
+        return RolesAnswer::of(Err(Status::NoService));
+    };
+    let roles = roles_of(&held);
+    place.put(held);
+    RolesAnswer::of(Ok(roles))
+}
+
+/// The service's number, which each of its handles has. Refused are NULL and a place that holds no service.
+#[unsafe(no_mangle)]
+pub extern "C" fn iox2sd_service_number_at(alloc: Global, places: &mut [Service]) -> NumberAnswer
+    requires { All IsSound places.old }
+    ensures { At number_answer Err Nothing (Gives (λ s. s.nodes.registry.service))
+        places.old result places.new }
+{
+    let [place, ..] = places else {
+        return NumberAnswer::of(Err(Status::Null));
+    };
+    let Some(held) = place.take(alloc) else {
+        return NumberAnswer::of(Err(Status::NoService));
+    };
+    let number = held.service_number();
+    place.put(held);
+    NumberAnswer::of(Ok(number))
+}
+
+/// Whether the service is locked for good. Refused are NULL and a place that holds no service.
+#[unsafe(no_mangle)]
+pub extern "C" fn iox2sd_is_locked_at(alloc: Global, places: &mut [Service]) -> FlagAnswer
+    requires { All IsSound places.old }
+    ensures { At flag_answer Err Nothing (Gives (λ s. s.nodes.registry.locked))
+        places.old result places.new }
+{
+    let [place, ..] = places else {
+        return FlagAnswer::of(Err(Status::Null));
+    };
+    let Some(held) = place.take(alloc) else {
+        return FlagAnswer::of(Err(Status::NoService));
+    };
+    let locked = held.is_locked();
+    place.put(held);
+    FlagAnswer::of(Ok(locked))
+}
+
+/// Whether the pattern has ports of the role. Refused are, in this order, NULL, a place that holds no service, and a number
+/// of no role.
+#[unsafe(no_mangle)]
+pub extern "C" fn iox2sd_has_role_at(alloc: Global, places: &mut [Service], role: u64) -> FlagAnswer
+    requires { All IsSound places.old }
+    ensures { At flag_answer Err Nothing (λ old made new. AsksRole role old made × (new ≡ old))
+        places.old result places.new }
+{
+    let [place, ..] = places else {
+        return FlagAnswer::of(Err(Status::Null));
+    };
+    let Some(held) = place.take(alloc) else {
+        return FlagAnswer::of(Err(Status::NoService));
+    };
+    let made = has_role(&held, role);
+    place.put(held);
+    FlagAnswer::of(made)
+}

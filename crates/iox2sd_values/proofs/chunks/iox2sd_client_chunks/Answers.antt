@@ -1,0 +1,12 @@
+use Rattle.std.proofs.Common.{subst}
+use Rattle.iox2_static.specs.Chunks.{TellsGreatest}
+use Rattle.iox2_static.specs.RequestResponse.{client_limits}
+use Rattle.iox2sd_values.proofs.chunks.iox2sd_client_chunks.Goals as goal
+
+pub returns : goal.returns
+returns c =
+    let count = c.required_amount_of_chunks_per_client_data_segment in (
+      count.result,
+      subst (λ config. TellsGreatest (client_limits config c.args.loaned_requests) count.result) c.request_response_of-config.ensures count.ensures,
+      c.chunks.ensures,
+    )

@@ -1,0 +1,14 @@
+-- Promises: what each export answers, and what the caller's memory holds then.
+pub mod Answers
+pub mod Attributes
+pub mod Chunks
+pub mod Compatible
+pub mod Details
+pub mod Files
+pub mod Layouts
+pub mod Names
+pub mod Paths
+pub mod Requirements
+pub mod Settings
+pub mod Status
+pub mod Texts

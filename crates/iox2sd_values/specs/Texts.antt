@@ -1,0 +1,78 @@
+-- Whether texts are names, keys, values and paths, and which byte is wrong.
+use Rattle.std.specs.Prelude.{◌≡◌, ◌≢◌, ℕ, List, [], Option, Some, None, Result, Ok, Err, All, IsTrue, MatchBool, nat_eq, slice_get, take, ⊤}
+use Rattle.std.specs.List.{starts_with}
+use lib.Chars.{codes}
+use Rattle.iox2_texts.specs.Name.{IsAllowed, MakesLegal, MakesName}
+use Rattle.iox2_texts.specs.Path.{IsPlain, EndsPlain, IsRestricted, is_restricted}
+use Rattle.iox2_texts.specs.Text.{IsTextByte}
+use Rattle.iox2_texts.specs.declared.bounded.SemanticStringError.{SemanticStringError}
+use Rattle.iox2_texts.specs.declared.bounded.SemanticStringError.TheVariants.{InvalidContent, ExceedsMaximumLength}
+use Rattle.iox2sd_values.specs.Answers.{place_answer}
+use Rattle.iox2sd_values.specs.declared.answers.PlaceAnswer.{PlaceAnswer}
+use Rattle.iox2sd_values.specs.declared.status.Status.{Status}
+use Rattle.iox2sd_values.specs.declared.status.Status.TheVariants as status
+use Rattle.iox2sd_values.specs.declared.texts.Alphabet.{Alphabet}
+use Rattle.iox2sd_values.specs.declared.texts.Alphabet.TheVariants as alphabet
+
+-- what making a path, the name and the path of a file, and a restricted name of a file answer
+abbrev pub MakesPath : List ℕ → Result (List ℕ) SemanticStringError → Type 0
+MakesPath bytes made = MakesLegal (IsAllowed (λ b. ⊤) 255) 255 bytes made
+
+abbrev pub MakesFileName : List ℕ → Result (List ℕ) SemanticStringError → Type 0
+MakesFileName bytes made = MakesLegal (IsAllowed IsPlain 255) 255 bytes made
+
+abbrev pub MakesFilePath : List ℕ → Result (List ℕ) SemanticStringError → Type 0
+MakesFilePath bytes made = MakesLegal (IsAllowed EndsPlain 255) 255 bytes made
+
+abbrev pub MakesRestricted : List ℕ → Result (List ℕ) SemanticStringError → Type 0
+MakesRestricted bytes made = MakesLegal (IsAllowed IsRestricted 64) 64 bytes made
+
+-- the byte is one of the alphabet
+abbrev pub IsLegal : Alphabet → ℕ → Type 0
+IsLegal alphabet.Text b = IsTextByte b
+IsLegal alphabet.FileName b = IsTextByte b × (b ≢ 47)
+IsLegal alphabet.Restricted b = IsTrue (is_restricted b)
+
+-- the byte at the place is none of the alphabet, and each before it is one
+abbrev pub IsFirstIllegal : Alphabet → List ℕ → ℕ → Type 0
+IsFirstIllegal a bytes i =
+    (b : ℕ) × (slice_get bytes i ≡ Some b) × (¬ (IsLegal a b)) × All (IsLegal a) (take i bytes)
+
+-- the place of the first byte outside the alphabet
+abbrev pub FindsIllegal : Alphabet → List ℕ → Option ℕ → Type 0
+FindsIllegal a bytes (Some i) = IsFirstIllegal a bytes i
+FindsIllegal a bytes None = All (IsLegal a) bytes
+
+-- why a text of an invalid content is refused, with the place before and after
+abbrev pub ExplainsContent : List ℕ → Alphabet → ℕ → Status → ℕ → Type 0
+ExplainsContent bytes a before status.Empty after = (bytes ≡ []) × (after ≡ before)
+ExplainsContent bytes a before status.IllegalByte after = IsFirstIllegal a bytes after
+ExplainsContent bytes a before status.NoFileName after =
+    (bytes ≢ []) × All (IsLegal a) bytes × (after ≡ before)
+ExplainsContent bytes a before _ after = ⊥
+
+-- why a text is refused: of one that is too long the first byte too many is told
+abbrev pub Explains : SemanticStringError → List ℕ → Alphabet → ℕ → ℕ → Status → ℕ → Type 0
+Explains ExceedsMaximumLength bytes a most before s after = (s ≡ status.TooLong) × (after ≡ most)
+Explains InvalidContent bytes a most before s after = ExplainsContent bytes a before s after
+
+-- the answer tells why the text is refused
+abbrev pub Refused : SemanticStringError → List ℕ → Alphabet → ℕ → PlaceAnswer → Type 0
+Refused error bytes a most answer =
+    (s : Status) × (at : ℕ) × Explains error bytes a most 0 s at × (answer ≡ place_answer s at)
+
+-- the answer on what the making gave
+abbrev pub TellsText : Result (List ℕ) SemanticStringError → List ℕ → Alphabet → ℕ → PlaceAnswer → Type 0
+TellsText (Ok text) bytes a most answer = answer ≡ place_answer status.Done 0
+TellsText (Err error) bytes a most answer = Refused error bytes a most answer
+
+-- the answer tells what making a text of the bytes gives
+abbrev pub ChecksText : (Result (List ℕ) SemanticStringError → Type 0) → Alphabet → ℕ → List ℕ → PlaceAnswer → Type 0
+ChecksText Makes a most bytes answer =
+    (made : Result (List ℕ) SemanticStringError) × Makes made × TellsText made bytes a most answer
+
+-- the same for the name that a user gives to a service: the prefix is looked at first
+abbrev pub ChecksName : List ℕ → PlaceAnswer → Type 0
+ChecksName bytes answer =
+    MatchBool (starts_with nat_eq bytes (codes "iox2://")) (answer ≡ place_answer status.ReservedPrefix 0)
+    (ChecksText (MakesName 255 bytes) alphabet.Text 255 bytes answer)

@@ -1,0 +1,134 @@
+//! Attributes without handles: a caller's arrays of keys and values.
+ghost use Rattle.iox2sd_values.specs.Attributes.{TellsSet, SortsSet, CountsValues, TellsValue};
+ghost use Rattle.iox2sd_values.specs.Requirements.{VerifiesSet};
+
+mod finding;
+mod requirements;
+mod sets;
+
+use super::answers::{CountAnswer, PlaceAnswer, TextAnswer, count, no_text, place, write};
+use super::status::Status;
+use iox2_texts::attribute::AttributeKey;
+use requirements::{read_requirements, verify};
+use sets::read_set;
+
+/// A key and its value, each in the caller's memory.
+#[repr(C)]
+#[derive(Clone, Copy, PartialEq, Eq, PartialOrd, Ord)]
+pub struct Attribute<'a> {
+    /// 1 to 64 bytes, each from 1 to 127.
+    pub key: &'a [u8],
+    /// 1 to 256 bytes, each from 1 to 127.
+    pub value: &'a [u8],
+}
+
+/// A key in the caller's memory.
+#[repr(C)]
+#[derive(Clone, Copy)]
+pub struct Key<'a> {
+    /// 1 to 64 bytes, each from 1 to 127.
+    pub text: &'a [u8],
+}
+
+/// Whether these pairs are a set: at most sixteen, each of legal texts, in any order and with repeats.
+///
+/// Told is the first pair of the first seventeen that is wrong, with its place: of a wrong key (`BadKey`), of a right key
+/// and a wrong value (`BadValue`), or the seventeenth (`TooMany`).
+#[unsafe(no_mangle)]
+pub extern "C" fn iox2sd_attributes_check(pairs: &[Attribute<'_>]) -> PlaceAnswer
+    ensures { TellsSet pairs.now result }
+{
+    let mut at = 0;
+    match read_set(pairs, &mut at) {
+        Ok(_) => place(Status::Done, at),
+        Err(status) => place(status, at),
+    }
+}
+
+/// Sorts the pairs of a set by the bytes of their keys, and then of their values.
+///
+/// Refused as by `iox2sd_attributes_check`, and then the array stays as it was.
+#[unsafe(no_mangle)]
+pub extern "C" fn iox2sd_attributes_sort(pairs: &mut [Attribute<'_>]) -> PlaceAnswer
+    ensures { SortsSet pairs.old result pairs.new }
+{
+    let mut at = 0;
+    match read_set(pairs, &mut at) {
+        Ok(_) => {
+            pairs.sort_unstable();
+            place(Status::Done, at)
+        }
+        Err(status) => place(status, at),
+    }
+}
+
+/// How many values a key has in a set.
+///
+/// Refused are, in this order, pairs that `iox2sd_attributes_check` refuses, with its status, and a wrong key
+/// (`BadAskedKey`).
+#[unsafe(no_mangle)]
+pub extern "C" fn iox2sd_attribute_values(pairs: &[Attribute<'_>], key: &[u8]) -> CountAnswer
+    ensures { CountsValues pairs.now key.now result }
+{
+    let mut at = 0;
+    match read_set(pairs, &mut at) {
+        Ok(set) => match AttributeKey::new(key) {
+            Ok(key) => count(Status::Done, set.number_of_key_values(&key)),
+            Err(_) => count(Status::BadAskedKey, 0),
+        },
+        Err(status) => count(status, 0),
+    }
+}
+
+/// Writes the value at `index`, counted from 0, of the values that a key has in a set, by their bytes from the least.
+///
+/// Refused are, in this order, pairs that `iox2sd_attributes_check` refuses, with its status, a wrong key
+/// (`BadAskedKey`), and an index that the key has no value for (`NoSuchValue`).
+#[unsafe(no_mangle)]
+pub extern "C" fn iox2sd_attribute_value(
+    pairs: &[Attribute<'_>],
+    key: &[u8],
+    index: usize,
+    out: &mut [u8],
+) -> TextAnswer
+    ensures { TellsValue pairs.now key.now index out.old result out.new }
+{
+    let mut at = 0;
+    let set = match read_set(pairs, &mut at) {
+        Ok(set) => set,
+        Err(status) => return no_text(status),
+    };
+    let Ok(key) = AttributeKey::new(key) else {
+        return no_text(Status::BadAskedKey);
+    };
+    match set.key_value(&key, index) {
+        Some(value) => write(value.as_bytes(), out),
+        None => no_text(Status::NoSuchValue),
+    }
+}
+
+/// Whether a set has each required pair, and for each required key some pair with it.
+///
+/// Refused are, in this order, pairs that `iox2sd_attributes_check` refuses, with its answer; required pairs that are
+/// wrong (`BadRequiredKey`, `BadRequiredValue`), required keys that are (`BadAskedKey`), and what is required beyond
+/// sixteen pairs and keys together (`TooManyRequired`), with the place in its array; the least required pair that the set
+/// lacks (`MissingPair`), and then the first required key that it lacks (`MissingKey`), with the first place in its
+/// array.
+#[unsafe(no_mangle)]
+pub extern "C" fn iox2sd_attributes_verify(
+    pairs: &[Attribute<'_>],
+    required: &[Attribute<'_>],
+    keys: &[Key<'_>],
+) -> PlaceAnswer
+    ensures { VerifiesSet pairs.now required.now keys.now result }
+{
+    let mut at = 0;
+    let set = match read_set(pairs, &mut at) {
+        Ok(set) => set,
+        Err(status) => return place(status, at),
+    };
+    match read_requirements(required, keys, &mut at) {
+        Ok(wanted) => verify(&set, &wanted, required, keys),
+        Err(status) => place(status, at),
+    }
+}

@@ -1,0 +1,62 @@
+//! How many chunks the data segment of a port needs, in a service with these settings.
+ghost use Rattle.iox2sd_values.specs.Chunks.{CountsSamples, CountsRequests, CountsResponses};
+
+use super::answers::{CountAnswer, count};
+use super::chunks::{iox2sd_client_chunks, iox2sd_publisher_chunks, iox2sd_server_chunks};
+use super::settings::{PublishSubscribeSettings, RequestResponseSettings};
+use super::status::Status;
+
+/// The greatest number of one publisher's samples that can be in use at once, in a service with these settings.
+///
+/// Refused are, in this order, NULL (`Null`), and a number that would pass 2^64 - 1 (`TooLarge`).
+#[unsafe(no_mangle)]
+pub extern "C" fn iox2sd_samples_of_at(settings: &[PublishSubscribeSettings]) -> CountAnswer
+    ensures { CountsSamples settings.now result }
+{
+    match settings {
+        [] => count(Status::Null, 0),
+        [first, ..] => iox2sd_publisher_chunks(
+            first.max_subscribers,
+            first.subscriber_max_buffer_size,
+            first.subscriber_max_borrowed_samples,
+            first.publisher_history_size,
+            first.publisher_max_loaned_samples,
+        ),
+    }
+}
+
+/// The greatest number of one client's requests that can be in use at once, in a service with these settings.
+///
+/// Refused are, in this order, NULL (`Null`), and a number that would pass 2^64 - 1 (`TooLarge`).
+#[unsafe(no_mangle)]
+pub extern "C" fn iox2sd_requests_of_at(settings: &[RequestResponseSettings]) -> CountAnswer
+    ensures { CountsRequests settings.now result }
+{
+    match settings {
+        [] => count(Status::Null, 0),
+        [first, ..] => iox2sd_client_chunks(
+            first.max_servers,
+            first.max_active_requests_per_client,
+            first.max_loaned_requests,
+        ),
+    }
+}
+
+/// The greatest number of one server's responses that can be in use at once, in a service with these settings.
+///
+/// Refused are, in this order, NULL (`Null`), and a number that would pass 2^64 - 1 (`TooLarge`).
+#[unsafe(no_mangle)]
+pub extern "C" fn iox2sd_responses_of_at(settings: &[RequestResponseSettings]) -> CountAnswer
+    ensures { CountsResponses settings.now result }
+{
+    match settings {
+        [] => count(Status::Null, 0),
+        [first, ..] => iox2sd_server_chunks(
+            first.max_clients,
+            first.max_active_requests_per_client,
+            first.max_response_buffer_size,
+            first.max_borrowed_responses_per_pending_response,
+            first.server_max_loaned_responses_per_request,
+        ),
+    }
+}

@@ -1,0 +1,149 @@
+//! What a caller says of the parts of a message.
+ghost use Rattle.std.specs.Prelude.{◌≡◌};
+ghost use Rattle.iox2sd_values.specs.Details.{ReadsVariant, ReadsPart, ReadsDetails, ShapesPart};
+ghost use Rattle.iox2sd_values.specs.Details.{ShapesDetails};
+
+use super::status::Status;
+use iox2_config::types::{MessageTypeDetails, TypeDetail, TypeDetailError, TypeVariant};
+use iox2_texts::bounded::StringModificationError;
+use std::str;
+
+/// What a caller says of one part of a message.
+#[repr(C)]
+#[derive(Clone, Copy)]
+pub struct Part<'a> {
+    /// The name of the part's type, in UTF-8: at most 256 bytes, each from 1 to 127.
+    pub name: &'a [u8],
+    /// 0: one value. 1: any number of values, one after another.
+    pub variant: u32,
+    /// How many bytes a value takes.
+    pub size: usize,
+    /// The number of which the place of each value is a multiple, a power of two.
+    pub alignment: usize,
+}
+
+/// What a caller says of the parts of a message, which lie one after another.
+#[repr(C)]
+#[derive(Clone, Copy)]
+pub struct Details<'a> {
+    /// The first part, which belongs to the system.
+    pub header: Part<'a>,
+    /// The second part, which users may choose.
+    pub user_header: Part<'a>,
+    /// The last part: what the message is for.
+    pub payload: Part<'a>,
+}
+
+/// Which part of a message.
+#[derive(Clone, Copy)]
+pub(super) enum Which {
+    /// The first.
+    Header,
+    /// The second.
+    UserHeader,
+    /// The last.
+    Payload,
+}
+
+/// What is wrong of which part.
+#[derive(Clone, Copy)]
+pub(super) struct Fault {
+    /// The part.
+    pub(super) part: Which,
+    /// What is wrong of it.
+    pub(super) status: Status,
+}
+
+/// The variant of this number.
+fn variant_of(number: u32) -> Option<TypeVariant>
+    ensures { ReadsVariant number result }
+{
+    match number {
+        0 => Some(TypeVariant::FixedSize),
+        1 => Some(TypeVariant::Dynamic),
+        _ => None,
+    }
+}
+
+/// The type of a part.
+fn read_part(part: &Part<'_>) -> Result<TypeDetail, Status>
+    ensures { ReadsPart part.now result }
+{
+    let Some(variant) = variant_of(part.variant) else {
+        return Err(Status::UnknownVariant);
+    };
+    let Ok(name) = str::from_utf8(part.name) else {
+        return Err(Status::NotUtf8);
+    };
+    match TypeDetail::from_parts(variant, name, part.size, part.alignment) {
+        Ok(detail) => Ok(detail),
+        Err(TypeDetailError::Name(StringModificationError::InsertWouldExceedCapacity)) => {
+            Err(Status::TooLong)
+        }
+        Err(TypeDetailError::Name(StringModificationError::InvalidCharacter)) => {
+            Err(Status::IllegalByte)
+        }
+        Err(TypeDetailError::AlignmentNotPowerOfTwo) => Err(Status::BadAlignment),
+    }
+}
+
+/// The types of all parts, or what is wrong with the first invalid part.
+pub(super) fn read_details(details: &Details<'_>) -> Result<MessageTypeDetails, Fault>
+    ensures { ReadsDetails details.now result }
+{
+    let header = match read_part(&details.header) {
+        Ok(header) => header,
+        Err(status) => {
+            let part = Which::Header;
+            return Err(Fault { part, status });
+        }
+    };
+    let user_header = match read_part(&details.user_header) {
+        Ok(user_header) => user_header,
+        Err(status) => {
+            let part = Which::UserHeader;
+            return Err(Fault { part, status });
+        }
+    };
+    match read_part(&details.payload) {
+        Ok(payload) => Ok(MessageTypeDetails {
+            header,
+            user_header,
+            payload,
+        }),
+        Err(status) => {
+            let part = Which::Payload;
+            Err(Fault { part, status })
+        }
+    }
+}
+
+/// The size and the alignment of a part, without its name and its variant.
+fn shape_part(part: &Part<'_>) -> Option<TypeDetail>
+    ensures { ShapesPart part.now result }
+{
+    match TypeDetail::from_parts(TypeVariant::FixedSize, "", part.size, part.alignment) {
+        Ok(detail) => Some(detail),
+        Err(_) => None,
+    }
+}
+
+/// The sizes and alignments of all parts, where the alignments are powers of two.
+pub(super) fn shape_details(details: &Details<'_>) -> Option<MessageTypeDetails>
+    ensures { ShapesDetails details.now result }
+{
+    let Some(header) = shape_part(&details.header) else {
+        return None;
+    };
+    let Some(user_header) = shape_part(&details.user_header) else {
+        return None;
+    };
+    let Some(payload) = shape_part(&details.payload) else {
+        return None;
+    };
+    Some(MessageTypeDetails {
+        header,
+        user_header,
+        payload,
+    })
+}

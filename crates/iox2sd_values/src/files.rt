@@ -1,0 +1,194 @@
+//! Where the system's files lie and how they are called, where nothing else is said.
+ghost use Rattle.iox2_config.specs.Defaults.{default_service, default_node};
+ghost use Rattle.iox2sd_values.specs.Answers.{Written};
+ghost use Rattle.iox2sd_values.specs.Files.{named, ReadsNamed, TellsNamed, Roots, JoinsBelow};
+ghost use Rattle.iox2sd_values.specs.Files.{TellsBelow};
+
+use super::answers::{TextAnswer, no_text, write};
+use super::status::Status;
+use iox2_config::config::{Config, Global, Node, Service};
+use iox2_texts::paths::Path;
+
+/// A text of the configuration.
+#[derive(Clone, Copy)]
+pub(super) enum Named {
+    /// The path below which everything else lies.
+    RootPath,
+    /// What the name of each file begins with.
+    Prefix,
+    /// The directory of services, below the root path.
+    ServiceDirectory,
+    /// The end of the name of a port's data segment.
+    DataSegmentSuffix,
+    /// The end of the name of a service's static configuration.
+    StaticConfigStorageSuffix,
+    /// The end of the name of a service's dynamic configuration.
+    DynamicConfigStorageSuffix,
+    /// The end of the name of a connection between two ports.
+    ConnectionSuffix,
+    /// The end of the name of a connection by which events are told.
+    EventConnectionSuffix,
+    /// The end of the name of a blackboard's management segment.
+    BlackboardMgmtSuffix,
+    /// The end of the name of a blackboard's data segment.
+    BlackboardDataSuffix,
+    /// The directory of nodes, below the root path.
+    NodeDirectory,
+    /// The end of the name of a node's monitor.
+    MonitorSuffix,
+    /// The end of the name of a node's static configuration.
+    NodeStaticConfigSuffix,
+    /// The end of the name of the tag of a service that a node uses.
+    ServiceTagSuffix,
+    /// The end of the name of the tag of a node's port.
+    PortTagSuffix,
+    /// The end of the name of the management segment that all share.
+    GlobalMgmtSuffix,
+    /// The name of a configuration file.
+    ConfigFileName,
+    /// The configuration file of a working directory.
+    ConfigFilePath,
+    /// The directory of this system's configuration, below one for configurations.
+    RelativeConfigPath,
+    /// The configuration file below a user's directory for configurations.
+    UserConfigFilePath,
+}
+
+/// The text of this number.
+fn named_of(number: u32) -> Option<Named>
+    ensures { ReadsNamed number result }
+{
+    match number {
+        0 => Some(Named::RootPath),
+        1 => Some(Named::Prefix),
+        2 => Some(Named::ServiceDirectory),
+        3 => Some(Named::DataSegmentSuffix),
+        4 => Some(Named::StaticConfigStorageSuffix),
+        5 => Some(Named::DynamicConfigStorageSuffix),
+        6 => Some(Named::ConnectionSuffix),
+        7 => Some(Named::EventConnectionSuffix),
+        8 => Some(Named::BlackboardMgmtSuffix),
+        9 => Some(Named::BlackboardDataSuffix),
+        10 => Some(Named::NodeDirectory),
+        11 => Some(Named::MonitorSuffix),
+        12 => Some(Named::NodeStaticConfigSuffix),
+        13 => Some(Named::ServiceTagSuffix),
+        14 => Some(Named::PortTagSuffix),
+        15 => Some(Named::GlobalMgmtSuffix),
+        16 => Some(Named::ConfigFileName),
+        17 => Some(Named::ConfigFilePath),
+        18 => Some(Named::RelativeConfigPath),
+        19 => Some(Named::UserConfigFilePath),
+        _ => None,
+    }
+}
+
+/// Writes the text.
+fn write_named(text: Named, out: &mut [u8]) -> TextAnswer
+    ensures { Written (named text) out.old result out.new }
+{
+    let (global, service, node) = (Global::default(), Service::default(), Node::default());
+    match text {
+        Named::RootPath => write(global.root_path().as_bytes(), out),
+        Named::Prefix => write(global.prefix.as_bytes(), out),
+        Named::ServiceDirectory => write(service.directory.as_bytes(), out),
+        Named::DataSegmentSuffix => write(service.data_segment_suffix.as_bytes(), out),
+        Named::StaticConfigStorageSuffix => write(
+            service.static_config_storage_suffix.as_bytes(),
+            out,
+        ),
+        Named::DynamicConfigStorageSuffix => write(
+            service.dynamic_config_storage_suffix.as_bytes(),
+            out,
+        ),
+        Named::ConnectionSuffix => write(service.connection_suffix.as_bytes(), out),
+        Named::EventConnectionSuffix => write(service.event_connection_suffix.as_bytes(), out),
+        Named::BlackboardMgmtSuffix => write(service.blackboard_mgmt_suffix.as_bytes(), out),
+        Named::BlackboardDataSuffix => write(service.blackboard_data_suffix.as_bytes(), out),
+        Named::NodeDirectory => write(node.directory.as_bytes(), out),
+        Named::MonitorSuffix => write(node.monitor_suffix.as_bytes(), out),
+        Named::NodeStaticConfigSuffix => write(node.static_config_suffix.as_bytes(), out),
+        Named::ServiceTagSuffix => write(node.service_tag_suffix.as_bytes(), out),
+        Named::PortTagSuffix => write(node.port_tag_suffix.as_bytes(), out),
+        Named::GlobalMgmtSuffix => write(node.global_mgmt_suffix.as_bytes(), out),
+        Named::ConfigFileName => write(Config::default_config_file_name().as_bytes(), out),
+        Named::ConfigFilePath => write(Config::default_config_file_path().as_bytes(), out),
+        Named::RelativeConfigPath => write(Config::relative_config_path().as_bytes(), out),
+        Named::UserConfigFilePath => write(Config::default_user_config_file_path().as_bytes(), out),
+    }
+}
+
+/// Writes a text of the configuration that stands where nothing else is said.
+///
+/// Refused is a number that is not that of a text (`UnknownText`).
+#[unsafe(no_mangle)]
+pub extern "C" fn iox2sd_default_text(which: u32, out: &mut [u8]) -> TextAnswer
+    ensures { TellsNamed which out.old result out.new }
+{
+    match named_of(which) {
+        Some(text) => write_named(text, out),
+        None => no_text(Status::UnknownText),
+    }
+}
+
+/// The default settings with this root path.
+fn rooted(root: &[u8]) -> Result<Global, Status>
+    ensures { Roots root.now result }
+{
+    let Ok(root) = Path::new(root) else {
+        return Err(Status::BadPath);
+    };
+    let mut global = Global::default();
+    global.set_root_path(&root);
+    Ok(global)
+}
+
+/// The directory of services below a root path.
+fn service_directory(root: &[u8]) -> Result<Path, Status>
+    ensures { JoinsBelow root.now default_service.directory result }
+{
+    match rooted(root) {
+        Ok(global) => match global.service_dir() {
+            Ok(directory) => Ok(directory),
+            Err(_) => Err(Status::TooLong),
+        },
+        Err(status) => Err(status),
+    }
+}
+
+/// The directory of nodes below a root path.
+fn node_directory(root: &[u8]) -> Result<Path, Status>
+    ensures { JoinsBelow root.now default_node.directory result }
+{
+    match rooted(root) {
+        Ok(global) => match global.node_dir() {
+            Ok(directory) => Ok(directory),
+            Err(_) => Err(Status::TooLong),
+        },
+        Err(status) => Err(status),
+    }
+}
+
+/// Writes the directory of services below a root path.
+///
+/// Refused are, in this order, a wrong root path (`BadPath`), and more than 255 bytes (`TooLong`).
+#[unsafe(no_mangle)]
+pub extern "C" fn iox2sd_service_directory(root: &[u8], out: &mut [u8]) -> TextAnswer
+    ensures { TellsBelow root.now default_service.directory out.old result out.new }
+{
+    match service_directory(root) {
+        Ok(directory) => write(directory.as_bytes(), out),
+        Err(status) => no_text(status),
+    }
+}
+
+/// Writes the directory of nodes below a root path. Refused as that of services is.
+#[unsafe(no_mangle)]
+pub extern "C" fn iox2sd_node_directory(root: &[u8], out: &mut [u8]) -> TextAnswer
+    ensures { TellsBelow root.now default_node.directory out.old result out.new }
+{
+    match node_directory(root) {
+        Ok(directory) => write(directory.as_bytes(), out),
+        Err(status) => no_text(status),
+    }
+}

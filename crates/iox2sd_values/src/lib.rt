@@ -1,0 +1,17 @@
+//! A typed interface for C, in one static library without global state.
+#![tactic(auto)]
+
+pub mod answers;
+pub mod attributes;
+pub mod chunks;
+pub mod chunks_of;
+pub mod compatible;
+pub mod details;
+pub mod files;
+pub mod layout;
+pub mod names;
+pub mod paths;
+pub mod settings;
+pub mod status;
+pub mod texts;
+pub mod version;

@@ -1,0 +1,151 @@
+//! The names of services, and their hash texts.
+ghost use Rattle.std.specs.Prelude.{◌≡◌, nat_eq};
+ghost use Rattle.std.specs.List.{starts_with};
+ghost use Rattle.iox2sd_values.specs.Names.{ReadsName, ReadsInternalName, Prefixes, TellsPrefixed};
+ghost use Rattle.iox2sd_values.specs.Names.{ReadsPattern, HashesName, HashesInternalName, MakesText};
+ghost use Rattle.iox2sd_values.specs.Names.{TellsHash, TellsInternalHash};
+ghost use lib.Chars.{codes};
+
+use super::answers::{TextAnswer, no_text, write};
+use super::status::Status;
+use iox2_config::hash::{PatternKind, ServiceHash, ServiceHashError, Sha1Hasher};
+use iox2_texts::service_name::{INTERNAL_SERVICE_PREFIX, ServiceName, ServiceNameError};
+use std::str;
+
+/// The name that a user gives.
+pub(super) fn service_name(text: &[u8]) -> Result<ServiceName, Status>
+    ensures { ReadsName text.now result }
+{
+    let Ok(text) = str::from_utf8(text) else {
+        return Err(Status::NotUtf8);
+    };
+    match ServiceName::new(text) {
+        Ok(name) => Ok(name),
+        Err(_) => Err(Status::BadServiceName),
+    }
+}
+
+/// The name, which may be one of the system's own.
+pub(super) fn internal_service_name(text: &[u8]) -> Result<ServiceName, Status>
+    ensures { ReadsInternalName text.now result }
+{
+    let Ok(text) = str::from_utf8(text) else {
+        return Err(Status::NotUtf8);
+    };
+    match ServiceName::internal_new(text) {
+        Ok(name) => Ok(name),
+        Err(_) => Err(Status::BadServiceName),
+    }
+}
+
+/// The system's own name that ends in the text.
+fn prefixed_name(text: &[u8]) -> Result<ServiceName, Status>
+    ensures { Prefixes text.now result }
+{
+    let Ok(text) = str::from_utf8(text) else {
+        return Err(Status::NotUtf8);
+    };
+    match ServiceName::internal_new_prefixed(text) {
+        Ok(name) => Ok(name),
+        Err(ServiceNameError::ExceedsMaximumLength) => Err(Status::TooLong),
+        Err(ServiceNameError::InvalidContent) => Err(Status::IllegalByte),
+    }
+}
+
+/// Whether a text begins with `iox2://`, as the names of the system's own services do.
+#[unsafe(no_mangle)]
+pub extern "C" fn iox2sd_has_internal_prefix(text: &[u8]) -> bool
+    ensures { result ≡ starts_with nat_eq text.now (codes "iox2://") }
+{
+    text.starts_with(INTERNAL_SERVICE_PREFIX.as_bytes())
+}
+
+/// Writes the name of one of the system's own services: `iox2://` and the text.
+///
+/// Refused are, in this order, bytes that are no UTF-8 (`NotUtf8`), more than 248 bytes (`TooLong`), and a byte that is not
+/// from 1 to 127 (`IllegalByte`).
+#[unsafe(no_mangle)]
+pub extern "C" fn iox2sd_internal_service_name(text: &[u8], out: &mut [u8]) -> TextAnswer
+    ensures { TellsPrefixed text.now out.old result out.new }
+{
+    match prefixed_name(text) {
+        Ok(name) => write(name.as_str().as_bytes(), out),
+        Err(status) => no_text(status),
+    }
+}
+
+/// The pattern of this number.
+pub(super) fn pattern_of(number: u32) -> Option<PatternKind>
+    ensures { ReadsPattern number result }
+{
+    match number {
+        0 => Some(PatternKind::PublishSubscribe),
+        1 => Some(PatternKind::Event),
+        2 => Some(PatternKind::RequestResponse),
+        3 => Some(PatternKind::Blackboard),
+        _ => None,
+    }
+}
+
+/// The hash text of a pattern and a name.
+fn hash_text(kind: PatternKind, name: &ServiceName) -> Result<ServiceHash, Status>
+    ensures { MakesText kind name.now result }
+{
+    match ServiceHash::new::<Sha1Hasher>(name, kind) {
+        Ok(hash) => Ok(hash),
+        Err(ServiceHashError::IllegalText) => Err(Status::IllegalHash),
+        Err(ServiceHashError::HasherFailed) => unreachable!(),
+    }
+}
+
+/// The hash text of a pattern's number and a user's name.
+fn hash_of(pattern: u32, name: &[u8]) -> Result<ServiceHash, Status>
+    ensures { HashesName pattern name.now result }
+{
+    let Some(kind) = pattern_of(pattern) else {
+        return Err(Status::UnknownPattern);
+    };
+    match service_name(name) {
+        Ok(name) => hash_text(kind, &name),
+        Err(status) => Err(status),
+    }
+}
+
+/// The hash text of a pattern's number and any name.
+fn internal_hash_of(pattern: u32, name: &[u8]) -> Result<ServiceHash, Status>
+    ensures { HashesInternalName pattern name.now result }
+{
+    let Some(kind) = pattern_of(pattern) else {
+        return Err(Status::UnknownPattern);
+    };
+    match internal_service_name(name) {
+        Ok(name) => hash_text(kind, &name),
+        Err(status) => Err(status),
+    }
+}
+
+/// Writes the hash text of a service's pattern and name, by SHA-1: 27 bytes.
+///
+/// Refused are, in this order, a number that is not that of a pattern (`UnknownPattern`), bytes that are no UTF-8 (`NotUtf8`),
+/// what `iox2sd_service_name_check` refuses (`BadServiceName`), and a hash text that cannot be the name of a file
+/// (`IllegalHash`).
+#[unsafe(no_mangle)]
+pub extern "C" fn iox2sd_hash_text(pattern: u32, name: &[u8], out: &mut [u8]) -> TextAnswer
+    ensures { TellsHash pattern name.now out.old result out.new }
+{
+    match hash_of(pattern, name) {
+        Ok(hash) => write(hash.as_str().as_bytes(), out),
+        Err(status) => no_text(status),
+    }
+}
+
+/// As `iox2sd_hash_text`, for a name that may be one of the system's own.
+#[unsafe(no_mangle)]
+pub extern "C" fn iox2sd_internal_hash_text(pattern: u32, name: &[u8], out: &mut [u8]) -> TextAnswer
+    ensures { TellsInternalHash pattern name.now out.old result out.new }
+{
+    match internal_hash_of(pattern, name) {
+        Ok(hash) => write(hash.as_str().as_bytes(), out),
+        Err(status) => no_text(status),
+    }
+}

@@ -1,0 +1,67 @@
+//! Paths that are joined.
+ghost use Rattle.iox2sd_values.specs.Paths.{JoinsPaths, JoinsFile, TellsPath, TellsFile};
+
+use super::answers::{TextAnswer, no_text, write};
+use super::status::Status;
+use iox2_texts::paths::{FileName, FilePath, Path};
+
+/// The entry joined to the path.
+fn join_paths(path: &[u8], entry: &[u8]) -> Result<Path, Status>
+    ensures { JoinsPaths path.now entry.now result }
+{
+    let Ok(path) = Path::new(path) else {
+        return Err(Status::BadPath);
+    };
+    let Ok(entry) = Path::new(entry) else {
+        return Err(Status::BadEntry);
+    };
+    let mut joined = path;
+    match joined.add_path_entry(&entry) {
+        Ok(()) => Ok(joined),
+        Err(_) => Err(Status::TooLong),
+    }
+}
+
+/// The path of the file in the directory.
+fn join_file(path: &[u8], file: &[u8]) -> Result<FilePath, Status>
+    ensures { JoinsFile path.now file.now result }
+{
+    let Ok(path) = Path::new(path) else {
+        return Err(Status::BadPath);
+    };
+    let Ok(file) = FileName::new(file) else {
+        return Err(Status::BadEntry);
+    };
+    match FilePath::from_path_and_file(&path, &file) {
+        Ok(joined) => Ok(joined),
+        Err(_) => Err(Status::TooLong),
+    }
+}
+
+/// Writes an entry joined to a path, with one `/` between them unless the path is empty or ends in `/`.
+///
+/// Refused are, in this order, a wrong path (`BadPath`), a wrong entry, which is a path too (`BadEntry`), and more than
+/// 255 bytes (`TooLong`).
+#[unsafe(no_mangle)]
+pub extern "C" fn iox2sd_path_join(path: &[u8], entry: &[u8], out: &mut [u8]) -> TextAnswer
+    ensures { TellsPath path.now entry.now out.old result out.new }
+{
+    match join_paths(path, entry) {
+        Ok(joined) => write(joined.as_bytes(), out),
+        Err(status) => no_text(status),
+    }
+}
+
+/// Writes the path of a file in a directory, with one `/` between them unless the directory is empty or ends in `/`.
+///
+/// Refused are, in this order, a wrong path of the directory (`BadPath`), a wrong name of the file (`BadEntry`), and more
+/// than 255 bytes (`TooLong`).
+#[unsafe(no_mangle)]
+pub extern "C" fn iox2sd_file_path_join(path: &[u8], file: &[u8], out: &mut [u8]) -> TextAnswer
+    ensures { TellsFile path.now file.now out.old result out.new }
+{
+    match join_file(path, file) {
+        Ok(joined) => write(joined.as_bytes(), out),
+        Err(status) => no_text(status),
+    }
+}

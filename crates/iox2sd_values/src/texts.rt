@@ -1,0 +1,199 @@
+//! Whether texts are names, keys, values and paths; where they are not, which byte is wrong and why.
+ghost use Rattle.std.specs.Prelude.{◌≡◌, ◌↔◌, IsTrue};
+ghost use Rattle.iox2_texts.specs.Name.{MakesName};
+ghost use Rattle.iox2sd_values.specs.Texts.{IsLegal, FindsIllegal, Explains, Refused, ChecksText};
+ghost use Rattle.iox2sd_values.specs.Texts.{ChecksName};
+ghost use Rattle.iox2sd_values.specs.Texts.{MakesPath, MakesFileName, MakesFilePath, MakesRestricted};
+
+use super::answers::{PlaceAnswer, place};
+use super::status::Status;
+use iox2_texts::attribute::{AttributeContent, AttributeKey, AttributeValue};
+use iox2_texts::bounded::{SemanticString, SemanticStringError};
+use iox2_texts::paths::{FileName, FilePath, Path, RestrictedFileName};
+use iox2_texts::service_name::INTERNAL_SERVICE_PREFIX;
+
+/// A text of 1 to 255 bytes, as the name of a service is one.
+type Name = SemanticString<AttributeContent, 255>;
+
+/// The bytes that a kind of texts may hold.
+#[derive(Clone, Copy)]
+pub(super) enum Alphabet {
+    /// From 1 to 127.
+    Text,
+    /// The same without `/`.
+    FileName,
+    /// Letters, digits, `-`, `.`, `:` and `_`.
+    Restricted,
+}
+
+impl Alphabet {
+    /// Whether a text may hold the byte.
+    fn has(self, byte: u8) -> bool
+        ensures { IsTrue result ↔ IsLegal self byte }
+    {
+        match self {
+            Alphabet::Text => 1 <= byte && byte <= 127,
+            Alphabet::FileName => 1 <= byte && byte <= 127 && byte != b'/',
+            Alphabet::Restricted =>
+                matches!(byte, b'A'..=b'Z' | b'a'..=b'z' | b'0'..=b'9' | b'-' | b'.' | b':' | b'_'),
+        }
+    }
+}
+
+/// The place of the first byte that the text may not hold.
+fn first_illegal(text: &[u8], alphabet: Alphabet) -> Option<usize>
+    ensures { FindsIllegal alphabet text.now result }
+{
+    for (i, byte) in text.iter().enumerate() {
+        if !alphabet.has(*byte) {
+            return Some(i);
+        }
+    }
+    None
+}
+
+/// Why a text that was refused is none of its kind; the place of the byte that is wrong is written.
+fn explain(
+    error: SemanticStringError,
+    text: &[u8],
+    alphabet: Alphabet,
+    most: usize,
+    at: &mut usize,
+) -> Status
+    ensures { Explains error text.now alphabet most at.old result at.new }
+{
+    match error {
+        SemanticStringError::ExceedsMaximumLength => {
+            *at = most;
+            Status::TooLong
+        }
+        SemanticStringError::InvalidContent => {
+            if text.is_empty() {
+                return Status::Empty;
+            }
+            match first_illegal(text, alphabet) {
+                Some(i) => {
+                    *at = i;
+                    Status::IllegalByte
+                }
+                None => Status::NoFileName,
+            }
+        }
+    }
+}
+
+/// The answer on a text that was refused.
+fn refusal(error: SemanticStringError, text: &[u8], alphabet: Alphabet, most: usize) -> PlaceAnswer
+    ensures { Refused error text.now alphabet most result }
+{
+    let mut at = 0;
+    let status = explain(error, text, alphabet, most, &mut at);
+    place(status, at)
+}
+
+/// Whether a text is the name of a service, which may be one of the system's own: 1 to 255 bytes, each from 1 to 127.
+///
+/// Refused are, in this order, the empty text (`Empty`), more than 255 bytes (`TooLong`), and a byte that is not from 1
+/// to 127 (`IllegalByte`). The first byte that is wrong is told.
+#[unsafe(no_mangle)]
+pub extern "C" fn iox2sd_internal_service_name_check(text: &[u8]) -> PlaceAnswer
+    ensures { ChecksText (MakesName 255 text.now) Alphabet.Text 255 text.now result }
+{
+    match Name::new(text) {
+        Ok(_) => place(Status::Done, 0),
+        Err(error) => refusal(error, text, Alphabet::Text, 255),
+    }
+}
+
+/// Whether a text is the name that a user gives to a service.
+///
+/// Refused are, in this order, one that begins with `iox2://` (`ReservedPrefix`), and what
+/// `iox2sd_internal_service_name_check` refuses.
+#[unsafe(no_mangle)]
+pub extern "C" fn iox2sd_service_name_check(text: &[u8]) -> PlaceAnswer
+    ensures { ChecksName text.now result }
+{
+    if text.starts_with(INTERNAL_SERVICE_PREFIX.as_bytes()) {
+        return place(Status::ReservedPrefix, 0);
+    }
+    iox2sd_internal_service_name_check(text)
+}
+
+/// Whether a text is the key of an attribute: 1 to 64 bytes, each from 1 to 127.
+///
+/// Refused are, in this order, the empty text (`Empty`), more than 64 bytes (`TooLong`), and a byte that is not from 1
+/// to 127 (`IllegalByte`). The first byte that is wrong is told.
+#[unsafe(no_mangle)]
+pub extern "C" fn iox2sd_attribute_key_check(text: &[u8]) -> PlaceAnswer
+    ensures { ChecksText (MakesName 64 text.now) Alphabet.Text 64 text.now result }
+{
+    match AttributeKey::new(text) {
+        Ok(_) => place(Status::Done, 0),
+        Err(error) => refusal(error, text, Alphabet::Text, 64),
+    }
+}
+
+/// Whether a text is the value of an attribute: 1 to 256 bytes, each from 1 to 127. Refused as a key is.
+#[unsafe(no_mangle)]
+pub extern "C" fn iox2sd_attribute_value_check(text: &[u8]) -> PlaceAnswer
+    ensures { ChecksText (MakesName 256 text.now) Alphabet.Text 256 text.now result }
+{
+    match AttributeValue::new(text) {
+        Ok(_) => place(Status::Done, 0),
+        Err(error) => refusal(error, text, Alphabet::Text, 256),
+    }
+}
+
+/// Whether a text is a path: at most 255 bytes, each from 1 to 127. It may be empty.
+///
+/// Refused are, in this order, more than 255 bytes (`TooLong`), and a byte that is not from 1 to 127 (`IllegalByte`).
+#[unsafe(no_mangle)]
+pub extern "C" fn iox2sd_path_check(text: &[u8]) -> PlaceAnswer
+    ensures { ChecksText (MakesPath text.now) Alphabet.Text 255 text.now result }
+{
+    match Path::new(text) {
+        Ok(_) => place(Status::Done, 0),
+        Err(error) => refusal(error, text, Alphabet::Text, 255),
+    }
+}
+
+/// Whether a text is the name of a file: 1 to 255 bytes, each from 1 to 127 and none a `/`, and neither `.` nor `..`.
+///
+/// Refused are, in this order, the empty text (`Empty`), more than 255 bytes (`TooLong`), a byte that may not stand there
+/// (`IllegalByte`), and `.` and `..` (`NoFileName`).
+#[unsafe(no_mangle)]
+pub extern "C" fn iox2sd_file_name_check(text: &[u8]) -> PlaceAnswer
+    ensures { ChecksText (MakesFileName text.now) Alphabet.FileName 255 text.now result }
+{
+    match FileName::new(text) {
+        Ok(_) => place(Status::Done, 0),
+        Err(error) => refusal(error, text, Alphabet::FileName, 255),
+    }
+}
+
+/// Whether a text is the path of a file: 1 to 255 bytes, each from 1 to 127, of which those after the last `/` are the
+/// name of a file.
+///
+/// Refused are, in this order, the empty text (`Empty`), more than 255 bytes (`TooLong`), a byte that is not from 1 to 127
+/// (`IllegalByte`), and a last part that is empty, `.` or `..` (`NoFileName`).
+#[unsafe(no_mangle)]
+pub extern "C" fn iox2sd_file_path_check(text: &[u8]) -> PlaceAnswer
+    ensures { ChecksText (MakesFilePath text.now) Alphabet.Text 255 text.now result }
+{
+    match FilePath::new(text) {
+        Ok(_) => place(Status::Done, 0),
+        Err(error) => refusal(error, text, Alphabet::Text, 255),
+    }
+}
+
+/// Whether a text is a restricted name of a file, as hash texts are: 1 to 64 letters `A` to `Z` and `a` to `z`, digits,
+/// `-`, `.`, `:` and `_`, and neither `.` nor `..`. Refused as the name of a file is.
+#[unsafe(no_mangle)]
+pub extern "C" fn iox2sd_restricted_name_check(text: &[u8]) -> PlaceAnswer
+    ensures { ChecksText (MakesRestricted text.now) Alphabet.Restricted 64 text.now result }
+{
+    match RestrictedFileName::<64>::new(text) {
+        Ok(_) => place(Status::Done, 0),
+        Err(error) => refusal(error, text, Alphabet::Restricted, 64),
+    }
+}

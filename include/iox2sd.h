@@ -1,0 +1,425 @@
+/* The proved layer of service_descriptions, for C99 and C++: what a service is, and who is attached to it.
+ *
+ * Rules for every call
+ *
+ * - Values are plain structs, which a caller keeps, copies and compares as it likes. iox2sd_id and iox2sd_handle have no
+ *   padding, so memcmp compares them; of the others the fields are compared.
+ * - A call answers a status (enum iox2sd_status), alone or as the first field of a struct. Where it is not
+ *   IOX2SD_DONE, the other fields are 0 and nothing was changed, but where a function says otherwise. Each function names
+ *   its refusals in the order in which they are told.
+ * - An array or a buffer is a pointer and a number of elements. NULL with the number 0 is an empty one. NULL with another
+ *   number is an error of its own, IOX2SD_NULL, where a function names that error, as is NULL where one struct is expected;
+ *   a buffer for a text is not given so.
+ * - What is written overlaps no other argument of the call. No call writes past the number of elements that it was given,
+ *   keeps a pointer, or calls back.
+ * - No call starts a thread, takes a lock, or reads a file, the clock or the environment. There is no global state: calls
+ *   may run on several threads at once, where they share no service and no array. A service stays on the thread that
+ *   made it.
+ * - iox2sd_service_make alone takes memory, by malloc; iox2sd_service_free alone gives it back. Nothing is kept for a call.
+ *
+ * What is proved, and what not
+ *
+ * Each function of the library is proved to answer what the layer's own definitions say, to touch nothing outside its
+ * arguments, and to return. The proof takes this header's rules for granted: that a pointer points to as many elements as
+ * it is said to, that no other thread touches them during the call, and that the bytes of a service are zeros or what the
+ * last call left there. No proof says that a caller frees a service, on which thread it uses one, or what it does with a
+ * pointer; nor that the declarations below are those of the library, nor that its inline functions pass the numbers that
+ * they say. That NULL with the number 0 is an empty array is tested, not proved.
+ */
+#ifndef IOX2SD_H
+#define IOX2SD_H
+
+#include <stdbool.h>
+#include <stddef.h>
+#include <stdint.h>
+
+#ifdef __cplusplus
+extern "C" {
+#endif
+
+/* What a call answers. iox2sd_status_text has a text for each up to IOX2SD_UNKNOWN_STATUS that a call of this header answers. */
+enum iox2sd_status {
+    IOX2SD_DONE = 0,
+    IOX2SD_DONE_LOCKED = 1,      /* It was done, and the service is locked for good: no node registers any more. */
+    IOX2SD_BUFFER_TOO_SHORT = 2, /* The answer tells how much is needed. */
+    IOX2SD_NO_MEMORY = 3,
+    IOX2SD_NO_SERVICE = 4,  /* The place holds none. */
+    IOX2SD_HAS_SERVICE = 5, /* The place holds one already. */
+    IOX2SD_UNKNOWN_PATTERN = 6,
+    IOX2SD_UNKNOWN_ROLE = 7, /* The number is not that of a role, or that of nodes where a port is meant. */
+    IOX2SD_NO_NODE = 8,      /* The id is that of no node: its process and its counter are 0. */
+    IOX2SD_IS_LOCKED = 9,
+    IOX2SD_OUT_OF_SPACE = 10,         /* No place or no ticket is left. */
+    IOX2SD_FOREIGN_HANDLE = 11,       /* No entry has the handle. */
+    IOX2SD_PORTS_STILL_ATTACHED = 12, /* Some port has the node, and the handle is the node's only one. */
+    IOX2SD_NODE_NOT_REGISTERED = 13,  /* The node of the port is not. */
+    IOX2SD_ROLE_NOT_IN_PATTERN = 14,
+    IOX2SD_UNKNOWN_SEGMENT = 15,
+    IOX2SD_BAD_KEY = 16,   /* A key of a pair is none: iox2sd_attribute_key_check tells why. */
+    IOX2SD_BAD_VALUE = 17, /* A value of a pair is none: iox2sd_attribute_value_check tells why. */
+    IOX2SD_TOO_MANY = 18,  /* There are more than sixteen pairs. */
+    IOX2SD_NULL = 20, /* NULL where a struct is expected. */
+    IOX2SD_UNKNOWN_STATUS = 21,
+    /* Those of iox2sd_values.h. */
+    IOX2SD_EMPTY = 40,
+    IOX2SD_TOO_LONG = 41,
+    IOX2SD_ILLEGAL_BYTE = 42,
+    IOX2SD_NO_FILE_NAME = 43, /* The name, or what follows the last `/`, is ".", ".." or empty. */
+    IOX2SD_RESERVED_PREFIX = 44,
+    IOX2SD_NOT_UTF8 = 45,
+    IOX2SD_BAD_SERVICE_NAME = 46,
+    IOX2SD_BAD_PATH = 47,
+    IOX2SD_BAD_ENTRY = 48,
+    IOX2SD_ILLEGAL_HASH = 49, /* No hash text of SHA-1 was ever seen to be illegal, but no proof excludes it. */
+    IOX2SD_BAD_REQUIRED_KEY = 50,
+    IOX2SD_BAD_REQUIRED_VALUE = 51,
+    IOX2SD_BAD_ASKED_KEY = 52,
+    IOX2SD_TOO_MANY_REQUIRED = 53,
+    IOX2SD_MISSING_PAIR = 54,
+    IOX2SD_MISSING_KEY = 55,
+    IOX2SD_NO_SUCH_VALUE = 56,
+    IOX2SD_BAD_ALIGNMENT = 57, /* An alignment is no power of two. */
+    IOX2SD_TOO_LARGE = 58,     /* The answer would pass its range. */
+    IOX2SD_UNKNOWN_VARIANT = 59,
+    IOX2SD_OTHER_NAME = 60,
+    IOX2SD_OTHER_VARIANT = 61,
+    IOX2SD_OTHER_SIZE = 62,
+    IOX2SD_OTHER_ALIGNMENT = 63,
+    IOX2SD_GREATER_ALIGNMENT = 64,
+    IOX2SD_UNKNOWN_TEXT = 65
+};
+
+/* Messaging patterns. */
+enum iox2sd_pattern_number {
+    IOX2SD_PUBLISH_SUBSCRIBE = 0,
+    IOX2SD_EVENT = 1,
+    IOX2SD_REQUEST_RESPONSE = 2,
+    IOX2SD_BLACKBOARD = 3
+};
+
+/* What an entry of a service is. Each pattern has two kinds of ports, the first of which are recovered first: publishers and
+ * subscribers, listeners and notifiers, servers and clients, readers and writers. */
+enum iox2sd_role {
+    IOX2SD_NODE = 0,
+    IOX2SD_PUBLISHER = 1,
+    IOX2SD_SUBSCRIBER = 2,
+    IOX2SD_NOTIFIER = 3,
+    IOX2SD_LISTENER = 4,
+    IOX2SD_CLIENT = 5,
+    IOX2SD_SERVER = 6,
+    IOX2SD_READER = 7,
+    IOX2SD_WRITER = 8
+};
+
+/* Whether a data segment may grow. */
+enum iox2sd_segment {
+    IOX2SD_DYNAMIC_SEGMENT = 0, /* It may be replaced by a larger one. */
+    IOX2SD_STATIC_SEGMENT = 1   /* It keeps its size. */
+};
+
+/* The id of a node, of a port or of a service. */
+typedef struct iox2sd_id {
+    uint32_t process;
+    uint32_t seconds;
+    uint32_t nanoseconds;
+    uint32_t counter;
+} iox2sd_id;
+
+/* What registering and attaching give, and what deregistering and releasing take. */
+typedef struct iox2sd_handle {
+    uint64_t service; /* The number of the service. */
+    uint64_t role;    /* Of enum iox2sd_role. */
+    size_t slot;
+    uint64_t ticket; /* How many entries of its kind the service had been given before. */
+} iox2sd_handle;
+
+/* What a port tells of itself. A field that its kind does not have is not looked at, and is told as 0. */
+typedef struct iox2sd_port {
+    uint64_t role; /* Of enum iox2sd_role, but not IOX2SD_NODE. */
+    iox2sd_id port;
+    iox2sd_id node;
+    size_t number_of_samples;       /* Of publishers. */
+    size_t buffer_size;             /* Of subscribers. */
+    size_t request_buffer_size;     /* Of servers. */
+    size_t number_of_responses;     /* Of servers. */
+    size_t number_of_requests;      /* Of clients. */
+    size_t response_buffer_size;    /* Of clients. */
+    size_t max_slice_len;           /* Of publishers, servers and clients. */
+    uint32_t data_segment;          /* Of publishers, servers and clients: enum iox2sd_segment. */
+    uint8_t max_number_of_segments; /* Of publishers, servers and clients. */
+} iox2sd_port;
+
+/* For how many nodes and ports at a time a service has room. */
+typedef struct iox2sd_capacities {
+    size_t nodes;
+    size_t first;  /* For publishers, listeners, servers or readers. */
+    size_t second; /* For subscribers, notifiers, clients or writers. */
+} iox2sd_capacities;
+
+/* A service. All bytes zero, as of IOX2SD_SERVICE_NONE or after a memset, is none. The caller owns these bytes and neither
+ * reads nor changes them but to zero them before the first call; a place that holds a service may be moved, but not copied:
+ * one copy alone is ever used again. What it holds is freed by iox2sd_service_free alone. */
+typedef struct iox2sd_service {
+    bool full;
+    void *at;
+} iox2sd_service;
+
+#define IOX2SD_SERVICE_NONE {false, NULL}
+
+/* A handle; all 0 where the status is not IOX2SD_DONE. */
+typedef struct iox2sd_handle_answer {
+    uint32_t status;
+    iox2sd_handle handle;
+} iox2sd_handle_answer;
+
+/* A number of things. */
+typedef struct iox2sd_count_answer {
+    uint32_t status;
+    size_t count; /* Also with IOX2SD_BUFFER_TOO_SHORT: so many are needed. */
+} iox2sd_count_answer;
+
+/* A text for a buffer. */
+typedef struct iox2sd_text_answer {
+    uint32_t status;
+    size_t length; /* The text's bytes, also with IOX2SD_BUFFER_TOO_SHORT. */
+} iox2sd_text_answer;
+
+/* A number of a service; 0 where the status is not IOX2SD_DONE. */
+typedef struct iox2sd_number_answer {
+    uint32_t status;
+    uint64_t number;
+} iox2sd_number_answer;
+
+/* The roles of the two kinds of ports of a pattern, of enum iox2sd_role; 0 where the status is not IOX2SD_DONE. */
+typedef struct iox2sd_roles_answer {
+    uint32_t status;
+    uint64_t first;
+    uint64_t second;
+} iox2sd_roles_answer;
+
+/* Yes or no; no where the status is not IOX2SD_DONE. */
+typedef struct iox2sd_flag_answer {
+    uint32_t status;
+    bool yes;
+} iox2sd_flag_answer;
+
+/* The id of a node; all 0 where the status is not IOX2SD_DONE. */
+typedef struct iox2sd_id_answer {
+    uint32_t status;
+    iox2sd_id id;
+} iox2sd_id_answer;
+
+/* A port; all 0 where the status is not IOX2SD_DONE. */
+typedef struct iox2sd_port_answer {
+    uint32_t status;
+    iox2sd_port port;
+} iox2sd_port_answer;
+
+/* How many ports went with a dead node, also with IOX2SD_DONE_LOCKED. */
+typedef struct iox2sd_death_answer {
+    uint32_t status;
+    size_t first;  /* Publishers, listeners, servers or readers. */
+    size_t second; /* Subscribers, notifiers, clients or writers. */
+} iox2sd_death_answer;
+
+/* A number that rises when a struct or a function changes. */
+#define IOX2SD_ABI 1
+uint32_t iox2sd_abi(void);
+
+/* Writes what a status says to the front of `out`, without a zero byte, where all of it fits.
+ * Errors: IOX2SD_UNKNOWN_STATUS; IOX2SD_BUFFER_TOO_SHORT with the length that it needs. */
+iox2sd_text_answer iox2sd_status_text(uint32_t status, uint8_t *out, size_t capacity);
+
+/* Whether an id is that of a node: its process or its counter is not 0. */
+bool iox2sd_id_is_node(iox2sd_id id);
+
+/* process * 2^32 + counter, which is 0 for an id of no node alone. Nodes of one process with one counter share it. */
+uint64_t iox2sd_id_owner(iox2sd_id id);
+
+/* Whether the number process * 2^96 + seconds * 2^64 + nanoseconds * 2^32 + counter of the first is below that of the
+ * other. */
+bool iox2sd_id_is_before(iox2sd_id id, iox2sd_id other);
+
+/* Writes that number in lower-case hexadecimal digits without leading zeros, at most 32 bytes, without a zero byte.
+ * Error: IOX2SD_BUFFER_TOO_SHORT with the length that it needs. */
+iox2sd_text_answer iox2sd_id_text(iox2sd_id id, uint8_t *out, size_t capacity);
+
+/* The library's own functions on a service take, in place of one pointer, an array of 0 or 1 elements: 0 where the pointer is
+ * NULL. Callers use the functions below, which give the number. */
+uint32_t iox2sd_service_make_at(iox2sd_service *places, size_t count, uint32_t pattern, uint64_t number,
+                                iox2sd_capacities capacities, uint64_t tickets);
+uint32_t iox2sd_service_free_at(iox2sd_service *places, size_t count);
+iox2sd_handle_answer iox2sd_register_at(iox2sd_service *places, size_t count, iox2sd_id node);
+uint32_t iox2sd_deregister_at(iox2sd_service *places, size_t count, iox2sd_handle handle);
+iox2sd_handle_answer iox2sd_attach_at(iox2sd_service *places, size_t count, const iox2sd_port *ports, size_t port_count);
+uint32_t iox2sd_release_at(iox2sd_service *places, size_t count, iox2sd_handle handle);
+iox2sd_death_answer iox2sd_dead_at(iox2sd_service *places, size_t count, iox2sd_id dead, const iox2sd_id *kept,
+                                   size_t kept_count);
+iox2sd_number_answer iox2sd_pattern_at(iox2sd_service *places, size_t count);
+iox2sd_number_answer iox2sd_service_number_at(iox2sd_service *places, size_t count);
+iox2sd_roles_answer iox2sd_roles_at(iox2sd_service *places, size_t count);
+iox2sd_flag_answer iox2sd_has_role_at(iox2sd_service *places, size_t count, uint64_t role);
+iox2sd_flag_answer iox2sd_is_locked_at(iox2sd_service *places, size_t count);
+iox2sd_count_answer iox2sd_number_of_nodes_at(iox2sd_service *places, size_t count);
+iox2sd_count_answer iox2sd_max_nodes_at(iox2sd_service *places, size_t count);
+iox2sd_flag_answer iox2sd_has_room_for_node_at(iox2sd_service *places, size_t count);
+iox2sd_count_answer iox2sd_count_ports_at(iox2sd_service *places, size_t count, uint64_t role);
+iox2sd_count_answer iox2sd_max_ports_at(iox2sd_service *places, size_t count, uint64_t role);
+iox2sd_flag_answer iox2sd_has_room_at(iox2sd_service *places, size_t count, uint64_t role);
+iox2sd_id_answer iox2sd_find_node_at(iox2sd_service *places, size_t count, iox2sd_handle handle);
+iox2sd_port_answer iox2sd_find_port_at(iox2sd_service *places, size_t count, iox2sd_handle handle);
+iox2sd_count_answer iox2sd_nodes_at(iox2sd_service *places, size_t count, iox2sd_id *out, size_t capacity);
+iox2sd_count_answer iox2sd_ports_at(iox2sd_service *places, size_t count, uint64_t role, iox2sd_port *out,
+                                    size_t capacity);
+
+/* Makes a service with nothing attached. `number` is told in its handles, and `tickets` tickets are given out for nodes and
+ * for each kind of ports: each registering and each attaching takes one, and none comes back. UINT64_MAX is for all.
+ * Errors: IOX2SD_NULL; IOX2SD_HAS_SERVICE, and the place keeps what it holds; IOX2SD_UNKNOWN_PATTERN; IOX2SD_NO_MEMORY. */
+static inline uint32_t iox2sd_service_make(iox2sd_service *service, uint32_t pattern, uint64_t number,
+                                           iox2sd_capacities capacities, uint64_t tickets) {
+    return iox2sd_service_make_at(service, service != NULL, pattern, number, capacities, tickets);
+}
+
+/* Frees a service. Its place holds none afterwards, and may be used for another.
+ * Errors: IOX2SD_NULL; IOX2SD_NO_SERVICE. */
+static inline uint32_t iox2sd_service_free(iox2sd_service *service) {
+    return iox2sd_service_free_at(service, service != NULL);
+}
+
+/* Registers a node, which may have several handles.
+ * Errors: IOX2SD_NULL; IOX2SD_NO_SERVICE; IOX2SD_NO_NODE; IOX2SD_IS_LOCKED; IOX2SD_OUT_OF_SPACE. */
+static inline iox2sd_handle_answer iox2sd_register(iox2sd_service *service, iox2sd_id node) {
+    return iox2sd_register_at(service, service != NULL, node);
+}
+
+/* Deregisters the node with this handle. IOX2SD_DONE_LOCKED where it was the last one: the service is locked for good.
+ * Errors: IOX2SD_NULL; IOX2SD_NO_SERVICE; IOX2SD_UNKNOWN_ROLE; IOX2SD_FOREIGN_HANDLE, also for a port's handle;
+ * IOX2SD_PORTS_STILL_ATTACHED where it is the only handle of its node and some port has that node. */
+static inline uint32_t iox2sd_deregister(iox2sd_service *service, iox2sd_handle handle) {
+    return iox2sd_deregister_at(service, service != NULL, handle);
+}
+
+/* Attaches a port.
+ * Errors: IOX2SD_NULL; IOX2SD_NO_SERVICE; IOX2SD_NO_NODE for the port's node; IOX2SD_UNKNOWN_ROLE, also for IOX2SD_NODE;
+ * IOX2SD_UNKNOWN_SEGMENT; IOX2SD_ROLE_NOT_IN_PATTERN; IOX2SD_IS_LOCKED; IOX2SD_NODE_NOT_REGISTERED, by the whole id;
+ * IOX2SD_OUT_OF_SPACE. */
+static inline iox2sd_handle_answer iox2sd_attach(iox2sd_service *service, const iox2sd_port *port) {
+    return iox2sd_attach_at(service, service != NULL, port, port != NULL);
+}
+
+/* Releases the port with this handle.
+ * Errors: IOX2SD_NULL; IOX2SD_NO_SERVICE; IOX2SD_UNKNOWN_ROLE; IOX2SD_FOREIGN_HANDLE, also for a node's handle. */
+static inline uint32_t iox2sd_release(iox2sd_service *service, iox2sd_handle handle) {
+    return iox2sd_release_at(service, service != NULL, handle);
+}
+
+/* Removes those ports of a dead node whose ids are not among `kept`, and tells how many went. Where none of its ports is
+ * left, the node goes too, with all its handles. IOX2SD_DONE_LOCKED where the service is locked: it has no node any more.
+ * Errors: IOX2SD_NULL; IOX2SD_NO_SERVICE; IOX2SD_NO_NODE. */
+static inline iox2sd_death_answer iox2sd_dead(iox2sd_service *service, iox2sd_id dead, const iox2sd_id *kept,
+                                              size_t kept_count) {
+    iox2sd_death_answer refused = {IOX2SD_NULL, 0, 0};
+    if (kept == NULL && kept_count != 0) return refused;
+    return iox2sd_dead_at(service, service != NULL, dead, kept, kept_count);
+}
+
+/* Lists the ports of a role by rising slot at the front of `out`, whose other places stay as they were.
+ * Errors: IOX2SD_NULL; IOX2SD_NO_SERVICE; IOX2SD_UNKNOWN_ROLE; IOX2SD_ROLE_NOT_IN_PATTERN, also for IOX2SD_NODE;
+ * IOX2SD_BUFFER_TOO_SHORT with the number of ports that there are. Then `out` is as it was. */
+static inline iox2sd_count_answer iox2sd_ports(iox2sd_service *service, uint64_t role, iox2sd_port *out,
+                                               size_t capacity) {
+    iox2sd_count_answer refused = {IOX2SD_NULL, 0};
+    if (out == NULL && capacity != 0) return refused;
+    return iox2sd_ports_at(service, service != NULL, role, out, capacity);
+}
+
+/* The messaging pattern, of enum iox2sd_pattern_number. Errors: IOX2SD_NULL; IOX2SD_NO_SERVICE. */
+static inline iox2sd_number_answer iox2sd_pattern(iox2sd_service *service) {
+    return iox2sd_pattern_at(service, service != NULL);
+}
+
+/* The service's number, which each of its handles has. Errors: IOX2SD_NULL; IOX2SD_NO_SERVICE. */
+static inline iox2sd_number_answer iox2sd_service_number(iox2sd_service *service) {
+    return iox2sd_service_number_at(service, service != NULL);
+}
+
+/* The roles of the pattern's two kinds of ports, that first which is recovered first. Errors: IOX2SD_NULL; IOX2SD_NO_SERVICE. */
+static inline iox2sd_roles_answer iox2sd_roles(iox2sd_service *service) {
+    return iox2sd_roles_at(service, service != NULL);
+}
+
+/* Whether the pattern has ports of the role; no for IOX2SD_NODE.
+ * Errors: IOX2SD_NULL; IOX2SD_NO_SERVICE; IOX2SD_UNKNOWN_ROLE. */
+static inline iox2sd_flag_answer iox2sd_has_role(iox2sd_service *service, uint64_t role) {
+    return iox2sd_has_role_at(service, service != NULL, role);
+}
+
+/* Whether the service is locked for good: it has no node and no port, and takes none any more. Errors: IOX2SD_NULL; IOX2SD_NO_SERVICE. */
+static inline iox2sd_flag_answer iox2sd_is_locked(iox2sd_service *service) {
+    return iox2sd_is_locked_at(service, service != NULL);
+}
+
+/* How many handles of nodes there are: a node that is registered twice counts twice. Errors: IOX2SD_NULL; IOX2SD_NO_SERVICE. */
+static inline iox2sd_count_answer iox2sd_number_of_nodes(iox2sd_service *service) {
+    return iox2sd_number_of_nodes_at(service, service != NULL);
+}
+
+/* How many handles of nodes there may be at a time. Errors: IOX2SD_NULL; IOX2SD_NO_SERVICE. */
+static inline iox2sd_count_answer iox2sd_max_nodes(iox2sd_service *service) {
+    return iox2sd_max_nodes_at(service, service != NULL);
+}
+
+/* Whether iox2sd_register would register a node: the service is not locked, and a place and a ticket are left.
+ * Errors: IOX2SD_NULL; IOX2SD_NO_SERVICE. */
+static inline iox2sd_flag_answer iox2sd_has_room_for_node(iox2sd_service *service) {
+    return iox2sd_has_room_for_node_at(service, service != NULL);
+}
+
+/* How many ports of the role there are.
+ * Errors: IOX2SD_NULL; IOX2SD_NO_SERVICE; IOX2SD_UNKNOWN_ROLE; IOX2SD_ROLE_NOT_IN_PATTERN, also for
+ * IOX2SD_NODE. */
+static inline iox2sd_count_answer iox2sd_count_ports(iox2sd_service *service, uint64_t role) {
+    return iox2sd_count_ports_at(service, service != NULL, role);
+}
+
+/* How many ports of the role there may be at a time.
+ * Errors: IOX2SD_NULL; IOX2SD_NO_SERVICE; IOX2SD_UNKNOWN_ROLE; IOX2SD_ROLE_NOT_IN_PATTERN, also for
+ * IOX2SD_NODE. */
+static inline iox2sd_count_answer iox2sd_max_ports(iox2sd_service *service, uint64_t role) {
+    return iox2sd_max_ports_at(service, service != NULL, role);
+}
+
+/* Whether iox2sd_attach would attach a port of the role, if its node is registered.
+ * Errors: IOX2SD_NULL; IOX2SD_NO_SERVICE; IOX2SD_UNKNOWN_ROLE; IOX2SD_ROLE_NOT_IN_PATTERN, also for
+ * IOX2SD_NODE. */
+static inline iox2sd_flag_answer iox2sd_has_room(iox2sd_service *service, uint64_t role) {
+    return iox2sd_has_room_at(service, service != NULL, role);
+}
+
+/* The node that was registered with this handle and is still there.
+ * Errors: IOX2SD_NULL; IOX2SD_NO_SERVICE; IOX2SD_UNKNOWN_ROLE; IOX2SD_FOREIGN_HANDLE, also for a port's handle. */
+static inline iox2sd_id_answer iox2sd_find_node(iox2sd_service *service, iox2sd_handle handle) {
+    return iox2sd_find_node_at(service, service != NULL, handle);
+}
+
+/* The port that was attached with this handle and is still there.
+ * Errors: IOX2SD_NULL; IOX2SD_NO_SERVICE; IOX2SD_UNKNOWN_ROLE; IOX2SD_FOREIGN_HANDLE, also for a node's handle. */
+static inline iox2sd_port_answer iox2sd_find_port(iox2sd_service *service, iox2sd_handle handle) {
+    return iox2sd_find_port_at(service, service != NULL, handle);
+}
+
+/* Lists the ids of the nodes by rising slot, one for each handle, at the front of `out`, whose other places stay as they
+ * were.
+ * Errors: IOX2SD_NULL; IOX2SD_NO_SERVICE; IOX2SD_BUFFER_TOO_SHORT with the number of handles that there are. Then `out` is
+ * as it was. */
+static inline iox2sd_count_answer iox2sd_nodes(iox2sd_service *service, iox2sd_id *out, size_t capacity) {
+    iox2sd_count_answer refused = {IOX2SD_NULL, 0};
+    if (out == NULL && capacity != 0) return refused;
+    return iox2sd_nodes_at(service, service != NULL, out, capacity);
+}
+
+#ifdef __cplusplus
+}
+#endif
+
+#endif

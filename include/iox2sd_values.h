@@ -1,0 +1,389 @@
+/* The proved layer of service_descriptions, for C99 and C++: values. The statuses stand in iox2sd.h.
+ *
+ * Rules for every call
+ *
+ * - A text is a pointer and a length in bytes; it needs no zero byte at its end. NULL with length 0 is an empty text, and
+ *   an array of length 0.
+ * - A buffer is a pointer to `capacity` bytes that the caller owns, and that overlap no other argument of the call. A
+ *   text is written to its front, without a zero byte, where all of it fits. Where it does not, nothing is written,
+ *   the status is IOX2SD_BUFFER_TOO_SHORT, and `length` is the size that it needs. NULL with capacity 0 is a buffer.
+ * - NULL where one struct is expected is IOX2SD_NULL.
+ * - A status other than IOX2SD_DONE is an error: nothing was written, and the other fields of an answer are 0, but where a
+ *   function says otherwise. Errors are told in the order in which they are named.
+ * - No call writes past the length that it was given, keeps a pointer, takes memory, or calls back. There is no global
+ *   state: calls may run on several threads at once, where they share no buffer.
+ *
+ * An answer has padding: compare its fields.
+ */
+#ifndef IOX2SD_VALUES_H
+#define IOX2SD_VALUES_H
+
+#include "iox2sd.h"
+
+#ifdef __cplusplus
+extern "C" {
+#endif
+
+/* A place in what the caller gave: of a byte in a text, or of an element in an array. */
+typedef struct iox2sd_place_answer {
+    uint32_t status;
+    size_t at; /* 0 where the status speaks of no place. */
+} iox2sd_place_answer;
+
+/* ---- Texts ---- */
+
+/* Whether a text is the name that a user gives to a service: 1 to 255 bytes, each from 1 to 127, not beginning with
+ * "iox2://".
+ * Errors: IOX2SD_RESERVED_PREFIX; IOX2SD_EMPTY; IOX2SD_TOO_LONG, with `at` 255; IOX2SD_ILLEGAL_BYTE, with the place of the
+ * first one. */
+iox2sd_place_answer iox2sd_service_name_check(const uint8_t *text, size_t length);
+
+/* Whether a text is the name of a service, which may be one of the system's own.
+ * Errors: as above, but for IOX2SD_RESERVED_PREFIX. */
+iox2sd_place_answer iox2sd_internal_service_name_check(const uint8_t *text, size_t length);
+
+/* Whether a text begins with "iox2://", as the names of the system's own services do. */
+bool iox2sd_has_internal_prefix(const uint8_t *text, size_t length);
+
+/* Writes the name of one of the system's own services: "iox2://" and the text.
+ * Errors: IOX2SD_NOT_UTF8; IOX2SD_TOO_LONG, for more than 248 bytes; IOX2SD_ILLEGAL_BYTE; IOX2SD_BUFFER_TOO_SHORT. */
+iox2sd_text_answer iox2sd_internal_service_name(const uint8_t *text, size_t length, uint8_t *out, size_t capacity);
+
+/* Whether a text is the key of an attribute: 1 to 64 bytes, each from 1 to 127.
+ * Errors: IOX2SD_EMPTY; IOX2SD_TOO_LONG, with `at` 64; IOX2SD_ILLEGAL_BYTE, with the place of the first one. */
+iox2sd_place_answer iox2sd_attribute_key_check(const uint8_t *text, size_t length);
+
+/* Whether a text is the value of an attribute: 1 to 256 bytes, each from 1 to 127. Errors as of a key, with `at` 256. */
+iox2sd_place_answer iox2sd_attribute_value_check(const uint8_t *text, size_t length);
+
+/* Whether a text is a path: at most 255 bytes, each from 1 to 127. It may be empty.
+ * Errors: IOX2SD_TOO_LONG, with `at` 255; IOX2SD_ILLEGAL_BYTE, with the place of the first one. */
+iox2sd_place_answer iox2sd_path_check(const uint8_t *text, size_t length);
+
+/* Whether a text is the name of a file: 1 to 255 bytes, each from 1 to 127 and none a `/`, and neither "." nor "..".
+ * Errors: IOX2SD_EMPTY; IOX2SD_TOO_LONG, with `at` 255; IOX2SD_ILLEGAL_BYTE, with the place of the first one;
+ * IOX2SD_NO_FILE_NAME. */
+iox2sd_place_answer iox2sd_file_name_check(const uint8_t *text, size_t length);
+
+/* Whether a text is the path of a file: 1 to 255 bytes, each from 1 to 127, of which those after the last `/` are the name
+ * of a file. Errors as of the name of a file; a `/` is no illegal byte. */
+iox2sd_place_answer iox2sd_file_path_check(const uint8_t *text, size_t length);
+
+/* Whether a text is a restricted name of a file, as hash texts are: 1 to 64 letters A to Z and a to z, digits, `-`, `.`, `:`
+ * and `_`, and neither "." nor "..". Errors as of the name of a file, with `at` 64 for IOX2SD_TOO_LONG. */
+iox2sd_place_answer iox2sd_restricted_name_check(const uint8_t *text, size_t length);
+
+/* Writes an entry, which is a path too, joined to a path, with one `/` between them unless the path is empty or ends in
+ * `/`.
+ * Errors: IOX2SD_BAD_PATH; IOX2SD_BAD_ENTRY; IOX2SD_TOO_LONG, past 255 bytes; IOX2SD_BUFFER_TOO_SHORT. */
+iox2sd_text_answer iox2sd_path_join(const uint8_t *path, size_t path_length, const uint8_t *entry, size_t entry_length,
+                                    uint8_t *out, size_t capacity);
+
+/* Writes the path of a file in a directory, joined in the same way. Errors as above. */
+iox2sd_text_answer iox2sd_file_path_join(const uint8_t *path, size_t path_length, const uint8_t *file, size_t file_length,
+                                         uint8_t *out, size_t capacity);
+
+/* Writes the hash text of a service's pattern and name, under which its files are found: 27 bytes.
+ * Errors: IOX2SD_UNKNOWN_PATTERN; IOX2SD_NOT_UTF8; IOX2SD_BAD_SERVICE_NAME, of which iox2sd_service_name_check tells why;
+ * IOX2SD_ILLEGAL_HASH; IOX2SD_BUFFER_TOO_SHORT. */
+iox2sd_text_answer iox2sd_hash_text(uint32_t pattern, const uint8_t *name, size_t length, uint8_t *out, size_t capacity);
+
+/* The same for a name that may be one of the system's own. */
+iox2sd_text_answer iox2sd_internal_hash_text(uint32_t pattern, const uint8_t *name, size_t length, uint8_t *out,
+                                             size_t capacity);
+
+/* ---- Attributes ---- */
+
+/* A key of 1 to 64 bytes with a value of 1 to 256 bytes, each byte from 1 to 127. */
+typedef struct iox2sd_attribute {
+    const uint8_t *key;
+    size_t key_length;
+    const uint8_t *value;
+    size_t value_length;
+} iox2sd_attribute;
+
+/* A key. */
+typedef struct iox2sd_key {
+    const uint8_t *text;
+    size_t length;
+} iox2sd_key;
+
+/* Whether pairs are a set: at most sixteen, each of legal texts, in any order and with repeats.
+ * Errors, of the first pair that is wrong, with its place: IOX2SD_BAD_KEY; IOX2SD_BAD_VALUE; IOX2SD_TOO_MANY, of the
+ * seventeenth. */
+iox2sd_place_answer iox2sd_attributes_check(const iox2sd_attribute *pairs, size_t length);
+
+/* Sorts the pairs of a set by the bytes of their keys, and then of their values. The array's pointers are moved, and the
+ * texts stay where they are. Errors as above; the array is then as it was. */
+iox2sd_place_answer iox2sd_attributes_sort(iox2sd_attribute *pairs, size_t length);
+
+/* How many values a key has in a set. Errors: those of iox2sd_attributes_check, without a place; IOX2SD_BAD_ASKED_KEY. */
+iox2sd_count_answer iox2sd_attribute_values(const iox2sd_attribute *pairs, size_t length, const uint8_t *key,
+                                            size_t key_length);
+
+/* Writes the value at `index`, counted from 0, of the values that a key has in a set, by their bytes from the least.
+ * Errors: those of iox2sd_attributes_check, without a place; IOX2SD_BAD_ASKED_KEY; IOX2SD_NO_SUCH_VALUE;
+ * IOX2SD_BUFFER_TOO_SHORT. */
+iox2sd_text_answer iox2sd_attribute_value(const iox2sd_attribute *pairs, size_t length, const uint8_t *key,
+                                          size_t key_length, size_t index, uint8_t *out, size_t capacity);
+
+/* Whether a set has each required pair, and for each required key some pair with it.
+ * Errors: those of iox2sd_attributes_check; of the required pairs, with the place in `required`: IOX2SD_BAD_REQUIRED_KEY,
+ * IOX2SD_BAD_REQUIRED_VALUE; of the required keys, with the place in `keys`: IOX2SD_BAD_ASKED_KEY; at the pair or key that
+ * is one too many, where both are more than sixteen: IOX2SD_TOO_MANY_REQUIRED; IOX2SD_MISSING_PAIR, of the least required
+ * pair that the set lacks, with its first place in `required`; IOX2SD_MISSING_KEY, of the first required key that it lacks,
+ * with its first place in `keys`. Pairs are looked at before keys. */
+iox2sd_place_answer iox2sd_attributes_verify(const iox2sd_attribute *pairs, size_t length,
+                                             const iox2sd_attribute *required, size_t required_length,
+                                             const iox2sd_key *keys, size_t keys_length);
+
+/* ---- Messages ---- */
+
+/* How many values of a type a message has. */
+enum {
+    IOX2SD_FIXED_SIZE = 0, /* One. */
+    IOX2SD_DYNAMIC = 1     /* Any number, one after another. */
+};
+
+/* The type of one part of a message. */
+typedef struct iox2sd_type_detail {
+    const uint8_t *name; /* UTF-8, at most 256 bytes, each from 1 to 127. */
+    size_t name_length;
+    uint32_t variant; /* IOX2SD_FIXED_SIZE or IOX2SD_DYNAMIC. */
+    size_t size;      /* In bytes. */
+    size_t alignment; /* A power of two. */
+} iox2sd_type_detail;
+
+/* The parts of a message, which lie one after another. */
+typedef struct iox2sd_message_details {
+    iox2sd_type_detail header;
+    iox2sd_type_detail user_header;
+    iox2sd_type_detail payload;
+} iox2sd_message_details;
+
+/* The room for a message. */
+typedef struct iox2sd_layout_answer {
+    uint32_t status;
+    size_t size;      /* In bytes, at most 2^63 - 1. */
+    size_t alignment; /* The number of which the message's place is to be a multiple. */
+} iox2sd_layout_answer;
+
+/* The places of two parts of a message. */
+typedef struct iox2sd_places_answer {
+    uint32_t status;
+    size_t user_header;
+    size_t payload;
+} iox2sd_places_answer;
+
+/* The parts of a message, as answers name them. */
+enum {
+    IOX2SD_HEADER = 0,
+    IOX2SD_USER_HEADER = 1,
+    IOX2SD_PAYLOAD = 2
+};
+
+/* What is wrong of whose part. */
+typedef struct iox2sd_part_answer {
+    uint32_t status;
+    uint32_t side; /* 0: of the opener's details, or between both. 1: of the service's. */
+    uint32_t part; /* IOX2SD_HEADER, IOX2SD_USER_HEADER or IOX2SD_PAYLOAD. */
+} iox2sd_part_answer;
+
+/* The functions that end in `_at` take a pointer and a count of 0 for NULL or 1; call those below them. */
+iox2sd_layout_answer iox2sd_message_layout_at(const iox2sd_message_details *details, size_t count, size_t elements);
+iox2sd_places_answer iox2sd_message_places_at(const iox2sd_message_details *details, size_t count, size_t header);
+iox2sd_part_answer iox2sd_message_compatible_at(const iox2sd_message_details *opener, size_t opener_count,
+                                                const iox2sd_message_details *service, size_t service_count);
+
+/* The room for a message whose payload has so many elements. All parts lie in it, apart and aligned, for the service and
+ * for every compatible opener. Names and variants are not looked at.
+ * Errors: IOX2SD_NULL; IOX2SD_BAD_ALIGNMENT; IOX2SD_TOO_LARGE past 2^63 - 1 bytes. */
+static inline iox2sd_layout_answer iox2sd_message_layout(const iox2sd_message_details *details, size_t elements) {
+    return iox2sd_message_layout_at(details, details != NULL, elements);
+}
+
+/* The places of user header and payload in a message whose header is at the place `header`. They are numbers: nothing
+ * is read there. Names and variants are not looked at.
+ * Errors: IOX2SD_NULL; IOX2SD_BAD_ALIGNMENT; IOX2SD_TOO_LARGE where the payload's place would pass 2^64 - 1. */
+static inline iox2sd_places_answer iox2sd_message_places(const iox2sd_message_details *details, size_t header) {
+    return iox2sd_message_places_at(details, details != NULL, header);
+}
+
+/* Whether an opener with these details may use the messages of a service with those: equal headers, and user headers and
+ * payloads that are equal but for alignments, which are at most those of the service.
+ * Errors, each with its side and its part: IOX2SD_NULL, the opener's before the service's; of the first part that is no
+ * type, the opener's before the service's: IOX2SD_UNKNOWN_VARIANT; IOX2SD_NOT_UTF8, IOX2SD_TOO_LONG, IOX2SD_ILLEGAL_BYTE of
+ * its name; IOX2SD_BAD_ALIGNMENT; and of the first part that keeps the opener out: IOX2SD_OTHER_NAME; IOX2SD_OTHER_VARIANT;
+ * IOX2SD_OTHER_SIZE; IOX2SD_OTHER_ALIGNMENT of the header; IOX2SD_GREATER_ALIGNMENT of another part. */
+static inline iox2sd_part_answer iox2sd_message_compatible(const iox2sd_message_details *opener,
+                                                           const iox2sd_message_details *service) {
+    return iox2sd_message_compatible_at(opener, opener != NULL, service, service != NULL);
+}
+
+/* The greatest number of one publisher's samples that can be in use at once. Error: IOX2SD_TOO_LARGE past 2^64 - 1. */
+iox2sd_count_answer iox2sd_publisher_chunks(size_t max_subscribers, size_t subscriber_max_buffer_size,
+                                            size_t subscriber_max_borrowed_samples, size_t history_size,
+                                            size_t loaned_samples);
+
+/* The greatest number of one client's requests that can be in use at once. Error: IOX2SD_TOO_LARGE past 2^64 - 1. */
+iox2sd_count_answer iox2sd_client_chunks(size_t max_servers, size_t max_active_requests_per_client,
+                                         size_t loaned_requests);
+
+/* The greatest number of one server's responses that can be in use at once. Error: IOX2SD_TOO_LARGE past 2^64 - 1. */
+iox2sd_count_answer iox2sd_server_chunks(size_t max_clients, size_t max_active_requests_per_client,
+                                         size_t max_response_buffer_size,
+                                         size_t max_borrowed_responses_per_pending_response, size_t loaned_responses);
+
+/* ---- Settings ---- */
+
+/* What a sender does where a receiver's buffer is full and may not overflow. */
+enum {
+    IOX2SD_RETRY_UNTIL_DELIVERED = 0, /* It tries again until the receiver has room. */
+    IOX2SD_DISCARD_DATA = 1           /* It leaves the receiver out. */
+};
+
+/* How the room for messages grows where their length is told at run time. */
+enum {
+    IOX2SD_BEST_FIT = 0,     /* By as much as the message needs. */
+    IOX2SD_POWER_OF_TWO = 1, /* To the next power of two. */
+    IOX2SD_STATIC = 2        /* It does not grow. */
+};
+
+/* A span of time, or none: then all fields are 0. */
+typedef struct iox2sd_optional_duration {
+    uint64_t seconds;
+    uint32_t nanoseconds; /* Beside the seconds, below 1,000,000,000. */
+    bool is_some;
+} iox2sd_optional_duration;
+
+/* The number of an event, or none: then all fields are 0. */
+typedef struct iox2sd_optional_event_id {
+    size_t number;
+    bool is_some;
+} iox2sd_optional_event_id;
+
+/* The settings of a publish-subscribe service. */
+typedef struct iox2sd_publish_subscribe_settings {
+    size_t max_subscribers; /* How many may be attached at once; so are the next two. */
+    size_t max_publishers;
+    size_t max_nodes;
+    size_t subscriber_max_buffer_size;           /* How many samples a subscriber's buffer has room for. */
+    size_t subscriber_max_borrowed_samples;      /* How many samples a subscriber may hold at once. */
+    size_t publisher_max_loaned_samples;         /* How many a publisher may have taken and not yet sent. */
+    size_t publisher_history_size;               /* How many a publisher keeps for subscribers that come later. */
+    size_t subscriber_expired_connection_buffer; /* How many connections of publishers that are gone it keeps. */
+    uint32_t backpressure_strategy;
+    uint32_t publisher_allocation_strategy;
+    bool enable_safe_overflow; /* Whether a new sample takes the oldest one's place where a buffer is full. */
+} iox2sd_publish_subscribe_settings;
+
+/* The settings of an event service. */
+typedef struct iox2sd_event_settings {
+    size_t max_listeners; /* How many may be attached at once; so are the next two. */
+    size_t max_notifiers;
+    size_t max_nodes;
+    size_t event_id_max_value;         /* The greatest number of an event. */
+    iox2sd_optional_duration deadline; /* The longest time between two events. */
+    iox2sd_optional_event_id notifier_created_event;
+    iox2sd_optional_event_id notifier_dropped_event;
+    iox2sd_optional_event_id notifier_dead_event;
+} iox2sd_event_settings;
+
+/* The settings of a request-response service. */
+typedef struct iox2sd_request_response_settings {
+    size_t max_active_requests_per_client; /* How many may be open at each server at once. */
+    size_t max_response_buffer_size;       /* How many responses to one request a client's buffer has room for. */
+    size_t max_servers;                    /* How many may be attached at once; so are the next two. */
+    size_t max_clients;
+    size_t max_nodes;
+    size_t max_borrowed_responses_per_pending_response; /* How many a client may hold at once. */
+    size_t max_loaned_requests;                         /* How many a client may have taken and not yet sent. */
+    size_t server_max_loaned_responses_per_request;     /* The same of a server's responses to one request. */
+    size_t client_expired_connection_buffer;            /* How many connections of servers that are gone it keeps. */
+    size_t server_expired_connection_buffer;
+    uint32_t client_backpressure_strategy;
+    uint32_t server_backpressure_strategy;
+    uint32_t client_allocation_strategy;
+    uint32_t server_allocation_strategy;
+    bool enable_safe_overflow_for_requests;
+    bool enable_safe_overflow_for_responses;
+    bool enable_fire_and_forget_requests; /* Whether a client may send a request and take no response. */
+} iox2sd_request_response_settings;
+
+/* The settings of a blackboard service. */
+typedef struct iox2sd_blackboard_settings {
+    size_t max_readers; /* How many may be attached at once; so is the next. */
+    size_t max_nodes;
+} iox2sd_blackboard_settings;
+
+/* The settings that a service of each pattern gets where nothing else is said. */
+iox2sd_publish_subscribe_settings iox2sd_publish_subscribe_defaults(void);
+iox2sd_event_settings iox2sd_event_defaults(void);
+iox2sd_request_response_settings iox2sd_request_response_defaults(void);
+iox2sd_blackboard_settings iox2sd_blackboard_defaults(void);
+
+/* The functions that end in `_at` take a pointer and a count of 0 for NULL or 1; call those below them. */
+iox2sd_count_answer iox2sd_samples_of_at(const iox2sd_publish_subscribe_settings *settings, size_t count);
+iox2sd_count_answer iox2sd_requests_of_at(const iox2sd_request_response_settings *settings, size_t count);
+iox2sd_count_answer iox2sd_responses_of_at(const iox2sd_request_response_settings *settings, size_t count);
+
+/* The greatest number of one publisher's samples, one client's requests and one server's responses that can be in use at
+ * once, in a service with these settings. Errors: IOX2SD_NULL; IOX2SD_TOO_LARGE past 2^64 - 1. */
+static inline iox2sd_count_answer iox2sd_samples_of(const iox2sd_publish_subscribe_settings *settings) {
+    return iox2sd_samples_of_at(settings, settings != NULL);
+}
+static inline iox2sd_count_answer iox2sd_requests_of(const iox2sd_request_response_settings *settings) {
+    return iox2sd_requests_of_at(settings, settings != NULL);
+}
+static inline iox2sd_count_answer iox2sd_responses_of(const iox2sd_request_response_settings *settings) {
+    return iox2sd_responses_of_at(settings, settings != NULL);
+}
+
+/* The texts of the configuration. */
+enum {
+    IOX2SD_ROOT_PATH = 0,         /* The path below which everything else lies. */
+    IOX2SD_PREFIX = 1,            /* What the name of each file begins with. */
+    IOX2SD_SERVICE_DIRECTORY = 2, /* Below the root path. The ends of the names of services' files: */
+    IOX2SD_DATA_SEGMENT_SUFFIX = 3,
+    IOX2SD_STATIC_CONFIG_STORAGE_SUFFIX = 4,
+    IOX2SD_DYNAMIC_CONFIG_STORAGE_SUFFIX = 5,
+    IOX2SD_CONNECTION_SUFFIX = 6,
+    IOX2SD_EVENT_CONNECTION_SUFFIX = 7,
+    IOX2SD_BLACKBOARD_MGMT_SUFFIX = 8,
+    IOX2SD_BLACKBOARD_DATA_SUFFIX = 9,
+    IOX2SD_NODE_DIRECTORY = 10, /* Below the root path. The ends of the names of nodes' files: */
+    IOX2SD_MONITOR_SUFFIX = 11,
+    IOX2SD_NODE_STATIC_CONFIG_SUFFIX = 12,
+    IOX2SD_SERVICE_TAG_SUFFIX = 13,
+    IOX2SD_PORT_TAG_SUFFIX = 14,
+    IOX2SD_GLOBAL_MGMT_SUFFIX = 15,
+    IOX2SD_CONFIG_FILE_NAME = 16,     /* The name of a configuration file. */
+    IOX2SD_CONFIG_FILE_PATH = 17,     /* The configuration file of a working directory. */
+    IOX2SD_RELATIVE_CONFIG_PATH = 18, /* The directory of this system's, below one for configurations. */
+    IOX2SD_USER_CONFIG_FILE_PATH = 19 /* The configuration file below a user's directory for configurations. */
+};
+
+/* Writes a text of the configuration that stands where nothing else is said.
+ * Errors: IOX2SD_UNKNOWN_TEXT; IOX2SD_BUFFER_TOO_SHORT. */
+iox2sd_text_answer iox2sd_default_text(uint32_t which, uint8_t *out, size_t capacity);
+
+/* Writes the directory of services below a root path.
+ * Errors: IOX2SD_BAD_PATH; IOX2SD_TOO_LONG, past 255 bytes; IOX2SD_BUFFER_TOO_SHORT. */
+iox2sd_text_answer iox2sd_service_directory(const uint8_t *root, size_t length, uint8_t *out, size_t capacity);
+
+/* Writes the directory of nodes below a root path. Errors as above. */
+iox2sd_text_answer iox2sd_node_directory(const uint8_t *root, size_t length, uint8_t *out, size_t capacity);
+
+/* ---- Versions ---- */
+
+/* Writes the version of this library, as "0.1.0". */
+iox2sd_text_answer iox2sd_version(uint8_t *out, size_t capacity);
+
+/* Writes the version of iceoryx2 whose layer this is, as "0.9.3". */
+iox2sd_text_answer iox2sd_layer_version(uint8_t *out, size_t capacity);
+
+#ifdef __cplusplus
+}
+#endif
+
+#endif
