@@ -102,7 +102,7 @@ class Service:
         self.commands = 0
 
     def step(self, line):
-        """The reply to a command line, without its newline; a line that is none changes nothing."""
+        """The reply to a command line, without its newline; an invalid line changes nothing."""
         word = line.split(b" ", 1)[0]
         if word not in COMMAND_LINES:
             raise BadLine

@@ -1,6 +1,6 @@
 /* Loaded before the C library, it refuses requests for memory, which it counts from 1 on. REFUSED tells which: `3` the third, `3,9` the third and the
-   ninth, `3-` the third and all after it. To the file of the number TOLD it writes an `r` for each that it refuses, and at the end an `l` where memory
-   is left that was not given back. */
+   ninth, `3-` the third and all after it, nothing none. To the file of the number TOLD it writes an `m` for the first, an `r` for each that it refuses,
+   and at the end an `l` where memory is left that was not given back. */
 #include <stddef.h>
 #include <stdlib.h>
 #include <unistd.h>
@@ -21,6 +21,8 @@ static void tell(const char *what)
 static int is_refused(void)
 {
     const char *list = getenv("REFUSED");
+    if (made == 0)
+        tell("m");
     made++;
     while (*list) {
         char *end;

@@ -1,6 +1,8 @@
 #!/bin/sh
-# Fails where a page quotes code that does not stand so, line by line, in the file that it names. A quote is a block of code below a line
-# `<!-- quote FILE -->`, where FILE is a path from the top of the repository. Prints each such quote, and how many there are.
+# Fails where a page quotes code that does not stand so, line by line, in the file that it names. A quote
+# is a block of code below a line `<!-- quote FILE -->`, where FILE is a path from the top of the
+# repository. Prints each such quote, and how many there are. Fails too where docs/PROMISES.md names a
+# must-fail edit, as `FUNCTION--mistake`, that no crate has.
 set -eu
 cd "$(dirname "$0")/.."
 awk '
@@ -27,4 +29,7 @@ awk '
         print quotes + 0 " quotes, " wrong + 0 " wrong"
         exit quotes == 0 || wrong > 0
     }
-' README.md docs/*.md
+' README.md docs/*.md crates/*/README.md
+grep -o '`[a-z0-9_]*--[a-z0-9_]*`' docs/PROMISES.md | tr -d '`' | sort -u | while read -r edit; do
+    ls crates/*/must-fail/"$edit".edit > /dev/null || exit 1
+done

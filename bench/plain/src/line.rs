@@ -32,22 +32,22 @@ impl<'a> Scanner<'a> {
 
     /// The service line.
     pub fn service(&mut self) -> Option<(Pattern, Room)> {
-        if self.word() != b"service" {
+        let pattern = if self.take(b"service publish-subscribe ") {
+            Pattern::PublishSubscribe
+        } else if self.take(b"service event ") {
+            Pattern::Event
+        } else if self.take(b"service request-response ") {
+            Pattern::RequestResponse
+        } else if self.take(b"service blackboard ") {
+            Pattern::Blackboard
+        } else {
             return None;
-        }
-        self.byte(b' ')?;
-        let pattern = match self.word() {
-            b"publish-subscribe" => Pattern::PublishSubscribe,
-            b"event" => Pattern::Event,
-            b"request-response" => Pattern::RequestResponse,
-            b"blackboard" => Pattern::Blackboard,
-            _ => return None,
         };
-        let _number: u64 = self.index()?;
+        let _number = self.number()?;
         let room = Room {
-            nodes: self.index()?,
-            first: self.index()?,
-            second: self.index()?,
+            nodes: self.next_index()?,
+            first: self.next_index()?,
+            second: self.next_index()?,
         };
         self.byte(b'\n')?;
         Some((pattern, room))
@@ -55,16 +55,24 @@ impl<'a> Scanner<'a> {
 
     /// A command line.
     pub fn command(&mut self) -> Result<Command, Malformed> {
-        let command = match self.word() {
-            b"register" => self.node().map(Command::Register),
-            b"deregister" => self.index().map(Command::Deregister),
-            b"nodes" => Some(Command::Nodes),
-            b"add" => self.add(),
-            b"release" => self.index().map(Command::Release),
-            b"list" => self.role().map(Command::List),
-            b"count" => self.role().map(Command::Count),
-            b"dead" => return self.dead(),
-            _ => None,
+        let command = if self.take(b"register ") {
+            self.node().map(Command::Register)
+        } else if self.take(b"deregister ") {
+            self.index().map(Command::Deregister)
+        } else if self.take(b"add ") {
+            self.add()
+        } else if self.take(b"release ") {
+            self.index().map(Command::Release)
+        } else if self.take(b"dead ") {
+            return self.dead();
+        } else if self.take(b"list ") {
+            self.role().map(Command::List)
+        } else if self.take(b"count ") {
+            self.role().map(Command::Count)
+        } else if self.take(b"nodes") {
+            Some(Command::Nodes)
+        } else {
+            None
         };
         let command = command.ok_or(Malformed::BadLine)?;
         self.byte(b'\n').ok_or(Malformed::BadLine)?;
@@ -73,20 +81,20 @@ impl<'a> Scanner<'a> {
 
     fn add(&mut self) -> Option<Command> {
         let role = self.role()?;
-        let port = Port {
-            id: self.id()?,
-            node: self.node()?,
-        };
-        Some(Command::Add(role, port))
+        self.byte(b' ')?;
+        let id = self.id()?;
+        self.byte(b' ')?;
+        let node = self.node()?;
+        Some(Command::Add(role, Port { id, node }))
     }
 
     fn dead(&mut self) -> Result<Command, Malformed> {
         let node = self.node().ok_or(Malformed::BadLine)?;
         let mut skip = Vec::new();
-        if let Some(ports) = self.rest.strip_prefix(b" skip") {
-            self.rest = ports;
+        if self.take(b" skip") {
             while skip.is_empty() || self.rest.first() == Some(&b' ') {
                 skip.try_reserve(1)?;
+                self.byte(b' ').ok_or(Malformed::BadLine)?;
                 skip.push(self.id().ok_or(Malformed::BadLine)?);
             }
         }
@@ -94,16 +102,15 @@ impl<'a> Scanner<'a> {
         Ok(Command::Dead { node, skip })
     }
 
-    /// All up to the next space or newline.
-    fn word(&mut self) -> &'a [u8] {
-        let end = self
-            .rest
-            .iter()
-            .position(|&byte| byte == b' ' || byte == b'\n')
-            .unwrap_or(self.rest.len());
-        let (word, rest) = self.rest.split_at(end);
-        self.rest = rest;
-        word
+    /// Passes over `word` where it stands next.
+    fn take(&mut self, word: &[u8]) -> bool {
+        match self.rest.strip_prefix(word) {
+            Some(rest) => {
+                self.rest = rest;
+                true
+            }
+            None => false,
+        }
     }
 
     fn byte(&mut self, byte: u8) -> Option<()> {
@@ -114,38 +121,61 @@ impl<'a> Scanner<'a> {
 
     /// A `0`, or digits without a leading zero. Any other byte may follow; a digit after a `0` is refused as what follows.
     fn number(&mut self) -> Option<u64> {
-        let (&first, mut rest) = self.rest.split_first()?;
-        let mut number = digit(first)?;
-        while number > 0 {
-            let Some((&byte, after)) = rest.split_first() else {
-                break;
-            };
-            let Some(digit) = digit(byte) else { break };
-            number = number.checked_mul(10)?.checked_add(digit)?;
-            rest = after;
+        let digits = self.rest;
+        let (number, length) = self.digits()?;
+        match length {
+            ..=19 => Some(number),
+            20 => str::from_utf8(&digits[..20]).ok()?.parse().ok(),
+            _ => None,
         }
-        self.rest = rest;
-        Some(number)
     }
 
-    fn index<N: TryFrom<u64>>(&mut self) -> Option<N> {
-        self.byte(b' ')?;
+    /// What up to 19 digits stand for, and how many there are.
+    #[inline]
+    fn digits(&mut self) -> Option<(u64, usize)> {
+        let (&first, mut rest) = self.rest.split_first()?;
+        let mut number = digit(first)?;
+        if number > 0 {
+            while let Some((&byte, after)) = rest.split_first()
+                && let Some(digit) = digit(byte)
+            {
+                number = number.wrapping_mul(10).wrapping_add(digit);
+                rest = after;
+            }
+        }
+        let length = self.rest.len() - rest.len();
+        self.rest = rest;
+        Some((number, length))
+    }
+
+    fn index(&mut self) -> Option<usize> {
         self.number()?.try_into().ok()
     }
 
-    fn id(&mut self) -> Option<u128> {
+    fn next_index(&mut self) -> Option<usize> {
         self.byte(b' ')?;
-        let mut id = self.part()?;
-        for _ in 0..3 {
-            self.byte(b'.')?;
-            id = id << 32 | self.part()?;
-        }
-        Some(id)
+        self.index()
     }
 
-    fn part(&mut self) -> Option<u128> {
-        let part: u32 = self.number()?.try_into().ok()?;
-        Some(part.into())
+    fn id(&mut self) -> Option<u128> {
+        let process = self.part()?;
+        self.byte(b'.')?;
+        let seconds = self.part()?;
+        self.byte(b'.')?;
+        let nanoseconds = self.part()?;
+        self.byte(b'.')?;
+        let counter = self.part()?;
+        let high = u64::from(process) << 32 | u64::from(seconds);
+        let low = u64::from(nanoseconds) << 32 | u64::from(counter);
+        Some(u128::from(high) << 64 | u128::from(low))
+    }
+
+    fn part(&mut self) -> Option<u32> {
+        let (number, length) = self.digits()?;
+        if length > 10 {
+            return None;
+        }
+        number.try_into().ok()
     }
 
     /// An id with a process or a counter that is not 0.
@@ -156,21 +186,23 @@ impl<'a> Scanner<'a> {
     }
 
     fn role(&mut self) -> Option<Role> {
-        self.byte(b' ')?;
-        Some(match self.word() {
-            b"publisher" => Role::Publisher,
-            b"subscriber" => Role::Subscriber,
-            b"notifier" => Role::Notifier,
-            b"listener" => Role::Listener,
-            b"client" => Role::Client,
-            b"server" => Role::Server,
-            b"reader" => Role::Reader,
-            b"writer" => Role::Writer,
-            _ => return None,
-        })
+        const ROLES: [(&[u8], Role); 8] = [
+            (b"publisher", Role::Publisher),
+            (b"subscriber", Role::Subscriber),
+            (b"listener", Role::Listener),
+            (b"notifier", Role::Notifier),
+            (b"server", Role::Server),
+            (b"client", Role::Client),
+            (b"reader", Role::Reader),
+            (b"writer", Role::Writer),
+        ];
+        ROLES
+            .iter()
+            .find_map(|&(word, role)| self.take(word).then_some(role))
     }
 }
 
 fn digit(byte: u8) -> Option<u64> {
-    byte.is_ascii_digit().then(|| u64::from(byte - b'0'))
+    let digit = byte.wrapping_sub(b'0');
+    (digit <= 9).then_some(digit.into())
 }

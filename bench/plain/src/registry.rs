@@ -97,10 +97,13 @@ impl<T> Registry<T> {
 
     /// Removes the entries for which `is_dead` says so, asking by rising slot.
     pub fn remove_where(&mut self, mut is_dead: impl FnMut(&T) -> bool) {
-        for slot in 0..self.slots.len() {
-            if matches!(&self.slots[slot], Slot::Used { entry, .. } if is_dead(entry)) {
-                self.free(slot);
-            }
+        let mut start = 0;
+        while let Some(passed) = self.slots[start..]
+            .iter()
+            .position(|slot| matches!(slot, Slot::Used { entry, .. } if is_dead(entry)))
+        {
+            self.free(start + passed);
+            start += passed + 1;
         }
     }
 

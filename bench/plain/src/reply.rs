@@ -35,31 +35,24 @@ impl Reply {
 
     /// Appends the reply line. `output` has room for it.
     pub fn write(self, output: &mut Vec<u8>) {
-        match self {
+        let line: &[u8] = match self {
             Reply::Handle(Handle::Node(key) | Handle::Port(_, key)) => {
-                output.extend_from_slice(b"handle ");
-                write_decimal(key.slot as u64, output);
-                output.push(b' ');
-                write_decimal(key.ticket, output);
-                output.push(b'\n');
+                return write_numbers(b"handle", &[key.slot as u64, key.ticket], output);
             }
-            Reply::Count(count) => {
-                output.extend_from_slice(b"count ");
-                write_decimal(count as u64, output);
-                output.push(b'\n');
-            }
-            Reply::Listed => {}
-            Reply::Locked => output.extend_from_slice(b"locked\n"),
-            Reply::NotRegistered => output.extend_from_slice(b"not-registered\n"),
-            Reply::Full => output.extend_from_slice(b"full\n"),
-            Reply::WrongPattern => output.extend_from_slice(b"wrong-pattern\n"),
-            Reply::HasOwners => output.extend_from_slice(b"has-owners\n"),
-            Reply::NoOwners => output.extend_from_slice(b"no-owners\n"),
-            Reply::PortsAttached => output.extend_from_slice(b"ports-attached\n"),
-            Reply::Released => output.extend_from_slice(b"released\n"),
-            Reply::NotOwned => output.extend_from_slice(b"not-owned\n"),
-            Reply::NoHandle => output.extend_from_slice(b"no-handle\n"),
-        }
+            Reply::Count(count) => return write_numbers(b"count", &[count as u64], output),
+            Reply::Listed => return,
+            Reply::Locked => b"locked\n",
+            Reply::NotRegistered => b"not-registered\n",
+            Reply::Full => b"full\n",
+            Reply::WrongPattern => b"wrong-pattern\n",
+            Reply::HasOwners => b"has-owners\n",
+            Reply::NoOwners => b"no-owners\n",
+            Reply::PortsAttached => b"ports-attached\n",
+            Reply::Released => b"released\n",
+            Reply::NotOwned => b"not-owned\n",
+            Reply::NoHandle => b"no-handle\n",
+        };
+        output.extend_from_slice(line);
     }
 }
 
@@ -80,27 +73,54 @@ pub fn write_list(
     Ok(())
 }
 
-fn write_decimal(mut number: u64, output: &mut Vec<u8>) {
-    let mut digits = [0; 20];
-    let mut start = digits.len();
-    loop {
-        start -= 1;
-        digits[start] = b'0' + (number % 10) as u8;
-        number /= 10;
-        if number == 0 {
-            break;
+/// Appends a line of a word and numbers, of which the last digit is written first.
+#[inline(always)]
+fn write_numbers<const N: usize>(word: &[u8], numbers: &[u64; N], output: &mut Vec<u8>) {
+    let mut line = [0; LONGEST];
+    let mut start = LONGEST - 1;
+    line[start] = b'\n';
+    for &number in numbers.iter().rev() {
+        let mut rest = number;
+        loop {
+            start -= 1;
+            line[start] = b'0' + (rest % 10) as u8;
+            rest /= 10;
+            if rest == 0 {
+                break;
+            }
         }
+        start -= 1;
+        line[start] = b' ';
     }
-    output.extend_from_slice(&digits[start..]);
+    start -= word.len();
+    line[start..start + word.len()].copy_from_slice(word);
+    output.extend_from_slice(&line[start..]);
 }
 
-fn write_hexadecimal(number: u128, output: &mut Vec<u8>) {
-    const DIGITS: &[u8; 16] = b"0123456789abcdef";
-    let mut digits = [0; 32];
-    for (pair, byte) in digits.chunks_exact_mut(2).zip(number.to_be_bytes()) {
-        pair[0] = DIGITS[usize::from(byte >> 4)];
-        pair[1] = DIGITS[usize::from(byte & 15)];
-    }
-    let leading_zeros = number.leading_zeros() as usize / 4;
-    output.extend_from_slice(&digits[leading_zeros.min(31)..]);
+/// Appends the id without its leading zeros.
+fn write_hexadecimal(id: u128, output: &mut Vec<u8>) {
+    const LONGEST: usize = u128::BITS as usize / 4;
+    let leading_zeros = (id.leading_zeros() / 4).min(LONGEST as u32 - 1);
+    let shifted = id << (4 * leading_zeros);
+    output.extend_from_slice(&sixteen_digits((shifted >> 64) as u64));
+    output.extend_from_slice(&sixteen_digits(shifted as u64));
+    output.truncate(output.len() - leading_zeros as usize);
+}
+
+/// The digits of a number, eight at a time: each in a byte of its own, then those above 9 moved up to the letters.
+fn sixteen_digits(number: u64) -> [u8; 16] {
+    let mut digits = [0; 16];
+    digits[..8].copy_from_slice(&eight_digits((number >> 32) as u32));
+    digits[8..].copy_from_slice(&eight_digits(number as u32));
+    digits
+}
+
+fn eight_digits(number: u32) -> [u8; 8] {
+    const ONES: u64 = 0x0101_0101_0101_0101;
+    let mut nibbles = u64::from(number);
+    nibbles = (nibbles | nibbles << 16) & 0x0000_ffff_0000_ffff;
+    nibbles = (nibbles | nibbles << 8) & 0x00ff_00ff_00ff_00ff;
+    nibbles = (nibbles | nibbles << 4) & 0x0f0f_0f0f_0f0f_0f0f;
+    let above_nine = (nibbles + 6 * ONES) >> 4 & ONES;
+    (nibbles + ONES * u64::from(b'0') + above_nine * u64::from(b'a' - b'0' - 10)).to_be_bytes()
 }

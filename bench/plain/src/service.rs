@@ -188,9 +188,12 @@ impl Service {
         let mut skipped = false;
         for ports in [&mut self.first, &mut self.second] {
             ports.remove_where(|port| {
-                let stays = port.node == dead && skip.contains(&port.id);
+                if port.node != dead {
+                    return false;
+                }
+                let stays = skip.contains(&port.id);
                 skipped |= stays;
-                port.node == dead && !stays
+                !stays
             });
         }
         if !skipped && !self.nodes.is_empty() {
@@ -213,10 +216,8 @@ impl Service {
     }
 
     fn has_ports(&self, node: u128) -> bool {
-        self.first
-            .iter()
-            .chain(self.second.iter())
-            .any(|port| port.node == node)
+        self.first.iter().any(|port| port.node == node)
+            || self.second.iter().any(|port| port.node == node)
     }
 
     fn ports(&self, side: Side) -> &Registry<Port> {

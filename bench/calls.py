@@ -1,0 +1,100 @@
+"""Typed calls: `bench_calls` beside `plain_calls`, a program without proofs. Each takes lines of a call, the places of a service,
+a number of rounds and of calls in a round; a round sets up the same whatever the number of calls. So the instructions of a call
+are the difference of two runs that differ in that number alone."""
+
+import subprocess
+import sys
+import tempfile
+from pathlib import Path
+from typing import NamedTuple
+
+import measure
+
+HERE = Path(__file__).resolve().parent
+PLAIN = HERE / "plain_calls"
+PROVED = HERE.parent / "crates" / "bench_calls"
+MARK = 1.0
+REFUSED = b"no such call\n"
+
+
+class Call(NamedTuple):
+    """A call with the places of its service (nodes, subscribers, publishers; for a layout the size of the header, the alignment
+    and the size of an element), and how often it is made in each of some rounds."""
+
+    name: str
+    places: str
+    rounds: int
+    few: int
+    many: int
+
+
+DEFAULT, LARGE, SIZES, NONE = "20 8 2", "500 250 250", "40 8 24", "0 0 0"
+
+CALLS = [
+    Call("register", DEFAULT, 50, 10, 20),
+    Call("register", LARGE, 2, 250, 500),
+    Call("attach", DEFAULT, 50, 4, 8),
+    Call("attach", LARGE, 2, 125, 250),
+    Call("list", DEFAULT, 1, 100, 200),
+    Call("list", LARGE, 1, 100, 200),
+    Call("nodes", DEFAULT, 1, 100, 200),
+    Call("nodes", LARGE, 1, 100, 200),
+    Call("ports", DEFAULT, 1, 100, 200),
+    Call("ports", LARGE, 1, 100, 200),
+    Call("release", DEFAULT, 50, 4, 8),
+    Call("release", LARGE, 2, 125, 250),
+    Call("deregister", DEFAULT, 50, 4, 8),
+    Call("deregister", LARGE, 2, 125, 250),
+    Call("death", DEFAULT, 50, 4, 8),
+    Call("death", LARGE, 2, 125, 250),
+    Call("layout", SIZES, 1, 1_000, 2_000),
+    Call("verification", NONE, 1, 100, 200),
+    Call("hash-text", NONE, 1, 100, 200),
+]
+
+
+def built():
+    """The paths of both programs, which are built first: `plain_calls` each time, the proved one where it is missing."""
+    subprocess.run(["cargo", "build", "--release", "--quiet", "--offline"], cwd=PLAIN, check=True)
+    proved = PROVED / "out" / "bench_calls"
+    if not proved.exists():
+        with open(PROVED / "stdin", "rb") as stdin:
+            subprocess.run(["rt", "run"], cwd=PROVED, stdin=stdin, stdout=subprocess.DEVNULL, check=True)
+    return [str(proved), str(PLAIN / "target" / "release" / "plain_calls")]
+
+
+def measured(programs, call, work):
+    """Instructions of one call in each of the programs, or `None` where the proved one has no such call."""
+    scripts = []
+    for calls in (call.few, call.many):
+        script = Path(work) / f"{calls}"
+        script.write_text(f"{call.name} {call.places} {call.rounds} {calls}\n")
+        scripts.append(script)
+        with open(script, "rb") as stdin:
+            if subprocess.run([programs[0]], stdin=stdin, capture_output=True, check=True).stdout == REFUSED:
+                return None
+        fault = measure.check_same(programs, script)
+        if fault:
+            sys.exit(f"{script.read_text()}: {fault}")
+    few, many = scripts
+    made = call.rounds * (call.many - call.few)
+    return [(measure.instructions(program, many) - measure.instructions(program, few)) / made for program in programs]
+
+
+def table(programs):
+    """Prints a row for each call, and gives the marks that are missed."""
+    print("| Call | Nodes, subscribers, publishers | Instructions a call | Ratio, at most 1.0 |\n|---|---|---|---|", flush=True)
+    missed = []
+    for call in CALLS:
+        places = call.places.replace(" ", ", ") if call.places in (DEFAULT, LARGE) else ""
+        with tempfile.TemporaryDirectory() as work:
+            pair = measured(programs, call, work)
+        if pair is None:
+            print(f"| {call.name} | {places} | no such call yet | |", flush=True)
+            continue
+        ratio = pair[0] / pair[1]
+        mark = "" if round(ratio, 2) <= MARK else ", missed"
+        print(f"| {call.name} | {places} | {pair[0]:,.0f} / {pair[1]:,.0f} | {ratio:.2f}{mark} |", flush=True)
+        if mark:
+            missed.append(f"{call.name} {places}: instructions {ratio:.2f}, mark {MARK}")
+    return missed

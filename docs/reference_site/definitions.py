@@ -1,0 +1,73 @@
+"""Reads the definitions of a file of `specs/`, and the names that files take from others."""
+
+import re
+from dataclasses import dataclass
+
+DEFINED = re.compile(r"(?:abbrev |unfoldable )?pub (?:record |data )?(?P<name>[^\s:({]+)")
+TAKEN = re.compile(r"Rattle\.(?P<crate>\w+)\.specs\.(?P<path>[\w.]+?)(?:\.\{(?P<names>[^}]*)\})?"
+                   r"(?: as (?P<alias>\w+))?$")
+
+
+@dataclass
+class Definition:
+    """One definition, with the comment above it."""
+
+    crate: str
+    module: str
+    name: str
+    comment: str
+    text: str
+    scope: dict
+
+
+@dataclass(frozen=True)
+class Taken:
+    """What a name stands for: the definition or the type at a path in the `specs` of a crate."""
+
+    crate: str
+    path: str
+    name: str
+
+
+def taken_names(path):
+    """The names that the path of one `use` brings into scope."""
+    use = TAKEN.match(path.strip().removesuffix(";"))
+    if not use:
+        return {}
+    crate, where = use["crate"], use["path"]
+    if where.startswith("declared."):
+        # The type is the last part of the path, but for the list of its variants.
+        where = where.removesuffix(".TheVariants")
+        target = Taken(crate, where, where.rpartition(".")[2])
+        words = [use["alias"]] if use["alias"] else [w.strip() for w in use["names"].split(",")]
+        return {word: target for word in words}
+    words = [w.strip() for w in (use["names"] or "").split(",") if w.strip()]
+    return {word: Taken(crate, where, word) for word in words}
+
+
+def read_definitions(crate, module, text):
+    """What the file is about, and its definitions."""
+    scope, about, found = {}, [], []
+    comment = []
+    for line in text.split("\n"):
+        start = DEFINED.match(line)
+        if line.startswith("use "):
+            scope.update(taken_names(line[4:]))
+        elif line.startswith("--"):
+            comment.append(line[2:].strip())
+        elif start:
+            # A comment above several definitions speaks of them all, that of the file of the first.
+            name, said = start["name"], " ".join(comment)
+            said = said or (found[-1].comment if found else " ".join(about))
+            found.append(Definition(crate, module, name, said, line, scope))
+            scope[name] = Taken(crate, module, name)
+            comment = []
+        elif not line:
+            if comment and not found:
+                about += comment
+            comment = []
+        elif found:
+            found[-1].text += "\n" + line
+        if line.startswith("use ") and comment:
+            about, comment = about + comment, []
+    return " ".join(about), found
