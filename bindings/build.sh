@@ -1,7 +1,7 @@
 #!/usr/bin/env bash
 # Builds into bindings/out the libraries for C: libiox2sd.a and libiox2sd.so.0, the typed interface, of which iox2sd_* alone
-# can be seen from outside, and libiox2_ffi.a and libiox2_ffi.so, on which the crate for Rust and the module for Python
-# stand. Each needs the C library alone. The first time takes as long as the proof of all crates below.
+# can be seen from outside and on which the crate for Rust stands, and libiox2_ffi.a and libiox2_ffi.so, on which the
+# module for Python stands. Each needs the C library alone. The first time takes as long as the proof of all crates below.
 set -euo pipefail
 cd "$(dirname "$0")"
 CC=${CC:-cc}
