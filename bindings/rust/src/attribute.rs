@@ -47,6 +47,16 @@ pub type AttributeKey = SemanticString<AttributeKeyContent>;
 pub type AttributeValue = SemanticString<AttributeValueContent>;
 
 /// A key with a value. Attributes are compared by their keys, and then by their values.
+///
+/// ```
+/// use iox2sd::attribute::Attribute;
+///
+/// let one = Attribute::new(&"site".try_into()?, &"east".try_into()?);
+/// let other = Attribute::new(&"site".try_into()?, &"north".try_into()?);
+/// assert_eq!(one.key(), other.key());
+/// assert!(one < other);
+/// # Ok::<(), iox2sd::semantic_string::SemanticStringError>(())
+/// ```
 #[derive(Clone, Copy, Debug, PartialEq, Eq, PartialOrd, Ord, Hash)]
 pub struct Attribute {
     key: AttributeKey,

@@ -26,6 +26,14 @@ use crate::semantic_string::{Content, SemanticString};
 use crate::sys;
 
 /// All settings: those of the system, and those that services get by default.
+///
+/// ```
+/// use iox2sd::config::Config;
+///
+/// let config = Config::default();
+/// assert_eq!(config.global.prefix, "iox2_");
+/// assert_eq!(config.defaults.event.max_nodes, 36);
+/// ```
 #[derive(Clone, Debug, Default, PartialEq, Eq)]
 pub struct Config {
     /// The settings that all services and nodes of one system share.

@@ -6,6 +6,11 @@ use crate::sys;
 use std::fmt;
 
 /// What an entry of a service is: a node, or a port of one kind.
+///
+/// ```
+/// use iox2sd::container::Role;
+/// assert_eq!(Role::Publisher.to_string(), "Publisher");
+/// ```
 #[derive(Clone, Copy, Debug, PartialEq, Eq, Hash)]
 #[repr(u64)]
 pub enum Role {
@@ -56,6 +61,14 @@ impl fmt::Display for Role {
 
 /// What registering a node and attaching a port give, and what gives them back. No handle of a
 /// service is ever given twice.
+///
+/// ```
+/// use iox2sd::container::{ContainerHandle, Role};
+///
+/// let handle = ContainerHandle::from_parts(7, Role::Node, 0, 3);
+/// assert_eq!((handle.service(), handle.role()), (7, Role::Node));
+/// assert_eq!((handle.slot(), handle.ticket()), (0, 3));
+/// ```
 #[derive(Clone, Copy, Debug, PartialEq, Eq)]
 pub struct ContainerHandle {
     service: u64,

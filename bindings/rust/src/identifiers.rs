@@ -179,6 +179,14 @@ unique_id! {
 impl UniqueNodeId {
     /// The id with these parts, or `None` where process and counter are both 0: that is the id of
     /// no node.
+    ///
+    /// ```
+    /// use iox2sd::identifiers::UniqueNodeId;
+    ///
+    /// assert!(UniqueNodeId::new(1, 2, 3, 0).is_some());
+    /// assert!(UniqueNodeId::new(0, 2, 3, 4).is_some());
+    /// assert_eq!(UniqueNodeId::new(0, 2, 3, 0), None);
+    /// ```
     pub fn new(process: u32, seconds: u32, nanoseconds: u32, counter: u32) -> Option<Self> {
         let parts = sys::iox2sd_id {
             process,
@@ -197,6 +205,16 @@ impl UniqueNodeId {
 }
 
 /// The id of a port of any kind.
+///
+/// ```
+/// use iox2sd::identifiers::{UniquePortId, UniqueReaderId, UniqueWriterId};
+///
+/// let reader = UniquePortId::Reader(UniqueReaderId::new(0, 0, 0, 10));
+/// let writer = UniquePortId::Writer(UniqueWriterId::new(0, 0, 0, 10));
+/// assert_ne!(reader, writer);
+/// assert_eq!(reader.value(), writer.value());
+/// assert_eq!(reader.to_string(), "a");
+/// ```
 #[derive(Clone, Copy, Debug, PartialEq, Eq, Hash)]
 pub enum UniquePortId {
     /// The id of a publisher.

@@ -4,6 +4,11 @@ use crate::sys;
 use std::fmt;
 
 /// How the ports of a service talk to one another.
+///
+/// ```
+/// use iox2sd::messaging_pattern::MessagingPattern;
+/// assert_eq!(MessagingPattern::Event.to_string(), "Event");
+/// ```
 #[derive(Clone, Copy, Debug, PartialEq, Eq, Hash)]
 #[repr(u32)]
 pub enum MessagingPattern {

@@ -27,25 +27,43 @@ kind! {
 }
 
 /// A path, which may be empty.
+///
+/// ```
+/// use iox2sd::paths::Path;
+///
+/// assert!(Path::new(b"").is_ok());
+/// assert!(Path::new(b"/tmp/iceoryx2/").is_ok());
+/// ```
 pub type Path = SemanticString<PathContent>;
 
 /// The name of a file.
+///
+/// ```
+/// use iox2sd::paths::FileName;
+///
+/// assert!(FileName::new(b"iceoryx2.toml").is_ok());
+/// assert!(FileName::new(b"config/iceoryx2.toml").is_err());
+/// ```
 pub type FileName = SemanticString<FileNameContent>;
 
 /// The path of a file.
 ///
 /// ```
-/// use iox2sd::paths::{FileName, FilePath, Path};
+/// use iox2sd::paths::FilePath;
 ///
-/// let path = Path::new(b"config")?;
-/// let file = FileName::new(b"iceoryx2.toml")?;
-/// assert_eq!(FilePath::from_path_and_file(&path, &file)?, "config/iceoryx2.toml");
+/// assert!(FilePath::new(b"config/iceoryx2.toml").is_ok());
 /// assert!(FilePath::new(b"config/..").is_err());
-/// # Ok::<(), iox2sd::semantic_string::SemanticStringError>(())
 /// ```
 pub type FilePath = SemanticString<FilePathContent>;
 
 /// A name of a file as hash texts are.
+///
+/// ```
+/// use iox2sd::paths::RestrictedFileName;
+///
+/// assert!(RestrictedFileName::new(b"a-Z_0.9:x").is_ok());
+/// assert!(RestrictedFileName::new(b"a b").is_err());
+/// ```
 pub type RestrictedFileName = SemanticString<RestrictedFileNameContent>;
 
 impl Path {
@@ -75,6 +93,15 @@ impl FilePath {
     ///
     /// Refused with [`ExceedsMaximumLength`](SemanticStringError::ExceedsMaximumLength) where it
     /// would be longer than a path may be.
+    ///
+    /// ```
+    /// use iox2sd::paths::{FileName, FilePath, Path};
+    ///
+    /// let path = Path::new(b"config")?;
+    /// let file = FileName::new(b"iceoryx2.toml")?;
+    /// assert_eq!(FilePath::from_path_and_file(&path, &file)?, "config/iceoryx2.toml");
+    /// # Ok::<(), iox2sd::semantic_string::SemanticStringError>(())
+    /// ```
     pub fn from_path_and_file(path: &Path, file: &FileName) -> Result<Self, SemanticStringError> {
         let joined = library::file_path_join(path.as_str(), file.as_str());
         Ok(Self::of_legal(&joined.map_err(SemanticStringError::of)?))

@@ -117,6 +117,16 @@ impl<C: Content> SemanticString<C> {
     /// ([`ExceedsMaximumLength`](SemanticStringError::ExceedsMaximumLength)), and another content
     /// that is not allowed: a byte that is not from 1 to 127, or what the kind forbids
     /// ([`InvalidContent`](SemanticStringError::InvalidContent)).
+    ///
+    /// ```
+    /// use iox2sd::attribute::AttributeValue;
+    /// use iox2sd::semantic_string::SemanticStringError;
+    ///
+    /// assert_eq!(AttributeValue::new(b"north")?, "north");
+    /// let long = [b'a'; 300];
+    /// assert_eq!(AttributeValue::new(&long), Err(SemanticStringError::ExceedsMaximumLength));
+    /// # Ok::<(), SemanticStringError>(())
+    /// ```
     pub fn new(bytes: &[u8]) -> Result<Self, SemanticStringError> {
         C::check(bytes).map_err(SemanticStringError::of)?;
         // The library takes bytes up to 127 alone, which are UTF-8.

@@ -40,7 +40,17 @@ impl ServiceNameError {
 }
 
 /// The name of a service: at least one byte and at most [`ServiceName::max_len`], each from 1 to
-/// 127. Names are compared by their bytes.
+/// 127. Names are compared by their bytes, and lent as `str`.
+///
+/// ```
+/// use iox2sd::service_name::ServiceName;
+///
+/// let name: ServiceName = "lidar/front".try_into()?;
+/// let copy = name;
+/// assert_eq!(copy, name);
+/// assert_eq!(name.split('/').next(), Some("lidar"));
+/// # Ok::<(), iox2sd::service_name::ServiceNameError>(())
+/// ```
 #[derive(Clone, Copy, PartialEq, Eq, PartialOrd, Ord, Hash)]
 pub struct ServiceName {
     text: Text,
@@ -70,6 +80,13 @@ impl ServiceName {
     /// A name that may be that of one of the system's own services.
     ///
     /// Refused as by [`ServiceName::new`], but for the prefix.
+    ///
+    /// ```
+    /// use iox2sd::service_name::{ServiceName, ServiceNameError};
+    ///
+    /// assert!(ServiceName::internal_new("iox2://discovery").is_ok());
+    /// assert_eq!(ServiceName::internal_new(""), Err(ServiceNameError::InvalidContent));
+    /// ```
     pub fn internal_new(name: &str) -> Result<Self, ServiceNameError> {
         let status = library::check_internal_service_name(name.as_bytes()).status;
         Self::taken(name, status)
@@ -108,6 +125,13 @@ impl ServiceName {
     }
 
     /// Whether `name` begins with the prefix of the system's own services.
+    ///
+    /// ```
+    /// use iox2sd::service_name::ServiceName;
+    ///
+    /// assert!(ServiceName::has_iox2_prefix("iox2://discovery"));
+    /// assert!(!ServiceName::has_iox2_prefix("discovery"));
+    /// ```
     pub fn has_iox2_prefix(name: &str) -> bool {
         library::has_internal_prefix(name)
     }

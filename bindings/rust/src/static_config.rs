@@ -44,12 +44,12 @@ pub struct StaticConfig {
 
 /// Defines, for one pattern, the maker of descriptions and the getters of what is fixed by it.
 macro_rules! of_pattern {
-    ($kind:literal $variant:ident $module:ident $make:ident $is:ident $get:ident $get_mut:ident) => {
-        #[doc = concat!(
-            "The description of ", $kind, " service with the defaults of a configuration and ",
-            "without attributes.\n\nRefused as [`ServiceHash::new`] is for the name and the ",
-            "pattern."
-        )]
+    (
+        $kind:literal $variant:ident $module:ident $is:ident $get_mut:ident
+        $(#[$documentation:meta])*
+        $make:ident
+    ) => {
+        $(#[$documentation])*
         pub fn $make(
             service_name: &ServiceName,
             config: &Config,
@@ -68,21 +68,23 @@ macro_rules! of_pattern {
             matches!(self.messaging_pattern, MessagingPattern::$variant(_))
         }
 
-        #[doc = concat!(
-            "What is fixed of ", $kind, " service.\n\n# Panics\n\nWhere it is a service of another ",
-            "pattern, of which [`Self::", stringify!($is), "`] says no."
-        )]
-        pub fn $get(&self) -> &$module::StaticConfig {
+        #[doc = concat!("What is fixed of ", $kind, " service.")]
+        ///
+        /// # Panics
+        ///
+        #[doc = concat!("Where [`Self::", stringify!($is), "`] says no.")]
+        pub fn $module(&self) -> &$module::StaticConfig {
             match &self.messaging_pattern {
                 MessagingPattern::$variant(config) => config,
                 other => panic!(concat!("the pattern is {}, not ", stringify!($variant)), other),
             }
         }
 
-        #[doc = concat!(
-            "What is fixed of ", $kind, " service, to be changed.\n\n# Panics\n\nWhere it is a ",
-            "service of another pattern, of which [`Self::", stringify!($is), "`] says no."
-        )]
+        #[doc = concat!("What is fixed of ", $kind, " service, to be changed.")]
+        ///
+        /// # Panics
+        ///
+        #[doc = concat!("Where [`Self::", stringify!($is), "`] says no.")]
         pub fn $get_mut(&mut self) -> &mut $module::StaticConfig {
             match &mut self.messaging_pattern {
                 MessagingPattern::$variant(config) => config,
@@ -93,13 +95,85 @@ macro_rules! of_pattern {
 }
 
 impl StaticConfig {
-    of_pattern!("a request-response" RequestResponse request_response
-        new_request_response is_request_response request_response request_response_mut);
-    of_pattern!("an event" Event event new_event is_event event event_mut);
-    of_pattern!("a publish-subscribe" PublishSubscribe publish_subscribe
-        new_publish_subscribe is_publish_subscribe publish_subscribe publish_subscribe_mut);
-    of_pattern!("a blackboard" Blackboard blackboard
-        new_blackboard is_blackboard blackboard blackboard_mut);
+    of_pattern! {
+        "a request-response" RequestResponse request_response is_request_response request_response_mut
+        /// The description of a request-response service with the defaults of a configuration and
+        /// without attributes.
+        ///
+        /// Refused as [`ServiceHash::new`] is for the name and the pattern.
+        ///
+        /// ```
+        /// use iox2sd::config::Config;
+        /// use iox2sd::identifiers::UniqueServiceId;
+        /// use iox2sd::static_config::StaticConfig;
+        ///
+        /// let (name, id) = ("front".try_into()?, UniqueServiceId::new(1, 0, 0, 1));
+        /// let service = StaticConfig::new_request_response(&name, &Config::default(), id)?;
+        /// assert!(service.is_request_response());
+        /// # Ok::<(), Box<dyn std::error::Error>>(())
+        /// ```
+        new_request_response
+    }
+
+    of_pattern! {
+        "an event" Event event is_event event_mut
+        /// The description of an event service with the defaults of a configuration and
+        /// without attributes.
+        ///
+        /// Refused as [`ServiceHash::new`] is for the name and the pattern.
+        ///
+        /// ```
+        /// use iox2sd::config::Config;
+        /// use iox2sd::identifiers::UniqueServiceId;
+        /// use iox2sd::static_config::StaticConfig;
+        ///
+        /// let (name, id) = ("front".try_into()?, UniqueServiceId::new(1, 0, 0, 1));
+        /// let service = StaticConfig::new_event(&name, &Config::default(), id)?;
+        /// assert!(service.is_event());
+        /// # Ok::<(), Box<dyn std::error::Error>>(())
+        /// ```
+        new_event
+    }
+
+    of_pattern! {
+        "a publish-subscribe" PublishSubscribe publish_subscribe is_publish_subscribe publish_subscribe_mut
+        /// The description of a publish-subscribe service with the defaults of a configuration and
+        /// without attributes.
+        ///
+        /// Refused as [`ServiceHash::new`] is for the name and the pattern.
+        ///
+        /// ```
+        /// use iox2sd::config::Config;
+        /// use iox2sd::identifiers::UniqueServiceId;
+        /// use iox2sd::static_config::StaticConfig;
+        ///
+        /// let (name, id) = ("front".try_into()?, UniqueServiceId::new(1, 0, 0, 1));
+        /// let service = StaticConfig::new_publish_subscribe(&name, &Config::default(), id)?;
+        /// assert!(service.is_publish_subscribe());
+        /// # Ok::<(), Box<dyn std::error::Error>>(())
+        /// ```
+        new_publish_subscribe
+    }
+
+    of_pattern! {
+        "a blackboard" Blackboard blackboard is_blackboard blackboard_mut
+        /// The description of a blackboard service with the defaults of a configuration and
+        /// without attributes.
+        ///
+        /// Refused as [`ServiceHash::new`] is for the name and the pattern.
+        ///
+        /// ```
+        /// use iox2sd::config::Config;
+        /// use iox2sd::identifiers::UniqueServiceId;
+        /// use iox2sd::static_config::StaticConfig;
+        ///
+        /// let (name, id) = ("front".try_into()?, UniqueServiceId::new(1, 0, 0, 1));
+        /// let service = StaticConfig::new_blackboard(&name, &Config::default(), id)?;
+        /// assert!(service.is_blackboard());
+        /// # Ok::<(), Box<dyn std::error::Error>>(())
+        /// ```
+        new_blackboard
+    }
 
     fn describe(
         service_name: &ServiceName,

@@ -52,6 +52,15 @@ impl AttributeSet {
     ///
     /// Refused where there are [`AttributeSet::capacity`] already, and then the set stays as it
     /// was.
+    ///
+    /// ```
+    /// use iox2sd::attribute::AttributeSet;
+    ///
+    /// let mut set = AttributeSet::new();
+    /// set.add(&"site".try_into()?, &"north".try_into()?)?;
+    /// assert_eq!(set[0].value(), "north");
+    /// # Ok::<(), Box<dyn std::error::Error>>(())
+    /// ```
     pub fn add(
         &mut self,
         key: &AttributeKey,
@@ -91,6 +100,19 @@ impl AttributeSet {
 
     /// The value at this place, counted from 0, among the values that a key has, or `None` where
     /// it has no more.
+    ///
+    /// ```
+    /// use iox2sd::attribute::AttributeSet;
+    ///
+    /// let site = "site".try_into()?;
+    /// let mut set = AttributeSet::new();
+    /// set.add(&site, &"north".try_into()?)?;
+    /// set.add(&site, &"east".try_into()?)?;
+    /// assert_eq!(set.number_of_key_values(&site), 2);
+    /// assert_eq!(set.key_value(&site, 0), Some(&"east".try_into()?));
+    /// assert_eq!(set.key_value(&site, 2), None);
+    /// # Ok::<(), Box<dyn std::error::Error>>(())
+    /// ```
     pub fn key_value(&self, key: &AttributeKey, index: usize) -> Option<&AttributeValue> {
         match library::attribute_value(self, key, index) {
             Ok(text) => {

@@ -33,6 +33,13 @@ impl Error for AttributeVerificationError {}
 
 /// The pairs and the keys that a set of attributes must have, at most
 /// [`AttributeSet::capacity`] together.
+///
+/// ```
+/// use iox2sd::attribute::{AttributeSet, AttributeVerifier};
+///
+/// let service = AttributeSet::new();
+/// assert_eq!(AttributeVerifier::new().verify_requirements(&service), Ok(()));
+/// ```
 #[derive(Clone, Debug, Default)]
 pub struct AttributeVerifier {
     attributes: AttributeSet,
@@ -49,6 +56,21 @@ impl AttributeVerifier {
     ///
     /// Refused where pairs and keys are [`AttributeSet::capacity`] together, and then the verifier
     /// is spent.
+    ///
+    /// ```
+    /// use iox2sd::attribute::{AttributeDefinitionError, AttributeSet, AttributeVerifier};
+    ///
+    /// let (site, north) = ("site".try_into()?, "north".try_into()?);
+    /// let mut verifier = AttributeVerifier::new();
+    /// for _ in 0..AttributeSet::capacity() {
+    ///     verifier = verifier.require(&site, &north)?;
+    /// }
+    /// assert_eq!(
+    ///     verifier.require(&site, &north).unwrap_err(),
+    ///     AttributeDefinitionError::ExceedsMaxSupportedAttributes
+    /// );
+    /// # Ok::<(), Box<dyn std::error::Error>>(())
+    /// ```
     pub fn require(
         mut self,
         key: &AttributeKey,
@@ -62,6 +84,14 @@ impl AttributeVerifier {
     ///
     /// Refused where pairs and keys are [`AttributeSet::capacity`] together, and then the verifier
     /// is spent.
+    ///
+    /// ```
+    /// use iox2sd::attribute::AttributeVerifier;
+    ///
+    /// let verifier = AttributeVerifier::new().require_key(&"site".try_into()?)?;
+    /// assert_eq!(verifier.required_keys(), ["site"]);
+    /// # Ok::<(), Box<dyn std::error::Error>>(())
+    /// ```
     pub fn require_key(mut self, key: &AttributeKey) -> Result<Self, AttributeDefinitionError> {
         self.keys.push(*key);
         self.within_limits()

@@ -56,6 +56,11 @@ impl DataSegmentType {
 }
 
 /// The number by which listeners tell the events of one service apart.
+///
+/// ```
+/// use iox2sd::config::EventId;
+/// assert_eq!(EventId::new(9).as_value(), 9);
+/// ```
 #[derive(Clone, Copy, Debug, PartialEq, Eq, Hash)]
 pub struct EventId {
     value: usize,

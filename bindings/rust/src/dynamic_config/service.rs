@@ -65,6 +65,13 @@ enum MessagingPattern {
 ///
 /// A port stands only on a registered node. When the last node has gone, the service is locked for
 /// good. No handle is ever given twice, and one that was given back is refused for good.
+///
+/// A service may be sent to another thread, but it is not shared without a lock:
+///
+/// ```compile_fail,E0277
+/// fn share<T: Sync>() {}
+/// share::<iox2sd::dynamic_config::DynamicConfig>();
+/// ```
 pub struct DynamicConfig {
     messaging_pattern: MessagingPattern,
 }
@@ -101,6 +108,21 @@ impl DynamicConfig {
     /// each kind of ports: each registering and each attaching takes one, and none comes back.
     ///
     /// Refused as [`DynamicConfig::new`] is.
+    ///
+    /// ```
+    /// use iox2sd::dynamic_config::{event, DynamicConfig, MessagingPatternSettings};
+    /// use iox2sd::identifiers::UniqueNodeId;
+    ///
+    /// let settings = MessagingPatternSettings::Event(event::DynamicConfigSettings {
+    ///     number_of_listeners: 1,
+    ///     number_of_notifiers: 1,
+    /// });
+    /// let mut service = DynamicConfig::with_tickets(&settings, 9, 7, 1)?;
+    /// let node = UniqueNodeId::new(1, 0, 0, 1).expect("the id of a node");
+    /// service.register_node_id(node)?;
+    /// assert!(!service.has_room_for_node());
+    /// # Ok::<(), Box<dyn std::error::Error>>(())
+    /// ```
     pub fn with_tickets(
         settings: &MessagingPatternSettings,
         max_nodes: usize,
@@ -156,6 +178,27 @@ impl DynamicConfig {
     ///
     /// Refused where the service is locked, and else where there are
     /// [`max_nodes`](Self::max_nodes) handles of nodes or no ticket is left.
+    ///
+    /// ```
+    /// use iox2sd::dynamic_config::{
+    ///     event, DynamicConfig, MessagingPatternSettings, RegisterNodeResult,
+    /// };
+    /// use iox2sd::identifiers::UniqueNodeId;
+    ///
+    /// let settings = MessagingPatternSettings::Event(event::DynamicConfigSettings {
+    ///     number_of_listeners: 1,
+    ///     number_of_notifiers: 1,
+    /// });
+    /// let mut service = DynamicConfig::new(&settings, 1, 7)?;
+    /// let node = UniqueNodeId::new(1, 0, 0, 1).expect("the id of a node");
+    /// let handle = service.register_node_id(node)?;
+    /// assert_eq!(service.node(handle), Some(node));
+    /// assert_eq!(
+    ///     service.register_node_id(node),
+    ///     Err(RegisterNodeResult::ExceedsMaxNumberOfNodes)
+    /// );
+    /// # Ok::<(), Box<dyn std::error::Error>>(())
+    /// ```
     pub fn register_node_id(
         &mut self,
         id: UniqueNodeId,
@@ -171,6 +214,27 @@ impl DynamicConfig {
     ///
     /// Refused for each handle that is not that of a node here, and else where it is the only one
     /// of its node and some port has that node.
+    ///
+    /// ```
+    /// use iox2sd::dynamic_config::{
+    ///     event, DeregisterError, DeregisterNodeState, DynamicConfig, MessagingPatternSettings,
+    /// };
+    /// use iox2sd::identifiers::UniqueNodeId;
+    ///
+    /// let settings = MessagingPatternSettings::Event(event::DynamicConfigSettings {
+    ///     number_of_listeners: 1,
+    ///     number_of_notifiers: 1,
+    /// });
+    /// let mut service = DynamicConfig::new(&settings, 1, 7)?;
+    /// let node = UniqueNodeId::new(1, 0, 0, 1).expect("the id of a node");
+    /// let handle = service.register_node_id(node)?;
+    /// assert_eq!(service.deregister_node_id(handle)?, DeregisterNodeState::NoMoreOwners);
+    /// assert_eq!(
+    ///     service.deregister_node_id(handle),
+    ///     Err(DeregisterError::ContainerHandleNotOwnedByContainer)
+    /// );
+    /// # Ok::<(), Box<dyn std::error::Error>>(())
+    /// ```
     pub fn deregister_node_id(
         &mut self,
         handle: ContainerHandle,
@@ -223,6 +287,25 @@ impl DynamicConfig {
     /// Releases the port with this handle.
     ///
     /// Refused for each handle that is not that of a port here, a node's too.
+    ///
+    /// ```
+    /// use iox2sd::container::ContainerRemoveError;
+    /// use iox2sd::dynamic_config::{event, DynamicConfig, MessagingPatternSettings};
+    /// use iox2sd::identifiers::UniqueNodeId;
+    ///
+    /// let settings = MessagingPatternSettings::Event(event::DynamicConfigSettings {
+    ///     number_of_listeners: 1,
+    ///     number_of_notifiers: 1,
+    /// });
+    /// let mut service = DynamicConfig::new(&settings, 1, 7)?;
+    /// let node = UniqueNodeId::new(1, 0, 0, 1).expect("the id of a node");
+    /// let handle = service.register_node_id(node)?;
+    /// assert_eq!(
+    ///     service.release_port(handle),
+    ///     Err(ContainerRemoveError::ContainerHandleNotOwnedByContainer)
+    /// );
+    /// # Ok::<(), Box<dyn std::error::Error>>(())
+    /// ```
     pub fn release_port(&mut self, handle: ContainerHandle) -> Result<(), ContainerRemoveError> {
         let released = self.service_mut().release(handle.parts());
         released.map_err(|status| match status {
@@ -416,10 +499,11 @@ macro_rules! of_pattern {
             matches!(self.messaging_pattern, MessagingPattern::$variant(_))
         }
 
-        #[doc = concat!(
-            "The ports of ", $kind, " service.\n\n# Panics\n\nWhere it is a service of another ",
-            "pattern, of which [`Self::", stringify!($is), "`] says no."
-        )]
+        #[doc = concat!("The ports of ", $kind, " service.")]
+        ///
+        /// # Panics
+        ///
+        #[doc = concat!("Where [`Self::", stringify!($is), "`] says no.")]
         pub fn $module(&self) -> &$module::DynamicConfig {
             match &self.messaging_pattern {
                 MessagingPattern::$variant(ports) => ports,

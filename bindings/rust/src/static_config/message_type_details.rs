@@ -41,6 +41,15 @@ pub enum TypeVariant {
 }
 
 /// The name of a type. The default is the empty one.
+///
+/// ```
+/// use iox2sd::semantic_string::StringModificationError;
+/// use iox2sd::static_config::message_type_details::TypeName;
+///
+/// assert_eq!(TypeName::try_from("u64")?, "u64");
+/// assert_eq!(TypeName::try_from("Größe"), Err(StringModificationError::InvalidCharacter));
+/// # Ok::<(), StringModificationError>(())
+/// ```
 #[derive(Clone, Copy, PartialEq, Eq, PartialOrd, Ord, Hash)]
 pub struct TypeName {
     text: Text,
@@ -219,6 +228,16 @@ impl MessageTypeDetails {
     /// variant says.
     ///
     /// Refused as [`TypeDetail::new`] is, of the first part that is.
+    ///
+    /// ```
+    /// use iox2sd::static_config::message_type_details::{MessageTypeDetails, TypeVariant};
+    ///
+    /// let details = MessageTypeDetails::from::<u64, (), [u8; 4]>(TypeVariant::FixedSize)?;
+    /// assert_eq!(details.header.alignment(), 8);
+    /// assert_eq!(details.user_header.size(), 0);
+    /// assert_eq!(details.payload.type_name(), &"[u8; 4]");
+    /// # Ok::<(), iox2sd::static_config::message_type_details::TypeDetailError>(())
+    /// ```
     pub fn from<Header, UserHeader, Payload>(
         payload_variant: TypeVariant,
     ) -> Result<Self, TypeDetailError> {
@@ -244,6 +263,18 @@ impl MessageTypeDetails {
     ///
     /// Refused where the details of a part were not given, and where the place of the payload would
     /// pass 2^64 - 1.
+    ///
+    /// ```
+    /// use iox2sd::static_config::message_type_details::{
+    ///     LayoutError, MessageTypeDetails, TypeVariant,
+    /// };
+    ///
+    /// let details = MessageTypeDetails::from::<u8, u32, u64>(TypeVariant::FixedSize)?;
+    /// assert_eq!(details.user_header_ptr_from_header(8), Ok(12));
+    /// assert_eq!(details.payload_ptr_from_header(8), Ok(16));
+    /// assert_eq!(details.payload_ptr_from_header(usize::MAX), Err(LayoutError::TooLarge));
+    /// # Ok::<(), iox2sd::static_config::message_type_details::TypeDetailError>(())
+    /// ```
     pub fn user_header_ptr_from_header(&self, header: usize) -> Result<usize, LayoutError> {
         let (user_header, _) = library::places(self, header).map_err(LayoutError::of)?;
         Ok(user_header)
