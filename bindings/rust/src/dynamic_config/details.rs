@@ -15,15 +15,20 @@ pub(super) trait Details {
     fn of(port: &sys::iox2sd_port) -> Self;
 }
 
+fn number_of_segment_type(segment: DataSegmentType) -> u32 {
+    segment as u32
+}
+
 /// Defines the details of one kind of ports. The fields after the ids are given with the field of
-/// the library that has them, and with what is stored there.
+/// the library that has them, and with how they are read from it and written to it where that is
+/// not as they are.
 macro_rules! details {
     (
         $(#[$documentation:meta])*
         $name:ident of $role:ident with $id:ident: $id_type:ident;
         $(
             $(#[$field_documentation:meta])*
-            $field:ident: $type:ty = $library_field:ident by $of:path, $to:path;
+            $field:ident: $type:ty = $library_field:ident $(by $read:path, $write:path)?;
         )*
     ) => {
         $(#[$documentation])*
@@ -46,7 +51,7 @@ macro_rules! details {
                 $name {
                     $id: $id_type::of(port.port),
                     node_id: UniqueNodeId::of(port.node),
-                    $($field: $of(port.$library_field),)*
+                    $($field: $($read)?(port.$library_field),)*
                 }
             }
         }
@@ -57,7 +62,7 @@ macro_rules! details {
                     role: Role::$role as u64,
                     port: details.$id.parts,
                     node: details.node_id.parts,
-                    $($library_field: $to(details.$field),)*
+                    $($library_field: $($write)?(details.$field),)*
                     ..Self::default()
                 }
             }
@@ -71,29 +76,25 @@ macro_rules! details {
     };
 }
 
-/// The number of a choice.
-fn number(segment: DataSegmentType) -> u32 {
-    segment as u32
-}
-
 details! {
     /// A port that sends samples.
     PublisherDetails of Publisher with publisher_id: UniquePublisherId;
     /// The most samples that it has at a time.
-    number_of_samples: usize = number_of_samples by usize::from, usize::from;
+    number_of_samples: usize = number_of_samples;
     /// The most elements of a sample.
-    max_slice_len: usize = max_slice_len by usize::from, usize::from;
+    max_slice_len: usize = max_slice_len;
     /// Whether its data segment may grow.
-    data_segment_type: DataSegmentType = data_segment by DataSegmentType::of, number;
+    data_segment_type: DataSegmentType = data_segment
+        by DataSegmentType::of, number_of_segment_type;
     /// The most segments that it may have.
-    max_number_of_segments: u8 = max_number_of_segments by u8::from, u8::from;
+    max_number_of_segments: u8 = max_number_of_segments;
 }
 
 details! {
     /// A port that receives samples.
     SubscriberDetails of Subscriber with subscriber_id: UniqueSubscriberId;
     /// The most samples that wait for it.
-    buffer_size: usize = buffer_size by usize::from, usize::from;
+    buffer_size: usize = buffer_size;
 }
 
 details! {
@@ -110,30 +111,32 @@ details! {
     /// A port that answers requests.
     ServerDetails of Server with server_id: UniqueServerId;
     /// The most requests that wait for it.
-    request_buffer_size: usize = request_buffer_size by usize::from, usize::from;
+    request_buffer_size: usize = request_buffer_size;
     /// The most responses that it has at a time.
-    number_of_responses: usize = number_of_responses by usize::from, usize::from;
+    number_of_responses: usize = number_of_responses;
     /// The most elements of a response.
-    max_slice_len: usize = max_slice_len by usize::from, usize::from;
+    max_slice_len: usize = max_slice_len;
     /// Whether its data segment may grow.
-    data_segment_type: DataSegmentType = data_segment by DataSegmentType::of, number;
+    data_segment_type: DataSegmentType = data_segment
+        by DataSegmentType::of, number_of_segment_type;
     /// The most segments that it may have.
-    max_number_of_segments: u8 = max_number_of_segments by u8::from, u8::from;
+    max_number_of_segments: u8 = max_number_of_segments;
 }
 
 details! {
     /// A port that sends requests.
     ClientDetails of Client with client_id: UniqueClientId;
     /// The most requests that it has at a time.
-    number_of_requests: usize = number_of_requests by usize::from, usize::from;
+    number_of_requests: usize = number_of_requests;
     /// The most responses that wait for it.
-    response_buffer_size: usize = response_buffer_size by usize::from, usize::from;
+    response_buffer_size: usize = response_buffer_size;
     /// The most elements of a request.
-    max_slice_len: usize = max_slice_len by usize::from, usize::from;
+    max_slice_len: usize = max_slice_len;
     /// Whether its data segment may grow.
-    data_segment_type: DataSegmentType = data_segment by DataSegmentType::of, number;
+    data_segment_type: DataSegmentType = data_segment
+        by DataSegmentType::of, number_of_segment_type;
     /// The most segments that it may have.
-    max_number_of_segments: u8 = max_number_of_segments by u8::from, u8::from;
+    max_number_of_segments: u8 = max_number_of_segments;
 }
 
 details! {
