@@ -1,5 +1,7 @@
 //! What a callback of a listing answers.
 
+use crate::display::shown_by_name;
+
 /// Whether a listing goes on after the entry that its callback was called on.
 #[derive(Clone, Copy, Debug, PartialEq, Eq, Hash)]
 pub enum CallbackProgression {
@@ -8,6 +10,8 @@ pub enum CallbackProgression {
     /// It ends; the callback is not called again.
     Stop,
 }
+
+shown_by_name!(CallbackProgression);
 
 /// Calls the callback on the items, up to and with the first answer `Stop`.
 pub(crate) fn visit<T>(

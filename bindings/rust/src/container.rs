@@ -1,9 +1,8 @@
 //! What the entries of a service are, and the handles by which they are given back.
 
-use crate::error::error_by_path;
+use crate::display::{error_by_path, shown_by_name};
 use crate::library;
 use crate::sys;
-use std::fmt;
 
 /// What an entry of a service is: a node, or a port of one kind.
 ///
@@ -52,12 +51,7 @@ impl Role {
     }
 }
 
-/// The name of the variant.
-impl fmt::Display for Role {
-    fn fmt(&self, f: &mut fmt::Formatter<'_>) -> fmt::Result {
-        fmt::Debug::fmt(self, f)
-    }
-}
+shown_by_name!(Role);
 
 /// What registering a node and attaching a port give, and what gives them back. No handle of a
 /// service is ever given twice.

@@ -56,7 +56,7 @@ pub mod service_name;
 pub mod static_config;
 
 mod callback_progression;
-mod error;
+mod display;
 #[allow(unsafe_code)]
 mod library;
 #[allow(missing_debug_implementations)]

@@ -1,7 +1,7 @@
 //! The messaging patterns of services.
 
+use crate::display::shown_by_name;
 use crate::sys;
-use std::fmt;
 
 /// How the ports of a service talk to one another.
 ///
@@ -22,9 +22,4 @@ pub enum MessagingPattern {
     Blackboard = sys::IOX2SD_BLACKBOARD,
 }
 
-/// The name of the variant.
-impl fmt::Display for MessagingPattern {
-    fn fmt(&self, f: &mut fmt::Formatter<'_>) -> fmt::Result {
-        fmt::Debug::fmt(self, f)
-    }
-}
+shown_by_name!(MessagingPattern);

@@ -3,7 +3,7 @@
 //! Their kinds are [`AttributeKey`](crate::attribute::AttributeKey),
 //! [`AttributeValue`](crate::attribute::AttributeValue), and those of [`paths`](crate::paths).
 
-use crate::error::error_by_path;
+use crate::display::error_by_path;
 use crate::library;
 use crate::sys;
 use crate::text::{shown_as_text, Text};

@@ -1,6 +1,6 @@
 //! The hash texts of services.
 
-use crate::error::error_by_path;
+use crate::display::error_by_path;
 use crate::library;
 use crate::messaging_pattern::MessagingPattern;
 use crate::paths::RestrictedFileName;

@@ -8,7 +8,7 @@
 //! # Ok::<(), iox2sd::service_name::ServiceNameError>(())
 //! ```
 
-use crate::error::error_by_path;
+use crate::display::error_by_path;
 use crate::library;
 use crate::sys;
 use crate::text::{shown_as_text, Text};

@@ -2,9 +2,10 @@
 #![forbid(unsafe_code)]
 
 use iox2sd::config::{
-    AllocationStrategy, BackpressureStrategy, Blackboard, Config, Defaults, Event, EventId,
-    PublishSubscribe, RequestResonse,
+    AllocationStrategy, BackpressureStrategy, Blackboard, Config, DataSegmentType, Defaults, Event,
+    EventId, PublishSubscribe, RequestResonse,
 };
+use iox2sd::dynamic_config::{DeregisterNodeState, PortCleanupAction};
 use iox2sd::identifiers::UniqueServiceId;
 use iox2sd::messaging_pattern::MessagingPattern as Kind;
 use iox2sd::paths::Path;
@@ -12,7 +13,9 @@ use iox2sd::semantic_string::SemanticStringError;
 use iox2sd::service::static_config::messaging_pattern::MessagingPattern;
 use iox2sd::service_hash::{ServiceHash, ServiceHashError};
 use iox2sd::service_name::ServiceName;
+use iox2sd::static_config::message_type_details::TypeVariant;
 use iox2sd::static_config::{blackboard, event, publish_subscribe, request_response, StaticConfig};
+use iox2sd::CallbackProgression;
 use std::time::Duration;
 
 fn id() -> UniqueServiceId {
@@ -360,6 +363,21 @@ fn chunks_are_counted() {
         service.required_amount_of_chunks_per_server_data_segment(usize::MAX),
         None
     );
+}
+
+#[test]
+fn choices_show_their_names() {
+    for (text, name) in [
+        (BackpressureStrategy::DiscardData.to_string(), "DiscardData"),
+        (AllocationStrategy::PowerOfTwo.to_string(), "PowerOfTwo"),
+        (DataSegmentType::Dynamic.to_string(), "Dynamic"),
+        (TypeVariant::FixedSize.to_string(), "FixedSize"),
+        (DeregisterNodeState::HasOwners.to_string(), "HasOwners"),
+        (PortCleanupAction::SkipPort.to_string(), "SkipPort"),
+        (CallbackProgression::Stop.to_string(), "Stop"),
+    ] {
+        assert_eq!(text, name);
+    }
 }
 
 #[test]

@@ -1,6 +1,6 @@
 use super::{Attribute, AttributeKey, AttributeValue};
 use crate::callback_progression::visit;
-use crate::error::error_by_path;
+use crate::display::error_by_path;
 use crate::library;
 use crate::sys;
 use crate::CallbackProgression;

@@ -1,3 +1,4 @@
+use crate::display::shown_by_name;
 use crate::library;
 use crate::sys;
 use std::fmt;
@@ -11,6 +12,8 @@ pub enum BackpressureStrategy {
     /// It leaves the receiver out.
     DiscardData = sys::IOX2SD_DISCARD_DATA,
 }
+
+shown_by_name!(BackpressureStrategy);
 
 impl BackpressureStrategy {
     pub(crate) fn of(number: u32) -> Self {
@@ -31,6 +34,8 @@ pub enum AllocationStrategy {
     Static = sys::IOX2SD_STATIC,
 }
 
+shown_by_name!(AllocationStrategy);
+
 impl AllocationStrategy {
     pub(crate) fn of(number: u32) -> Self {
         let all = [Self::BestFit, Self::PowerOfTwo, Self::Static];
@@ -47,6 +52,8 @@ pub enum DataSegmentType {
     /// It keeps its size.
     Static = sys::IOX2SD_STATIC_SEGMENT,
 }
+
+shown_by_name!(DataSegmentType);
 
 impl DataSegmentType {
     pub(crate) fn of(number: u32) -> Self {

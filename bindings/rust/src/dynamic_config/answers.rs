@@ -1,4 +1,4 @@
-use crate::error::error_by_path;
+use crate::display::{error_by_path, shown_by_name};
 use crate::library;
 use crate::sys;
 use std::error::Error;
@@ -45,6 +45,8 @@ pub enum DeregisterNodeState {
     /// The last node left: the service is locked for good.
     NoMoreOwners,
 }
+
+shown_by_name!(DeregisterNodeState);
 
 impl DeregisterNodeState {
     pub(super) fn of(locked: bool) -> Self {
@@ -112,3 +114,5 @@ pub enum PortCleanupAction {
     /// It stays, and so does its node.
     SkipPort,
 }
+
+shown_by_name!(PortCleanupAction);

@@ -18,7 +18,7 @@
 //! # Ok::<(), Box<dyn std::error::Error>>(())
 //! ```
 
-use crate::error::error_by_path;
+use crate::display::{error_by_path, shown_by_name};
 use crate::library;
 use crate::semantic_string::StringModificationError;
 use crate::sys;
@@ -39,6 +39,8 @@ pub enum TypeVariant {
     /// A number that is known only at run time, one after another.
     Dynamic = sys::IOX2SD_DYNAMIC,
 }
+
+shown_by_name!(TypeVariant);
 
 /// The name of a type. The default is the empty one.
 ///

@@ -1,4 +1,4 @@
-//! What all errors of this crate have in common, and refused memory.
+//! The texts of enums.
 
 /// Makes an enum an error whose text is the path of its variant.
 macro_rules! error_by_path {
@@ -13,3 +13,16 @@ macro_rules! error_by_path {
     };
 }
 pub(crate) use error_by_path;
+
+/// Shows an enum by the name of its variant.
+macro_rules! shown_by_name {
+    ($name:ident) => {
+        /// The name of the variant.
+        impl ::std::fmt::Display for $name {
+            fn fmt(&self, f: &mut ::std::fmt::Formatter<'_>) -> ::std::fmt::Result {
+                ::std::fmt::Debug::fmt(self, f)
+            }
+        }
+    };
+}
+pub(crate) use shown_by_name;
