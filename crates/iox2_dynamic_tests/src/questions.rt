@@ -116,18 +116,19 @@ fn a_handle_stands_for_what_it_was_given(rt: HostRuntime) -> Result<(), Fail> {
 #[test]
 fn who_is_there_is_listed_at_once(rt: HostRuntime) -> Result<(), Fail> {
     let mut service = service(rt.alloc(), REQUEST_RESPONSE.kind, (2, 2, 2))?;
-    let ids = [ONE_OF_FIVE.id()?, TWO_OF_FIVE.id()?];
-    for id in ids {
-        service.register_node_id(id)?;
-    }
-    let client = port(Role::Client, 3, ids[0])?;
-    let server = port(Role::Server, 4, ids[0])?;
-    let other = port(Role::Server, 5, ids[1])?;
+    let first = ONE_OF_FIVE.id()?;
+    let second = TWO_OF_FIVE.id()?;
+    let nodes = [first, second];
+    service.register_node_id(first)?;
+    service.register_node_id(second)?;
+    let client = port(Role::Client, 3, first)?;
+    let other = port(Role::Server, 5, second)?;
+    let server = port(Role::Server, 4, first)?;
     for details in [client, other, server] {
         assert!(rt; service.has_role(details.role()));
         assert!(rt; service.attach(details).is_ok());
     }
-    assert_eq!(rt; service.nodes(rt.alloc())?.as_slice(), &ids[..]);
+    assert_eq!(rt; service.nodes(rt.alloc())?.as_slice(), &nodes[..]);
     let servers = service.ports(rt.alloc(), Role::Server)?;
     assert_eq!(rt;
         servers.as_ref().map(|list| list.as_slice()),
@@ -135,7 +136,7 @@ fn who_is_there_is_listed_at_once(rt: HostRuntime) -> Result<(), Fail> {
     );
     assert!(rt; service.ports(rt.alloc(), Role::Reader)?.is_none());
     assert_eq!(rt;
-        service.ports_of(rt.alloc(), &ids[0])?.as_slice(),
+        service.ports_of(rt.alloc(), &first)?.as_slice(),
         &[server, client][..]
     );
     Ok(())
