@@ -48,6 +48,10 @@ pub(super) enum Row<'a> {
     Nodes(u64),
     /// The ports of a kind by rising slot, or `None` where the pattern lacks the kind.
     Ports(Kind, Option<&'a [u128]>),
+    /// Whether there is room for a node, for a first port and for another, and whether the service is locked.
+    Room([bool; 3], bool),
+    /// The counter of the node or port that a handle stands for, if it stands for one.
+    StandsFor(Handle, Option<u128>),
 }
 
 /// The counter of a port of process 1, by the number of its id.
@@ -110,6 +114,45 @@ fn count_nodes(service: &DynamicConfig) -> u64 {
     count
 }
 
+/// Asks a service for room and for its lock, in the row of this index.
+fn has_room(
+    rt: &impl Abort,
+    service: &DynamicConfig,
+    pattern: &Pattern,
+    at: usize,
+    wanted: ([bool; 3], bool),
+) {
+    assert!(rt; service.has_role(pattern.first));
+    assert!(rt; service.has_role(pattern.second));
+    let room = [
+        service.has_room_for_node(),
+        service.has_room(pattern.first),
+        service.has_room(pattern.second),
+    ];
+    assert_eq!(rt; (at, (room, service.is_locked())), (at, wanted));
+}
+
+/// Asks a service what a handle stands for, in the row of this index.
+fn stands_for(
+    rt: &impl Abort,
+    service: &DynamicConfig,
+    at: usize,
+    handle: ContainerHandle,
+    wanted: Option<u128>,
+) {
+    let node = service.node(handle).map(|id| counter_of(id.value()));
+    let port = service
+        .port(handle)
+        .map(|details| counter_of(details.port_id().value()));
+    let is_node = handle.role() == Role::Node;
+    let found = if is_node {
+        (wanted, None)
+    } else {
+        (None, wanted)
+    };
+    assert_eq!(rt; (at, (node, port)), (at, found));
+}
+
 /// Makes the call of the row of this index, and compares its answer. No call takes memory.
 fn is_answered(
     rt: &impl Abort,
@@ -144,6 +187,10 @@ fn is_answered(
         }
         Row::Nodes(count) => assert_eq!(rt; (at, count_nodes(service)), (at, count)),
         Row::Ports(kind, wanted) => lists(rt, service, at, pattern.role(kind), wanted),
+        Row::Room(room, is_locked) => has_room(rt, service, pattern, at, (room, is_locked)),
+        Row::StandsFor(handle, wanted) => {
+            stands_for(rt, service, at, handle.on(pattern), wanted);
+        }
     }
     Ok(())
 }
