@@ -1,4 +1,4 @@
-//! What a service tells those who ask before they act.
+//! What a service answers to those who ask before they act.
 use super::services::*;
 use iox2_container::container::{ContainerHandle, Role};
 use iox2_dynamic::dynamic_config::*;
@@ -18,7 +18,8 @@ fn room(rt: &impl Abort, service: &DynamicConfig) -> (bool, bool, bool) {
     )
 }
 
-/// The numbers that a service tells: its own, of nodes, and how many nodes and ports there may be.
+/// The numbers that a service answers: its own, of
+/// nodes, and how many nodes and ports there may be.
 fn numbers(service: &DynamicConfig) -> (u64, usize, usize, [Option<usize>; 3]) {
     (
         service.service_number(),
