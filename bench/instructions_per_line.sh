@@ -27,7 +27,7 @@ nodes() {
 
 # Places for 8 nodes and 8 ports of each kind, of which 6 are taken; then in turn a node is registered once more, a port
 # is attached to it, the port is released, and the handle of the node is given back. With `standing`, the second kind of
-# ports has so many entries, which are listed at each 1,000th command.
+# ports has this many entries, which are listed at each 1,000th command.
 ports() {
     awk -v lines="$1" -v standing="$2" 'BEGIN {
         print "service publish-subscribe 7 8 8 " (standing ? standing : 8)

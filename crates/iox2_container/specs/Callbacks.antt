@@ -3,8 +3,8 @@ use Rattle.std.specs.Prelude.{List, [], ◌∷◌, ⊤}
 use Rattle.iox2_texts.specs.declared.bounded.CallbackProgression.{CallbackProgression}
 use Rattle.iox2_texts.specs.declared.bounded.CallbackProgression.TheVariants.{Continue}
 
--- the callback may be asked about each item in order: about the first in the state f, and about each later one in every
--- state that the call on the one before it may leave
+-- the callback may be asked about each item in order: about the first in the state f, and about
+-- each later one in every state that the call on the one before it may leave
 abbrev pub MayAsk : {F A R : Type 0} → (F → A → Type 0) → (F → A → R → F → Type 0) → F → List A → Type 0
 MayAsk takes calls f [] = ⊤
 MayAsk {F} {A} {R} takes calls f (item ∷ items) =

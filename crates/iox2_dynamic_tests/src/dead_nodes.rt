@@ -6,7 +6,8 @@ use iox2_dynamic::dynamic_config::*;
 use iox2_ids::identifiers::{UniquePortId, UniquePublisherId, UniqueSubscriberId};
 use std::test::Fail;
 
-/// A node with two ports of each kind. The callback keeps one port of each, and none when it is asked again.
+/// A node with two ports of each kind. The callback keeps
+/// one port of each, and none when it is asked again.
 const A_CALLBACK_IS_ASKED_AGAIN: [Row; 13] = [
     Row::Register(A, Ok(Handle(7, Kind::Node, 0, 0))),
     Row::Attach(Kind::First, 11, A, Ok(Handle(7, Kind::First, 0, 0))),
@@ -28,8 +29,8 @@ fn a_callback_sees_each_port_once_and_keeps_two(rt: HostRuntime) -> Result<(), F
     each_pattern_answers(&rt, rt.alloc(), (2, 2, 2), &A_CALLBACK_IS_ASKED_AGAIN)
 }
 
-/// A dead node has ports 10 and 11, and another node of its owner id port 12. The callback keeps port 10, and is not asked
-/// about that of the other node.
+/// A dead node has ports 10 and 11, and another node of its owner id port 12. The callback keeps
+/// port 10, and is not asked about that of the other node.
 const ONE_PORT_IS_KEPT: [Row; 12] = [
     Row::Register(ONE_OF_FIVE, Ok(Handle(7, Kind::Node, 0, 0))),
     Row::Register(TWO_OF_FIVE, Ok(Handle(7, Kind::Node, 1, 1))),
@@ -103,7 +104,8 @@ fn a_dead_node_leaves_with_all_its_handles(rt: HostRuntime) -> Result<(), Fail> 
     each_pattern_answers(&rt, rt.alloc(), (2, 2, 2), &ALL_HANDLES_GO)
 }
 
-/// The callback is told of the publisher and then of the subscriber, each by its kind and its whole id.
+/// The callback is asked about the publisher and then about
+/// the subscriber, each by its kind and its whole id.
 #[test]
 fn a_callback_is_told_of_ports_by_kind_and_id(rt: HostRuntime) -> Result<(), Fail> {
     let node = ONE_OF_FIVE.id()?;

@@ -1,4 +1,5 @@
-//! Calls on a service as rows of a table, each with what it must answer. One table serves for all patterns.
+//! Calls on a service as rows of a table, each with what
+//! it must answer. One table serves for all patterns.
 use super::services::*;
 use arrayvec::ArrayVec;
 use iox2_container::container::{ContainerHandle, ContainerRemoveError, Role};
@@ -25,7 +26,7 @@ impl Handle {
     }
 }
 
-/// What is answered for a handle that is no port's here.
+/// What is answered for a handle that is not a port's here.
 pub(super) const NOT_A_PORT: Result<(), ContainerRemoveError> = Err(
     ContainerRemoveError::ContainerHandleNotOwnedByContainer,
 );
@@ -35,14 +36,14 @@ pub(super) const NOT_A_PORT: Result<(), ContainerRemoveError> = Err(
 pub(super) enum Row<'a> {
     /// Registers a node.
     Register(Node, Result<Handle, RegisterNodeResult>),
-    /// Takes out a node, and tells whether the service still has owners.
+    /// Takes out a node, and answers whether the service still has owners.
     Deregister(Handle, Result<bool, DeregisterError>),
     /// Attaches a port of this counter and node.
     Attach(Kind, u32, Node, Result<Handle, AttachError>),
     /// Releases a port.
     Release(Handle, Result<(), ContainerRemoveError>),
-    /// Recovers a dead node by a callback that keeps the ports of the first counters. Tells the ports that it was asked
-    /// about, in order, and whether the service still has owners.
+    /// Recovers a dead node by a callback that keeps the ports of the first counters. Answers the
+    /// ports that it was asked about, in order, and whether the service still has owners.
     Recover(Node, &'a [u128], &'a [u128], bool),
     /// How many nodes are listed.
     Nodes(u64),
@@ -59,7 +60,8 @@ pub(super) fn counter_of(number_of_id: u128) -> u128 {
     number_of_id.wrapping_sub(number(0))
 }
 
-/// Recovers a dead node by a callback that keeps the ports of some counters, in the row of this index.
+/// Recovers a dead node by a callback that keeps the
+/// ports of some counters, in the row of this index.
 fn recovers(
     rt: &impl Abort,
     service: &mut DynamicConfig,
@@ -83,8 +85,8 @@ fn recovers(
     assert_eq!(rt; (at, asked.as_slice(), owned), (at, wanted.0, wanted.1));
 }
 
-/// Lists the ports of a role in the row of this index, and tells whether the service has the role and how many ports of it
-/// there are.
+/// Lists the ports of a role in the row of this index, and checks whether the service has the role
+/// and how many ports of it there are.
 fn lists(rt: &impl Abort, service: &DynamicConfig, at: usize, role: Role, wanted: Option<&[u128]>) {
     let mut listed: ArrayVec<u128, 8> = ArrayVec::new();
     let mut note = |details: &PortDetails| {
@@ -208,8 +210,8 @@ pub(super) fn are_answered(
     Ok(())
 }
 
-/// Makes the calls of the rows on a new service of each pattern, with so many places for nodes, for the first ports and for
-/// the others.
+/// Makes the calls of the rows on a new service of each pattern, with this many places for nodes,
+/// for the first ports and for the others.
 pub(super) fn each_pattern_answers(
     rt: &impl Abort,
     alloc: Global,

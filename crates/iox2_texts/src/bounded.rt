@@ -1,4 +1,5 @@
-//! Texts of a bounded length, those of them that have a meaning, the answers of callbacks, and least multiples.
+//! Texts of a bounded length, those of them that have a
+//! meaning, the answers of callbacks, and least multiples.
 //!
 //! A text holds bytes from 1 to 127 alone: ASCII without the zero byte.
 ghost use Rattle.std.specs.Prelude.{◌≡◌, ◌↔◌, ◌+◌, ◌<◌, ◌^◌, ◌≤◌, ◌++◌, [], Some, length, IsTrue};
@@ -30,7 +31,7 @@ pub enum StringModificationError {
     InvalidCharacter,
 }
 
-/// Why bytes are no name, key, value or path.
+/// Why bytes are not a name, key, value or path.
 #[derive(Clone, Copy, Debug, PartialEq, Eq)]
 pub enum SemanticStringError {
     /// The bytes are short enough, but are empty where that is forbidden or hold what is forbidden.

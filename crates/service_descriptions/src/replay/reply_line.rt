@@ -116,7 +116,8 @@ fn append_fault(fault: &AttributeVerificationError, out: &mut Vec<u8>) -> Result
     }
 }
 
-/// Appends the line of a reply to a command that has a line, perhaps a part of it where memory is refused.
+/// Appends the line of a reply to a command that has a
+/// line, perhaps a part of it where memory is refused.
 #[inline(always)]
 fn append_reply(reply: &LineReply, out: &mut Vec<u8>) -> Result<(), AllocError>
     ensures ok { OnOk result (out.new.items ≡ out.old.items ++ reply_line (reply_of reply.now)) }
@@ -142,7 +143,8 @@ fn append_reply(reply: &LineReply, out: &mut Vec<u8>) -> Result<(), AllocError>
     }
 }
 
-/// Appends the line of a reply to a command that has a line. Where memory is refused, the bytes are left as they were.
+/// Appends the line of a reply to a command that has a line.
+/// Where memory is refused, the bytes are left as they were.
 #[inline(always)]
 pub(super) fn write_line(reply: &LineReply, out: &mut Vec<u8>) -> Result<(), AllocError>
     ensures ok { OnOk result (out.new.items ≡ out.old.items ++ reply_line (reply_of reply.now)) }
@@ -193,7 +195,8 @@ fn append_line(reply: &Reply, out: &mut Vec<u8>) -> Result<(), AllocError>
     }
 }
 
-/// Appends the line of a reply with its newline. Where memory is refused, the bytes are left as they were.
+/// Appends the line of a reply with its newline. Where
+/// memory is refused, the bytes are left as they were.
 pub fn write_reply(reply: &Reply, out: &mut Vec<u8>) -> Result<(), AllocError>
     ensures ok { OnOk result (out.new.items ≡ out.old.items ++ reply_line reply.now) }
     ensures err { OnErr result (out.new.items ≡ out.old.items) }
