@@ -54,7 +54,8 @@ fn room_goes_by_tickets(rt: HostRuntime) -> Result<(), Fail> {
     Ok(())
 }
 
-/// A handle stands for what was given it, by its service, its kind, its slot and its ticket, until that goes.
+/// A handle stands for what was given it, by its service, its kind, its
+/// slot and its ticket, until that goes.
 const HANDLES: [Row; 11] = [
     Row::Register(A, Ok(Handle(7, Kind::Node, 0, 0))),
     Row::Attach(Kind::Second, 9, A, Ok(Handle(7, Kind::Second, 0, 0))),
@@ -166,7 +167,8 @@ fn who_is_there_is_listed_at_once(rt: HostRuntime) -> Result<(), Fail> {
     Ok(())
 }
 
-/// Compares the numbers of a service: its own, its nodes, and how many nodes and ports there may be.
+/// Compares the numbers of a service: its own, its nodes,
+/// and how many nodes and ports there may be.
 fn numbers_are(rt: &impl Abort, service: &DynamicConfig, pattern: &Pattern, nodes: usize) {
     assert_eq!(rt;
         (

@@ -49,7 +49,8 @@ pub(super) enum Row<'a> {
     Nodes(u64),
     /// The ports of a kind by rising slot, or `None` where the pattern lacks the kind.
     Ports(Kind, Option<&'a [u128]>),
-    /// Whether there is room for a node, for a first port and for another, and whether the service is locked.
+    /// Whether there is room for a node, for a first port and for another,
+    /// and whether the service is locked.
     Room([bool; 3], bool),
     /// The counter of the node or port that a handle stands for, if it stands for one.
     StandsFor(Handle, Option<u128>),

@@ -92,7 +92,8 @@ fn append_ports(ports: &[PortDetails], out: &mut Vec<u8>) -> Result<(), AllocErr
     out.extend_from_slice(b"\n")
 }
 
-/// Appends the line of what attributes lack, with the text that `Display` writes: a formatter would take a block of its own.
+/// Appends the line of what attributes lack, with the text that
+/// `Display` writes: a formatter would take a block of its own.
 fn append_fault(fault: &AttributeVerificationError, out: &mut Vec<u8>) -> Result<(), AllocError>
     ensures ok { OnOk result (out.new.items ≡ out.old.items
         ++ (codes "refused " ++ verification_error_text fault.now ++ 10 ∷ [])) }
