@@ -1,6 +1,6 @@
-"""What `iox2-replay` and `iox2-describe` are run on with ample memory: inputs of many sizes, which none may be too large for.
-Each comes with its name, the words after the program's name, and the number of lines that are to be written, if that is
-known."""
+"""What `iox2-replay` and `iox2-describe` are run on with ample memory: inputs of many sizes, which
+none may be too large for. Each comes with its name, the words after the program's name, and the
+number of lines that are to be written, if that is known."""
 
 SIZES = [
     *range(8), 100, 101, 1_000, 1_001, 4_095, 4_096, 4_097, 65_535, 65_536, 65_537, 1_000_000, 1_000_001
@@ -12,7 +12,8 @@ PIECE = b" 1.0.0.9"
 
 
 def whole_line(size):
-    """A line of a dead node of this many bytes with its newline, if there is one: as many ports, of which the last is longer."""
+    """A line of a dead node of this many bytes with its newline, if there is one: as many ports, of
+    which the last is longer."""
     front = b"dead 1.0.0.1 skip"
     pieces, more = divmod(size - len(front) - 1, len(PIECE))
     if pieces < 1:
@@ -54,7 +55,8 @@ def message(prefix, elements):
 
 
 def attributes(size):
-    """Lines of this many bytes of attributes, if there are such: of each key 16, first those of the service."""
+    """Lines of this many bytes of attributes, if there are such: of each key 16, first those of the
+    service."""
     lines = []
     for word in ["attribute", "require"]:
         for number in range(16):

@@ -8,8 +8,9 @@ from typing import NamedTuple
 
 
 class Run(NamedTuple):
-    """How a run ended: an exit status, or the number of a signal below zero; processor time and time that passed, in
-    seconds; peak memory in bytes, which counts this process's own where that is greater."""
+    """How a run ended: an exit status, or the number of a signal below zero; processor time and
+    time that passed, in seconds; peak memory in bytes, which counts this process's own where that
+    is greater."""
 
     status: int
     processor: float

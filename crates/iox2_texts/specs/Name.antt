@@ -34,11 +34,11 @@ abbrev pub semantic_of : ServiceNameError → SemanticStringError
 semantic_of name.ExceedsMaximumLength = ExceedsMaximumLength
 semantic_of name.InvalidContent = InvalidContent
 
--- what making a service name answers: the same, with its own errors
+-- what making a service name answers: as for another text of at most 255 bytes, by its own errors
 abbrev pub MakesServiceName : List ℕ → Result (List ℕ) ServiceNameError → Type 0
 MakesServiceName bytes r = MakesName 255 bytes (result_map_both (λ text. text) semantic_of r)
 
--- the same for a name from outside, which may not begin with `iox2://`
+-- what making a service name from outside answers, which may not begin with `iox2://`
 abbrev pub MakesPublicName : List ℕ → Result (List ℕ) ServiceNameError → Type 0
 MakesPublicName bytes r =
     MatchBool (starts_with nat_eq bytes (codes "iox2://")) (r ≡ Err name.InvalidContent) (MakesServiceName bytes r)

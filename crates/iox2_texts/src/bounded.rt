@@ -104,7 +104,7 @@ impl<const N: usize> StaticString<N> {
 
     /// The text of these bytes.
     ///
-    /// Refused are more than `N` bytes, and then a byte that is not from 1 to 127.
+    /// More than `N` bytes are refused, and then a byte that is not from 1 to 127.
     pub fn from_bytes(bytes: &[u8]) -> Result<Self, StringModificationError>
         ensures { MakesText N bytes.now result }
     {
@@ -115,7 +115,7 @@ impl<const N: usize> StaticString<N> {
 
     /// Appends these bytes, or changes nothing.
     ///
-    /// Refused is what would be longer than `N` bytes, and then a byte that is not from 1 to 127.
+    /// What would be longer than `N` bytes is refused, and then a byte that is not from 1 to 127.
     pub(crate) fn try_push_bytes(&mut self, more: &[u8]) -> Result<(), StringModificationError>
         ensures { AppendsText N self.old more.now result self.new }
     {

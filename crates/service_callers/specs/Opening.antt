@@ -42,7 +42,7 @@ types_of (pattern.Blackboard settings) = default_details
 abbrev pub IsVerified : Description → Opener → Type 0
 IsVerified d o = (kind_of d.pattern ≡ kind.PublishSubscribe) × IsSatisfied o.verifier d.attributes
 
--- and the opener may use its messages
+-- the service is as required, and the opener may use its messages
 abbrev pub IsCompatible : Description → Opener → Type 0
 IsCompatible d o = IsVerified d o × MayOpen o.types (types_of d.pattern)
 

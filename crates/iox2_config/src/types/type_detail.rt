@@ -105,7 +105,7 @@ impl TypeDetail {
 
     /// The details of the type `T`.
     ///
-    /// Refused is an invalid name.
+    /// An invalid name is refused.
     pub fn new<T: ZeroCopySend>(variant: TypeVariant) -> Result<Self, TypeDetailError>
         ensures { DescribesType (detail variant T.type_name T.SIZE T.ALIGNMENT) result }
     {
@@ -114,7 +114,7 @@ impl TypeDetail {
 
     /// The details with these parts.
     ///
-    /// Refused is an invalid name, and then an alignment that is not a power of two.
+    /// An invalid name is refused, and then an alignment that is not a power of two.
     pub fn from_parts(
         variant: TypeVariant,
         type_name: &str,
