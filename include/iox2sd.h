@@ -37,7 +37,8 @@
 extern "C" {
 #endif
 
-/* What a call answers. iox2sd_status_text has a text for each up to IOX2SD_UNKNOWN_STATUS that a call of this header answers. */
+/* What a call of this header, of iox2sd_values.h or of iox2sd_script.h answers.
+ * iox2sd_status_text has a text for each. */
 enum iox2sd_status {
     IOX2SD_DONE = 0,
     IOX2SD_DONE_LOCKED = 1,      /* It was done, and the service is locked for good: no node registers any more. */
@@ -55,12 +56,11 @@ enum iox2sd_status {
     IOX2SD_NODE_NOT_REGISTERED = 13,  /* The node of the port is not. */
     IOX2SD_ROLE_NOT_IN_PATTERN = 14,
     IOX2SD_UNKNOWN_SEGMENT = 15,
-    IOX2SD_BAD_KEY = 16,   /* A key of a pair is none: iox2sd_attribute_key_check tells why. */
-    IOX2SD_BAD_VALUE = 17, /* A value of a pair is none: iox2sd_attribute_value_check tells why. */
+    IOX2SD_BAD_KEY = 16,   /* A key of a pair is invalid: iox2sd_attribute_key_check says why. */
+    IOX2SD_BAD_VALUE = 17, /* A value of a pair is invalid: iox2sd_attribute_value_check says why. */
     IOX2SD_TOO_MANY = 18,  /* There are more than sixteen pairs. */
     IOX2SD_NULL = 20, /* NULL where a struct is expected. */
     IOX2SD_UNKNOWN_STATUS = 21,
-    /* Those of iox2sd_values.h. */
     IOX2SD_EMPTY = 40,
     IOX2SD_TOO_LONG = 41,
     IOX2SD_ILLEGAL_BYTE = 42,
@@ -86,7 +86,8 @@ enum iox2sd_status {
     IOX2SD_OTHER_SIZE = 62,
     IOX2SD_OTHER_ALIGNMENT = 63,
     IOX2SD_GREATER_ALIGNMENT = 64,
-    IOX2SD_UNKNOWN_TEXT = 65
+    IOX2SD_UNKNOWN_TEXT = 65,
+    IOX2SD_BAD_LINE = 66 /* A line of a script is not valid. */
 };
 
 /* Messaging patterns. */

@@ -99,22 +99,41 @@ static bool same_port(const iox2sd_port *a, const iox2sd_port *b) {
            a->max_number_of_segments == b->max_number_of_segments;
 }
 
+/* Whether a number is that of a status. */
+static bool is_status(uint32_t number) { return number <= 18 || number == 20 || number == 21 || (40 <= number && number <= 66); }
+
 static void statuses(void) {
-    static const uint32_t known[] = {0, 1, 2, 3, 4, 5, 6, 7, 8, 9, 10, 11, 12, 13, 14, 15, 20, 21};
-    uint8_t out[64], before[64];
-    for (size_t i = 0; i < sizeof known / sizeof *known; i++) {
-        iox2sd_text_answer needed = iox2sd_status_text(known[i], NULL, 0);
-        CHECK(needed.status == IOX2SD_BUFFER_TOO_SHORT && 0 < needed.length && needed.length <= sizeof out);
+    enum { MOST = 80 };
+    uint8_t texts[MOST][64], out[64], before[64];
+    size_t lengths[MOST];
+    for (uint32_t number = 0; number < MOST; number++) {
+        iox2sd_text_answer needed = iox2sd_status_text(number, NULL, 0);
         memset(out, 7, sizeof out);
         memcpy(before, out, sizeof out);
-        CHECK(iox2sd_status_text(known[i], out, needed.length - 1).status == IOX2SD_BUFFER_TOO_SHORT);
+        lengths[number] = 0;
+        if (!is_status(number)) {
+            CHECK(needed.status == IOX2SD_UNKNOWN_STATUS && needed.length == 0);
+            CHECK(iox2sd_status_text(number, out, sizeof out).status == IOX2SD_UNKNOWN_STATUS);
+            CHECK(memcmp(out, before, sizeof out) == 0);
+            continue;
+        }
+        CHECK(needed.status == IOX2SD_BUFFER_TOO_SHORT && 0 < needed.length && needed.length <= sizeof out);
+        CHECK(iox2sd_status_text(number, out, needed.length - 1).status == IOX2SD_BUFFER_TOO_SHORT);
         CHECK(memcmp(out, before, sizeof out) == 0);
-        CHECK(iox2sd_status_text(known[i], out, needed.length).status == IOX2SD_DONE);
+        CHECK(iox2sd_status_text(number, out, needed.length).status == IOX2SD_DONE);
         CHECK(needed.length == sizeof out || out[needed.length] == 7);
+        lengths[number] = needed.length;
+        memcpy(texts[number], out, needed.length);
+        for (uint32_t other = 0; other < number; other++) {
+            CHECK(lengths[other] != lengths[number] || memcmp(texts[other], texts[number], lengths[number]) != 0);
+        }
     }
     CHECK(same_text(out, iox2sd_status_text(IOX2SD_DONE, out, sizeof out), "done"));
     CHECK(same_text(out, iox2sd_status_text(IOX2SD_OUT_OF_SPACE, out, sizeof out), "no place or no ticket is left"));
     CHECK(same_text(out, iox2sd_status_text(IOX2SD_NULL, out, sizeof out), "NULL"));
+    CHECK(same_text(out, iox2sd_status_text(IOX2SD_BAD_KEY, out, sizeof out), "not a key of a pair"));
+    CHECK(same_text(out, iox2sd_status_text(IOX2SD_TOO_LARGE, out, sizeof out), "the answer would pass its range"));
+    CHECK(same_text(out, iox2sd_status_text(IOX2SD_BAD_LINE, out, sizeof out), "a line of the script is not valid"));
     iox2sd_text_answer unknown = iox2sd_status_text(UINT32_MAX, out, sizeof out);
     CHECK(unknown.status == IOX2SD_UNKNOWN_STATUS && unknown.length == 0);
     CHECK(iox2sd_abi() == IOX2SD_ABI);
