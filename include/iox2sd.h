@@ -59,7 +59,7 @@ enum iox2sd_status {
     IOX2SD_BAD_KEY = 16,   /* A key of a pair is invalid: iox2sd_attribute_key_check says why. */
     IOX2SD_BAD_VALUE = 17, /* A value of a pair is invalid: iox2sd_attribute_value_check says why. */
     IOX2SD_TOO_MANY = 18,  /* There are more than sixteen pairs. */
-    IOX2SD_NULL = 20, /* NULL where a struct is expected. */
+    IOX2SD_NULL = 20,      /* NULL where a struct is expected. */
     IOX2SD_UNKNOWN_STATUS = 21,
     IOX2SD_EMPTY = 40,
     IOX2SD_TOO_LONG = 41,
@@ -272,6 +272,8 @@ iox2sd_port_answer iox2sd_find_port_at(iox2sd_service *places, size_t count, iox
 iox2sd_count_answer iox2sd_nodes_at(iox2sd_service *places, size_t count, iox2sd_id *out, size_t capacity);
 iox2sd_count_answer iox2sd_ports_at(iox2sd_service *places, size_t count, uint64_t role, iox2sd_port *out,
                                     size_t capacity);
+iox2sd_count_answer iox2sd_ports_of_at(iox2sd_service *places, size_t count, iox2sd_id node,
+                                       iox2sd_port *out, size_t capacity);
 
 /* Makes a service with nothing attached. `number` is told in its handles, and `tickets` tickets are given out for nodes and
  * for each kind of ports: each registering and each attaching takes one, and none comes back. UINT64_MAX is for all.
@@ -332,6 +334,19 @@ static inline iox2sd_count_answer iox2sd_ports(iox2sd_service *service, uint64_t
     iox2sd_count_answer refused = {IOX2SD_NULL, 0};
     if (out == NULL && capacity != 0) return refused;
     return iox2sd_ports_at(service, service != NULL, role, out, capacity);
+}
+
+/* Lists the ports of a node, by its whole id, at the front of `out`, whose other places stay as they
+ * were: those of the pattern's first kind before those of its second, each kind by rising slot. These
+ * are the ports that iox2sd_dead removes or keeps.
+ * Errors: IOX2SD_NULL; IOX2SD_NO_SERVICE; IOX2SD_NO_NODE; IOX2SD_BUFFER_TOO_SHORT with the number of
+ * ports that there are, or IOX2SD_TOO_LARGE where that number passes SIZE_MAX. Then `out` is as it
+ * was. */
+static inline iox2sd_count_answer iox2sd_ports_of(iox2sd_service *service, iox2sd_id node,
+                                                  iox2sd_port *out, size_t capacity) {
+    iox2sd_count_answer refused = {IOX2SD_NULL, 0};
+    if (out == NULL && capacity != 0) return refused;
+    return iox2sd_ports_of_at(service, service != NULL, node, out, capacity);
 }
 
 /* The messaging pattern, of enum iox2sd_pattern_number. Errors: IOX2SD_NULL; IOX2SD_NO_SERVICE. */

@@ -174,6 +174,8 @@ static void null_and_empty_places(void) {
     CHECK(went(iox2sd_dead(&none, node, NULL, 1), IOX2SD_NULL, 0, 0));
     CHECK(counts(iox2sd_ports(NULL, IOX2SD_PUBLISHER, NULL, 0), IOX2SD_NULL, 0));
     CHECK(counts(iox2sd_ports(&none, IOX2SD_PUBLISHER, NULL, 1), IOX2SD_NULL, 0));
+    CHECK(counts(iox2sd_ports_of(NULL, id(0, 1, 1, 0), NULL, 0), IOX2SD_NULL, 0));
+    CHECK(counts(iox2sd_ports_of(&none, id(0, 1, 1, 0), NULL, 1), IOX2SD_NULL, 0));
     iox2sd_service *places[] = {NULL, &none};
     uint32_t wanted[] = {IOX2SD_NULL, IOX2SD_NO_SERVICE};
     for (size_t i = 0; i < 2; i++) {
@@ -203,6 +205,7 @@ static void null_and_empty_places(void) {
     CHECK(iox2sd_release(&none, some) == IOX2SD_NO_SERVICE);
     CHECK(went(iox2sd_dead(&none, id(0, 1, 1, 0), NULL, 0), IOX2SD_NO_SERVICE, 0, 0));
     CHECK(counts(iox2sd_ports(&none, 99, &its, 1), IOX2SD_NO_SERVICE, 0));
+    CHECK(counts(iox2sd_ports_of(&none, id(0, 1, 1, 0), &its, 1), IOX2SD_NO_SERVICE, 0));
 }
 
 static void making(void) {
@@ -328,6 +331,54 @@ static void ports_of_pattern(uint32_t pattern) {
     CHECK(went(iox2sd_dead(&service, other, NULL, 0), IOX2SD_DONE_LOCKED, 1, 1));
     CHECK(went(iox2sd_dead(&service, other, NULL, 0), IOX2SD_DONE_LOCKED, 0, 0));
     CHECK(counts(iox2sd_ports(&service, first, NULL, 0), IOX2SD_DONE, 0));
+    iox2sd_service_free(&service);
+}
+
+/* The ports of a node among those of another with the same owner id: their kinds, then their slots, tell the order. */
+static void ports_of_nodes(uint32_t pattern) {
+    uint64_t first = first_roles[pattern], second = second_roles[pattern];
+    iox2sd_service service = IOX2SD_SERVICE_NONE;
+    iox2sd_id node = id(1, 2, 3, 4), twin = id(1, 6, 7, 4), absent = id(1, 2, 4, 4);
+    iox2sd_port out[5], before[5], wanted;
+    iox2sd_handle_answer second_slot;
+    iox2sd_service_make(&service, pattern, 77, capacities(2, 3, 4), 9);
+    iox2sd_register(&service, node);
+    iox2sd_register(&service, twin);
+    iox2sd_port its[] = {full(second, 30, node), full(second, 31, twin), full(second, 32, node), full(first, 20, node),
+                         full(first, 21, twin), full(first, 22, node)};
+    for (size_t i = 0; i < 6; i++) {
+        iox2sd_handle_answer made = iox2sd_attach(&service, &its[i]);
+        CHECK(made.status == IOX2SD_DONE);
+        if (i == 0) second_slot = made;
+    }
+    for (size_t i = 0; i < 5; i++) out[i] = full(IOX2SD_NODE, 50, twin);
+    memcpy(before, out, sizeof out);
+    CHECK(counts(iox2sd_ports_of(&service, id(0, 2, 3, 0), NULL, 0), IOX2SD_NO_NODE, 0));
+    CHECK(counts(iox2sd_ports_of(&service, node, NULL, 0), IOX2SD_BUFFER_TOO_SHORT, 4));
+    CHECK(counts(iox2sd_ports_of(&service, node, out, 3), IOX2SD_BUFFER_TOO_SHORT, 4));
+    CHECK(counts(iox2sd_ports_of(&service, absent, out, 5), IOX2SD_DONE, 0));
+    CHECK(counts(iox2sd_ports_of(&service, absent, NULL, 0), IOX2SD_DONE, 0));
+    for (size_t i = 0; i < 5; i++) CHECK(same_port(&out[i], &before[i]));
+    CHECK(counts(iox2sd_ports_of(&service, node, out, 4), IOX2SD_DONE, 4));
+    static const uint32_t in_order[] = {20, 22, 30, 32};
+    for (size_t i = 0; i < 4; i++) {
+        wanted = told(i < 2 ? first : second, in_order[i], node);
+        CHECK(same_port(&out[i], &wanted));
+    }
+    CHECK(same_port(&out[4], &before[4]));
+    /* a port that came later stands where its slot is */
+    iox2sd_release(&service, second_slot.handle);
+    iox2sd_port late = full(second, 33, node);
+    CHECK(gives(iox2sd_attach(&service, &late), handle(77, second, 0, 3)));
+    CHECK(counts(iox2sd_ports_of(&service, node, out, 5), IOX2SD_DONE, 4));
+    wanted = told(second, 33, node);
+    CHECK(same_port(&out[2], &wanted));
+    CHECK(counts(iox2sd_ports_of(&service, twin, out, 2), IOX2SD_DONE, 2));
+    wanted = told(second, 31, twin);
+    CHECK(same_port(&out[1], &wanted));
+    CHECK(went(iox2sd_dead(&service, node, NULL, 0), IOX2SD_DONE, 2, 2));
+    CHECK(counts(iox2sd_ports_of(&service, node, NULL, 0), IOX2SD_DONE, 0));
+    CHECK(counts(iox2sd_ports_of(&service, twin, NULL, 0), IOX2SD_BUFFER_TOO_SHORT, 2));
     iox2sd_service_free(&service);
 }
 
@@ -489,6 +540,7 @@ int main(void) {
     making();
     nodes();
     for (uint32_t pattern = 0; pattern < 4; pattern++) ports_of_pattern(pattern);
+    for (uint32_t pattern = 0; pattern < 4; pattern++) ports_of_nodes(pattern);
     for (uint32_t pattern = 0; pattern < 4; pattern++) questions_of_pattern(pattern);
     attaching();
     flat_memory();
