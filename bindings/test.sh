@@ -48,22 +48,19 @@ same_statuses() {
         awk '{ n = split($2, words, "_"); name = ""
                for (i = 1; i <= n; i++) name = name substr(words[i], 1, 1) tolower(substr(words[i], 2))
                print $1, name }' | sort > "$work/header"
-    for crate in iox2sd iox2sd_values; do
+    for crate in iox2sd iox2sd_values iox2sd_script; do
         sed -n 's/^    \([A-Z][A-Za-z0-9]*\) = \([0-9]*\),$/\2 \1/p' "../crates/$crate/src/status.rt" | sort > "$work/$crate"
     done
     sort -u "$work/header" "$work"/iox2sd* > "$work/all"
-    [ -s "$work/header" ] && [ -s "$work/iox2sd_values" ] &&
+    [ -s "$work/header" ] && [ -s "$work/iox2sd_values" ] && [ -s "$work/iox2sd_script" ] &&
         diff "$work/header" "$work/iox2sd" &&
         [ -z "$(cut -d ' ' -f 1 "$work/all" | sort | uniq -d)$(cut -d ' ' -f 2 "$work/all" | sort | uniq -d)" ]
 }
 
-caller gcc iox2_ffi c/test.c -std=c99
-caller clang iox2_ffi c/test.c -std=c99
-caller g++ iox2_ffi c/test.cpp -std=c++11
-caller clang++ iox2_ffi c/test.cpp -std=c++11
 for compiler in gcc clang; do
     caller "$compiler" iox2sd c/test_service.c -std=c99 -D_GNU_SOURCE
     caller "$compiler" iox2sd c/test_values.c -std=c99
+    caller "$compiler" iox2sd c/test_script.c -std=c99 -Wl,--wrap=malloc,--wrap=realloc
 done
 caller g++ iox2sd c/test_values.cpp -std=c++11
 caller clang++ iox2sd c/test_values.cpp -std=c++11
