@@ -61,6 +61,7 @@ for compiler in gcc clang; do
     caller "$compiler" iox2sd c/test_service.c -std=c99 -D_GNU_SOURCE
     caller "$compiler" iox2sd c/test_values.c -std=c99
     caller "$compiler" iox2sd c/test_script.c -std=c99 -Wl,--wrap=malloc,--wrap=realloc
+    caller "$compiler" iox2sd c/test_walk.c -std=c99
 done
 caller g++ iox2sd c/test_values.cpp -std=c++11
 caller clang++ iox2sd c/test_values.cpp -std=c++11
