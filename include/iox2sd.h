@@ -86,7 +86,9 @@ enum iox2sd_status {
     IOX2SD_OTHER_SIZE = 62,
     IOX2SD_OTHER_ALIGNMENT = 63,
     IOX2SD_GREATER_ALIGNMENT = 64,
-    IOX2SD_UNKNOWN_TEXT = 65
+    IOX2SD_UNKNOWN_TEXT = 65,
+    IOX2SD_UNKNOWN_STRATEGY = 67,
+    IOX2SD_BAD_DURATION = 68 /* The nanoseconds beside the seconds are 1,000,000,000 or more. */
 };
 
 /* Messaging patterns. */

@@ -256,11 +256,27 @@ typedef struct iox2sd_optional_duration {
     bool is_some;
 } iox2sd_optional_duration;
 
+/* A span of time. */
+typedef struct iox2sd_duration {
+    uint64_t seconds;
+    uint32_t nanoseconds; /* Beside the seconds, below 1,000,000,000. */
+} iox2sd_duration;
+
 /* The number of an event, or none: then all fields are 0. */
 typedef struct iox2sd_optional_event_id {
     size_t number;
     bool is_some;
 } iox2sd_optional_event_id;
+
+/* The settings that all services and nodes of one system share, beside its texts. */
+typedef struct iox2sd_global_settings {
+    iox2sd_duration creation_timeout; /* How long an opener waits until the creator is ready. */
+    /* Whether what dead nodes left is removed first when a service is opened; when a node is
+     * created; when a node goes. */
+    bool cleanup_dead_nodes_on_open;
+    bool cleanup_dead_nodes_on_creation;
+    bool cleanup_dead_nodes_on_destruction;
+} iox2sd_global_settings;
 
 /* The settings of a publish-subscribe service. */
 typedef struct iox2sd_publish_subscribe_settings {
@@ -316,11 +332,65 @@ typedef struct iox2sd_blackboard_settings {
     size_t max_nodes;
 } iox2sd_blackboard_settings;
 
+/* The settings that a system has where nothing else is said. */
+iox2sd_global_settings iox2sd_global_defaults(void);
+
 /* The settings that a service of each pattern gets where nothing else is said. */
 iox2sd_publish_subscribe_settings iox2sd_publish_subscribe_defaults(void);
 iox2sd_event_settings iox2sd_event_defaults(void);
 iox2sd_request_response_settings iox2sd_request_response_defaults(void);
 iox2sd_blackboard_settings iox2sd_blackboard_defaults(void);
+
+/* The fields of settings that may be invalid, as answers name them. */
+enum {
+    IOX2SD_BACKPRESSURE_STRATEGY = 0, /* Of publish-subscribe; so is the next. */
+    IOX2SD_PUBLISHER_ALLOCATION_STRATEGY = 1,
+    IOX2SD_DEADLINE = 2,                     /* Of an event service. */
+    IOX2SD_CLIENT_BACKPRESSURE_STRATEGY = 3, /* Of request-response; so are the next three. */
+    IOX2SD_SERVER_BACKPRESSURE_STRATEGY = 4,
+    IOX2SD_CLIENT_ALLOCATION_STRATEGY = 5,
+    IOX2SD_SERVER_ALLOCATION_STRATEGY = 6,
+    IOX2SD_CREATION_TIMEOUT = 7 /* Of a system. */
+};
+
+/* Which field of settings is invalid, and why. */
+typedef struct iox2sd_field_answer {
+    uint32_t status;
+    uint32_t field; /* 0 where the status speaks of no field. */
+} iox2sd_field_answer;
+
+/* The functions that end in `_at` take a pointer and a count of 0 for NULL or 1; call those below. */
+iox2sd_field_answer
+iox2sd_global_settings_check_at(const iox2sd_global_settings *settings, size_t count);
+iox2sd_field_answer
+iox2sd_publish_subscribe_settings_check_at(const iox2sd_publish_subscribe_settings *settings,
+                                           size_t count);
+iox2sd_field_answer
+iox2sd_event_settings_check_at(const iox2sd_event_settings *settings, size_t count);
+iox2sd_field_answer
+iox2sd_request_response_settings_check_at(const iox2sd_request_response_settings *settings,
+                                          size_t count);
+
+/* Whether settings are valid. Where `is_some` of a deadline or an event is false, there is none,
+ * whatever the other fields are. The settings of a blackboard service are always valid.
+ * Errors: IOX2SD_NULL; of the first invalid field, which the answer names: IOX2SD_UNKNOWN_STRATEGY;
+ * IOX2SD_BAD_DURATION, of nanoseconds of 1,000,000,000 or more. */
+static inline iox2sd_field_answer
+iox2sd_global_settings_check(const iox2sd_global_settings *settings) {
+    return iox2sd_global_settings_check_at(settings, settings != NULL);
+}
+static inline iox2sd_field_answer
+iox2sd_publish_subscribe_settings_check(const iox2sd_publish_subscribe_settings *settings) {
+    return iox2sd_publish_subscribe_settings_check_at(settings, settings != NULL);
+}
+static inline iox2sd_field_answer
+iox2sd_event_settings_check(const iox2sd_event_settings *settings) {
+    return iox2sd_event_settings_check_at(settings, settings != NULL);
+}
+static inline iox2sd_field_answer
+iox2sd_request_response_settings_check(const iox2sd_request_response_settings *settings) {
+    return iox2sd_request_response_settings_check_at(settings, settings != NULL);
+}
 
 /* The functions that end in `_at` take a pointer and a count of 0 for NULL or 1; call those below them. */
 iox2sd_count_answer iox2sd_samples_of_at(const iox2sd_publish_subscribe_settings *settings, size_t count);

@@ -37,6 +37,10 @@ static bool is_count(iox2sd_count_answer answer, uint32_t status, size_t count) 
     return answer.status == status && answer.count == count;
 }
 
+static bool is_field(iox2sd_field_answer answer, uint32_t status, uint32_t field) {
+    return answer.status == status && answer.field == field;
+}
+
 /* A text of bytes 'x' with one other byte. */
 static const uint8_t *with_byte(size_t at, uint8_t byte) {
     static uint8_t text[300];
@@ -377,6 +381,68 @@ static void settings(void) {
     CHECK(b.max_readers == 8 && b.max_nodes == 20);
 }
 
+static void global_settings(void) {
+    iox2sd_global_settings g = iox2sd_global_defaults();
+    CHECK(g.creation_timeout.seconds == 0 && g.creation_timeout.nanoseconds == 500000000);
+    CHECK(g.cleanup_dead_nodes_on_open && g.cleanup_dead_nodes_on_creation);
+    CHECK(g.cleanup_dead_nodes_on_destruction);
+    g.creation_timeout.seconds = UINT64_MAX;
+    g.creation_timeout.nanoseconds = 999999999;
+    CHECK(is_field(iox2sd_global_settings_check(&g), IOX2SD_DONE, 0));
+    g.creation_timeout.nanoseconds = 1000000000;
+    CHECK(is_field(iox2sd_global_settings_check(&g), IOX2SD_BAD_DURATION, IOX2SD_CREATION_TIMEOUT));
+    CHECK(is_field(iox2sd_global_settings_check(NULL), IOX2SD_NULL, 0));
+}
+
+static void publish_subscribe_settings(void) {
+    iox2sd_publish_subscribe_settings p = iox2sd_publish_subscribe_defaults();
+    CHECK(is_field(iox2sd_publish_subscribe_settings_check(&p), IOX2SD_DONE, 0));
+    p.backpressure_strategy = IOX2SD_DISCARD_DATA;
+    for (uint32_t number = 0; number < 3; number++) {
+        p.publisher_allocation_strategy = number;
+        CHECK(is_field(iox2sd_publish_subscribe_settings_check(&p), IOX2SD_DONE, 0));
+    }
+    p.publisher_allocation_strategy = 3;
+    CHECK(is_field(iox2sd_publish_subscribe_settings_check(&p), IOX2SD_UNKNOWN_STRATEGY,
+                   IOX2SD_PUBLISHER_ALLOCATION_STRATEGY));
+    p.backpressure_strategy = 2;
+    CHECK(is_field(iox2sd_publish_subscribe_settings_check(&p), IOX2SD_UNKNOWN_STRATEGY,
+                   IOX2SD_BACKPRESSURE_STRATEGY));
+    CHECK(is_field(iox2sd_publish_subscribe_settings_check(NULL), IOX2SD_NULL, 0));
+}
+
+static void event_settings(void) {
+    iox2sd_event_settings e = iox2sd_event_defaults();
+    CHECK(is_field(iox2sd_event_settings_check(&e), IOX2SD_DONE, 0));
+    e.notifier_dead_event.number = 5;
+    e.deadline.nanoseconds = 1000000000;
+    CHECK(is_field(iox2sd_event_settings_check(&e), IOX2SD_DONE, 0));
+    e.deadline.is_some = true;
+    CHECK(is_field(iox2sd_event_settings_check(&e), IOX2SD_BAD_DURATION, IOX2SD_DEADLINE));
+    e.deadline.nanoseconds = 999999999;
+    e.deadline.seconds = UINT64_MAX;
+    CHECK(is_field(iox2sd_event_settings_check(&e), IOX2SD_DONE, 0));
+    CHECK(is_field(iox2sd_event_settings_check(NULL), IOX2SD_NULL, 0));
+}
+
+static void request_response_settings(void) {
+    iox2sd_request_response_settings r = iox2sd_request_response_defaults();
+    CHECK(is_field(iox2sd_request_response_settings_check(&r), IOX2SD_DONE, 0));
+    r.server_allocation_strategy = 3;
+    CHECK(is_field(iox2sd_request_response_settings_check(&r), IOX2SD_UNKNOWN_STRATEGY,
+                   IOX2SD_SERVER_ALLOCATION_STRATEGY));
+    r.client_allocation_strategy = 3;
+    CHECK(is_field(iox2sd_request_response_settings_check(&r), IOX2SD_UNKNOWN_STRATEGY,
+                   IOX2SD_CLIENT_ALLOCATION_STRATEGY));
+    r.server_backpressure_strategy = 2;
+    CHECK(is_field(iox2sd_request_response_settings_check(&r), IOX2SD_UNKNOWN_STRATEGY,
+                   IOX2SD_SERVER_BACKPRESSURE_STRATEGY));
+    r.client_backpressure_strategy = UINT32_MAX;
+    CHECK(is_field(iox2sd_request_response_settings_check(&r), IOX2SD_UNKNOWN_STRATEGY,
+                   IOX2SD_CLIENT_BACKPRESSURE_STRATEGY));
+    CHECK(is_field(iox2sd_request_response_settings_check(NULL), IOX2SD_NULL, 0));
+}
+
 static void chunks_of(void) {
     iox2sd_publish_subscribe_settings p = iox2sd_publish_subscribe_defaults();
     iox2sd_request_response_settings r = iox2sd_request_response_defaults();
@@ -454,6 +520,10 @@ int main(void) {
     compatible();
     chunks();
     settings();
+    global_settings();
+    publish_subscribe_settings();
+    event_settings();
+    request_response_settings();
     chunks_of();
     files();
     return wrong ? EXIT_FAILURE : EXIT_SUCCESS;

@@ -8,6 +8,7 @@ pub mod Files
 pub mod Layouts
 pub mod Names
 pub mod Paths
+pub mod ReadSettings
 pub mod Requirements
 pub mod Settings
 pub mod Status

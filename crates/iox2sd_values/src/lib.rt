@@ -11,6 +11,7 @@ pub mod files;
 pub mod layout;
 pub mod names;
 pub mod paths;
+pub mod read_settings;
 pub mod settings;
 pub mod status;
 pub mod texts;
