@@ -359,7 +359,7 @@ typedef struct iox2sd_field_answer {
     uint32_t field; /* 0 where the status speaks of no field. */
 } iox2sd_field_answer;
 
-/* The functions that end in `_at` take a pointer and a count of 0 for NULL or 1; call those below. */
+/* Functions that end in `_at` take a pointer and a count of 0 for NULL or 1; call those below. */
 iox2sd_field_answer
 iox2sd_global_settings_check_at(const iox2sd_global_settings *settings, size_t count);
 iox2sd_field_answer
@@ -443,6 +443,201 @@ iox2sd_text_answer iox2sd_service_directory(const uint8_t *root, size_t length, 
 
 /* Writes the directory of nodes below a root path. Errors as above. */
 iox2sd_text_answer iox2sd_node_directory(const uint8_t *root, size_t length, uint8_t *out, size_t capacity);
+
+/* ---- Descriptions ---- */
+
+/* What is fixed of a publish-subscribe service, beside the types of its messages. */
+typedef struct iox2sd_publish_subscribe_config {
+    size_t max_subscribers; /* How many may be attached at once; so are the next two. */
+    size_t max_publishers;
+    size_t max_nodes;
+    size_t history_size;               /* How many a publisher keeps for later subscribers. */
+    size_t subscriber_max_buffer_size; /* How many samples a subscriber's buffer has room for. */
+    size_t subscriber_max_borrowed_samples; /* How many samples a subscriber may hold at once. */
+    bool enable_safe_overflow; /* Whether a new sample replaces the oldest in a full buffer. */
+} iox2sd_publish_subscribe_config;
+
+/* What is fixed of an event service. */
+typedef struct iox2sd_event_config {
+    size_t max_notifiers; /* How many may be attached at once; so are the next two. */
+    size_t max_listeners;
+    size_t max_nodes;
+    size_t event_id_max_value;         /* The greatest number of an event. */
+    iox2sd_optional_duration deadline; /* The longest time between two events. */
+    iox2sd_optional_event_id notifier_created_event;
+    iox2sd_optional_event_id notifier_dropped_event;
+    iox2sd_optional_event_id notifier_dead_event;
+} iox2sd_event_config;
+
+/* What is fixed of a request-response service, beside the types of its messages. */
+typedef struct iox2sd_request_response_config {
+    size_t max_active_requests_per_client; /* How many may be open at each server at once. */
+    size_t max_loaned_requests;      /* How many a client may have taken and not yet sent. */
+    size_t max_response_buffer_size; /* For how many responses to one request there is room. */
+    size_t max_servers;              /* How many may be attached at once; so are the next two. */
+    size_t max_clients;
+    size_t max_nodes;
+    size_t max_borrowed_responses_per_pending_response; /* How many a client may hold at once. */
+    bool enable_safe_overflow_for_requests;
+    bool enable_safe_overflow_for_responses;
+    bool enable_fire_and_forget_requests; /* Whether a client may take no response. */
+} iox2sd_request_response_config;
+
+/* What is fixed of a blackboard service, beside the type of its keys. */
+typedef struct iox2sd_blackboard_config {
+    size_t max_readers; /* How many may be attached at once; so are the next two. */
+    size_t max_writers;
+    size_t max_nodes;
+} iox2sd_blackboard_config;
+
+/* What is fixed of a service, beside its attributes and the types of its messages. It is a plain
+ * value: it points nowhere. */
+typedef struct iox2sd_description {
+    uint8_t name[256]; /* The service's name, then zeros: there is at least one. */
+    size_t name_length;
+    iox2sd_id id;
+    uint8_t hash[64]; /* The hash text, then zeros. It has 27 bytes. */
+    size_t hash_length;
+    uint32_t pattern; /* Its number. */
+    /* That of the pattern; all fields of the others are 0. */
+    iox2sd_publish_subscribe_config publish_subscribe;
+    iox2sd_event_config event;
+    iox2sd_request_response_config request_response;
+    iox2sd_blackboard_config blackboard;
+} iox2sd_description;
+
+/* Functions that end in `_at` take a pointer and a count of 0 for NULL or 1; call those below. */
+iox2sd_field_answer
+iox2sd_describe_publish_subscribe_at(const iox2sd_publish_subscribe_settings *settings,
+    size_t count, const uint8_t *name, size_t length, iox2sd_id id,
+    iox2sd_description *out, size_t out_count);
+iox2sd_field_answer
+iox2sd_describe_internal_publish_subscribe_at(const iox2sd_publish_subscribe_settings *settings,
+    size_t count, const uint8_t *name, size_t length, iox2sd_id id,
+    iox2sd_description *out, size_t out_count);
+iox2sd_field_answer
+iox2sd_describe_event_at(const iox2sd_event_settings *settings,
+    size_t count, const uint8_t *name, size_t length, iox2sd_id id,
+    iox2sd_description *out, size_t out_count);
+iox2sd_field_answer
+iox2sd_describe_internal_event_at(const iox2sd_event_settings *settings,
+    size_t count, const uint8_t *name, size_t length, iox2sd_id id,
+    iox2sd_description *out, size_t out_count);
+iox2sd_field_answer
+iox2sd_describe_request_response_at(const iox2sd_request_response_settings *settings,
+    size_t count, const uint8_t *name, size_t length, iox2sd_id id,
+    iox2sd_description *out, size_t out_count);
+iox2sd_field_answer
+iox2sd_describe_internal_request_response_at(const iox2sd_request_response_settings *settings,
+    size_t count, const uint8_t *name, size_t length, iox2sd_id id,
+    iox2sd_description *out, size_t out_count);
+iox2sd_field_answer
+iox2sd_describe_blackboard_at(const iox2sd_blackboard_settings *settings,
+    size_t count, const uint8_t *name, size_t length, iox2sd_id id,
+    iox2sd_description *out, size_t out_count);
+iox2sd_field_answer
+iox2sd_describe_internal_blackboard_at(const iox2sd_blackboard_settings *settings,
+    size_t count, const uint8_t *name, size_t length, iox2sd_id id,
+    iox2sd_description *out, size_t out_count);
+iox2sd_flag_answer iox2sd_has_same_messaging_pattern_at(const iox2sd_description *left,
+                                                        size_t left_count,
+                                                        const iox2sd_description *right,
+                                                        size_t right_count);
+iox2sd_count_answer iox2sd_samples_of_config_at(const iox2sd_publish_subscribe_config *config,
+                                                size_t count, size_t loaned_samples);
+iox2sd_count_answer iox2sd_requests_of_config_at(const iox2sd_request_response_config *config,
+                                                 size_t count, size_t loaned_requests);
+iox2sd_count_answer iox2sd_responses_of_config_at(const iox2sd_request_response_config *config,
+                                                  size_t count, size_t loaned_responses);
+
+/* Fills a description from a service's settings, its name, which a user gives, and its id. The hash
+ * text is that of iox2sd_hash_text.
+ * Errors, with which the place is as it was: IOX2SD_NULL, of the settings or the place;
+ * IOX2SD_NOT_UTF8; IOX2SD_BAD_SERVICE_NAME, of which iox2sd_service_name_check tells why;
+ * IOX2SD_UNKNOWN_STRATEGY or IOX2SD_BAD_DURATION with the field, as the checks of settings answer;
+ * IOX2SD_ILLEGAL_HASH. */
+static inline iox2sd_field_answer
+iox2sd_describe_publish_subscribe(const iox2sd_publish_subscribe_settings *settings,
+                                  const uint8_t *name, size_t length, iox2sd_id id,
+                                  iox2sd_description *out) {
+    return iox2sd_describe_publish_subscribe_at(settings, settings != NULL, name, length,
+                                                id, out, out != NULL);
+}
+static inline iox2sd_field_answer
+iox2sd_describe_event(const iox2sd_event_settings *settings,
+                      const uint8_t *name, size_t length, iox2sd_id id,
+                      iox2sd_description *out) {
+    return iox2sd_describe_event_at(settings, settings != NULL, name, length,
+                                    id, out, out != NULL);
+}
+static inline iox2sd_field_answer
+iox2sd_describe_request_response(const iox2sd_request_response_settings *settings,
+                                 const uint8_t *name, size_t length, iox2sd_id id,
+                                 iox2sd_description *out) {
+    return iox2sd_describe_request_response_at(settings, settings != NULL, name, length,
+                                               id, out, out != NULL);
+}
+static inline iox2sd_field_answer
+iox2sd_describe_blackboard(const iox2sd_blackboard_settings *settings,
+                           const uint8_t *name, size_t length, iox2sd_id id,
+                           iox2sd_description *out) {
+    return iox2sd_describe_blackboard_at(settings, settings != NULL, name, length,
+                                         id, out, out != NULL);
+}
+
+/* The same for a name that may be one of the system's own. */
+static inline iox2sd_field_answer
+iox2sd_describe_internal_publish_subscribe(const iox2sd_publish_subscribe_settings *settings,
+                                           const uint8_t *name, size_t length, iox2sd_id id,
+                                           iox2sd_description *out) {
+    return iox2sd_describe_internal_publish_subscribe_at(settings, settings != NULL, name, length,
+                                                         id, out, out != NULL);
+}
+static inline iox2sd_field_answer
+iox2sd_describe_internal_event(const iox2sd_event_settings *settings,
+                               const uint8_t *name, size_t length, iox2sd_id id,
+                               iox2sd_description *out) {
+    return iox2sd_describe_internal_event_at(settings, settings != NULL, name, length,
+                                             id, out, out != NULL);
+}
+static inline iox2sd_field_answer
+iox2sd_describe_internal_request_response(const iox2sd_request_response_settings *settings,
+                                          const uint8_t *name, size_t length, iox2sd_id id,
+                                          iox2sd_description *out) {
+    return iox2sd_describe_internal_request_response_at(settings, settings != NULL, name, length,
+                                                        id, out, out != NULL);
+}
+static inline iox2sd_field_answer
+iox2sd_describe_internal_blackboard(const iox2sd_blackboard_settings *settings,
+                                    const uint8_t *name, size_t length, iox2sd_id id,
+                                    iox2sd_description *out) {
+    return iox2sd_describe_internal_blackboard_at(settings, settings != NULL, name, length,
+                                                  id, out, out != NULL);
+}
+
+/* Whether two services have one messaging pattern, whatever is fixed beside it.
+ * Errors: IOX2SD_NULL; IOX2SD_UNKNOWN_PATTERN, of either. */
+static inline iox2sd_flag_answer
+iox2sd_has_same_messaging_pattern(const iox2sd_description *left, const iox2sd_description *right) {
+    return iox2sd_has_same_messaging_pattern_at(left, left != NULL, right, right != NULL);
+}
+
+/* The greatest number of one publisher's samples, one client's requests and one server's responses
+ * that can be in use at once, where a description has this config and the port loans up to so many
+ * of them (a server, for each request) to be written.
+ * Errors: IOX2SD_NULL; IOX2SD_TOO_LARGE past 2^64 - 1. */
+static inline iox2sd_count_answer
+iox2sd_samples_of_config(const iox2sd_publish_subscribe_config *config, size_t loaned_samples) {
+    return iox2sd_samples_of_config_at(config, config != NULL, loaned_samples);
+}
+static inline iox2sd_count_answer
+iox2sd_requests_of_config(const iox2sd_request_response_config *config, size_t loaned_requests) {
+    return iox2sd_requests_of_config_at(config, config != NULL, loaned_requests);
+}
+static inline iox2sd_count_answer
+iox2sd_responses_of_config(const iox2sd_request_response_config *config, size_t loaned_responses) {
+    return iox2sd_responses_of_config_at(config, config != NULL, loaned_responses);
+}
 
 /* ---- Versions ---- */
 

@@ -3,6 +3,8 @@ pub mod Answers
 pub mod Attributes
 pub mod Chunks
 pub mod Compatible
+pub mod Describe
+pub mod Descriptions
 pub mod Details
 pub mod Files
 pub mod Layouts

@@ -2,16 +2,18 @@
 use Rattle.std.specs.Prelude.{◌≡◌, ◌≢◌, ℕ, ◌+◌, ◌*◌, ◌<◌, ◌≤◌, true, false, List, [], ◌∷◌, Option, Some, None, Result, Ok, Err}
 use Rattle.std.specs.Duration.{as_nanos}
 use Rattle.std.specs.declared.time.Duration.{Duration}
+use Rattle.iox2_config.specs.declared.config.blackboard.Blackboard.{Blackboard}
 use Rattle.iox2_config.specs.declared.config.choices.AllocationStrategy.{AllocationStrategy}
 use Rattle.iox2_config.specs.declared.config.choices.BackpressureStrategy.{BackpressureStrategy}
 use Rattle.iox2_config.specs.declared.config.event.Event.{Event}
 use Rattle.iox2_config.specs.declared.config.publish_subscribe.PublishSubscribe.{PublishSubscribe}
 use Rattle.iox2_config.specs.declared.config.request_response.RequestResonse.{RequestResonse}
-use Rattle.iox2sd_values.specs.Settings.{allocation_number, backpressure_number, told_publish_subscribe, told_request_response}
+use Rattle.iox2sd_values.specs.Settings.{allocation_number, backpressure_number, told_blackboard, told_publish_subscribe, told_request_response}
 use Rattle.iox2sd_values.specs.Status.{code}
 use Rattle.iox2sd_values.specs.declared.read_settings.Field.{Field}
 use Rattle.iox2sd_values.specs.declared.read_settings.Field.TheVariants as field
 use Rattle.iox2sd_values.specs.declared.read_settings.FieldAnswer.{FieldAnswer}
+use Rattle.iox2sd_values.specs.declared.settings.BlackboardSettings.{BlackboardSettings}
 use Rattle.iox2sd_values.specs.declared.settings.EventSettings.{EventSettings}
 use Rattle.iox2sd_values.specs.declared.settings.GlobalSettings.{GlobalSettings}
 use Rattle.iox2sd_values.specs.declared.settings.OptionalDuration.{OptionalDuration}
@@ -123,6 +125,11 @@ ReadsRequestResponse s (Err field.ServerAllocationStrategy) =
     IsBackpressure s.client_backpressure_strategy × IsBackpressure s.server_backpressure_strategy
     × IsAllocation s.client_allocation_strategy × ReadsAllocation s.server_allocation_strategy None
 ReadsRequestResponse s (Err _) = ⊥
+
+-- the settings of a blackboard service, which are always valid
+abbrev pub ReadsBlackboard : BlackboardSettings → Result Blackboard Field → Type 0
+ReadsBlackboard s (Ok made) = told_blackboard made ≡ s
+ReadsBlackboard s (Err _) = ⊥
 
 -- the settings of a system: its timeout
 abbrev pub ReadsGlobal : GlobalSettings → Result Duration Field → Type 0

@@ -6,6 +6,8 @@ pub mod attributes;
 pub mod chunks;
 pub mod chunks_of;
 pub mod compatible;
+pub mod describe;
+pub mod descriptions;
 pub mod details;
 pub mod files;
 pub mod layout;

@@ -1,5 +1,6 @@
 //! Settings that a caller filled: which field is invalid, if one is.
 ghost use Rattle.std.specs.Prelude.{◌≡◌};
+ghost use Rattle.iox2sd_values.specs.Settings.{told_blackboard};
 ghost use Rattle.iox2sd_values.specs.ReadSettings.{field_number, field_status, field_answer, no_field};
 ghost use Rattle.iox2sd_values.specs.ReadSettings.{ReadsBackpressure, ReadsAllocation, ReadsDuration};
 ghost use Rattle.iox2sd_values.specs.ReadSettings.{ReadsDeadline, ReadsEventId, ReadsPublishSubscribe};
@@ -8,12 +9,12 @@ ghost use Rattle.iox2sd_values.specs.ReadSettings.{ChecksPublishSubscribe, Check
 ghost use Rattle.iox2sd_values.specs.ReadSettings.{ChecksRequestResponse, ChecksGlobal};
 
 use super::settings::{
-    EventSettings, GlobalSettings, OptionalDuration, OptionalEventId, PlainDuration,
-    PublishSubscribeSettings, RequestResponseSettings,
+    BlackboardSettings, EventSettings, GlobalSettings, OptionalDuration, OptionalEventId,
+    PlainDuration, PublishSubscribeSettings, RequestResponseSettings,
 };
 use super::status::Status;
 use iox2_config::config::{
-    AllocationStrategy, BackpressureStrategy, Event, PublishSubscribe, RequestResonse,
+    AllocationStrategy, BackpressureStrategy, Blackboard, Event, PublishSubscribe, RequestResonse,
 };
 use std::time::Duration;
 
@@ -186,6 +187,16 @@ pub(super) fn read_publish_subscribe(
         subscriber_expired_connection_buffer: settings.subscriber_expired_connection_buffer,
         publisher_allocation_strategy,
     })
+}
+
+/// The settings of a blackboard service, which are always valid.
+pub(super) fn read_blackboard(settings: &BlackboardSettings) -> Blackboard
+    ensures { told_blackboard result ≡ settings.now }
+{
+    Blackboard {
+        max_readers: settings.max_readers,
+        max_nodes: settings.max_nodes,
+    }
 }
 
 /// The settings of an event service, or the first invalid field.

@@ -181,7 +181,7 @@ fn allocation_number(strategy: AllocationStrategy) -> u32
 }
 
 /// The span of time, if there is one.
-fn duration_of(duration: Option<Duration>) -> OptionalDuration
+pub(super) fn duration_of(duration: Option<Duration>) -> OptionalDuration
     ensures { result ≡ told_duration duration }
 {
     match duration {
@@ -199,7 +199,7 @@ fn duration_of(duration: Option<Duration>) -> OptionalDuration
 }
 
 /// The number of the event, if there is one.
-fn event_id_of(event: Option<usize>) -> OptionalEventId
+pub(super) fn event_id_of(event: Option<usize>) -> OptionalEventId
     ensures { result ≡ told_event_id event }
 {
     match event {
