@@ -8,7 +8,7 @@ use service_descriptions::identifiers::{UniqueListenerId, UniqueNodeId};
 use service_descriptions::replay::{Command, ServiceState, replay, replay_line, write_reply};
 use std::alloc::{AllocError, Global};
 
-/// A service with so many places for nodes and for listeners.
+/// A service with this many places for nodes and for listeners.
 fn state(alloc: Global, places: usize) -> Result<ServiceState, AllocError> {
     let ports = event::DynamicConfigSettings {
         number_of_listeners: places,
@@ -75,7 +75,7 @@ fn coming() -> Option<[Command; 2]> {
     ])
 }
 
-/// Listings of so many nodes and ports, and their lines.
+/// Listings of this many nodes and ports, and their lines.
 fn listed(alloc: Global, entries: usize) -> Result<(), AllocError> {
     let mut state = state(alloc, entries)?;
     if let Some(commands) = coming() {

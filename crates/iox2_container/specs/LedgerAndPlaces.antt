@@ -17,6 +17,6 @@ registry_of a cells = record {
   used = a.used;
 }
 
--- they fit together
+-- ledger and cells fit together
 abbrev pub AreRegistry : {T : Type 0} → Ledger → List (Option (Occupant T)) → Type 0
 AreRegistry a cells = IsRegistry (registry_of a cells) × (a.count ≡ length (entries_from 0 cells))

@@ -1,4 +1,5 @@
--- What a pattern is once a borrow of its configuration ends: the same pattern, with what the borrow left there.
+-- What a pattern is once a borrow of its configuration
+-- ends: the same pattern, with what the borrow left there.
 use Rattle.std.specs.Borrow.{Lends, MutBor, Fml}
 use Rattle.iox2_static.specs.declared.static_config.messaging_pattern.MessagingPattern.{MessagingPattern}
 use Rattle.iox2_static.specs.declared.static_config.messaging_pattern.MessagingPattern.TheVariants as pattern

@@ -1,4 +1,5 @@
--- What a description is once a borrow of its pattern's configuration ends: as before, with what the borrow left there.
+-- What a description is once a borrow of its pattern's
+-- configuration ends: as before, with what the borrow left there.
 use Rattle.std.specs.Borrow.{Lends, MutBor, Fml}
 use Rattle.iox2_static.specs.declared.static_config.messaging_pattern.MessagingPattern.TheVariants as pattern
 use Rattle.iox2_static.specs.declared.static_config.request_response.StaticConfig.{StaticConfig as RequestResponseConfig}

@@ -23,7 +23,7 @@ EndsPlain bytes = IsPlain (after_last is_slash bytes)
 abbrev pub is_restricted : ℕ → Bool
 is_restricted b = is_ascii_alphanumeric b || list_any (nat_eq b) (codes "-.:_")
 
--- such bytes alone and at least one, and neither `.` nor `..`
+-- such letters, digits and signs alone, at least one, and neither `.` nor `..`
 abbrev pub IsRestricted : List ℕ → Type 0
 IsRestricted bytes =
     (1 ≤ length bytes) × All (λ b. IsTrue (is_restricted b)) bytes × (bytes ≢ codes ".") × (bytes ≢ codes "..")

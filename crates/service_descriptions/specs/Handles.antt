@@ -10,7 +10,7 @@ use Rattle.service_descriptions.specs.declared.replay.earlier.Earlier.TheVariant
 abbrev pub Gave : List (Option Handle) → ℕ → Handle → Type 0
 Gave handles k handle = slice_get handles k ≡ Some (Some handle)
 
--- k is no earlier command, or one that was answered with no handle
+-- k is not an earlier command, or one that was answered with no handle
 abbrev pub GaveNone : List (Option Handle) → ℕ → Type 0
 GaveNone handles k = (handle : Handle) → ¬ (Gave handles k handle)
 

@@ -169,8 +169,8 @@ IsDeadFront front = IsNodeId front.0 × IsSkipFront (front.1, front.2)
 abbrev pub dead_front : ℕ × List ℕ × List ℕ → List ℕ
 dead_front front = id_text front.0 ++ skip_front (front.1, front.2)
 
--- Ports were read after others, and what is left does not go on with them. Where nothing is left to tell, the bytes
--- have no such ports at their front.
+-- Ports were read after others, and what is left does not go on with them. Where `None` is
+-- answered, the bytes have no such ports at their front.
 abbrev pub GoesOn : List ℕ → List ℕ → Option (List ℕ) → List ℕ → Type 0
 GoesOn before bytes (Some rest) after =
     (ports : List ℕ) × (after ≡ before ++ ports) × AllByRecursion IsId ports × (bytes ≡ ports_then ports rest) × (get_or rest 0 0 ≢ 32) × EndsNumber rest

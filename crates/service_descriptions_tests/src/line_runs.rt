@@ -83,7 +83,7 @@ fn worked_scripts(rt: HostRuntime) -> Result<(), Fail> {
 fn serve_lines(alloc: Global, way: Way, out: &mut Vec<u8>) -> Result<(), Fail> {
     let lines = [
         "register 1.0.0.1",
-        // A bad line is no command: the next handle is that of command 1.
+        // A bad line is not a command: the next handle is that of command 1.
         "register 1.0.0.1 ",
         "register 1.0.0.1\n",
         "",

@@ -22,7 +22,8 @@ abbrev pub response_limits_of : Defaults → List ℕ
 response_limits_of d =
     server_limits (request_response_of d.request_response) d.request_response.server_max_loaned_responses_per_request
 
--- ports of this name send this message, which is called so, and of one port that many are in use at most
+-- ports of this name send this message, which is called
+-- so, and of one port that many are in use at most
 pub record IsSegment (s : Segment) (title port : List ℕ) (message : Message) (limits : List ℕ) : Type 0 where
   pub called : s.title.now ≡ title
   pub sender : s.port.now ≡ port

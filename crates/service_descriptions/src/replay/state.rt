@@ -21,8 +21,8 @@ use iox2_static::static_config::StaticConfig;
 use std::alloc::{AllocError, Global};
 use std::marker::Model;
 
-/// A service, its description or none, and for each earlier command the handle that it was answered with. No two of
-/// these handles are equal.
+/// A service, its description or none, and for each earlier command the handle that it was answered
+/// with. No two of these handles are equal.
 #[derive(Drop)]
 pub struct ServiceState {
     service: DynamicConfig,
@@ -43,9 +43,9 @@ impl Model for ServiceState {
 }
 
 impl ServiceState {
-    /// A service without nodes, ports and description, for at most `max_nodes` entries of nodes at a time, and for
-    /// 2^64 - 1 entries of each kind in all. Its handles carry the number. Takes all the memory of the service
-    /// itself, or is refused.
+    /// A service without nodes, ports and description, for at most `max_nodes` entries of nodes at
+    /// a time, and for 2^64 - 1 entries of each kind in all. Its handles carry the number. Takes
+    /// all the memory of the service itself, or is refused.
     pub fn new(
         alloc: Global,
         settings: &MessagingPatternSettings,
@@ -69,8 +69,8 @@ impl ServiceState {
         self.service.kind()
     }
 
-    /// Describes the service, in place of what described it before. The description is one of a service of this
-    /// [`kind`](ServiceState::kind).
+    /// Describes the service, in place of what described it before. The description is one of a
+    /// service of this [`kind`](ServiceState::kind).
     pub fn describe(&mut self, description: StaticConfig)
         requires { kind_of description.pattern ≡ self.old.service.pattern }
         ensures { self.new ≡ record self.old { description = Some description } }
@@ -78,7 +78,7 @@ impl ServiceState {
         self.description = Some(description);
     }
 
-    /// Takes the room for what is kept of so many more commands, or is refused.
+    /// Takes the room for what is kept of this many more commands, or is refused.
     pub(super) fn reserve(&mut self, commands: usize) -> Result<(), AllocError>
         ensures { self.new ≡ self.old }
     {
@@ -132,8 +132,9 @@ impl ServiceState {
 #[tactic(auto, using(iox2_dynamic::proofs::Keeping::locked_has_no_port))]
 /// Gives the commands to the service in turn, and appends a reply for each.
 ///
-/// Commands of one state are numbered from 0 over all calls. Where memory is refused, the state is after exactly as
-/// many of the commands as replies were appended, and fewer than all were: the rest may be given again.
+/// Commands of one state are numbered from 0 over all calls. Where memory is refused, the state is
+/// after exactly as many of the commands as replies were appended, and fewer than all were: the
+/// rest may be given again.
 pub fn replay(
     alloc: Global,
     state: &mut ServiceState,
@@ -148,7 +149,7 @@ pub fn replay(
     ensures no_port { IsTrue state.new.service.nodes.registry.locked
         → HasNoPort state.new.service.ports }
 {
-    // Tells the proof what is true of every state.
+    // For the proof: what is true of every state.
     let _service = &state.service;
     for command in commands {
         replies.reserve(1)?;
@@ -159,11 +160,12 @@ pub fn replay(
 }
 
 #[tactic(auto, using(iox2_dynamic::proofs::Keeping::locked_has_no_port))]
-/// Gives the service the command that a line without its newline spells, as [`read_line`](super::read_line) reads it,
+/// Gives the service the command that a line without its
+/// newline spells, as [`read_line`](super::read_line) reads it,
 /// and appends its reply. Says whether the line spells one.
 ///
-/// It is quicker than reading the line and replaying its command. Where the line spells none, or memory is refused,
-/// nothing has changed.
+/// It is quicker than reading the line and replaying its command. Where the line spells none, or
+/// memory is refused, nothing has changed.
 pub fn replay_line(
     alloc: Global,
     state: &mut ServiceState,
@@ -177,7 +179,7 @@ pub fn replay_line(
     ensures no_port { IsTrue state.new.service.nodes.registry.locked
         → HasNoPort state.new.service.ports }
 {
-    // Tells the proof what is true of every state.
+    // For the proof: what is true of every state.
     let _service = &state.service;
     replies.reserve(1)?;
     let Some(command) = line_command(alloc, line)? else {
