@@ -333,7 +333,7 @@ def written(function: Any, *arguments: Any) -> "tuple[int, str]":
     """The status of a call that writes a text, and the text; it is called again with the room
     that it asks for.
     """
-    capacity = 256
+    capacity = 64
     while True:
         out = (c_uint8 * capacity)()
         answer = function(*arguments, out, capacity)
