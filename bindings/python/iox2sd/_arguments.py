@@ -17,10 +17,13 @@ Size = Annotated[int, ctypes.c_size_t]
 
 
 def shown(value: object) -> str:
-    """What an error prints of a value: its first characters where it is long."""
-    if isinstance(value, int) and value.bit_length() > 128:
-        return f"an integer of {value.bit_length()} bits"
-    text = repr(value)
+    """What an error prints of a value: the first characters of a long one, and the type alone of
+    one that cannot be printed, as an integer of thousands of digits.
+    """
+    try:
+        text = repr(value)
+    except Exception:
+        return f"a value of type {type(value).__name__}"
     return text if len(text) <= 80 else f"{text[:76]} .."
 
 

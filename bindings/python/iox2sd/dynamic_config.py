@@ -69,13 +69,13 @@ class DeregisterNodeState(enum.Enum):
 
 
 @dataclass(frozen=True, slots=True)
-class DeadNode:
+class DeadNode(Checked):
     """What went with a dead node, and what is left."""
 
     state: DeregisterNodeState
-    first: int
+    first: Size
     """How many publishers, listeners, servers or readers went."""
-    second: int
+    second: Size
     """How many subscribers, notifiers, clients or writers went."""
 
 
@@ -259,7 +259,8 @@ class DynamicConfig:
 
     def has_role(self, role: Role) -> bool:
         """Whether the pattern has ports of a role; False for `Role.NODE`."""
-        return self._flag("has_role", _native.has_role_at, self._role(role))
+        instance(role, Role, "has_role")
+        return self._flag("has_role", _native.has_role_at, role.value)
 
     @property
     def is_locked(self) -> bool:
@@ -285,17 +286,20 @@ class DynamicConfig:
 
     def count_ports(self, role: Role) -> int:
         """How many ports of a role there are. Raises `RoleNotInPattern`."""
-        return self._count(f"count ports, {role}", _native.count_ports_at, self._role(role))
+        instance(role, Role, "count_ports")
+        return self._count(f"count ports, {role}", _native.count_ports_at, role.value)
 
     def max_ports(self, role: Role) -> int:
         """How many ports of a role there may be at a time. Raises `RoleNotInPattern`."""
-        return self._count(f"max ports, {role}", _native.max_ports_at, self._role(role))
+        instance(role, Role, "max_ports")
+        return self._count(f"max ports, {role}", _native.max_ports_at, role.value)
 
     def has_room(self, role: Role) -> bool:
         """Whether a port of a role could be attached, if its node is registered. Raises
         `RoleNotInPattern`.
         """
-        return self._flag(f"has room, {role}", _native.has_room_at, self._role(role))
+        instance(role, Role, "has_room")
+        return self._flag(f"has room, {role}", _native.has_room_at, role.value)
 
     def node(self, handle: ContainerHandle) -> UniqueNodeId:
         """The node that was registered with a handle. Raises `ForeignHandle` where it is not there
@@ -324,8 +328,9 @@ class DynamicConfig:
 
     def list_ports(self, role: Role) -> "tuple[PortDetails, ...]":
         """The ports of a role by rising slot. Raises `RoleNotInPattern`."""
+        instance(role, Role, "list_ports")
         what = f"list ports, {role}"
-        ports = self._listed(what, _native.Port, _native.ports_at, self._role(role))
+        ports = self._listed(what, _native.Port, _native.ports_at, role.value)
         return tuple(details_of(port) for port in ports)
 
     def ports_of(self, node_id: UniqueNodeId) -> "tuple[PortDetails, ...]":
@@ -422,8 +427,3 @@ class DynamicConfig:
                 check(answer.status, what)
                 return list(out[: answer.count])
             capacity = answer.count
-
-    @staticmethod
-    def _role(role: Role) -> int:
-        instance(role, Role, "role")
-        return int(role.value)

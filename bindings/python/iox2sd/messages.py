@@ -44,21 +44,21 @@ class TypeDetail(Checked):
 
 
 @dataclass(frozen=True, slots=True)
-class Layout:
+class Layout(Checked):
     """The room for a message."""
 
-    size: int
+    size: Size
     """In bytes, at most 2^63 - 1."""
-    alignment: int
+    alignment: Size
     """The number of which the message's place is to be a multiple."""
 
 
 @dataclass(frozen=True, slots=True)
-class Places:
+class Places(Checked):
     """The places of two parts of a message."""
 
-    user_header: int
-    payload: int
+    user_header: Size
+    payload: Size
 
 
 @dataclass(frozen=True, slots=True)

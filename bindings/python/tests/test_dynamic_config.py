@@ -408,7 +408,7 @@ class Ends(unittest.TestCase):
 class Arguments(unittest.TestCase):
     def test_wrong_types(self):
         with service() as made:
-            wrong: "list[Any]" = [None, 0, True, "x", publisher(1).publisher_id, made]
+            wrong: "list[Any]" = [None, 0, True, "x", publisher(1).publisher_id, made, 10**5000]
             for value in wrong:
                 for call in (
                     made.register_node_id,
@@ -426,7 +426,7 @@ class Arguments(unittest.TestCase):
                     made.ports_of,
                     lambda value: made.remove_dead_node_id(NODE, [value, NODE]),
                 ):
-                    with self.subTest(value=value), self.assertRaises(iox2sd.WrongType):
+                    with self.assertRaises(iox2sd.WrongType):
                         call(value)
 
     def test_makers(self):

@@ -39,6 +39,20 @@ class Errors(unittest.TestCase):
             iox2sd.ServiceName("a" * 10**6)
         self.assertLess(len(str(caught.exception)), 200)
 
+    def test_values_that_cannot_be_printed(self):
+        class Unprintable:
+            def __repr__(self):
+                raise ValueError
+
+        cases = {
+            iox2sd.OutOfRange: (10**5000, "0 to 2^64 - 1, got a value of type int"),
+            iox2sd.WrongType: (Unprintable(), "int, got a value of type Unprintable"),
+        }
+        for error, (value, text) in cases.items():
+            with self.assertRaises(error) as caught:
+                iox2sd.EventId(value)
+            self.assertEqual(str(caught.exception), f"EventId.value: expected {text}")
+
     def test_a_status_without_a_class(self):
         with self.assertRaises(iox2sd.Refused) as caught:
             errors.check(2**32 - 1, "a call")
