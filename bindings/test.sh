@@ -41,16 +41,31 @@ same_exports() {
     [ -s "$work/archive" ] && ! grep -v '^iox2sd_' "$work/archive" && diff "$work/archive" "$work/shared"
 }
 
-caller gcc iox2_ffi c/test.c -std=c99
-caller clang iox2_ffi c/test.c -std=c99
-caller g++ iox2_ffi c/test.cpp -std=c++11
-caller clang++ iox2_ffi c/test.cpp -std=c++11
+# The statuses of the header and of each crate: a number has one name, a name has one number, and the crate that has the
+# texts has all that the header has.
+same_statuses() {
+    sed -n '/^enum iox2sd_status {/,/^}/s/^ *IOX2SD_\([A-Z0-9_]*\) = \([0-9]*\).*/\2 \1/p' ../include/iox2sd.h |
+        awk '{ n = split($2, words, "_"); name = ""
+               for (i = 1; i <= n; i++) name = name substr(words[i], 1, 1) tolower(substr(words[i], 2))
+               print $1, name }' | sort > "$work/header"
+    for crate in iox2sd iox2sd_values iox2sd_script; do
+        sed -n 's/^    \([A-Z][A-Za-z0-9]*\) = \([0-9]*\),$/\2 \1/p' "../crates/$crate/src/status.rt" | sort > "$work/$crate"
+    done
+    sort -u "$work/header" "$work"/iox2sd* > "$work/all"
+    [ -s "$work/header" ] && [ -s "$work/iox2sd_values" ] && [ -s "$work/iox2sd_script" ] &&
+        diff "$work/header" "$work/iox2sd" &&
+        [ -z "$(cut -d ' ' -f 1 "$work/all" | sort | uniq -d)$(cut -d ' ' -f 2 "$work/all" | sort | uniq -d)" ]
+}
+
 for compiler in gcc clang; do
     caller "$compiler" iox2sd c/test_service.c -std=c99 -D_GNU_SOURCE
     caller "$compiler" iox2sd c/test_values.c -std=c99
+    caller "$compiler" iox2sd c/test_script.c -std=c99 -Wl,--wrap=malloc,--wrap=realloc
+    caller "$compiler" iox2sd c/test_walk.c -std=c99
 done
 caller g++ iox2sd c/test_values.cpp -std=c++11
 caller clang++ iox2sd c/test_values.cpp -std=c++11
+run "statuses agree" same_statuses
 if has nm; then run "libiox2sd exports iox2sd_* alone" same_exports; fi
 if has cargo; then
     run "cargo test" env CARGO_TARGET_DIR="$work/rust" cargo test --quiet --offline --manifest-path rust/Cargo.toml
