@@ -519,6 +519,29 @@ static void *own_service(void *number) {
     return NULL;
 }
 
+/* Registers and deregisters nodes of a service that came from another thread. */
+static void *use_moved(void *place) {
+    iox2sd_service *service = place;
+    iox2sd_handle_answer made = iox2sd_register(service, id(5, 6, 7, 8));
+    bool good = gives(made, handle(77, IOX2SD_NODE, 1, 1));
+    good = good && iox2sd_deregister(service, handle(77, IOX2SD_NODE, 0, 0)) == IOX2SD_DONE;
+    return good ? place : NULL;
+}
+
+/* A service that is made on one thread, used on another, and freed on the first. */
+static void moving(void) {
+    iox2sd_service service = IOX2SD_SERVICE_NONE;
+    pthread_t other;
+    void *used = NULL;
+    iox2sd_service_make(&service, IOX2SD_EVENT, 77, capacities(2, 3, 4), 9);
+    CHECK(gives(iox2sd_register(&service, id(1, 2, 3, 4)), handle(77, IOX2SD_NODE, 0, 0)));
+    CHECK(pthread_create(&other, NULL, use_moved, &service) == 0);
+    CHECK(pthread_join(other, &used) == 0 && used == &service);
+    CHECK(iox2sd_deregister(&service, handle(77, IOX2SD_NODE, 0, 0)) == IOX2SD_FOREIGN_HANDLE);
+    CHECK(iox2sd_deregister(&service, handle(77, IOX2SD_NODE, 1, 1)) == IOX2SD_DONE_LOCKED);
+    CHECK(iox2sd_service_free(&service) == IOX2SD_DONE);
+}
+
 /* A service in each of sixteen threads. */
 static void threads(void) {
     pthread_t made[16];
@@ -545,6 +568,7 @@ int main(void) {
     attaching();
     flat_memory();
     threads();
+    moving();
     printf("%d checks, %d failed\n", checks, failed);
     return failed != 0;
 }
