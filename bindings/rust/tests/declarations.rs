@@ -171,8 +171,10 @@ fn of_sys(sys: &str) -> Declarations {
 
 #[test]
 fn each_declaration_is_that_of_the_headers() {
-    let mut headers = of_header(&read("../../include/iox2sd.h"));
-    headers.extend(of_header(&read("../../include/iox2sd_values.h")));
+    let headers: Declarations = ["iox2sd.h", "iox2sd_values.h", "iox2sd_script.h"]
+        .iter()
+        .flat_map(|name| of_header(&read(&format!("../../include/{name}"))))
+        .collect();
     let sys = of_sys(&read("src/sys.rs"));
     for prefix in ["IOX2SD_", "iox2sd_"] {
         let count = sys.keys().filter(|name| name.starts_with(prefix)).count();
