@@ -37,7 +37,8 @@
 extern "C" {
 #endif
 
-/* What a call answers. iox2sd_status_text has a text for each up to IOX2SD_UNKNOWN_STATUS that a call of this header answers. */
+/* What a call of this header, of iox2sd_values.h or of iox2sd_script.h answers.
+ * iox2sd_status_text has a text for each. */
 enum iox2sd_status {
     IOX2SD_DONE = 0,
     IOX2SD_DONE_LOCKED = 1,      /* It was done, and the service is locked for good: no node registers any more. */
@@ -55,12 +56,11 @@ enum iox2sd_status {
     IOX2SD_NODE_NOT_REGISTERED = 13,  /* The node of the port is not. */
     IOX2SD_ROLE_NOT_IN_PATTERN = 14,
     IOX2SD_UNKNOWN_SEGMENT = 15,
-    IOX2SD_BAD_KEY = 16,   /* A key of a pair is none: iox2sd_attribute_key_check tells why. */
-    IOX2SD_BAD_VALUE = 17, /* A value of a pair is none: iox2sd_attribute_value_check tells why. */
+    IOX2SD_BAD_KEY = 16,   /* A key of a pair is invalid: iox2sd_attribute_key_check says why. */
+    IOX2SD_BAD_VALUE = 17, /* A value of a pair is invalid: iox2sd_attribute_value_check says why. */
     IOX2SD_TOO_MANY = 18,  /* There are more than sixteen pairs. */
-    IOX2SD_NULL = 20, /* NULL where a struct is expected. */
+    IOX2SD_NULL = 20,      /* NULL where a struct is expected. */
     IOX2SD_UNKNOWN_STATUS = 21,
-    /* Those of iox2sd_values.h. */
     IOX2SD_EMPTY = 40,
     IOX2SD_TOO_LONG = 41,
     IOX2SD_ILLEGAL_BYTE = 42,
@@ -86,7 +86,10 @@ enum iox2sd_status {
     IOX2SD_OTHER_SIZE = 62,
     IOX2SD_OTHER_ALIGNMENT = 63,
     IOX2SD_GREATER_ALIGNMENT = 64,
-    IOX2SD_UNKNOWN_TEXT = 65
+    IOX2SD_UNKNOWN_TEXT = 65,
+    IOX2SD_BAD_LINE = 66, /* A line of a script is not valid. */
+    IOX2SD_UNKNOWN_STRATEGY = 67,
+    IOX2SD_BAD_DURATION = 68 /* The nanoseconds beside the seconds are 1,000,000,000 or more. */
 };
 
 /* Messaging patterns. */
@@ -271,6 +274,8 @@ iox2sd_port_answer iox2sd_find_port_at(iox2sd_service *places, size_t count, iox
 iox2sd_count_answer iox2sd_nodes_at(iox2sd_service *places, size_t count, iox2sd_id *out, size_t capacity);
 iox2sd_count_answer iox2sd_ports_at(iox2sd_service *places, size_t count, uint64_t role, iox2sd_port *out,
                                     size_t capacity);
+iox2sd_count_answer iox2sd_ports_of_at(iox2sd_service *places, size_t count, iox2sd_id node,
+                                       iox2sd_port *out, size_t capacity);
 
 /* Makes a service with nothing attached. `number` is told in its handles, and `tickets` tickets are given out for nodes and
  * for each kind of ports: each registering and each attaching takes one, and none comes back. UINT64_MAX is for all.
@@ -331,6 +336,19 @@ static inline iox2sd_count_answer iox2sd_ports(iox2sd_service *service, uint64_t
     iox2sd_count_answer refused = {IOX2SD_NULL, 0};
     if (out == NULL && capacity != 0) return refused;
     return iox2sd_ports_at(service, service != NULL, role, out, capacity);
+}
+
+/* Lists the ports of a node, by its whole id, at the front of `out`, whose other places stay as they
+ * were: those of the pattern's first kind before those of its second, each kind by rising slot. These
+ * are the ports that iox2sd_dead removes or keeps.
+ * Errors: IOX2SD_NULL; IOX2SD_NO_SERVICE; IOX2SD_NO_NODE; IOX2SD_BUFFER_TOO_SHORT with the number of
+ * ports that there are, or IOX2SD_TOO_LARGE where that number passes SIZE_MAX. Then `out` is as it
+ * was. */
+static inline iox2sd_count_answer iox2sd_ports_of(iox2sd_service *service, iox2sd_id node,
+                                                  iox2sd_port *out, size_t capacity) {
+    iox2sd_count_answer refused = {IOX2SD_NULL, 0};
+    if (out == NULL && capacity != 0) return refused;
+    return iox2sd_ports_of_at(service, service != NULL, node, out, capacity);
 }
 
 /* The messaging pattern, of enum iox2sd_pattern_number. Errors: IOX2SD_NULL; IOX2SD_NO_SERVICE. */

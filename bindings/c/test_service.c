@@ -1,35 +1,11 @@
 /* Calls each function of iox2sd.h on services, ids and statuses, and each of their refusals, with unequal values in all places.
- * Compiled as C99 and linked with libiox2sd.a and -pthread. The last line is 'N checks, N failed'. */
-#include "iox2sd.h"
+ * Compiled as C99 and linked with libiox2sd.a. The last line is 'N checks, N failed'. */
+#include "check.h"
 
-#include <malloc.h>
-#include <pthread.h>
-#include <stdio.h>
 #include <string.h>
-
-static int checks, failed;
-
-static void check(bool holds, int line, const char *what) {
-    checks++;
-    if (!holds) {
-        failed++;
-        printf("line %d: %s\n", line, what);
-    }
-}
-
-#define CHECK(condition) check(condition, __LINE__, #condition)
 
 static bool same_text(const uint8_t *out, iox2sd_text_answer answer, const char *wanted) {
     return answer.status == IOX2SD_DONE && answer.length == strlen(wanted) && memcmp(out, wanted, answer.length) == 0;
-}
-
-static iox2sd_id id(uint32_t process, uint32_t seconds, uint32_t nanoseconds, uint32_t counter) {
-    iox2sd_id made;
-    made.process = process;
-    made.seconds = seconds;
-    made.nanoseconds = nanoseconds;
-    made.counter = counter;
-    return made;
 }
 
 static bool same_id(iox2sd_id a, iox2sd_id b) { return memcmp(&a, &b, sizeof a) == 0; }
@@ -73,14 +49,6 @@ static bool went(iox2sd_death_answer answer, uint32_t status, size_t first, size
     return answer.status == status && answer.first == first && answer.second == second;
 }
 
-static iox2sd_capacities capacities(size_t nodes, size_t first, size_t second) {
-    iox2sd_capacities made;
-    made.nodes = nodes;
-    made.first = first;
-    made.second = second;
-    return made;
-}
-
 static iox2sd_port port(uint64_t role, iox2sd_id its, iox2sd_id node) {
     iox2sd_port made;
     memset(&made, 0, sizeof made);
@@ -99,22 +67,41 @@ static bool same_port(const iox2sd_port *a, const iox2sd_port *b) {
            a->max_number_of_segments == b->max_number_of_segments;
 }
 
+/* Whether a number is that of a status. */
+static bool is_status(uint32_t number) { return number <= 18 || number == 20 || number == 21 || (40 <= number && number <= 66); }
+
 static void statuses(void) {
-    static const uint32_t known[] = {0, 1, 2, 3, 4, 5, 6, 7, 8, 9, 10, 11, 12, 13, 14, 15, 20, 21};
-    uint8_t out[64], before[64];
-    for (size_t i = 0; i < sizeof known / sizeof *known; i++) {
-        iox2sd_text_answer needed = iox2sd_status_text(known[i], NULL, 0);
-        CHECK(needed.status == IOX2SD_BUFFER_TOO_SHORT && 0 < needed.length && needed.length <= sizeof out);
+    enum { MOST = 80 };
+    uint8_t texts[MOST][64], out[64], before[64];
+    size_t lengths[MOST];
+    for (uint32_t number = 0; number < MOST; number++) {
+        iox2sd_text_answer needed = iox2sd_status_text(number, NULL, 0);
         memset(out, 7, sizeof out);
         memcpy(before, out, sizeof out);
-        CHECK(iox2sd_status_text(known[i], out, needed.length - 1).status == IOX2SD_BUFFER_TOO_SHORT);
+        lengths[number] = 0;
+        if (!is_status(number)) {
+            CHECK(needed.status == IOX2SD_UNKNOWN_STATUS && needed.length == 0);
+            CHECK(iox2sd_status_text(number, out, sizeof out).status == IOX2SD_UNKNOWN_STATUS);
+            CHECK(memcmp(out, before, sizeof out) == 0);
+            continue;
+        }
+        CHECK(needed.status == IOX2SD_BUFFER_TOO_SHORT && 0 < needed.length && needed.length <= sizeof out);
+        CHECK(iox2sd_status_text(number, out, needed.length - 1).status == IOX2SD_BUFFER_TOO_SHORT);
         CHECK(memcmp(out, before, sizeof out) == 0);
-        CHECK(iox2sd_status_text(known[i], out, needed.length).status == IOX2SD_DONE);
+        CHECK(iox2sd_status_text(number, out, needed.length).status == IOX2SD_DONE);
         CHECK(needed.length == sizeof out || out[needed.length] == 7);
+        lengths[number] = needed.length;
+        memcpy(texts[number], out, needed.length);
+        for (uint32_t other = 0; other < number; other++) {
+            CHECK(lengths[other] != lengths[number] || memcmp(texts[other], texts[number], lengths[number]) != 0);
+        }
     }
     CHECK(same_text(out, iox2sd_status_text(IOX2SD_DONE, out, sizeof out), "done"));
     CHECK(same_text(out, iox2sd_status_text(IOX2SD_OUT_OF_SPACE, out, sizeof out), "no place or no ticket is left"));
     CHECK(same_text(out, iox2sd_status_text(IOX2SD_NULL, out, sizeof out), "NULL"));
+    CHECK(same_text(out, iox2sd_status_text(IOX2SD_BAD_KEY, out, sizeof out), "not a key of a pair"));
+    CHECK(same_text(out, iox2sd_status_text(IOX2SD_TOO_LARGE, out, sizeof out), "the answer would pass its range"));
+    CHECK(same_text(out, iox2sd_status_text(IOX2SD_BAD_LINE, out, sizeof out), "a line of the script is not valid"));
     iox2sd_text_answer unknown = iox2sd_status_text(UINT32_MAX, out, sizeof out);
     CHECK(unknown.status == IOX2SD_UNKNOWN_STATUS && unknown.length == 0);
     CHECK(iox2sd_abi() == IOX2SD_ABI);
@@ -155,6 +142,8 @@ static void null_and_empty_places(void) {
     CHECK(went(iox2sd_dead(&none, node, NULL, 1), IOX2SD_NULL, 0, 0));
     CHECK(counts(iox2sd_ports(NULL, IOX2SD_PUBLISHER, NULL, 0), IOX2SD_NULL, 0));
     CHECK(counts(iox2sd_ports(&none, IOX2SD_PUBLISHER, NULL, 1), IOX2SD_NULL, 0));
+    CHECK(counts(iox2sd_ports_of(NULL, id(0, 1, 1, 0), NULL, 0), IOX2SD_NULL, 0));
+    CHECK(counts(iox2sd_ports_of(&none, id(0, 1, 1, 0), NULL, 1), IOX2SD_NULL, 0));
     iox2sd_service *places[] = {NULL, &none};
     uint32_t wanted[] = {IOX2SD_NULL, IOX2SD_NO_SERVICE};
     for (size_t i = 0; i < 2; i++) {
@@ -184,6 +173,7 @@ static void null_and_empty_places(void) {
     CHECK(iox2sd_release(&none, some) == IOX2SD_NO_SERVICE);
     CHECK(went(iox2sd_dead(&none, id(0, 1, 1, 0), NULL, 0), IOX2SD_NO_SERVICE, 0, 0));
     CHECK(counts(iox2sd_ports(&none, 99, &its, 1), IOX2SD_NO_SERVICE, 0));
+    CHECK(counts(iox2sd_ports_of(&none, id(0, 1, 1, 0), &its, 1), IOX2SD_NO_SERVICE, 0));
 }
 
 static void making(void) {
@@ -312,6 +302,54 @@ static void ports_of_pattern(uint32_t pattern) {
     iox2sd_service_free(&service);
 }
 
+/* The ports of a node among those of another with the same owner id: their kinds, then their slots, tell the order. */
+static void ports_of_nodes(uint32_t pattern) {
+    uint64_t first = first_roles[pattern], second = second_roles[pattern];
+    iox2sd_service service = IOX2SD_SERVICE_NONE;
+    iox2sd_id node = id(1, 2, 3, 4), twin = id(1, 6, 7, 4), absent = id(1, 2, 4, 4);
+    iox2sd_port out[5], before[5], wanted;
+    iox2sd_handle_answer second_slot;
+    iox2sd_service_make(&service, pattern, 77, capacities(2, 3, 4), 9);
+    iox2sd_register(&service, node);
+    iox2sd_register(&service, twin);
+    iox2sd_port its[] = {full(second, 30, node), full(second, 31, twin), full(second, 32, node), full(first, 20, node),
+                         full(first, 21, twin), full(first, 22, node)};
+    for (size_t i = 0; i < 6; i++) {
+        iox2sd_handle_answer made = iox2sd_attach(&service, &its[i]);
+        CHECK(made.status == IOX2SD_DONE);
+        if (i == 0) second_slot = made;
+    }
+    for (size_t i = 0; i < 5; i++) out[i] = full(IOX2SD_NODE, 50, twin);
+    memcpy(before, out, sizeof out);
+    CHECK(counts(iox2sd_ports_of(&service, id(0, 2, 3, 0), NULL, 0), IOX2SD_NO_NODE, 0));
+    CHECK(counts(iox2sd_ports_of(&service, node, NULL, 0), IOX2SD_BUFFER_TOO_SHORT, 4));
+    CHECK(counts(iox2sd_ports_of(&service, node, out, 3), IOX2SD_BUFFER_TOO_SHORT, 4));
+    CHECK(counts(iox2sd_ports_of(&service, absent, out, 5), IOX2SD_DONE, 0));
+    CHECK(counts(iox2sd_ports_of(&service, absent, NULL, 0), IOX2SD_DONE, 0));
+    for (size_t i = 0; i < 5; i++) CHECK(same_port(&out[i], &before[i]));
+    CHECK(counts(iox2sd_ports_of(&service, node, out, 4), IOX2SD_DONE, 4));
+    static const uint32_t in_order[] = {20, 22, 30, 32};
+    for (size_t i = 0; i < 4; i++) {
+        wanted = told(i < 2 ? first : second, in_order[i], node);
+        CHECK(same_port(&out[i], &wanted));
+    }
+    CHECK(same_port(&out[4], &before[4]));
+    /* a port that came later stands where its slot is */
+    iox2sd_release(&service, second_slot.handle);
+    iox2sd_port late = full(second, 33, node);
+    CHECK(gives(iox2sd_attach(&service, &late), handle(77, second, 0, 3)));
+    CHECK(counts(iox2sd_ports_of(&service, node, out, 5), IOX2SD_DONE, 4));
+    wanted = told(second, 33, node);
+    CHECK(same_port(&out[2], &wanted));
+    CHECK(counts(iox2sd_ports_of(&service, twin, out, 2), IOX2SD_DONE, 2));
+    wanted = told(second, 31, twin);
+    CHECK(same_port(&out[1], &wanted));
+    CHECK(went(iox2sd_dead(&service, node, NULL, 0), IOX2SD_DONE, 2, 2));
+    CHECK(counts(iox2sd_ports_of(&service, node, NULL, 0), IOX2SD_DONE, 0));
+    CHECK(counts(iox2sd_ports_of(&service, twin, NULL, 0), IOX2SD_BUFFER_TOO_SHORT, 2));
+    iox2sd_service_free(&service);
+}
+
 /* What a service tells of itself, with unequal numbers in all places. */
 static void questions_of_pattern(uint32_t pattern) {
     uint64_t first = first_roles[pattern], second = second_roles[pattern], foreign = first_roles[(pattern + 1) % 4];
@@ -408,61 +446,6 @@ static void attaching(void) {
     iox2sd_service_free(&service);
 }
 
-/* So many calls as fast as they go: how many were not as they should be. */
-static long many(iox2sd_service *service, long rounds) {
-    long bad = 0;
-    iox2sd_id stays = id(9, 9, 9, 9), node = id(1, 2, 3, 4);
-    iox2sd_port its = full(IOX2SD_SUBSCRIBER, 20, stays), out[2];
-    bad += iox2sd_register(service, stays).status != IOX2SD_DONE;
-    for (long i = 0; i < rounds; i++) {
-        node.counter = (uint32_t)i;
-        iox2sd_handle_answer made = iox2sd_register(service, node);
-        bad += made.status != IOX2SD_DONE || made.handle.ticket != (uint64_t)i + 1;
-        iox2sd_handle_answer attached = iox2sd_attach(service, &its);
-        bad += attached.status != IOX2SD_DONE || attached.handle.ticket != (uint64_t)i;
-        bad += !counts(iox2sd_ports(service, IOX2SD_SUBSCRIBER, out, 2), IOX2SD_DONE, 1);
-        bad += iox2sd_release(service, attached.handle) != IOX2SD_DONE;
-        bad += iox2sd_deregister(service, made.handle) != IOX2SD_DONE;
-    }
-    return bad;
-}
-
-/* Ten million calls take no memory that they do not give back. */
-static void flat_memory(void) {
-    iox2sd_service service = IOX2SD_SERVICE_NONE;
-    iox2sd_service_make(&service, IOX2SD_PUBLISH_SUBSCRIBE, 1, capacities(20, 2, 8), UINT64_MAX);
-    size_t before = mallinfo2().uordblks;
-    CHECK(many(&service, 2000000) == 0);
-    CHECK(mallinfo2().uordblks == before);
-    iox2sd_service_free(&service);
-}
-
-static void *own_service(void *number) {
-    iox2sd_service service = IOX2SD_SERVICE_NONE;
-    uint64_t n = *(uint64_t *)number;
-    long bad = iox2sd_service_make(&service, IOX2SD_PUBLISH_SUBSCRIBE, n, capacities(20, 2, 8), UINT64_MAX) != IOX2SD_DONE;
-    bad += many(&service, 10000);
-    iox2sd_handle_answer made = iox2sd_register(&service, id(1, 2, 3, 4));
-    bad += made.handle.service != n;
-    bad += iox2sd_service_free(&service) != IOX2SD_DONE;
-    *(uint64_t *)number = (uint64_t)bad;
-    return NULL;
-}
-
-/* A service in each of sixteen threads. */
-static void threads(void) {
-    pthread_t made[16];
-    uint64_t numbers[16];
-    for (uint64_t i = 0; i < 16; i++) {
-        numbers[i] = 1000 + i;
-        CHECK(pthread_create(&made[i], NULL, own_service, &numbers[i]) == 0);
-    }
-    for (size_t i = 0; i < 16; i++) {
-        CHECK(pthread_join(made[i], NULL) == 0);
-        CHECK(numbers[i] == 0);
-    }
-}
-
 int main(void) {
     statuses();
     ids();
@@ -470,10 +453,8 @@ int main(void) {
     making();
     nodes();
     for (uint32_t pattern = 0; pattern < 4; pattern++) ports_of_pattern(pattern);
+    for (uint32_t pattern = 0; pattern < 4; pattern++) ports_of_nodes(pattern);
     for (uint32_t pattern = 0; pattern < 4; pattern++) questions_of_pattern(pattern);
     attaching();
-    flat_memory();
-    threads();
-    printf("%d checks, %d failed\n", checks, failed);
-    return failed != 0;
+    return end_of_checks();
 }

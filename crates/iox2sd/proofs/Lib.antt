@@ -3,4 +3,5 @@ pub mod Steps
 pub mod There
 pub mod Roles
 pub mod Listings
+pub mod NodeListings
 pub mod Dying

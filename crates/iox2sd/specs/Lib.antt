@@ -14,6 +14,7 @@ pub mod Queries
 pub mod Numbers
 pub mod Finding
 pub mod Listings
+pub mod NodeListings
 -- Inner facts: what a slot owns.
 pub mod Slots
 pub mod Heap

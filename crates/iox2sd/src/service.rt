@@ -6,6 +6,7 @@ pub mod changes;
 pub mod death;
 pub mod finding;
 pub mod listing;
+pub mod listing_of_node;
 mod loose;
 pub mod making;
 pub mod node_listing;

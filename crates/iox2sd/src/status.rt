@@ -37,10 +37,70 @@ pub enum Status {
     RoleNotInPattern = 14,
     /// The number is not that of a kind of data segment.
     UnknownSegment = 15,
+    /// A key of a pair is not valid.
+    BadKey = 16,
+    /// A value of a pair is not valid.
+    BadValue = 17,
+    /// There are more than sixteen pairs.
+    TooMany = 18,
     /// NULL where a place is wanted.
     Null = 20,
     /// The number is not that of a status.
     UnknownStatus = 21,
+    /// The text is empty where that is forbidden.
+    Empty = 40,
+    /// The text is longer than the greatest length allows, or would be.
+    TooLong = 41,
+    /// A byte may not stand in the text.
+    IllegalByte = 42,
+    /// The name, or what follows the last `/`, is `.`, `..` or empty.
+    NoFileName = 43,
+    /// The name begins with the prefix of the system's own names.
+    ReservedPrefix = 44,
+    /// The bytes are not UTF-8.
+    NotUtf8 = 45,
+    /// The text is not the name of a service.
+    BadServiceName = 46,
+    /// The text is not a path.
+    BadPath = 47,
+    /// The text may not be joined to a path.
+    BadEntry = 48,
+    /// The hasher's text cannot be the name of a file.
+    IllegalHash = 49,
+    /// A key of a required pair is not valid.
+    BadRequiredKey = 50,
+    /// A value of a required pair is not valid.
+    BadRequiredValue = 51,
+    /// A required key, or one that is asked for, is not valid.
+    BadAskedKey = 52,
+    /// More than sixteen pairs and keys are required.
+    TooManyRequired = 53,
+    /// A required pair is not in the set.
+    MissingPair = 54,
+    /// No pair of the set has a required key.
+    MissingKey = 55,
+    /// The key has no value of this index.
+    NoSuchValue = 56,
+    /// An alignment is not a power of two.
+    BadAlignment = 57,
+    /// The answer would pass its range.
+    TooLarge = 58,
+    /// The number is not that of a variant.
+    UnknownVariant = 59,
+    /// The types of a part have other names.
+    OtherName = 60,
+    /// The types of a part are of other variants.
+    OtherVariant = 61,
+    /// The types of a part have other sizes.
+    OtherSize = 62,
+    /// The types of the headers have other alignments.
+    OtherAlignment = 63,
+    /// The opener's type has a greater alignment than the service's.
+    GreaterAlignment = 64,
+    /// The number is not that of a text of the configuration.
+    UnknownText = 65,
+    /// A line of a script is not a command.
+    BadLine = 66,
 }
 
 impl Status {
@@ -72,8 +132,39 @@ impl Status {
             Status::NodeNotRegistered => "the node is not registered",
             Status::RoleNotInPattern => "the pattern has no ports of the role",
             Status::UnknownSegment => "unknown kind of data segment",
+            Status::BadKey => "not a key of a pair",
+            Status::BadValue => "not a value of a pair",
+            Status::TooMany => "more than sixteen pairs",
             Status::Null => "NULL",
             Status::UnknownStatus => "unknown status",
+            Status::Empty => "the text is empty",
+            Status::TooLong => "the text is too long",
+            Status::IllegalByte => "a byte may not stand in the text",
+            Status::NoFileName => "not the name of a file",
+            Status::ReservedPrefix => "the name begins with a reserved prefix",
+            Status::NotUtf8 => "not UTF-8",
+            Status::BadServiceName => "not the name of a service",
+            Status::BadPath => "not a path",
+            Status::BadEntry => "the text may not be joined to a path",
+            Status::IllegalHash => "the hash text cannot be the name of a file",
+            Status::BadRequiredKey => "not a key of a required pair",
+            Status::BadRequiredValue => "not a value of a required pair",
+            Status::BadAskedKey => "not a key that may be asked for",
+            Status::TooManyRequired => "more than sixteen pairs and keys are required",
+            Status::MissingPair => "a required pair is not in the set",
+            Status::MissingKey => "no pair of the set has a required key",
+            Status::NoSuchValue => "the key has no value of this index",
+            Status::BadAlignment => "an alignment is not a power of two",
+            Status::TooLarge => "the answer would pass its range",
+            Status::UnknownVariant => "unknown variant",
+            Status::OtherName => "the types of a part have other names",
+            Status::OtherVariant => "the types of a part are of other variants",
+            Status::OtherSize => "the types of a part have other sizes",
+            Status::OtherAlignment => "the types of the headers have other alignments",
+            Status::GreaterAlignment =>
+                "the opener's type has a greater alignment than the service's",
+            Status::UnknownText => "unknown text of the configuration",
+            Status::BadLine => "a line of the script is not valid",
         }
     }
 }
@@ -99,8 +190,38 @@ pub(super) fn status_of(number: u32) -> Option<Status>
         13 => Some(Status::NodeNotRegistered),
         14 => Some(Status::RoleNotInPattern),
         15 => Some(Status::UnknownSegment),
+        16 => Some(Status::BadKey),
+        17 => Some(Status::BadValue),
+        18 => Some(Status::TooMany),
         20 => Some(Status::Null),
         21 => Some(Status::UnknownStatus),
+        40 => Some(Status::Empty),
+        41 => Some(Status::TooLong),
+        42 => Some(Status::IllegalByte),
+        43 => Some(Status::NoFileName),
+        44 => Some(Status::ReservedPrefix),
+        45 => Some(Status::NotUtf8),
+        46 => Some(Status::BadServiceName),
+        47 => Some(Status::BadPath),
+        48 => Some(Status::BadEntry),
+        49 => Some(Status::IllegalHash),
+        50 => Some(Status::BadRequiredKey),
+        51 => Some(Status::BadRequiredValue),
+        52 => Some(Status::BadAskedKey),
+        53 => Some(Status::TooManyRequired),
+        54 => Some(Status::MissingPair),
+        55 => Some(Status::MissingKey),
+        56 => Some(Status::NoSuchValue),
+        57 => Some(Status::BadAlignment),
+        58 => Some(Status::TooLarge),
+        59 => Some(Status::UnknownVariant),
+        60 => Some(Status::OtherName),
+        61 => Some(Status::OtherVariant),
+        62 => Some(Status::OtherSize),
+        63 => Some(Status::OtherAlignment),
+        64 => Some(Status::GreaterAlignment),
+        65 => Some(Status::UnknownText),
+        66 => Some(Status::BadLine),
         _ => None,
     }
 }

@@ -1,0 +1,127 @@
+/* Runs scripts by iox2sd_script.h: one of docs/SCRIPT.md, each refusal, buffers of each length, and
+ * want of memory at each request. Compiled as C99 with -Wl,--wrap=malloc,--wrap=realloc and linked
+ * with libiox2sd.a. The last line is 'N checks, N failed'. */
+#include "iox2sd_script.h"
+
+#include <stdio.h>
+#include <stdlib.h>
+#include <string.h>
+
+static int checks, failed;
+
+static void check(bool holds, int line, const char *what) {
+    checks++;
+    if (!holds) {
+        failed++;
+        printf("line %d: %s\n", line, what);
+    }
+}
+
+#define CHECK(condition) check(condition, __LINE__, #condition)
+
+static const char script[] = "service publish-subscribe 9 4 4 4\n"
+                             "register 1.1.0.5\n"
+                             "register 1.2.0.5\n"
+                             "add publisher 1.1.0.10 1.1.0.5\n"
+                             "add subscriber 1.1.0.11 1.1.0.5\n"
+                             "add publisher 1.2.0.12 1.2.0.5\n"
+                             "dead 1.1.0.5 skip 1.1.0.10\n"
+                             "list publisher\n"
+                             "list subscriber\n"
+                             "nodes\n";
+
+static const char replies[] = "handle 0 0\n"
+                              "handle 1 1\n"
+                              "handle 0 0\n"
+                              "handle 0 0\n"
+                              "handle 1 1\n"
+                              "has-owners\n"
+                              "list 100000001000000000000000a 100000002000000000000000c\n"
+                              "list\n"
+                              "list 1000000010000000000000005 1000000020000000000000005\n";
+
+enum { LENGTH = sizeof replies - 1, MOST = LENGTH + 8 };
+
+static uint8_t out[MOST];
+
+static iox2sd_script_answer run(const char *text, size_t capacity) {
+    memset(out, 0xAA, sizeof out);
+    return iox2sd_script_run((const uint8_t *)text, strlen(text), out, capacity);
+}
+
+static bool answers(iox2sd_script_answer answer, uint32_t status, size_t line, size_t length) {
+    return answer.status == status && answer.line == line && answer.length == length;
+}
+
+/* Whether these bytes stand at the front of the buffer, and the others are as they were set. */
+static bool wrote(const char *text, size_t length) {
+    for (size_t i = length; i < sizeof out; i++) {
+        if (out[i] != 0xAA) return false;
+    }
+    return memcmp(out, text, length) == 0;
+}
+
+static void buffers(void) {
+    CHECK(answers(run(script, MOST), IOX2SD_DONE, 0, LENGTH) && wrote(replies, LENGTH));
+    CHECK(answers(run(script, LENGTH), IOX2SD_DONE, 0, LENGTH) && wrote(replies, LENGTH));
+    for (size_t capacity = 0; capacity < LENGTH; capacity++) {
+        CHECK(answers(run(script, capacity), IOX2SD_BUFFER_TOO_SHORT, 0, LENGTH) && wrote("", 0));
+    }
+    CHECK(answers(iox2sd_script_run((const uint8_t *)script, strlen(script), NULL, 0),
+                  IOX2SD_BUFFER_TOO_SHORT, 0, LENGTH));
+    CHECK(answers(run("service event 7 1 2 2\n", 0), IOX2SD_DONE, 0, 0));
+}
+
+static void bad_lines(void) {
+    static const char third[] = "service event 7 1 2 2\nregister 1.0.0.1\nnonsense\nnodes\n";
+    CHECK(answers(iox2sd_script_run(NULL, 0, NULL, 0), IOX2SD_BAD_LINE, 1, 0));
+    CHECK(answers(run(third, MOST), IOX2SD_BAD_LINE, 3, 11) && wrote("handle 0 0\n", 11));
+    CHECK(answers(run(third, 10), IOX2SD_BUFFER_TOO_SHORT, 3, 11) && wrote("", 0));
+    CHECK(answers(run("\xff\xfe\n", MOST), IOX2SD_BAD_LINE, 1, 0) && wrote("", 0));
+    CHECK(answers(run("service event 7 1 2 2", MOST), IOX2SD_BAD_LINE, 1, 0));
+    CHECK(answers(run("service event 7 1 2 2\nregister 0.1.1.0\n", MOST), IOX2SD_BAD_LINE, 2, 0));
+    CHECK(answers(run("service event 7 1 2 2\nlist node\n", MOST), IOX2SD_BAD_LINE, 2, 0));
+}
+
+/* The library's requests for memory, of which the one that this counts down to is refused. */
+static long left = -1;
+
+void *__real_malloc(size_t size);
+void *__real_realloc(void *at, size_t size);
+void *__wrap_malloc(size_t size);
+void *__wrap_realloc(void *at, size_t size);
+
+static bool refuses(void) { return left >= 0 && left-- == 0; }
+
+void *__wrap_malloc(size_t size) { return refuses() ? NULL : __real_malloc(size); }
+
+void *__wrap_realloc(void *at, size_t size) { return refuses() ? NULL : __real_realloc(at, size); }
+
+/* Each request is refused in turn: the status says so, and whole reply lines of first commands
+ * stand in the buffer. */
+static void no_memory(void) {
+    long request = 0;
+    iox2sd_script_answer answer;
+    do {
+        left = request++;
+        answer = run(script, MOST);
+        bool refused = left < 0;
+        left = -1;
+        CHECK(refused ? answer.status == IOX2SD_NO_MEMORY : answer.status == IOX2SD_DONE);
+        CHECK(answer.line == 0 && answer.length <= LENGTH && wrote(replies, answer.length));
+        CHECK(answer.length == 0 || replies[answer.length - 1] == '\n');
+        if (!refused) break;
+    } while (request < 1000);
+    CHECK(3 < request && request < 1000);
+}
+
+int main(void) {
+    CHECK(answers(iox2sd_script_run((const uint8_t *)"service event 7 1 1 18446744073709551615\n",
+                                    41, out, MOST),
+                  IOX2SD_NO_MEMORY, 0, 0));
+    buffers();
+    bad_lines();
+    no_memory();
+    printf("%d checks, %d failed\n", checks, failed);
+    return failed != 0;
+}

@@ -1,0 +1,145 @@
+//! Listings of a node's ports into a caller's array.
+ghost use Rattle.std.specs.Prelude.{◌≡◌, ℕ, ◌+◌, All, map};
+ghost use Rattle.iox2_container.specs.Steps.{is_of};
+ghost use Rattle.iox2_dynamic.specs.Details.{node_of};
+ghost use Rattle.iox2_dynamic.specs.Ports.{ports_of_node};
+ghost use Rattle.iox2_dynamic.specs.Service.{first_role, second_role};
+ghost use Rattle.iox2sd.specs.Listings.{listed_answer};
+ghost use Rattle.iox2sd.specs.NodeListings.{Counts, PutsAt, Notes, NotesAll};
+ghost use Rattle.iox2sd.specs.NodeListings.{Stand, ports_of_in, ListsPortsOf};
+ghost use Rattle.iox2sd.specs.Places.{IsSound, At};
+ghost use Rattle.iox2sd.specs.Ports.{told_port};
+ghost use Rattle.iox2sd.specs.declared.service.listing.Listed.TheVariants as listed;
+
+use super::Service;
+use super::listing::Listed;
+use crate::answers::CountAnswer;
+use crate::id::Id;
+use crate::port::Port;
+use crate::status::Status;
+use iox2_container::container::Role;
+use iox2_dynamic::dynamic_config::{DynamicConfig, PortDetails, PortRoles};
+use iox2_ids::identifiers::UniqueNodeId;
+use iox2_texts::bounded::CallbackProgression;
+use std::alloc::Global;
+
+/// One more, unless that is too large.
+fn one_more(count: Option<usize>) -> Option<usize>
+    ensures { (n : ℕ) → Counts n count → Counts (n + 1) result }
+{
+    match count {
+        Some(number) => number.checked_add(1),
+        None => None,
+    }
+}
+
+/// Puts a port into this place, where there is one.
+fn put_at(out: &mut [Port], place: Option<usize>, port: Port)
+    ensures { PutsAt place port out.old out.new }
+{
+    if let Some(place) = place {
+        if place < out.len() {
+            out[place] = port;
+        }
+    }
+}
+
+/// Puts a port that is to be listed behind those that were put before, where there is a place, and
+/// counts it.
+fn note(is_its: bool, out: &mut [Port], count: &mut Option<usize>, port: Port)
+    ensures { Notes is_its (out.old, count.old) port (out.new, count.new) }
+{
+    if !is_its {
+        return;
+    }
+    put_at(out, *count, port);
+    *count = one_more(*count);
+}
+
+/// Puts the ports of the role that have the node behind those that were put before, as far as there
+/// are places, and counts them.
+fn note_ports(
+    service: &DynamicConfig,
+    role: Role,
+    node: &UniqueNodeId,
+    out: &mut [Port],
+    count: &mut Option<usize>,
+)
+    ensures first { role ≡ first_role service.now.pattern → NotesAll
+        (ports_of_in node.now service.now.ports.first) (out.old, count.old) (out.new, count.new) }
+    ensures second { role ≡ second_role service.now.pattern → NotesAll
+        (ports_of_in node.now service.now.ports.second) (out.old, count.old) (out.new, count.new) }
+{
+    let mut show = |details: &PortDetails| -> CallbackProgression
+        ensures noted { Notes (is_of node_of node.entry.now details.now)
+            (out.entry.now, count.entry.now) (told_port details.now)
+            (out.exit.now, count.exit.now) }
+        ensures same { out.exit.ghost_name ≡ out.entry.ghost_name }
+        ensures same_count { count.exit.ghost_name ≡ count.entry.ghost_name }
+        ensures goes_on { result ≡ CallbackProgression.Continue }
+    {
+        note(details.node_id() == *node, out, count, Port::of(details));
+        CallbackProgression::Continue
+    };
+    service.list_ports(role, &mut show);
+}
+
+/// Puts the ports of the node at the front of the array, as far as there are places, and counts
+/// them.
+fn note_all(service: &DynamicConfig, node: &UniqueNodeId, out: &mut [Port]) -> Option<usize>
+    ensures { Stand out.old (map told_port (ports_of_node node.now service.now.ports))
+        out.new result }
+{
+    let (first, second) = service.kind().port_roles();
+    let mut count = Some(0);
+    note_ports(service, first, node, out, &mut count);
+    note_ports(service, second, node, out, &mut count);
+    count
+}
+
+/// Lists the ports of the node of these parts.
+fn list_ports_of(service: &DynamicConfig, node: Id, out: &mut [Port]) -> Listed
+    ensures { ListsPortsOf node out.old service.now result out.new }
+{
+    let Some(node) = node.of_node() else {
+        return Listed::Refused(Status::NoNode);
+    };
+    let Some(number) = note_all(service, &node, &mut []) else {
+        return Listed::Refused(Status::TooLarge);
+    };
+    if number > out.len() {
+        return Listed::TooShort(number);
+    }
+    note_all(service, &node, out);
+    Listed::All(number)
+}
+
+/// Lists the ports of a node, by its whole id, at the front of an array, whose other places stay as
+/// they were, and reports how many there are: those of the pattern's first kind before those of its
+/// second, each kind by rising slot, which is what `iox2sd_dead` asks about. Where the array is too
+/// short for all, it stays as it was, and the number that it needs is reported.
+///
+/// Refused are, in this order, NULL, a place that holds no service, an id of no node, and too short
+/// an array; in its place `TooLarge` where the number that it needs passes a `usize`.
+#[unsafe(no_mangle)]
+pub extern "C" fn iox2sd_ports_of_at(
+    alloc: Global,
+    places: &mut [Service],
+    node: Id,
+    out: &mut [Port],
+) -> CountAnswer
+    requires { All IsSound places.old }
+    ensures { At listed_answer listed.Refused (out.new ≡ out.old)
+        (λ old made new. ListsPortsOf node out.old old made out.new × (new ≡ old))
+        places.old result places.new }
+{
+    let [place, ..] = places else {
+        return Listed::Refused(Status::Null).answer();
+    };
+    let Some(held) = place.take(alloc) else {
+        return Listed::Refused(Status::NoService).answer();
+    };
+    let listed = list_ports_of(&held, node, out);
+    place.put(held);
+    listed.answer()
+}
