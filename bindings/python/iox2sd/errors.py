@@ -220,6 +220,12 @@ class GreaterAlignment(Incompatible):
     status = 64
 
 
+class BadDuration(Refused, ValueError):
+    """The nanoseconds beside the seconds are a billion or more."""
+
+    status = 68
+
+
 class BadLine(Refused, ValueError):
     """A line of a script has no meaning at its place, or no newline."""
 
