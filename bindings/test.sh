@@ -1,6 +1,7 @@
 #!/usr/bin/env bash
-# Runs the callers' tests in C, C++, Rust and Python, those of C and C++ under valgrind too, as far as their compilers are
-# found. bindings/build.sh comes first. The last line is 'N passed, N failed'.
+# Runs the callers' tests in C, C++, Rust and Python, those of C and C++ under sanitizers and
+# valgrind too, then the examples, and what an installation gives, as far as their tools are found.
+# bindings/build.sh comes first. The last line is 'N passed, N failed'.
 set -uo pipefail
 cd "$(dirname "$0")"
 work=$(mktemp -d)
@@ -18,18 +19,31 @@ run() {
         echo "FAILED: $name"
         cat "$work/log"
         failed=$((failed + 1))
+        return 1
     fi
 }
 
 leaks() { valgrind --quiet --leak-check=full --show-leak-kinds=all --error-exitcode=9 "$@"; }
 
+warnings=(-Wall -Wextra -Wpedantic -Werror)
+
 # compiler, library, source, standard and further options
+runs() {
+    has "$1" || return 0
+    local name="$1 ${*:5}${5:+ }$3"
+    run "$name compiles" "$1" -O2 "${@:4}" "${warnings[@]}" -I../include "$3" "out/lib$2.a" \
+        -pthread -o "$work/caller" && run "$name runs" "$work/caller"
+}
+
+# The same, and under valgrind.
 caller() {
     has "$1" || return 0
-    local name="$1 $3" program=$work/caller
-    run "$name compiles" "$1" "${@:4}" -Wall -Wextra -Wpedantic -Werror -O2 -I../include "$3" "out/lib$2.a" -pthread -o "$program"
-    run "$name runs" "$program"
-    if has valgrind; then run "$name under valgrind" leaks "$program"; fi
+    runs "$@" && if has valgrind; then run "$1 $3 under valgrind" leaks "$work/caller"; fi
+}
+
+# compiler, sanitizers, source and standard
+sanitized() {
+    runs "$1" iox2sd "$3" "$4" "-fsanitize=$2" -fno-sanitize-recover=all -g -O1
 }
 
 # The names that a library exports, from outside.
@@ -38,7 +52,36 @@ exported() { nm "$@" | awk 'NF == 3 { print $3 }' | sort -u; }
 same_exports() {
     exported -g --defined-only out/libiox2sd.a > "$work/archive"
     exported -D --defined-only out/libiox2sd.so.0 > "$work/shared"
-    [ -s "$work/archive" ] && ! grep -v '^iox2sd_' "$work/archive" && diff "$work/archive" "$work/shared"
+    [ -s "$work/archive" ] && ! grep -v '^iox2sd_' "$work/archive" &&
+        diff "$work/archive" "$work/shared"
+}
+
+# An example prints the lines that stand below 'It prints:' at its head.
+prints_what_it_says() {
+    "$work/caller" > "$work/printed" &&
+        sed -n '/^\/\/ It prints:$/,/^[^/]/s|^//     ||p' "$1" | diff - "$work/printed"
+}
+
+example() {
+    has "$1" || return 0
+    run "$1 $2 compiles" "$1" -std=c++17 "${warnings[@]}" -O2 -I../include "$2" out/libiox2sd.a \
+        -o "$work/caller" && run "$1 $2 prints what it says" prints_what_it_says "$2"
+}
+
+# The statuses of the header and of each crate: a number has one name, a name has one number, and
+# the crate that has the texts has all that the header has.
+same_statuses() {
+    sed -n '/^enum iox2sd_status {/,/^}/s/^ *IOX2SD_\([A-Z0-9_]*\) = \([0-9]*\).*/\2 \1/p' ../include/iox2sd.h |
+        awk '{ n = split($2, words, "_"); name = ""
+               for (i = 1; i <= n; i++) name = name substr(words[i], 1, 1) tolower(substr(words[i], 2))
+               print $1, name }' | sort > "$work/header"
+    for crate in iox2sd iox2sd_values iox2sd_script; do
+        sed -n 's/^    \([A-Z][A-Za-z0-9]*\) = \([0-9]*\),$/\2 \1/p' "../crates/$crate/src/status.rt" | sort > "$work/$crate"
+    done
+    sort -u "$work/header" "$work"/iox2sd* > "$work/all"
+    [ -s "$work/header" ] && [ -s "$work/iox2sd_values" ] && [ -s "$work/iox2sd_script" ] &&
+        diff "$work/header" "$work/iox2sd" &&
+        [ -z "$(cut -d ' ' -f 1 "$work/all" | sort | uniq -d)$(cut -d ' ' -f 2 "$work/all" | sort | uniq -d)" ]
 }
 
 # A command of cargo on the crate for Rust, with further arguments.
@@ -59,32 +102,103 @@ packaged() {
             cargo test --quiet --jobs 1 --offline --manifest-path "$work"/iox2sd-*/Cargo.toml
 }
 
-# The statuses of the header and of each crate: a number has one name, a name has one number, and the crate that has the
-# texts has all that the header has.
-same_statuses() {
-    sed -n '/^enum iox2sd_status {/,/^}/s/^ *IOX2SD_\([A-Z0-9_]*\) = \([0-9]*\).*/\2 \1/p' ../include/iox2sd.h |
-        awk '{ n = split($2, words, "_"); name = ""
-               for (i = 1; i <= n; i++) name = name substr(words[i], 1, 1) tolower(substr(words[i], 2))
-               print $1, name }' | sort > "$work/header"
-    for crate in iox2sd iox2sd_values iox2sd_script; do
-        sed -n 's/^    \([A-Z][A-Za-z0-9]*\) = \([0-9]*\),$/\2 \1/p' "../crates/$crate/src/status.rt" | sort > "$work/$crate"
-    done
-    sort -u "$work/header" "$work"/iox2sd* > "$work/all"
-    [ -s "$work/header" ] && [ -s "$work/iox2sd_values" ] && [ -s "$work/iox2sd_script" ] &&
-        diff "$work/header" "$work/iox2sd" &&
-        [ -z "$(cut -d ' ' -f 1 "$work/all" | sort | uniq -d)$(cut -d ' ' -f 2 "$work/all" | sort | uniq -d)" ]
-}
-
+wrapped=-Wl,--wrap=malloc,--wrap=calloc,--wrap=realloc,--wrap=free
 for compiler in gcc clang; do
-    caller "$compiler" iox2sd c/test_service.c -std=c99 -D_GNU_SOURCE
-    caller "$compiler" iox2sd c/test_values.c -std=c99
+    for source in c/test_service.c c/test_values.c c/test_walk.c c/test_threads.c; do
+        caller "$compiler" iox2sd "$source" -std=c99
+        sanitized "$compiler" address,undefined "$source" -std=c99
+    done
+    sanitized "$compiler" thread c/test_threads.c -std=c99
     caller "$compiler" iox2sd c/test_script.c -std=c99 -Wl,--wrap=malloc,--wrap=realloc
-    caller "$compiler" iox2sd c/test_walk.c -std=c99
+    runs "$compiler" iox2sd c/test_memory.c -std=c99 -D_GNU_SOURCE "$wrapped"
 done
-caller g++ iox2sd c/test_values.cpp -std=c++11
-caller clang++ iox2sd c/test_values.cpp -std=c++11
+for compiler in g++ clang++; do
+    caller "$compiler" iox2sd c/test_values.cpp -std=c++11
+    for source in cpp/test_values.cpp cpp/test_service.cpp; do
+        caller "$compiler" iox2sd "$source" -std=c++17
+        sanitized "$compiler" address,undefined "$source" -std=c++17
+    done
+    sanitized "$compiler" address,undefined cpp/test_memory.cpp -std=c++17
+    sanitized "$compiler" thread cpp/test_service.cpp -std=c++17
+    runs "$compiler" iox2sd cpp/test_service.cpp -std=c++17 -fno-exceptions -fno-rtti
+    for source in cpp/examples/*.cpp; do example "$compiler" "$source"; done
+done
 run "statuses agree" same_statuses
 if has nm; then run "libiox2sd exports iox2sd_* alone" same_exports; fi
+
+# ---- One program in each language ----
+
+# The first of these programs is what the others are compared with.
+first() {
+    local name=$1
+    shift
+    if ! "$@" > "$work/printed"; then return 1; fi
+    if [ ! -e "$work/first" ]; then
+        [ -s "$work/printed" ] && mv "$work/printed" "$work/first"
+    else
+        diff "$work/first" "$work/printed"
+    fi
+}
+
+first_of() {
+    has "$1" || return 0
+    run "$1 $3 compiles" "$1" "$2" "${warnings[@]}" -O2 -I../include "$3" out/libiox2sd.a \
+        -o "$work/caller" && run "$1 $3 prints the same as the others" first "$3" "$work/caller"
+}
+
+first_of gcc -std=c99 ../examples/first.c
+first_of g++ -std=c++17 ../examples/first.cpp
+
+# ---- What an installation gives ----
+
+# Builds and runs first.c and first.cpp in a folder outside, with these flags, and compares.
+outside() {
+    cp ../examples/first.c ../examples/first.cpp "$work/outside" &&
+        (cd "$work/outside" && gcc -std=c99 first.c "$@" -o c &&
+            g++ -std=c++17 first.cpp "$@" -o cpp) &&
+        first c "$work/outside/c" && first cpp "$work/outside/cpp"
+}
+
+by_pkg_config() {
+    local flags
+    flags=$(PKG_CONFIG_PATH=$1/lib/pkgconfig pkg-config --cflags --libs 'iox2sd >= 0.1') &&
+        LD_LIBRARY_PATH=$1/lib outside $flags
+}
+
+by_find_package() {
+    cp install/consumer/CMakeLists.txt ../examples/first.c ../examples/first.cpp "$work/outside" &&
+        cmake -S "$work/outside" -B "$work/outside/build" -DCMAKE_PREFIX_PATH="$1" &&
+        cmake --build "$work/outside/build" --parallel 1 &&
+        for program in c_static c_shared cpp_static cpp_shared; do
+            first "$program" "$work/outside/build/$program" || return 1
+        done
+}
+
+files_of() { (cd "$1" && find . -printf '%P %y %m\n' | sort); }
+
+same_files() { diff <(files_of "$1") <(files_of "$2"); }
+
+installation() {
+    local prefix=$work/prefix
+    mkdir "$work/outside"
+    run "install.sh installs" ./install.sh "$prefix" || return
+    run "install.sh installs into a stage" env DESTDIR="$work/stage" ./install.sh /usr &&
+        run "a stage has the same files" same_files "$prefix" "$work/stage/usr"
+    run "install.sh wants an absolute path" bash -c '! ./install.sh prefix'
+    if has gcc && has g++; then
+        run "plain flags, static" outside "-I$prefix/include" "$prefix/lib/libiox2sd.a"
+        run "plain flags, shared" outside "-I$prefix/include" "-L$prefix/lib" -liox2sd \
+            "-Wl,-rpath,$prefix/lib"
+        if has pkg-config; then run "pkg-config" by_pkg_config "$prefix"; fi
+        if has cmake; then run "find_package" by_find_package "$prefix"; fi
+        mv "$prefix" "$work/moved"
+        rm -rf "$work/outside/build"
+        if has pkg-config; then run "pkg-config, moved" by_pkg_config "$work/moved"; fi
+        if has cmake; then run "find_package, moved" by_find_package "$work/moved"; fi
+    fi
+}
+installation
+
 if has cargo; then
     run "cargo test" crate test --quiet
     for example in first builder monitor discovery factory; do
@@ -96,7 +210,10 @@ if has cargo; then
     run "cargo package, and a build of what it packs" packaged
 fi
 if has python3; then
-    run "python3 -m unittest" env PYTHONDONTWRITEBYTECODE=1 python3 -m unittest discover --start-directory python
+    has cc || echo "so the declarations of Python were not compared with the headers"
+    run "python3 -m unittest" env PYTHONDONTWRITEBYTECODE=1 python3 -m unittest discover \
+        --start-directory python/tests --top-level-directory python
+    if has mypy; then run "mypy" env -C python mypy --cache-dir "$work/mypy"; fi
 fi
 echo "$passed passed, $failed failed"
 [ "$failed" -eq 0 ]

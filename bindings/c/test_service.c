@@ -1,35 +1,11 @@
 /* Calls each function of iox2sd.h on services, ids and statuses, and each of their refusals, with unequal values in all places.
- * Compiled as C99 and linked with libiox2sd.a and -pthread. The last line is 'N checks, N failed'. */
-#include "iox2sd.h"
+ * Compiled as C99 and linked with libiox2sd.a. The last line is 'N checks, N failed'. */
+#include "check.h"
 
-#include <malloc.h>
-#include <pthread.h>
-#include <stdio.h>
 #include <string.h>
-
-static int checks, failed;
-
-static void check(bool holds, int line, const char *what) {
-    checks++;
-    if (!holds) {
-        failed++;
-        printf("line %d: %s\n", line, what);
-    }
-}
-
-#define CHECK(condition) check(condition, __LINE__, #condition)
 
 static bool same_text(const uint8_t *out, iox2sd_text_answer answer, const char *wanted) {
     return answer.status == IOX2SD_DONE && answer.length == strlen(wanted) && memcmp(out, wanted, answer.length) == 0;
-}
-
-static iox2sd_id id(uint32_t process, uint32_t seconds, uint32_t nanoseconds, uint32_t counter) {
-    iox2sd_id made;
-    made.process = process;
-    made.seconds = seconds;
-    made.nanoseconds = nanoseconds;
-    made.counter = counter;
-    return made;
 }
 
 static bool same_id(iox2sd_id a, iox2sd_id b) { return memcmp(&a, &b, sizeof a) == 0; }
@@ -71,14 +47,6 @@ static bool finds(iox2sd_id_answer answer, uint32_t status, iox2sd_id wanted) {
 
 static bool went(iox2sd_death_answer answer, uint32_t status, size_t first, size_t second) {
     return answer.status == status && answer.first == first && answer.second == second;
-}
-
-static iox2sd_capacities capacities(size_t nodes, size_t first, size_t second) {
-    iox2sd_capacities made;
-    made.nodes = nodes;
-    made.first = first;
-    made.second = second;
-    return made;
 }
 
 static iox2sd_port port(uint64_t role, iox2sd_id its, iox2sd_id node) {
@@ -478,61 +446,6 @@ static void attaching(void) {
     iox2sd_service_free(&service);
 }
 
-/* So many calls as fast as they go: how many were not as they should be. */
-static long many(iox2sd_service *service, long rounds) {
-    long bad = 0;
-    iox2sd_id stays = id(9, 9, 9, 9), node = id(1, 2, 3, 4);
-    iox2sd_port its = full(IOX2SD_SUBSCRIBER, 20, stays), out[2];
-    bad += iox2sd_register(service, stays).status != IOX2SD_DONE;
-    for (long i = 0; i < rounds; i++) {
-        node.counter = (uint32_t)i;
-        iox2sd_handle_answer made = iox2sd_register(service, node);
-        bad += made.status != IOX2SD_DONE || made.handle.ticket != (uint64_t)i + 1;
-        iox2sd_handle_answer attached = iox2sd_attach(service, &its);
-        bad += attached.status != IOX2SD_DONE || attached.handle.ticket != (uint64_t)i;
-        bad += !counts(iox2sd_ports(service, IOX2SD_SUBSCRIBER, out, 2), IOX2SD_DONE, 1);
-        bad += iox2sd_release(service, attached.handle) != IOX2SD_DONE;
-        bad += iox2sd_deregister(service, made.handle) != IOX2SD_DONE;
-    }
-    return bad;
-}
-
-/* Ten million calls take no memory that they do not give back. */
-static void flat_memory(void) {
-    iox2sd_service service = IOX2SD_SERVICE_NONE;
-    iox2sd_service_make(&service, IOX2SD_PUBLISH_SUBSCRIBE, 1, capacities(20, 2, 8), UINT64_MAX);
-    size_t before = mallinfo2().uordblks;
-    CHECK(many(&service, 2000000) == 0);
-    CHECK(mallinfo2().uordblks == before);
-    iox2sd_service_free(&service);
-}
-
-static void *own_service(void *number) {
-    iox2sd_service service = IOX2SD_SERVICE_NONE;
-    uint64_t n = *(uint64_t *)number;
-    long bad = iox2sd_service_make(&service, IOX2SD_PUBLISH_SUBSCRIBE, n, capacities(20, 2, 8), UINT64_MAX) != IOX2SD_DONE;
-    bad += many(&service, 10000);
-    iox2sd_handle_answer made = iox2sd_register(&service, id(1, 2, 3, 4));
-    bad += made.handle.service != n;
-    bad += iox2sd_service_free(&service) != IOX2SD_DONE;
-    *(uint64_t *)number = (uint64_t)bad;
-    return NULL;
-}
-
-/* A service in each of sixteen threads. */
-static void threads(void) {
-    pthread_t made[16];
-    uint64_t numbers[16];
-    for (uint64_t i = 0; i < 16; i++) {
-        numbers[i] = 1000 + i;
-        CHECK(pthread_create(&made[i], NULL, own_service, &numbers[i]) == 0);
-    }
-    for (size_t i = 0; i < 16; i++) {
-        CHECK(pthread_join(made[i], NULL) == 0);
-        CHECK(numbers[i] == 0);
-    }
-}
-
 int main(void) {
     statuses();
     ids();
@@ -543,8 +456,5 @@ int main(void) {
     for (uint32_t pattern = 0; pattern < 4; pattern++) ports_of_nodes(pattern);
     for (uint32_t pattern = 0; pattern < 4; pattern++) questions_of_pattern(pattern);
     attaching();
-    flat_memory();
-    threads();
-    printf("%d checks, %d failed\n", checks, failed);
-    return failed != 0;
+    return end_of_checks();
 }

@@ -100,7 +100,7 @@ pub record Visit {F A : Type 0} (calls : F → A → CallbackProgression → F �
 abbrev pub is_of : {T : Type 0} → (T → ℕ) → ℕ → T → Bool
 is_of node id details = node details == id
 
--- the entries whose details are so
+-- the entries whose details pass a test
 abbrev pub candidates : {T : Type 0} → (T → Bool) → List (Entry T) → List (Entry T)
 candidates is_dead entries = filter (λ e. is_dead e.details) entries
 

@@ -74,7 +74,7 @@ RecoversBoth {F} calls dead old f new f' =
     × RecoversPorts calls dead old.first f new.first between
     × RecoversPorts calls dead old.second between new.second f'
 
--- what is said of the ports of a role; nothing is said of another role
+-- what is said of the ports of a role; for another role nothing is said
 abbrev pub OfRole : {A : Type 0} → (RegistryState PortDetails → A → Type 0) → Role → Role → Ports → Role → Option A → Type 0
 OfRole says a b p role None = IsNeither a b role
 OfRole says a b p role (Some x) =

@@ -28,7 +28,7 @@ abbrev pub IsRestricted : List ℕ → Type 0
 IsRestricted bytes =
     (1 ≤ length bytes) × All (λ b. IsTrue (is_restricted b)) bytes × (bytes ≢ codes ".") × (bytes ≢ codes "..")
 
--- a text of at most `n` of them
+-- a text of at most `n` bytes that is a restricted name
 abbrev pub IsRestrictedName : ℕ → List ℕ → Type 0
 IsRestrictedName n bytes = IsAllowed IsRestricted n bytes
 

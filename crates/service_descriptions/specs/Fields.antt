@@ -5,7 +5,7 @@ use Rattle.service_descriptions.specs.declared.replay.state.ServiceState.TheInsi
 use Rattle.service_descriptions.specs.Handles.{handles_in, KeepsHandles}
 use Rattle.service_descriptions.specs.Steps.{State}
 
--- the state that they stand for
+-- the state that the fields stand for
 abbrev pub state_of : Inside → State
 state_of s = record { service = s.service; description = s.description; handles = handles_in s.number s.earlier.items }
 

@@ -38,6 +38,6 @@ abbrev pub handle_at : ℕ → Earlier → Option Handle
 handle_at number earlier.Nothing = None
 handle_at number (earlier.Given role slot ticket) = Some (record { service = number; role = role; slot = slot; ticket = ticket })
 
--- the handles that are kept so
+-- the handles that are kept without the number of their service
 abbrev pub handles_in : ℕ → List Earlier → List (Option Handle)
 handles_in number kept = map (handle_at number) kept

@@ -113,12 +113,3 @@ RanLine old lines before (Some rest) new after =
     × ServiceStep old command reply new × (after ≡ before ++ reply_line reply)
 RanLine old lines before None new after =
     ((command : Command) (rest : List ℕ) → IsCommand command → lines ≢ line_of command ++ 10 ∷ rest) × (new ≡ old) × (after ≡ before)
-
--- The command that the line spells took its step, and its reply was appended. Where the line spells
--- none, nothing changed.
-abbrev pub LineStep : State → List ℕ → List Reply → Bool → State → List Reply → Type 0
-LineStep old line before true new after =
-    (command : Command) × (reply : Reply) × IsCommand command × (line ≡ line_of command)
-    × ServiceStep old command reply new × (after ≡ before ++ reply ∷ [])
-LineStep old line before false new after =
-    ((command : Command) → IsCommand command → line ≢ line_of command) × (new ≡ old) × (after ≡ before)

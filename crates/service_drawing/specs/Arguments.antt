@@ -17,7 +17,7 @@ use Rattle.service_drawing.specs.declared.fault.Fault.TheVariants.{BadArgument, 
 abbrev pub words_of : IntoIter (String Global) Global → List (List ℕ)
 words_of words = map string_bytes (into_iter_items words)
 
--- the words ask for nothing that there is
+-- the words are no request that the program knows
 abbrev pub IsNoRequest : List (List ℕ) → Type 0
 IsNoRequest words =
     (words ≢ []) × (words ≢ codes "svg" ∷ []) × (words ≢ codes "--help" ∷ [])

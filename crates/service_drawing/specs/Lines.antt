@@ -75,7 +75,7 @@ exchange_front (exchange.RequestResponse request response) rest =
     message_front (codes "request-") request (message_front (codes "response-") response rest)
 exchange_front (exchange.Blackboard key) rest = type_front (codes "key ") key rest
 
--- the pattern whose ports exchange so
+-- the pattern of a kind of exchange
 abbrev pub kind_of : Exchange → PatternKind
 kind_of (exchange.PublishSubscribe message) = PublishSubscribe
 kind_of exchange.Event = Event

@@ -30,7 +30,7 @@ pub record IsSegment (s : Segment) (title port : List ℕ) (message : Message) (
   pub sent : s.message.now ≡ message
   pub chunks : TellsGreatest limits s.chunks
 
--- these are the messages that ports exchange so
+-- the messages that ports of this kind of exchange send
 abbrev pub AreSegments : List (Option Segment) → Exchange → Defaults → Type 0
 AreSegments segments (PublishSubscribe message) d =
     (s : Segment) × (segments ≡ Some s ∷ None ∷ [])

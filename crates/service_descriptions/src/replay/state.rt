@@ -5,12 +5,10 @@ ghost use Rattle.iox2_dynamic.specs.Service.{HasNoPort};
 ghost use Rattle.iox2_static.specs.MessagingPattern.{kind_of};
 ghost use Rattle.service_descriptions.specs.Lines.{command_of};
 ghost use Rattle.service_descriptions.specs.Replies.{reply_of};
-ghost use Rattle.service_descriptions.specs.Script.{LineStep};
 ghost use Rattle.service_descriptions.specs.Steps.{ServiceStep, IsState, Did, new_state};
 
 use super::command::Command;
 use super::earlier::Earlier;
-use super::line::line_command;
 use super::line_command::LineCommand;
 use super::line_reply::LineReply;
 use super::reply::Reply;
@@ -157,35 +155,4 @@ pub fn replay(
         replies.push_reserved(reply);
     }
     Ok(())
-}
-
-#[tactic(auto, using(iox2_dynamic::proofs::Keeping::locked_has_no_port))]
-/// Gives the service the command that a line without its
-/// newline spells, as [`read_line`](super::read_line) reads it,
-/// and appends its reply. Says whether the line spells one.
-///
-/// It is quicker than reading the line and replaying its command. Where the line spells none, or
-/// memory is refused, nothing has changed.
-pub fn replay_line(
-    alloc: Global,
-    state: &mut ServiceState,
-    line: &[u8],
-    replies: &mut Vec<Reply>,
-) -> Result<bool, AllocError>
-    ensures ok { IfOk result (λ spelled. LineStep state.old line.now replies.old.items spelled
-        state.new replies.new.items) }
-    ensures err { OnErr result ((state.new ≡ state.old) × (replies.new.items ≡ replies.old.items)) }
-    ensures state { IsState state.new }
-    ensures no_port { IsTrue state.new.service.nodes.registry.locked
-        → HasNoPort state.new.service.ports }
-{
-    // For the proof: what is true of every state.
-    let _service = &state.service;
-    replies.reserve(1)?;
-    let Some(command) = line_command(alloc, line)? else {
-        return Ok(false);
-    };
-    let reply = state.serve_line(alloc, &command)?;
-    replies.push_reserved(reply.reply());
-    Ok(true)
 }

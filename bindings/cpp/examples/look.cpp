@@ -1,0 +1,32 @@
+// A look: a service with room for one node, which joins and leaves.
+//
+// It prints:
+//     slot 0, ticket 0
+//     no place or no ticket is left
+//     1000000000000000000000001
+//     the service is locked
+#include "iox2sd.hpp"
+
+#include <iostream>
+
+int main() {
+    using namespace iox2sd;
+    // Room for one node, two listeners and two notifiers; 7 is the service's number.
+    Result<Service> made = Service::create(PatternKind::Event, 7, {1, 2, 2});
+    if (!made) return 1;
+    Service service = std::move(made).value();
+
+    const UniqueNodeId one = UniqueNodeId::create(1, 0, 0, 1).value();
+    const UniqueNodeId two = UniqueNodeId::create(2, 0, 0, 2).value();
+    const ContainerHandle handle = service.register_node_id(one).value();
+    std::cout << "slot " << handle.slot << ", ticket " << handle.ticket << '\n';
+
+    const Result<ContainerHandle> late = service.register_node_id(two);
+    if (!late) std::cout << text(late.error()).view() << '\n';
+    for (const UniqueNodeId& node : service.nodes().value()) {
+        std::cout << node.text().view() << '\n';
+    }
+
+    const Result<DeregisterNodeState> left = service.deregister_node_id(handle);
+    if (left && *left == DeregisterNodeState::NoMoreOwners) std::cout << "the service is locked\n";
+}

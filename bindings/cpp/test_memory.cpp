@@ -1,0 +1,100 @@
+// Refuses each request for memory of each call of iox2sd.hpp in turn. The last line is
+// 'N checks, N failed'.
+#include "check.hpp"
+#include "iox2sd.hpp"
+
+namespace {
+
+/// After how many requests for memory one is refused, which below 0 is never.
+int refused_request = -1;
+
+bool is_refused() { return refused_request >= 0 && refused_request-- == 0; }
+
+}  // namespace
+
+void* operator new(std::size_t size, const std::nothrow_t&) noexcept {
+    return is_refused() ? nullptr : ::operator new(size);
+}
+
+void* operator new[](std::size_t size, const std::nothrow_t&) noexcept {
+    return is_refused() ? nullptr : ::operator new[](size);
+}
+
+namespace {
+
+using namespace iox2sd;
+
+/// What a call answers where this request of it is refused.
+template <class Call>
+Status without(int request, Call call) {
+    refused_request = request;
+    const auto result = call();
+    refused_request = -1;
+    if constexpr (std::is_same_v<decltype(result), const ScriptRun>) {
+        return result.status;
+    } else {
+        return result.status();
+    }
+}
+
+/// Each call that lists takes memory twice. The service is as it was.
+void lists() {
+    Service service = Service::create(PatternKind::Event, 7, {2, 2, 2}).value();
+    const UniqueNodeId node = UniqueNodeId::create(1, 2, 3, 4).value();
+    const ListenerDetails listener{UniqueListenerId(1, 2, 3, 5), node};
+    CHECK(service.register_node_id(node) && service.attach(listener));
+    for (int request = 0; request < 2; ++request) {
+        const auto refused = [request](auto call) {
+            return without(request, call) == Status::NoMemory;
+        };
+        CHECK(refused([&] { return service.nodes(); }));
+        CHECK(refused([&] { return service.ports(Role::Listener); }));
+        CHECK(refused([&] { return service.ports_of(node); }));
+        CHECK(refused([&] { return service.list_listeners(); }));
+        CHECK(refused([&] { return run_script("service event 7 1 2 2\nregister 1.0.0.1\n"); }));
+        CHECK(!refused([&] { return service.list_notifiers(); }));
+        CHECK(service.nodes()->size() == 1 && (*service.list_listeners())[0] == listener);
+    }
+    CHECK(without(2, [&] { return service.nodes(); }) == Status::Done);
+}
+
+/// A death takes memory once where there are ports to keep, and else none.
+void deaths() {
+    Service service = Service::create(PatternKind::Event, 7, {2, 2, 2}).value();
+    const UniqueNodeId node = UniqueNodeId::create(1, 2, 3, 4).value();
+    const ListenerDetails listener{UniqueListenerId(1, 2, 3, 5), node};
+    CHECK(service.register_node_id(node) && service.attach(listener));
+    const UniquePortId kept[] = {listener.port_id()};
+    CHECK(without(0, [&] { return service.remove_dead_node_id(node, kept); }) == Status::NoMemory);
+    CHECK(without(1, [&] { return service.remove_dead_node_id(node, kept); }) == Status::Done);
+    CHECK(*service.count_ports(Role::Listener) == 1);
+    CHECK(without(0, [&] { return service.remove_dead_node_id(node); }) == Status::Done);
+    CHECK(*service.is_locked());
+}
+
+/// No other call takes any.
+void values() {
+    const auto none = [](auto call) { return without(0, call) == Status::Done; };
+    const ServiceName name = ServiceName::create("a").value();
+    const AttributeKey key = AttributeKey::create("k").value();
+    const AttributeValue value = AttributeValue::create("v").value();
+    AttributeSet set;
+    AttributeVerifier verifier;
+    CHECK(none([&] { return ServiceHash::create(name, PatternKind::Event); }));
+    CHECK(none([&] { return set.add(key, value); }));
+    CHECK(none([&] { return verifier.require(key, value); }));
+    CHECK(none([&] { return verifier.verify_requirements(set); }));
+    CHECK(none([&] {
+        return StaticConfig::create(name, UniqueServiceId(1, 2, 3, 4), set,
+                                    EventSettings::defaults());
+    }));
+}
+
+}  // namespace
+
+int main() {
+    lists();
+    deaths();
+    values();
+    return end_of_checks();
+}

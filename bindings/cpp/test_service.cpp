@@ -1,0 +1,333 @@
+// Calls each function of iox2sd.hpp on services, each of their refusals, and each request for
+// memory refused in turn. The last line is 'N checks, N failed'.
+#include <thread>
+#include <vector>
+
+#include "check.hpp"
+#include "iox2sd.hpp"
+
+namespace {
+
+using namespace iox2sd;
+
+UniqueNodeId node(std::uint32_t counter) { return UniqueNodeId::create(1, 2, 3, counter).value(); }
+
+const UniqueNodeId a = node(4), b = node(5), stranger = node(6);
+
+/// A port of each kind, with unequal values in all fields.
+PortDetails port_of(Role role, std::uint32_t counter, const UniqueNodeId& node) {
+    const iox2sd_id id{11, 12, 13, counter};
+    switch (role) {
+        case Role::Publisher:
+            return PublisherDetails{UniquePublisherId(id),    node, 101, 107,
+                                    DataSegmentType::Dynamic, 108};
+        case Role::Subscriber:
+            return SubscriberDetails{UniqueSubscriberId(id), node, 102};
+        case Role::Notifier:
+            return NotifierDetails{UniqueNotifierId(id), node};
+        case Role::Listener:
+            return ListenerDetails{UniqueListenerId(id), node};
+        case Role::Client:
+            return ClientDetails{UniqueClientId(id),       node, 105, 106, 107,
+                                 DataSegmentType::Dynamic, 108};
+        case Role::Server:
+            return ServerDetails{UniqueServerId(id),      node, 103, 104, 107,
+                                 DataSegmentType::Static, 108};
+        case Role::Reader:
+            return ReaderDetails{UniqueReaderId(id), node};
+        default:
+            return WriterDetails{UniqueWriterId(id), node};
+    }
+}
+
+constexpr PatternKind patterns[] = {PatternKind::PublishSubscribe, PatternKind::Event,
+                                    PatternKind::RequestResponse, PatternKind::Blackboard};
+constexpr Role first_roles[] = {Role::Publisher, Role::Listener, Role::Server, Role::Reader};
+constexpr Role second_roles[] = {Role::Subscriber, Role::Notifier, Role::Client, Role::Writer};
+
+Service make(PatternKind pattern, Capacities capacities, std::uint64_t tickets = 9) {
+    return Service::create(pattern, 77, capacities, tickets).value();
+}
+
+template <class T, class... Expected>
+bool lists(const Result<List<T>>& result, const Expected&... expected) {
+    const std::vector<T> all{T(expected)...};
+    return result && std::equal(result->begin(), result->end(), all.begin(), all.end());
+}
+
+void no_service() {
+    Service none, taken = make(PatternKind::Event, {1, 1, 1});
+    const Service kept = std::move(taken);
+    const ContainerHandle handle{77, Role::Node, 0, 0};
+    CHECK(kept.kind());
+    for (Service* place : {&none, &taken}) {
+        CHECK(place->register_node_id(a).status() == Status::NoService);
+        CHECK(place->deregister_node_id(handle).status() == Status::NoService);
+        CHECK(place->attach(port_of(Role::Listener, 1, a)).status() == Status::NoService);
+        CHECK(place->release_port(handle).status() == Status::NoService);
+        CHECK(place->remove_dead_node_id(a).status() == Status::NoService);
+        CHECK(place->kind().status() == Status::NoService);
+        CHECK(place->service_number().status() == Status::NoService);
+        CHECK(place->port_roles().status() == Status::NoService);
+        CHECK(place->has_role(Role::Listener).status() == Status::NoService);
+        CHECK(place->is_locked().status() == Status::NoService);
+        CHECK(place->number_of_nodes().status() == Status::NoService);
+        CHECK(place->max_nodes().status() == Status::NoService);
+        CHECK(place->has_room_for_node().status() == Status::NoService);
+        CHECK(place->count_ports(Role::Listener).status() == Status::NoService);
+        CHECK(place->max_ports(Role::Listener).status() == Status::NoService);
+        CHECK(place->has_room(Role::Listener).status() == Status::NoService);
+        CHECK(place->node(handle).status() == Status::NoService);
+        CHECK(place->port(handle).status() == Status::NoService);
+        CHECK(place->nodes().status() == Status::NoService);
+        CHECK(place->ports(Role::Listener).status() == Status::NoService);
+        CHECK(place->ports_of(a).status() == Status::NoService);
+        CHECK(place->list_listeners().status() == Status::NoService);
+    }
+}
+
+void making_and_moving() {
+    CHECK(Service::create(PatternKind{4}, 5, {1, 1, 1}).status() == Status::UnknownPattern);
+    CHECK(Service::create(PatternKind::Event, 5, {SIZE_MAX, 1, 1}).status() == Status::NoMemory);
+    CHECK(Service::create(PatternKind::Event, 5, {1, SIZE_MAX, 1}).status() == Status::NoMemory);
+    CHECK(Service::create(PatternKind::Event, 5, {1, 1, SIZE_MAX}).status() == Status::NoMemory);
+    // A number of nodes that 32 bits would cut to 1 takes more memory than there is.
+    const std::size_t beyond = (std::size_t{1} << 60) + 1;
+    CHECK(Service::create(PatternKind::Event, 5, {beyond, 1, 1}).status() == Status::NoMemory);
+
+    Service service = make(PatternKind::Event, {1, 1, 1});
+    CHECK(service.register_node_id(a));
+    Service other = make(PatternKind::Blackboard, {2, 2, 2});
+    other = std::move(service);
+    CHECK(*other.kind() == PatternKind::Event && *other.number_of_nodes() == 1);
+    Service& same = other;
+    other = std::move(same);
+    CHECK(*other.number_of_nodes() == 1);
+    other = make(PatternKind::Blackboard, {2, 2, 2});
+    CHECK(*other.number_of_nodes() == 0);
+    const Service all = Service::create(PatternKind::Event, UINT64_MAX, {1, 0, 0}).value();
+    CHECK(*all.service_number() == UINT64_MAX && *all.has_room_for_node());
+}
+
+void nodes() {
+    Service service = make(PatternKind::Blackboard, {2, 3, 4}, 3);
+    const ContainerHandle first = service.register_node_id(a).value();
+    const ContainerHandle second = service.register_node_id(b).value();
+    CHECK(first == ContainerHandle{77, Role::Node, 0, 0});
+    CHECK(second == ContainerHandle{77, Role::Node, 1, 1} && first < second);
+    CHECK(service.register_node_id(b).status() == Status::OutOfSpace);
+    CHECK(lists(service.nodes(), a, b));
+    const auto refusal = [&](const ContainerHandle& handle) {
+        return service.deregister_node_id(handle).error();
+    };
+    CHECK(refusal({77, Role{9}, 0, 0}) == Status::UnknownRole);
+    CHECK(refusal({77, Role{std::uint64_t{1} << 32}, 0, 0}) == Status::UnknownRole);
+    CHECK(refusal({78, Role::Node, 0, 0}) == Status::ForeignHandle);
+    CHECK(refusal({77, Role::Reader, 0, 0}) == Status::ForeignHandle);
+    CHECK(refusal({77, Role::Node, std::size_t{1} << 32, 0}) == Status::ForeignHandle);
+    CHECK(refusal({77, Role::Node, 0, 1}) == Status::ForeignHandle);
+    CHECK(*service.node(second) == b);
+    CHECK(service.node({77, Role::Node, 1, 2}).status() == Status::ForeignHandle);
+    CHECK(service.node({77, Role{9}, 1, 1}).status() == Status::UnknownRole);
+    CHECK(*service.deregister_node_id(first) == DeregisterNodeState::HasOwners);
+    const ContainerHandle again = service.register_node_id(a).value();
+    CHECK(again == ContainerHandle{77, Role::Node, 0, 2} && lists(service.nodes(), a, b));
+    CHECK(*service.deregister_node_id(second) == DeregisterNodeState::HasOwners);
+    CHECK(!*service.has_room_for_node());
+    CHECK(service.register_node_id(b).status() == Status::OutOfSpace);  // No ticket is left.
+    CHECK(*service.deregister_node_id(again) == DeregisterNodeState::NoMoreOwners);
+    CHECK(*service.is_locked() && lists(service.nodes()));
+    CHECK(service.register_node_id(b).status() == Status::IsLocked);
+}
+
+void ports(std::size_t i) {
+    const Role first = first_roles[i], second = second_roles[i], foreign = first_roles[(i + 1) % 4];
+    Service service = make(patterns[i], {3, 2, 3});
+    CHECK(*service.kind() == patterns[i] && *service.service_number() == 77);
+    CHECK(*service.port_roles() == PortRoles{first, second});
+    CHECK(*service.has_role(first) && *service.has_role(second) && !*service.has_role(foreign));
+    CHECK(!*service.has_role(Role::Node));
+    CHECK(service.has_role(Role{9}).status() == Status::UnknownRole);
+    CHECK(service.register_node_id(a) && service.register_node_id(b));
+    CHECK(*service.number_of_nodes() == 2 && *service.max_nodes() == 3);
+    CHECK(*service.has_room_for_node() && !*service.is_locked());
+
+    const PortDetails fa = port_of(first, 20, a), fb = port_of(first, 21, b);
+    const PortDetails sb = port_of(second, 30, b), sa = port_of(second, 31, a);
+    const ContainerHandle handle = service.attach(fa).value();
+    CHECK(handle == ContainerHandle{77, first, 0, 0});
+    CHECK(*service.attach(fb) == ContainerHandle{77, first, 1, 1});
+    CHECK(*service.attach(sb) == ContainerHandle{77, second, 0, 0});
+    CHECK(*service.attach(sa) == ContainerHandle{77, second, 1, 1});
+    CHECK(service.attach(fa).status() == Status::OutOfSpace);
+    CHECK(service.attach(port_of(foreign, 40, stranger)).status() == Status::RoleNotInPattern);
+    CHECK(service.attach(port_of(second, 40, stranger)).status() == Status::NodeNotRegistered);
+
+    CHECK(*service.port(handle) == fa);
+    CHECK(service.port({77, first, 0, 1}).status() == Status::ForeignHandle);
+    CHECK(service.port({77, Role::Node, 0, 0}).status() == Status::ForeignHandle);
+    CHECK(service.port({77, Role{9}, 0, 0}).status() == Status::UnknownRole);
+    CHECK(service.node(handle).status() == Status::ForeignHandle);
+    CHECK(role(fa) == first && node_id(fa) == a && port_id(fa).role() == first);
+    CHECK(port_id(fa).text() == "b0000000c0000000d00000014");
+    CHECK(fa < fb && sb < sa && fa != fb);
+
+    CHECK(*service.count_ports(first) == 2 && *service.count_ports(second) == 2);
+    CHECK(*service.max_ports(first) == 2 && *service.max_ports(second) == 3);
+    CHECK(!*service.has_room(first) && *service.has_room(second));
+    for (Role other : {foreign, Role::Node}) {
+        CHECK(service.count_ports(other).status() == Status::RoleNotInPattern);
+        CHECK(service.max_ports(other).status() == Status::RoleNotInPattern);
+        CHECK(service.has_room(other).status() == Status::RoleNotInPattern);
+        CHECK(service.ports(other).status() == Status::RoleNotInPattern);
+    }
+    CHECK(service.count_ports(Role{9}).status() == Status::UnknownRole);
+    CHECK(service.max_ports(Role{9}).status() == Status::UnknownRole);
+    CHECK(service.has_room(Role{9}).status() == Status::UnknownRole);
+    CHECK(service.ports(Role{9}).status() == Status::UnknownRole);
+
+    CHECK(lists(service.ports(first), fa, fb) && lists(service.ports(second), sb, sa));
+    CHECK(lists(service.ports_of(a), fa, sa) && lists(service.ports_of(b), fb, sb));
+    CHECK(lists(service.ports_of(stranger)));
+
+    CHECK(service.release_port({77, Role{10}, 0, 0}).error() == Status::UnknownRole);
+    CHECK(service.release_port({77, Role::Node, 0, 0}).error() == Status::ForeignHandle);
+    CHECK(service.release_port({77, first, 1, 1}) && lists(service.ports(first), fa));
+    CHECK(service.release_port({77, first, 1, 1}).error() == Status::ForeignHandle);
+    CHECK(service.deregister_node_id({77, Role::Node, 0, 0}).status() ==
+          Status::PortsStillAttached);
+
+    // A death of which one port is kept, then one of which none is.
+    const std::vector<UniquePortId> kept = {port_id(sb), port_id(sa)};
+    CHECK(*service.remove_dead_node_id(a, kept) == Removal{DeregisterNodeState::HasOwners, 1, 0});
+    CHECK(lists(service.ports_of(a), sa) && lists(service.nodes(), a, b));
+    CHECK(*service.remove_dead_node_id(a) == Removal{DeregisterNodeState::HasOwners, 0, 1});
+    CHECK(lists(service.nodes(), b));
+    CHECK(*service.remove_dead_node_id(b, {port_id(sb)}) ==
+          Removal{DeregisterNodeState::HasOwners, 0, 0});
+    CHECK(*service.remove_dead_node_id(b, {port_id(fa)}) ==
+          Removal{DeregisterNodeState::NoMoreOwners, 0, 1});
+    CHECK(*service.is_locked() && !*service.has_room(first) && !*service.has_room_for_node());
+    CHECK(service.attach(fa).status() == Status::IsLocked);
+    CHECK(lists(service.ports(second)) && lists(service.ports_of(b)));
+}
+
+/// Each kind of ports by its own list, which the other patterns refuse.
+template <class Details, class Call>
+void listing(std::size_t pattern, Call call) {
+    Service service = make(patterns[pattern], {1, 1, 1});
+    const PortDetails port = port_of(Details::role, 20, a);
+    CHECK(service.register_node_id(a) && call(service)->empty() && service.attach(port));
+    CHECK(lists(call(service), std::get<Details>(port)));
+    const Service other = make(patterns[(pattern + 1) % 4], {1, 1, 1});
+    CHECK(call(other).status() == Status::RoleNotInPattern);
+}
+
+void listings() {
+    listing<PublisherDetails>(0, [](const Service& s) { return s.list_publishers(); });
+    listing<SubscriberDetails>(0, [](const Service& s) { return s.list_subscribers(); });
+    listing<ListenerDetails>(1, [](const Service& s) { return s.list_listeners(); });
+    listing<NotifierDetails>(1, [](const Service& s) { return s.list_notifiers(); });
+    listing<ServerDetails>(2, [](const Service& s) { return s.list_servers(); });
+    listing<ClientDetails>(2, [](const Service& s) { return s.list_clients(); });
+    listing<ReaderDetails>(3, [](const Service& s) { return s.list_readers(); });
+    listing<WriterDetails>(3, [](const Service& s) { return s.list_writers(); });
+}
+
+void segments() {
+    Service service = make(PatternKind::PublishSubscribe, {1, 1, 1});
+    PublisherDetails publisher{UniquePublisherId(1, 1, 1, 1), a, 1, 1, DataSegmentType{2}, 1};
+    CHECK(service.attach(publisher).status() == Status::UnknownSegment);
+    publisher.data_segment_type = DataSegmentType::Static;
+    CHECK(service.attach(publisher).status() == Status::NodeNotRegistered);
+}
+
+void moved_lists() {
+    Service service = make(PatternKind::Event, {1, 1, 1});
+    CHECK(service.nodes()->empty() && service.nodes()->data() == nullptr);
+    CHECK(service.register_node_id(a));
+    List<UniqueNodeId> list = service.nodes().value();
+    const List<UniqueNodeId> moved = std::move(list);
+    CHECK(list.empty() && list.begin() == list.end() && moved.size() == 1 && moved[0] == a);
+    CHECK(moved == service.nodes().value() && moved != list);
+    list = service.nodes().value();
+    CHECK(moved == list && *list.data() == a);
+}
+
+void scripts() {
+    const std::string_view script =
+        "service event 7 1 2 2\nregister 1.0.0.1\nregister 2.0.0.2\nderegister 0\n";
+    const ScriptRun run = run_script(script);
+    CHECK(run.status == Status::Done && run.line == 0);
+    CHECK(run.replies() == "handle 0 0\nfull\nno-owners\n");
+    const ScriptRun cut = run_script(script.substr(0, script.size() - 1));
+    CHECK(cut.status == Status::BadLine && cut.line == 4);
+    CHECK(cut.replies() == "handle 0 0\nfull\n");
+    const ScriptRun none = run_script({});
+    CHECK(none.status == Status::BadLine && none.line == 1 && none.replies().empty());
+    CHECK(run_script("service event 7 1 2 2\n").status == Status::Done);
+}
+
+/// So many calls on a service: whether all were as they should be.
+bool works(Service& service, std::uint64_t rounds) {
+    bool good = true;
+    for (std::uint64_t i = 0; i < rounds; ++i) {
+        const auto first = service.register_node_id(a);
+        const auto second = service.register_node_id(b);
+        const auto port = service.attach(port_of(Role::Subscriber, 20, b));
+        good = good && first && second && port && service.ports_of(b)->size() == 1;
+        good = good && service.release_port(*port) && service.deregister_node_id(*second);
+        const auto back = service.register_node_id(stranger);
+        good = good && service.deregister_node_id(*first) &&
+               back->service == *service.service_number();
+        good = good && service.register_node_id(a) && service.deregister_node_id(*back);
+        good = good && *service.remove_dead_node_id(stranger) ==
+                           Removal{DeregisterNodeState::HasOwners, 0, 0};
+        const auto rest = service.nodes();
+        good = good && rest->size() == 1 && (*rest)[0] == a;
+        good = good && service.register_node_id(b);
+        good = good && service.remove_dead_node_id(a) && service.register_node_id(a);
+        good = good && service.remove_dead_node_id(b) && service.register_node_id(stranger);
+        good = good && service.remove_dead_node_id(a);
+    }
+    return good;
+}
+
+/// Sixteen threads with a service each, and a service that goes from one thread to another.
+void threads() {
+    bool good[16] = {};
+    std::vector<std::thread> running;
+    for (std::uint64_t i = 0; i < 16; ++i) {
+        running.emplace_back([i, &good] {
+            Service service =
+                Service::create(PatternKind::PublishSubscribe, 1000 + i, {20, 2, 8}).value();
+            good[i] = works(service, 20);
+        });
+    }
+    for (std::thread& each : running) each.join();
+    for (bool each : good) CHECK(each);
+
+    Service service = make(PatternKind::Event, {2, 1, 1});
+    CHECK(service.register_node_id(a));
+    Service back;
+    std::thread([&back, handed = std::move(service)]() mutable {
+        CHECK(lists(handed.nodes(), a) && handed.register_node_id(b));
+        back = std::move(handed);
+    }).join();
+    CHECK(lists(back.nodes(), a, b));
+}
+
+}  // namespace
+
+int main() {
+    no_service();
+    making_and_moving();
+    nodes();
+    for (std::size_t pattern = 0; pattern < 4; ++pattern) ports(pattern);
+    listings();
+    segments();
+    moved_lists();
+    scripts();
+    threads();
+    return end_of_checks();
+}

@@ -1,0 +1,35 @@
+#!/usr/bin/env bash
+# Installs what bindings/build.sh has built, for C and C++: headers, libraries, a file for
+# pkg-config and a package for CMake.
+#
+#     [DESTDIR=STAGE] bindings/install.sh PREFIX
+#
+# PREFIX is an absolute path. Everything finds its neighbours by where it lies itself, so a prefix
+# may be moved, and a stage may be packed.
+set -euo pipefail
+if [ $# -ne 1 ] || [[ $1 != /* ]]; then
+    echo "usage: [DESTDIR=STAGE] $0 PREFIX, an absolute path" >&2
+    exit 2
+fi
+prefix=${DESTDIR:-}$1
+cd "$(dirname "$0")"
+for library in out/libiox2sd.a out/libiox2sd.so.0; do
+    [ -f "$library" ] || { echo "$library is missing: bindings/build.sh builds it" >&2; exit 1; }
+done
+source=../crates/iox2sd_values/src/version.rt
+version=$(sed -n '/fn iox2sd_version(/,/^}/s/^ *write(b"\([0-9.]*\)", out)$/\1/p' "$source")
+[ -n "$version" ] || { echo "$source has no version" >&2; exit 1; }
+
+# A file that has the version in place of @VERSION@.
+versioned() { sed "s/@VERSION@/$version/g" "install/$1.in" | install -m 644 /dev/stdin "$2/$1"; }
+
+include=$prefix/include lib=$prefix/lib
+cmake=$lib/cmake/iox2sd
+install -d "$include" "$lib/pkgconfig" "$cmake"
+install -m 644 ../include/iox2sd*.h ../include/iox2sd.hpp "$include"
+install -m 644 out/libiox2sd.a "$lib"
+install -m 755 out/libiox2sd.so.0 "$lib"
+ln -sf libiox2sd.so.0 "$lib/libiox2sd.so"
+versioned iox2sd.pc "$lib/pkgconfig"
+versioned iox2sdConfigVersion.cmake "$cmake"
+install -m 644 install/iox2sdConfig.cmake "$cmake"

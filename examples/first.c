@@ -1,0 +1,127 @@
+/* A first program: a service is described, verified against two openers, joined by a node with a
+ * port, listed, and recovered from the node's death. It stands here in several languages, and
+ * prints the same lines in each. */
+#include "iox2sd.h"
+#include "iox2sd_values.h"
+
+#include <stdio.h>
+#include <stdlib.h>
+#include <string.h>
+
+static const uint8_t *bytes(const char *text) { return (const uint8_t *)text; }
+
+static iox2sd_attribute pair(const char *key, const char *value) {
+    iox2sd_attribute made = {bytes(key), strlen(key), bytes(value), strlen(value)};
+    return made;
+}
+
+static iox2sd_key key_of(const char *text) {
+    iox2sd_key made = {bytes(text), strlen(text)};
+    return made;
+}
+
+static iox2sd_type_detail type_of(const char *name, size_t size, size_t alignment) {
+    iox2sd_type_detail made = {bytes(name), strlen(name), IOX2SD_FIXED_SIZE, size, alignment};
+    return made;
+}
+
+/* Prints what a call wrote into `out`. */
+static void print_text(const char *what, iox2sd_text_answer answer, const uint8_t *out) {
+    if (answer.status != IOX2SD_DONE) exit(EXIT_FAILURE);
+    printf("%s: %.*s\n", what, (int)answer.length, (const char *)out);
+}
+
+static void print_status(const char *what, uint32_t status) {
+    uint8_t out[128];
+    print_text(what, iox2sd_status_text(status, out, sizeof out), out);
+}
+
+static void print_id(const char *what, iox2sd_id id) {
+    uint8_t out[32];
+    print_text(what, iox2sd_id_text(id, out, sizeof out), out);
+}
+
+static void print_handle(const char *what, iox2sd_handle_answer answer) {
+    if (answer.status != IOX2SD_DONE) exit(EXIT_FAILURE);
+    printf("%s: slot %zu, ticket %llu\n", what, answer.handle.slot,
+           (unsigned long long)answer.handle.ticket);
+}
+
+/* What the service is: its name, hash text, settings and attributes. */
+static void describe(const char *name, const iox2sd_publish_subscribe_settings *settings,
+                     const iox2sd_attribute *attributes, size_t number_of_attributes) {
+    uint8_t out[64];
+    const size_t length = strlen(name);
+    if (iox2sd_service_name_check(bytes(name), length).status != IOX2SD_DONE) exit(EXIT_FAILURE);
+    printf("service: %s\n", name);
+    print_text("hash",
+               iox2sd_hash_text(IOX2SD_PUBLISH_SUBSCRIBE, bytes(name), length, out, sizeof out),
+               out);
+    printf("room: %zu nodes, %zu publishers, %zu subscribers\n", settings->max_nodes,
+           settings->max_publishers, settings->max_subscribers);
+    printf("samples: %zu\n", iox2sd_samples_of(settings).count);
+    for (size_t i = 0; i < number_of_attributes; i++) {
+        const iox2sd_attribute *each = &attributes[i];
+        printf("attribute: %.*s = %.*s\n", (int)each->key_length, (const char *)each->key,
+               (int)each->value_length, (const char *)each->value);
+    }
+}
+
+/* Whether openers may use it: one that requires what it has, and one that requires more. */
+static void verify(const iox2sd_attribute *attributes, size_t number_of_attributes) {
+    const iox2sd_attribute required = pair("color", "red");
+    const iox2sd_key keys[] = {key_of("unit"), key_of("rate")};
+    const iox2sd_message_details service = {
+        type_of("Header", 8, 8), type_of("UserHeader", 4, 4), type_of("Payload", 8, 8)};
+    iox2sd_message_details opener = service;
+    const iox2sd_layout_answer room = iox2sd_message_layout(&service, 2);
+    for (size_t i = 1; i <= 2; i++) {
+        print_status(i == 1 ? "requires color = red, unit" : "requires color = red, unit, rate",
+                     iox2sd_attributes_verify(attributes, number_of_attributes, &required, 1,
+                                              keys, i).status);
+    }
+    print_status("with its types", iox2sd_message_compatible(&opener, &service).status);
+    opener.payload.alignment = 16;
+    print_status("with a wider payload", iox2sd_message_compatible(&opener, &service).status);
+    printf("a message: %zu bytes at a multiple of %zu\n", room.size, room.alignment);
+}
+
+/* A node joins with a publisher, is listed, and dies. */
+static void live(iox2sd_service *service) {
+    const iox2sd_id node = {1, 0, 0, 2};
+    iox2sd_port publisher = {.role = IOX2SD_PUBLISHER, .port = {1, 0, 0, 3}, .node = {1, 0, 0, 2}};
+    iox2sd_id nodes[20];
+    iox2sd_port ports[2];
+    iox2sd_count_answer found;
+    iox2sd_death_answer death;
+    publisher.number_of_samples = 34;
+    publisher.data_segment = IOX2SD_STATIC_SEGMENT;
+    publisher.max_number_of_segments = 1;
+    print_handle("node", iox2sd_register(service, node));
+    print_handle("publisher", iox2sd_attach(service, &publisher));
+    found = iox2sd_nodes(service, nodes, 20);
+    for (size_t i = 0; i < found.count; i++) print_id("there is the node", nodes[i]);
+    found = iox2sd_ports(service, IOX2SD_PUBLISHER, ports, 2);
+    for (size_t i = 0; i < found.count; i++) print_id("there is the publisher", ports[i].port);
+    death = iox2sd_dead(service, node, NULL, 0);
+    printf("died with %zu publishers, %zu subscribers\n", death.first, death.second);
+    print_status("the death", death.status);
+    print_status("a late node", iox2sd_register(service, node).status);
+}
+
+int main(void) {
+    iox2sd_attribute attributes[] = {pair("unit", "mm"), pair("color", "red")};
+    const iox2sd_publish_subscribe_settings settings = iox2sd_publish_subscribe_defaults();
+    const iox2sd_capacities room = {settings.max_nodes, settings.max_publishers,
+                                    settings.max_subscribers};
+    iox2sd_service service = IOX2SD_SERVICE_NONE;
+    if (iox2sd_attributes_sort(attributes, 2).status != IOX2SD_DONE) return EXIT_FAILURE;
+    describe("My/Service", &settings, attributes, 2);
+    verify(attributes, 2);
+    if (iox2sd_service_make(&service, IOX2SD_PUBLISH_SUBSCRIBE, 7, room, UINT64_MAX) !=
+        IOX2SD_DONE) {
+        return EXIT_FAILURE;
+    }
+    live(&service);
+    return iox2sd_service_free(&service) == IOX2SD_DONE ? EXIT_SUCCESS : EXIT_FAILURE;
+}

@@ -1,0 +1,101 @@
+// A first program: a service is described, verified against two openers, joined by a node with a
+// port, listed, and recovered from the node's death. It stands here in several languages, and
+// prints the same lines in each.
+#include <iostream>
+#include <string_view>
+
+#include "iox2sd.hpp"
+
+using namespace iox2sd;
+
+namespace {
+
+void print_status(std::string_view what, Status status) {
+    std::cout << what << ": " << text(status).view() << '\n';
+}
+
+void print_handle(std::string_view what, const ContainerHandle& handle) {
+    std::cout << what << ": slot " << handle.slot << ", ticket " << handle.ticket << '\n';
+}
+
+TypeDetail type(std::string_view name, std::size_t size, std::size_t alignment) {
+    return TypeDetail::create(TypeVariant::FixedSize, name, size, alignment).value();
+}
+
+/// What the service is: its name, hash text, settings and attributes.
+void describe(const StaticConfig& description, std::size_t loans) {
+    const PublishSubscribeStaticConfig& config = *description.publish_subscribe();
+    std::cout << "service: " << description.name().view() << '\n'
+              << "hash: " << description.service_hash().view() << '\n'
+              << "room: " << config.max_nodes << " nodes, " << config.max_publishers
+              << " publishers, " << config.max_subscribers << " subscribers\n"
+              << "samples: " << config.required_amount_of_samples_per_data_segment(loans).value()
+              << '\n';
+    for (const Attribute& each : description.attributes()) {
+        std::cout << "attribute: " << each.key().view() << " = " << each.value().view() << '\n';
+    }
+}
+
+/// Whether openers may use it: one that requires what it has, and one that requires more.
+void verify(const StaticConfig& description, AttributeVerifier verifier) {
+    const AttributeKey rate = AttributeKey::create("rate").value();
+    const MessageTypeDetails& service = description.publish_subscribe()->message_type_details;
+    MessageTypeDetails opener = service;
+    const Layout room = service.sample_layout(2).value();
+    print_status("requires color = red, unit",
+                 verifier.verify_requirements(description.attributes()).status());
+    if (!verifier.require_key(rate)) return;
+    print_status("requires color = red, unit, rate",
+                 verifier.verify_requirements(description.attributes()).status());
+    print_status("with its types", opener.is_compatible_to(service).status());
+    opener.payload = type("Payload", 8, 16);
+    print_status("with a wider payload", opener.is_compatible_to(service).status());
+    std::cout << "a message: " << room.size << " bytes at a multiple of " << room.alignment << '\n';
+}
+
+/// A node joins with a publisher, is listed, and dies.
+void live(Service& service) {
+    const UniqueNodeId node = UniqueNodeId::create(1, 0, 0, 2).value();
+    const UniquePublisherId publisher(1, 0, 0, 3);
+    print_handle("node", service.register_node_id(node).value());
+    const PublisherDetails details{publisher, node, 34, 0, DataSegmentType::Static, 1};
+    print_handle("publisher", service.attach(details).value());
+    for (const UniqueNodeId& each : service.nodes().value()) {
+        std::cout << "there is the node: " << each.text().view() << '\n';
+    }
+    for (const PublisherDetails& each : service.list_publishers().value()) {
+        std::cout << "there is the publisher: " << each.publisher_id.text().view() << '\n';
+    }
+    const Removal death = service.remove_dead_node_id(node).value();
+    std::cout << "died with " << death.first << " publishers, " << death.second << " subscribers\n";
+    print_status("the death", death.state == DeregisterNodeState::NoMoreOwners ? Status::DoneLocked
+                                                                               : Status::Done);
+    print_status("a late node", service.register_node_id(node).status());
+}
+
+}  // namespace
+
+int main() {
+    const PublishSubscribeSettings settings = PublishSubscribeSettings::defaults();
+    const MessageTypeDetails types{type("Header", 8, 8), type("UserHeader", 4, 4),
+                                   type("Payload", 8, 8)};
+    const AttributeKey unit = AttributeKey::create("unit").value();
+    const AttributeKey color = AttributeKey::create("color").value();
+    const AttributeValue red = AttributeValue::create("red").value();
+    AttributeSet attributes;
+    AttributeVerifier verifier;
+    if (!attributes.add(unit, AttributeValue::create("mm").value())) return 1;
+    if (!attributes.add(color, red)) return 1;
+    if (!verifier.require(color, red) || !verifier.require_key(unit)) return 1;
+    const StaticConfig description =
+        StaticConfig::create(ServiceName::create("My/Service").value(), UniqueServiceId(1, 0, 0, 1),
+                             attributes, PublishSubscribeStaticConfig(settings, types))
+            .value();
+    describe(description, settings.publisher_max_loaned_samples);
+    verify(description, verifier);
+    Service service =
+        Service::create(description.kind(), 7,
+                        {settings.max_nodes, settings.max_publishers, settings.max_subscribers})
+            .value();
+    live(service);
+}

@@ -1,0 +1,1985 @@
+/// The proved layer of service_descriptions for C++17: what a service is, and who is attached to
+/// it.
+///
+/// A header alone, over iox2sd.h, iox2sd_values.h and iox2sd_script.h; link libiox2sd.a or
+/// libiox2sd.so. Names are those of the ported middleware.
+///
+/// - Values live in C++. Each rule (which text is legal, how a set is sorted, what is compatible,
+///   how large a message is, who may attach) is asked of the library, and stands nowhere here.
+/// - A call that may be refused answers a `Result`, with a `Status` or with an error that has one.
+///   The refusals of a call are named in the order in which they are reported.
+/// - No call throws, and exceptions may be switched off. `Service::create`, the lists, a death with
+///   ports to keep and `run_script` take memory; where it is refused, they answer
+///   `Status::NoMemory`. No other call takes any: texts and sets have their room in place.
+/// - Calls may run on several threads at once where they share no `Service`. One thread at a time
+///   uses a service, for calls that are `const` too. That it may be handed to another thread is
+///   tested, not proved.
+///
+/// What is proved is what the library answers, under the rules of the C headers. This header is
+/// tested, not proved.
+#ifndef IOX2SD_HPP
+#define IOX2SD_HPP
+
+#if !defined(__cplusplus) || __cplusplus < 201703L
+#error "iox2sd.hpp wants C++17"
+#endif
+
+#include <algorithm>
+#include <array>
+#include <cstddef>
+#include <cstdint>
+#include <cstdlib>
+#include <initializer_list>
+#include <iterator>
+#include <memory>
+#include <new>
+#include <optional>
+#include <string_view>
+#include <tuple>
+#include <type_traits>
+#include <utility>
+#include <variant>
+
+#include "iox2sd.h"
+#include "iox2sd_script.h"
+#include "iox2sd_values.h"
+
+namespace iox2sd {
+
+// ---- Statuses and results ----
+
+/// What a call answers, with the numbers of `enum iox2sd_status`. `text` says it in words.
+enum class Status : std::uint32_t {
+    Done = IOX2SD_DONE,
+    DoneLocked = IOX2SD_DONE_LOCKED,
+    BufferTooShort = IOX2SD_BUFFER_TOO_SHORT,
+    NoMemory = IOX2SD_NO_MEMORY,
+    NoService = IOX2SD_NO_SERVICE,
+    HasService = IOX2SD_HAS_SERVICE,
+    UnknownPattern = IOX2SD_UNKNOWN_PATTERN,
+    UnknownRole = IOX2SD_UNKNOWN_ROLE,
+    NoNode = IOX2SD_NO_NODE,
+    IsLocked = IOX2SD_IS_LOCKED,
+    OutOfSpace = IOX2SD_OUT_OF_SPACE,
+    ForeignHandle = IOX2SD_FOREIGN_HANDLE,
+    PortsStillAttached = IOX2SD_PORTS_STILL_ATTACHED,
+    NodeNotRegistered = IOX2SD_NODE_NOT_REGISTERED,
+    RoleNotInPattern = IOX2SD_ROLE_NOT_IN_PATTERN,
+    UnknownSegment = IOX2SD_UNKNOWN_SEGMENT,
+    BadKey = IOX2SD_BAD_KEY,
+    BadValue = IOX2SD_BAD_VALUE,
+    TooMany = IOX2SD_TOO_MANY,
+    Null = IOX2SD_NULL,
+    UnknownStatus = IOX2SD_UNKNOWN_STATUS,
+    Empty = IOX2SD_EMPTY,
+    TooLong = IOX2SD_TOO_LONG,
+    IllegalByte = IOX2SD_ILLEGAL_BYTE,
+    NoFileName = IOX2SD_NO_FILE_NAME,
+    ReservedPrefix = IOX2SD_RESERVED_PREFIX,
+    NotUtf8 = IOX2SD_NOT_UTF8,
+    BadServiceName = IOX2SD_BAD_SERVICE_NAME,
+    BadPath = IOX2SD_BAD_PATH,
+    BadEntry = IOX2SD_BAD_ENTRY,
+    IllegalHash = IOX2SD_ILLEGAL_HASH,
+    BadRequiredKey = IOX2SD_BAD_REQUIRED_KEY,
+    BadRequiredValue = IOX2SD_BAD_REQUIRED_VALUE,
+    BadAskedKey = IOX2SD_BAD_ASKED_KEY,
+    TooManyRequired = IOX2SD_TOO_MANY_REQUIRED,
+    MissingPair = IOX2SD_MISSING_PAIR,
+    MissingKey = IOX2SD_MISSING_KEY,
+    NoSuchValue = IOX2SD_NO_SUCH_VALUE,
+    BadAlignment = IOX2SD_BAD_ALIGNMENT,
+    TooLarge = IOX2SD_TOO_LARGE,
+    UnknownVariant = IOX2SD_UNKNOWN_VARIANT,
+    OtherName = IOX2SD_OTHER_NAME,
+    OtherVariant = IOX2SD_OTHER_VARIANT,
+    OtherSize = IOX2SD_OTHER_SIZE,
+    OtherAlignment = IOX2SD_OTHER_ALIGNMENT,
+    GreaterAlignment = IOX2SD_GREATER_ALIGNMENT,
+    UnknownText = IOX2SD_UNKNOWN_TEXT,
+    BadLine = IOX2SD_BAD_LINE,
+};
+
+namespace detail {
+
+/// Marks what the library answered, which needs no further check.
+struct FromLibrary {};
+
+inline const std::uint8_t* bytes(std::string_view text) noexcept {
+    return reinterpret_cast<const std::uint8_t*>(text.data());
+}
+
+constexpr Status status_of(Status status) noexcept { return status; }
+
+template <class Error>
+constexpr Status status_of(const Error& error) noexcept {
+    return error.status;
+}
+
+/// Whether a type is compared field by field: it lists its fields by `fields()`.
+template <class T>
+using IfFields = std::void_t<decltype(std::declval<const T&>().fields())>;
+
+}  // namespace detail
+
+/// Types that list their fields are equal where all fields are, and ordered by the first field that
+/// differs.
+template <class T, class = detail::IfFields<T>>
+bool operator==(const T& a, const T& b) noexcept {
+    return a.fields() == b.fields();
+}
+template <class T, class = detail::IfFields<T>>
+bool operator!=(const T& a, const T& b) noexcept {
+    return !(a == b);
+}
+template <class T, class = detail::IfFields<T>>
+bool operator<(const T& a, const T& b) noexcept {
+    return a.fields() < b.fields();
+}
+template <class T, class = detail::IfFields<T>>
+bool operator>(const T& a, const T& b) noexcept {
+    return b < a;
+}
+template <class T, class = detail::IfFields<T>>
+bool operator<=(const T& a, const T& b) noexcept {
+    return !(b < a);
+}
+template <class T, class = detail::IfFields<T>>
+bool operator>=(const T& a, const T& b) noexcept {
+    return !(a < b);
+}
+
+/// A value, or the error for which there is none: a `Status`, or a struct with a `status`.
+template <class T, class E = Status>
+class [[nodiscard]] Result {
+public:
+    Result(T value) noexcept : state_(std::in_place_index<0>, std::move(value)) {}
+    Result(E error) noexcept : state_(std::in_place_index<1>, std::move(error)) {}
+
+    bool has_value() const noexcept { return state_.index() == 0; }
+    explicit operator bool() const noexcept { return has_value(); }
+
+    /// `Status::Done` where there is a value, and the status of the error otherwise.
+    Status status() const noexcept {
+        return has_value() ? Status::Done : detail::status_of(*std::get_if<1>(&state_));
+    }
+
+    /// The value, by itself where the result is a temporary. Where there is none the program is
+    /// aborted: ask `has_value` first.
+    T& value() & noexcept { return *get<0>(state_); }
+    const T& value() const& noexcept { return *get<0>(state_); }
+    T value() && noexcept { return std::move(*get<0>(state_)); }
+    T& operator*() & noexcept { return value(); }
+    const T& operator*() const& noexcept { return value(); }
+    T operator*() && noexcept { return std::move(*this).value(); }
+    T* operator->() noexcept { return &value(); }
+    const T* operator->() const noexcept { return &value(); }
+
+    /// The value, or another where there is none.
+    T value_or(T other) && noexcept {
+        return has_value() ? std::move(*this).value() : std::move(other);
+    }
+
+    /// The error. Where there is none the program is aborted.
+    const E& error() const noexcept { return *get<1>(state_); }
+
+private:
+    template <std::size_t Index, class State>
+    static auto get(State& state) noexcept {
+        auto* found = std::get_if<Index>(&state);
+        if (found == nullptr) std::abort();
+        return found;
+    }
+
+    std::variant<T, E> state_;
+};
+
+/// That something was done, or the error for which it was not.
+template <class E>
+class [[nodiscard]] Result<void, E> {
+public:
+    Result() noexcept = default;
+    Result(E error) noexcept : error_(std::move(error)) {}
+
+    bool has_value() const noexcept { return !error_.has_value(); }
+    explicit operator bool() const noexcept { return has_value(); }
+
+    /// `Status::Done`, or the status of the error.
+    Status status() const noexcept {
+        return has_value() ? Status::Done : detail::status_of(*error_);
+    }
+
+    /// The error. Where there is none the program is aborted.
+    const E& error() const noexcept {
+        if (has_value()) std::abort();
+        return *error_;
+    }
+
+private:
+    std::optional<E> error_;
+};
+
+namespace detail {
+
+/// The value of an answer whose status is `Done`, or its status.
+template <class T>
+Result<T> result(std::uint32_t status, T value) noexcept {
+    if (status != IOX2SD_DONE) return Status{status};
+    return value;
+}
+
+inline Result<void> result(std::uint32_t status) noexcept {
+    if (status != IOX2SD_DONE) return Status{status};
+    return {};
+}
+
+}  // namespace detail
+
+/// A list of values, which is moved and not copied, as `begin()` to `end()` or by index.
+template <class T>
+class List {
+public:
+    static_assert(std::is_trivially_copyable_v<T> && std::is_trivially_destructible_v<T>);
+    static_assert(alignof(T) <= __STDCPP_DEFAULT_NEW_ALIGNMENT__);
+    using value_type = T;
+    using const_iterator = const T*;
+
+    List() noexcept = default;
+    List(List&& other) noexcept
+        : items_(std::move(other.items_)), size_(std::exchange(other.size_, 0)) {}
+    List& operator=(List&& other) noexcept {
+        items_ = std::move(other.items_);
+        size_ = std::exchange(other.size_, 0);
+        return *this;
+    }
+
+    /// What a function makes of each of `count` items. Refusal: `NoMemory`.
+    template <class From, class Make>
+    static Result<List> of(const From* items, std::size_t count, Make make) noexcept {
+        if (count == 0) return List();
+        if (count > SIZE_MAX / sizeof(T)) return Status::NoMemory;
+        void* place = ::operator new(count * sizeof(T), std::nothrow);
+        if (place == nullptr) return Status::NoMemory;
+        List made(static_cast<T*>(place), count);
+        for (std::size_t i = 0; i < count; ++i) ::new (made.items_.get() + i) T(make(items[i]));
+        return made;
+    }
+
+    std::size_t size() const noexcept { return size_; }
+    bool empty() const noexcept { return size_ == 0; }
+    const T* data() const noexcept { return items_.get(); }
+    const T* begin() const noexcept { return items_.get(); }
+    const T* end() const noexcept { return items_.get() + size_; }
+    /// The item at an index below `size()`.
+    const T& operator[](std::size_t index) const noexcept { return items_.get()[index]; }
+
+    friend bool operator==(const List& a, const List& b) noexcept {
+        return std::equal(a.begin(), a.end(), b.begin(), b.end());
+    }
+    friend bool operator!=(const List& a, const List& b) noexcept { return !(a == b); }
+
+private:
+    struct Free {
+        void operator()(T* place) const noexcept { ::operator delete(place); }
+    };
+    List(T* items, std::size_t size) noexcept : items_(items), size_(size) {}
+
+    std::unique_ptr<T, Free> items_;
+    std::size_t size_ = 0;
+};
+
+// ---- Texts ----
+
+/// A text of at most `Capacity` bytes, which it holds itself.
+template <std::size_t Capacity>
+class Text {
+public:
+    /// The empty text.
+    Text() noexcept = default;
+
+    /// The text that a call of the C headers writes into a buffer. Refusals: those of the call.
+    template <class Write>
+    static Result<Text> written_by(Write write) noexcept {
+        Text text;
+        const iox2sd_text_answer answer = write(text.bytes_.data(), Capacity);
+        if (answer.status != IOX2SD_DONE) return Status{answer.status};
+        text.length_ = answer.length;
+        return text;
+    }
+
+    std::string_view view() const noexcept {
+        return {reinterpret_cast<const char*>(bytes_.data()), length_};
+    }
+    operator std::string_view() const noexcept { return view(); }
+    std::size_t size() const noexcept { return length_; }
+    bool empty() const noexcept { return length_ == 0; }
+    static constexpr std::size_t capacity() noexcept { return Capacity; }
+
+    /// Texts are compared by their bytes.
+    friend bool operator==(const Text& a, const Text& b) noexcept { return a.view() == b.view(); }
+    friend bool operator!=(const Text& a, const Text& b) noexcept { return a.view() != b.view(); }
+    friend bool operator<(const Text& a, const Text& b) noexcept { return a.view() < b.view(); }
+    friend bool operator>(const Text& a, const Text& b) noexcept { return a.view() > b.view(); }
+    friend bool operator<=(const Text& a, const Text& b) noexcept { return a.view() <= b.view(); }
+    friend bool operator>=(const Text& a, const Text& b) noexcept { return a.view() >= b.view(); }
+    friend bool operator==(const Text& a, std::string_view b) noexcept { return a.view() == b; }
+    friend bool operator!=(const Text& a, std::string_view b) noexcept { return a.view() != b; }
+
+protected:
+    /// A text that a check has found to be short enough.
+    explicit Text(std::string_view text) noexcept : length_(text.size()) {
+        if (text.size() > Capacity) std::abort();
+        std::copy(text.begin(), text.end(), bytes_.begin());
+    }
+
+private:
+    std::array<std::uint8_t, Capacity> bytes_{};
+    std::size_t length_ = 0;
+};
+
+/// What a status says. The text of a number that is no status's is that of `UnknownStatus`.
+inline Text<127> text(Status status) noexcept {
+    const auto text_of = [](std::uint32_t number) {
+        return Text<127>::written_by([number](std::uint8_t* out, std::size_t capacity) {
+            return iox2sd_status_text(number, out, capacity);
+        });
+    };
+    const Result<Text<127>> found = text_of(static_cast<std::uint32_t>(status));
+    return found ? *found : *text_of(static_cast<std::uint32_t>(found.status()));
+}
+
+/// Why a text was refused.
+struct TextError {
+    Status status;
+    /// The byte that is illegal, or the greatest length; 0 where the status speaks of no place.
+    std::size_t at = 0;
+
+    auto fields() const noexcept { return std::tie(status, at); }
+};
+
+/// A text that a check of the library lets through.
+template <std::size_t Capacity,
+          iox2sd_place_answer (*Check)(const std::uint8_t* text, std::size_t length)>
+class SemanticString : public Text<Capacity> {
+public:
+    /// The text as such a one. Refusals, with their place: those of the check.
+    static Result<SemanticString, TextError> create(std::string_view text) noexcept {
+        const iox2sd_place_answer answer = Check(detail::bytes(text), text.size());
+        if (answer.status != IOX2SD_DONE) return TextError{Status{answer.status}, answer.at};
+        return SemanticString(text);
+    }
+
+    SemanticString(const Text<Capacity>& text, detail::FromLibrary) noexcept
+        : Text<Capacity>(text) {}
+
+protected:
+    explicit SemanticString(std::string_view text) noexcept : Text<Capacity>(text) {}
+
+    SemanticString() noexcept = default;
+    friend class Attribute;
+    friend class AttributeVerifier;
+};
+
+/// The key of an attribute: 1 to 64 bytes, each from 1 to 127. Refusals: `Empty`; `TooLong`, with
+/// `at` 64; `IllegalByte`, with the place of the first one.
+using AttributeKey = SemanticString<64, iox2sd_attribute_key_check>;
+
+/// The value of an attribute: 1 to 256 bytes, each from 1 to 127. Refusals as of a key.
+using AttributeValue = SemanticString<256, iox2sd_attribute_value_check>;
+
+/// The name of a file: 1 to 255 bytes, each from 1 to 127 and none a `/`, and neither "." nor "..".
+/// Refusals: `Empty`; `TooLong`, with `at` 255; `IllegalByte`, with its place; `NoFileName`.
+using FileName = SemanticString<255, iox2sd_file_name_check>;
+
+/// A restricted name of a file, as hash texts are: 1 to 64 letters A to Z and a to z, digits, `-`,
+/// `.`, `:` and `_`, and neither "." nor "..". Refusals as of the name of a file.
+using RestrictedFileName = SemanticString<64, iox2sd_restricted_name_check>;
+
+/// A path: at most 255 bytes, each from 1 to 127. Refusals: `TooLong`, with `at` 255;
+/// `IllegalByte`, with the place of the first one.
+class Path : public SemanticString<255, iox2sd_path_check> {
+public:
+    using Base = SemanticString<255, iox2sd_path_check>;
+
+    static Result<Path, TextError> create(std::string_view text) noexcept {
+        const Result<Base, TextError> made = Base::create(text);
+        if (!made) return made.error();
+        return Path(*made, detail::FromLibrary{});
+    }
+
+    /// The empty path.
+    Path() noexcept = default;
+    Path(const Text<255>& text, detail::FromLibrary mark) noexcept : Base(text, mark) {}
+
+    /// Joins an entry to the path, with one `/` between them unless the path is empty or ends in
+    /// `/`. Refusal: `TooLong`, past 255 bytes; then the path is as it was.
+    Result<void> add_path_entry(const Path& entry) noexcept {
+        const auto joined = written_by([&](std::uint8_t* out, std::size_t capacity) {
+            return iox2sd_path_join(detail::bytes(*this), size(), detail::bytes(entry),
+                                    entry.size(), out, capacity);
+        });
+        if (!joined) return joined.status();
+        *this = Path(*joined, detail::FromLibrary{});
+        return {};
+    }
+};
+
+/// The path of a file: 1 to 255 bytes, each from 1 to 127, of which those after the last `/` are
+/// the name of a file. Refusals as of the name of a file; a `/` is no illegal byte.
+class FilePath : public SemanticString<255, iox2sd_file_path_check> {
+public:
+    using Base = SemanticString<255, iox2sd_file_path_check>;
+
+    static Result<FilePath, TextError> create(std::string_view text) noexcept {
+        const Result<Base, TextError> made = Base::create(text);
+        if (!made) return made.error();
+        return FilePath(*made, detail::FromLibrary{});
+    }
+
+    FilePath(const Text<255>& text, detail::FromLibrary mark) noexcept : Base(text, mark) {}
+
+    /// The path of a file in a directory, joined as `Path::add_path_entry` does.
+    /// Refusal: `TooLong`, past 255 bytes.
+    static Result<FilePath> from_path_and_file(const Path& path, const FileName& file) noexcept {
+        const auto joined = written_by([&](std::uint8_t* out, std::size_t capacity) {
+            return iox2sd_file_path_join(detail::bytes(path), path.size(), detail::bytes(file),
+                                         file.size(), out, capacity);
+        });
+        if (!joined) return joined.status();
+        return FilePath(*joined, detail::FromLibrary{});
+    }
+};
+
+/// The name of a service: 1 to 255 bytes, each from 1 to 127. The names of the system's own
+/// services begin with "iox2://", and those that a user gives do not.
+class ServiceName : public SemanticString<255, iox2sd_internal_service_name_check> {
+public:
+    using Base = SemanticString<255, iox2sd_internal_service_name_check>;
+
+    /// The name that a user gives. Refusals: `ReservedPrefix`; `Empty`; `TooLong`, with `at` 255;
+    /// `IllegalByte`, with the place of the first one.
+    static Result<ServiceName, TextError> create(std::string_view text) noexcept {
+        const iox2sd_place_answer answer =
+            iox2sd_service_name_check(detail::bytes(text), text.size());
+        if (answer.status != IOX2SD_DONE) return TextError{Status{answer.status}, answer.at};
+        return ServiceName(text);
+    }
+
+    /// A name that may be one of the system's own. Refusals as above, but for `ReservedPrefix`.
+    static Result<ServiceName, TextError> internal_new(std::string_view text) noexcept {
+        const Result<Base, TextError> made = Base::create(text);
+        if (!made) return made.error();
+        return ServiceName(made->view());
+    }
+
+    /// The name of one of the system's own services: "iox2://" and the text.
+    /// Refusals: `NotUtf8`; `TooLong`, for more than 248 bytes; `IllegalByte`.
+    static Result<ServiceName> internal_new_prefixed(std::string_view text) noexcept {
+        const auto made = written_by([text](std::uint8_t* out, std::size_t capacity) {
+            return iox2sd_internal_service_name(detail::bytes(text), text.size(), out, capacity);
+        });
+        if (!made) return made.status();
+        return ServiceName(made->view());
+    }
+
+    /// Whether a text begins with "iox2://".
+    static bool has_iox2_prefix(std::string_view text) noexcept {
+        return iox2sd_has_internal_prefix(detail::bytes(text), text.size());
+    }
+
+private:
+    explicit ServiceName(std::string_view text) noexcept : Base(text) {}
+};
+
+/// Messaging patterns.
+enum class PatternKind : std::uint32_t {
+    PublishSubscribe = IOX2SD_PUBLISH_SUBSCRIBE,
+    Event = IOX2SD_EVENT,
+    RequestResponse = IOX2SD_REQUEST_RESPONSE,
+    Blackboard = IOX2SD_BLACKBOARD,
+};
+
+/// The hash text of a service's pattern and name by SHA-1, under which its files are found.
+class ServiceHash : public RestrictedFileName {
+public:
+    /// Refusals: `UnknownPattern`; `IllegalHash`, which was never seen.
+    static Result<ServiceHash> create(const ServiceName& name, PatternKind kind) noexcept {
+        const auto made = written_by([&](std::uint8_t* out, std::size_t capacity) {
+            return iox2sd_internal_hash_text(static_cast<std::uint32_t>(kind), detail::bytes(name),
+                                             name.size(), out, capacity);
+        });
+        if (!made) return made.status();
+        return ServiceHash(*made);
+    }
+
+private:
+    explicit ServiceHash(const Text<64>& text) noexcept
+        : RestrictedFileName(text, detail::FromLibrary{}) {}
+};
+
+// ---- Ids ----
+
+/// The id of a service or of a port, by the kind `Kind`: four parts, of which the caller takes care
+/// that they are unique.
+template <class Kind>
+class UniqueId {
+public:
+    constexpr UniqueId(std::uint32_t process, std::uint32_t seconds, std::uint32_t nanoseconds,
+                       std::uint32_t counter) noexcept
+        : parts_{process, seconds, nanoseconds, counter} {}
+    constexpr explicit UniqueId(const iox2sd_id& parts) noexcept : parts_(parts) {}
+
+    constexpr const iox2sd_id& parts() const noexcept { return parts_; }
+    constexpr std::uint32_t process() const noexcept { return parts_.process; }
+    constexpr std::uint32_t seconds() const noexcept { return parts_.seconds; }
+    constexpr std::uint32_t nanoseconds() const noexcept { return parts_.nanoseconds; }
+    constexpr std::uint32_t counter() const noexcept { return parts_.counter; }
+
+    /// The number process * 2^96 + seconds * 2^64 + nanoseconds * 2^32 + counter in lower-case
+    /// hexadecimal digits without leading zeros.
+    Text<32> text() const noexcept {
+        const auto made = Text<32>::written_by([this](std::uint8_t* out, std::size_t capacity) {
+            return iox2sd_id_text(parts_, out, capacity);
+        });
+        return *made;
+    }
+
+    /// Ids are equal where their parts are, and ordered by that number.
+    friend bool operator==(const UniqueId& a, const UniqueId& b) noexcept {
+        return a.process() == b.process() && a.seconds() == b.seconds() &&
+               a.nanoseconds() == b.nanoseconds() && a.counter() == b.counter();
+    }
+    friend bool operator!=(const UniqueId& a, const UniqueId& b) noexcept { return !(a == b); }
+    friend bool operator<(const UniqueId& a, const UniqueId& b) noexcept {
+        return iox2sd_id_is_before(a.parts_, b.parts_);
+    }
+    friend bool operator>(const UniqueId& a, const UniqueId& b) noexcept { return b < a; }
+    friend bool operator<=(const UniqueId& a, const UniqueId& b) noexcept { return !(b < a); }
+    friend bool operator>=(const UniqueId& a, const UniqueId& b) noexcept { return !(a < b); }
+
+private:
+    iox2sd_id parts_;
+};
+
+/// What an entry of a service is. Each pattern has two kinds of ports.
+enum class Role : std::uint64_t {
+    Node = IOX2SD_NODE,
+    Publisher = IOX2SD_PUBLISHER,
+    Subscriber = IOX2SD_SUBSCRIBER,
+    Notifier = IOX2SD_NOTIFIER,
+    Listener = IOX2SD_LISTENER,
+    Client = IOX2SD_CLIENT,
+    Server = IOX2SD_SERVER,
+    Reader = IOX2SD_READER,
+    Writer = IOX2SD_WRITER,
+};
+
+namespace detail {
+
+struct ServiceIdKind {};
+template <Role>
+struct IdKind {};
+
+}  // namespace detail
+
+using UniqueServiceId = UniqueId<detail::ServiceIdKind>;
+template <Role role>
+using PortId = UniqueId<detail::IdKind<role>>;
+using UniquePublisherId = PortId<Role::Publisher>;
+using UniqueSubscriberId = PortId<Role::Subscriber>;
+using UniqueNotifierId = PortId<Role::Notifier>;
+using UniqueListenerId = PortId<Role::Listener>;
+using UniqueClientId = PortId<Role::Client>;
+using UniqueServerId = PortId<Role::Server>;
+using UniqueReaderId = PortId<Role::Reader>;
+using UniqueWriterId = PortId<Role::Writer>;
+
+/// The id of a node.
+class UniqueNodeId : public UniqueId<detail::IdKind<Role::Node>> {
+public:
+    /// The id with these parts. Refusal: `NoNode`, where process and counter are both 0.
+    static Result<UniqueNodeId> create(std::uint32_t process, std::uint32_t seconds,
+                                       std::uint32_t nanoseconds, std::uint32_t counter) noexcept {
+        const iox2sd_id parts{process, seconds, nanoseconds, counter};
+        if (!iox2sd_id_is_node(parts)) return Status::NoNode;
+        return UniqueNodeId(parts, detail::FromLibrary{});
+    }
+
+    UniqueNodeId(const iox2sd_id& parts, detail::FromLibrary) noexcept : UniqueId(parts) {}
+
+    /// process * 2^32 + counter, which is never 0. Nodes of one process with one counter share it.
+    std::uint64_t owner_id() const noexcept { return iox2sd_id_owner(parts()); }
+};
+
+/// The id of a port of any kind, with its role.
+class UniquePortId {
+public:
+    template <Role role>
+    UniquePortId(const PortId<role>& id) noexcept : role_(role), parts_(id.parts()) {
+        static_assert(role != Role::Node, "a node is no port");
+    }
+
+    Role role() const noexcept { return role_; }
+    const iox2sd_id& parts() const noexcept { return parts_; }
+    Text<32> text() const noexcept { return UniqueServiceId(parts_).text(); }
+
+    /// Ids of ports are ordered by their roles, and then by their numbers.
+    auto fields() const noexcept { return std::tuple(role_, UniqueServiceId(parts_)); }
+
+private:
+    Role role_;
+    iox2sd_id parts_;
+};
+
+// ---- Attributes ----
+
+/// A key with a value.
+class Attribute {
+public:
+    Attribute(const AttributeKey& key, const AttributeValue& value) noexcept
+        : key_(key), value_(value) {}
+
+    const AttributeKey& key() const noexcept { return key_; }
+    const AttributeValue& value() const noexcept { return value_; }
+
+    /// Attributes are ordered by the bytes of their keys, and then of their values.
+    auto fields() const noexcept { return std::tie(key_, value_); }
+
+private:
+    friend class AttributeSet;
+    Attribute() noexcept = default;
+
+    AttributeKey key_;
+    AttributeValue value_;
+};
+
+namespace detail {
+
+constexpr std::size_t max_attributes = 16;
+
+/// Attributes as the C header takes them, with room for one more than a set may have.
+struct Pairs {
+    iox2sd_attribute items[max_attributes + 1];
+    std::size_t size = 0;
+
+    void push(const Attribute& attribute) noexcept {
+        items[size++] = {bytes(attribute.key()), attribute.key().size(), bytes(attribute.value()),
+                         attribute.value().size()};
+    }
+};
+
+}  // namespace detail
+
+/// The attributes of a service: at most sixteen, sorted. A key may have several values.
+class AttributeSet {
+public:
+    /// The empty set.
+    AttributeSet() noexcept = default;
+
+    /// Adds a pair. Refusal: `TooMany`; then the set is as it was.
+    Result<void> add(const AttributeKey& key, const AttributeValue& value) noexcept {
+        const Attribute added(key, value);
+        detail::Pairs pairs = as_pairs();
+        pairs.push(added);
+        const iox2sd_place_answer answer = iox2sd_attributes_sort(pairs.items, pairs.size);
+        if (answer.status != IOX2SD_DONE) return Status{answer.status};
+        std::size_t place = 0;
+        while (pairs.items[place].key != detail::bytes(added.key())) ++place;
+        std::copy_backward(items_ + place, items_ + size_, items_ + size_ + 1);
+        items_[place] = added;
+        ++size_;
+        return {};
+    }
+
+    std::size_t number_of_attributes() const noexcept { return size_; }
+    static constexpr std::size_t capacity() noexcept { return detail::max_attributes; }
+    const Attribute* begin() const noexcept { return items_; }
+    const Attribute* end() const noexcept { return items_ + size_; }
+
+    /// How many values a key has. Nothing is refused: the key and the pairs are legal.
+    std::size_t number_of_key_values(const AttributeKey& key) const noexcept {
+        const detail::Pairs pairs = as_pairs();
+        return iox2sd_attribute_values(pairs.items, pairs.size, detail::bytes(key), key.size())
+            .count;
+    }
+
+    /// The value at an index, from 0 on, of the values of a key, from the least on.
+    /// Refusal: `NoSuchValue`.
+    Result<AttributeValue> key_value(const AttributeKey& key, std::size_t index) const noexcept {
+        const detail::Pairs pairs = as_pairs();
+        const auto found = Text<256>::written_by([&](std::uint8_t* out, std::size_t capacity) {
+            return iox2sd_attribute_value(pairs.items, pairs.size, detail::bytes(key), key.size(),
+                                          index, out, capacity);
+        });
+        if (!found) return found.status();
+        return AttributeValue(*found, detail::FromLibrary{});
+    }
+
+    /// Sets are equal where they have the same pairs as often.
+    friend bool operator==(const AttributeSet& a, const AttributeSet& b) noexcept {
+        return std::equal(a.begin(), a.end(), b.begin(), b.end());
+    }
+    friend bool operator!=(const AttributeSet& a, const AttributeSet& b) noexcept {
+        return !(a == b);
+    }
+    friend bool operator<(const AttributeSet& a, const AttributeSet& b) noexcept {
+        return std::lexicographical_compare(a.begin(), a.end(), b.begin(), b.end());
+    }
+
+private:
+    friend class AttributeVerifier;
+    detail::Pairs as_pairs() const noexcept {
+        detail::Pairs pairs;
+        for (const Attribute& attribute : *this) pairs.push(attribute);
+        return pairs;
+    }
+
+    Attribute items_[detail::max_attributes];
+    std::size_t size_ = 0;
+};
+
+/// What keeps an opener out: `MissingPair`, of the least required pair that is not there, or else
+/// `MissingKey`, of the first required key.
+struct AttributeVerificationError {
+    Status status;
+    AttributeKey key;
+    /// The value that was required, where a pair is missing.
+    std::optional<AttributeValue> value;
+
+    auto fields() const noexcept { return std::tie(status, key, value); }
+};
+
+/// What an opener requires of the attributes of a service: pairs and keys, at most sixteen
+/// together.
+class AttributeVerifier {
+public:
+    /// A verifier that requires nothing.
+    AttributeVerifier() noexcept = default;
+
+    /// Requires a pair. Refusal: `TooManyRequired`; then the verifier is as it was.
+    Result<void> require(const AttributeKey& key, const AttributeValue& value) noexcept {
+        detail::Pairs pairs = required_.as_pairs();
+        const Attribute added(key, value);
+        pairs.push(added);
+        const Result<void> room = has_room(pairs, keys_as_c());
+        return room ? required_.add(key, value) : room;
+    }
+
+    /// Requires that a key has some value. Refusal: `TooManyRequired`; then the verifier is as it
+    /// was.
+    Result<void> require_key(const AttributeKey& key) noexcept {
+        Keys keys = keys_as_c();
+        keys.items[keys.size++] = {detail::bytes(key), key.size()};
+        const Result<void> room = has_room(required_.as_pairs(), keys);
+        if (room) keys_[number_of_keys_++] = key;
+        return room;
+    }
+
+    const AttributeSet& required_attributes() const noexcept { return required_; }
+
+    /// The required keys, in the order in which they were required.
+    struct KeyRange {
+        const AttributeKey* first;
+        const AttributeKey* last;
+        const AttributeKey* begin() const noexcept { return first; }
+        const AttributeKey* end() const noexcept { return last; }
+        std::size_t size() const noexcept { return static_cast<std::size_t>(last - first); }
+    };
+    KeyRange required_keys() const noexcept { return {keys_, keys_ + number_of_keys_}; }
+
+    /// Whether a set has each required pair, and each required key.
+    Result<void, AttributeVerificationError> verify_requirements(
+        const AttributeSet& attributes) const noexcept {
+        const iox2sd_place_answer answer =
+            verify(attributes.as_pairs(), required_.as_pairs(), keys_as_c());
+        if (answer.status == IOX2SD_DONE) return {};
+        if (answer.status == IOX2SD_MISSING_KEY) {
+            return AttributeVerificationError{Status::MissingKey, keys_[answer.at], {}};
+        }
+        const Attribute& missing = required_.begin()[answer.at];
+        return AttributeVerificationError{Status{answer.status}, missing.key(), missing.value()};
+    }
+
+private:
+    struct Keys {
+        iox2sd_key items[detail::max_attributes + 1];
+        std::size_t size = 0;
+    };
+
+    Keys keys_as_c() const noexcept {
+        Keys keys;
+        for (const AttributeKey& key : required_keys()) {
+            keys.items[keys.size++] = {detail::bytes(key), key.size()};
+        }
+        return keys;
+    }
+
+    static iox2sd_place_answer verify(const detail::Pairs& set, const detail::Pairs& required,
+                                      const Keys& keys) noexcept {
+        return iox2sd_attributes_verify(set.items, set.size, required.items, required.size,
+                                        keys.items, keys.size);
+    }
+
+    /// Whether a verifier may require so much, which is reported before anything is missing.
+    static Result<void> has_room(const detail::Pairs& required, const Keys& keys) noexcept {
+        const iox2sd_place_answer answer = verify(detail::Pairs{}, required, keys);
+        if (answer.status == IOX2SD_TOO_MANY_REQUIRED) return Status::TooManyRequired;
+        return {};
+    }
+
+    AttributeSet required_;
+    AttributeKey keys_[detail::max_attributes];
+    std::size_t number_of_keys_ = 0;
+};
+
+// ---- Messages ----
+
+/// How many values of a type a message has.
+enum class TypeVariant : std::uint32_t {
+    FixedSize = IOX2SD_FIXED_SIZE,  ///< One.
+    Dynamic = IOX2SD_DYNAMIC,       ///< Any number, one after another.
+};
+
+/// The parts of a message.
+enum class MessagePart : std::uint32_t {
+    Header = IOX2SD_HEADER,
+    UserHeader = IOX2SD_USER_HEADER,
+    Payload = IOX2SD_PAYLOAD,
+};
+
+/// The type of one part of a message.
+class TypeDetail {
+public:
+    /// The type with this name, of at most 256 bytes, each from 1 to 127, with a size in bytes and
+    /// an alignment that is a power of two.
+    /// Refusals: `UnknownVariant`; `NotUtf8`, `TooLong`, `IllegalByte` of the name; `BadAlignment`.
+    static Result<TypeDetail> create(TypeVariant variant, std::string_view type_name,
+                                     std::size_t size, std::size_t alignment) noexcept {
+        const iox2sd_type_detail detail{detail::bytes(type_name), type_name.size(),
+                                        static_cast<std::uint32_t>(variant), size, alignment};
+        const iox2sd_message_details each{detail, detail, detail};
+        const iox2sd_part_answer answer = iox2sd_message_compatible(&each, &each);
+        if (answer.status != IOX2SD_DONE) return Status{answer.status};
+        return TypeDetail(variant, TypeName(type_name), size, alignment);
+    }
+
+    /// The C++ type `T` under a name that its users agree on. Refusals as above.
+    template <class T>
+    static Result<TypeDetail> of(TypeVariant variant, std::string_view type_name) noexcept {
+        return create(variant, type_name, sizeof(T), alignof(T));
+    }
+
+    TypeVariant variant() const noexcept { return variant_; }
+    std::string_view type_name() const noexcept { return type_name_; }
+    std::size_t size() const noexcept { return size_; }
+    std::size_t alignment() const noexcept { return alignment_; }
+
+    auto fields() const noexcept { return std::tie(variant_, type_name_, size_, alignment_); }
+
+    /// The type as the C header takes it, which lasts as long as this one.
+    iox2sd_type_detail as_c() const noexcept {
+        return {detail::bytes(type_name_), type_name_.size(), static_cast<std::uint32_t>(variant_),
+                size_, alignment_};
+    }
+
+private:
+    struct TypeName : Text<256> {
+        explicit TypeName(std::string_view name) noexcept : Text<256>(name) {}
+    };
+
+    TypeDetail(TypeVariant variant, const TypeName& name, std::size_t size,
+               std::size_t alignment) noexcept
+        : variant_(variant), type_name_(name), size_(size), alignment_(alignment) {}
+
+    TypeVariant variant_;
+    TypeName type_name_;
+    std::size_t size_;
+    std::size_t alignment_;
+};
+
+/// The room for a message, in bytes.
+struct Layout {
+    std::size_t size;       ///< At most 2^63 - 1.
+    std::size_t alignment;  ///< The number of which the message's place is to be a multiple.
+
+    auto fields() const noexcept { return std::tie(size, alignment); }
+};
+
+/// The places of two parts of a message. They are numbers: nothing is read there.
+struct MessagePlaces {
+    std::size_t user_header;
+    std::size_t payload;
+
+    auto fields() const noexcept { return std::tie(user_header, payload); }
+};
+
+/// Why an opener may not use the messages of a service: `OtherName`, `OtherVariant`, `OtherSize`,
+/// `OtherAlignment` of the header, or `GreaterAlignment` of another part.
+struct IncompatibleTypes {
+    Status status;
+    MessagePart part;
+
+    auto fields() const noexcept { return std::tie(status, part); }
+};
+
+/// The parts of a message, which lie one after another.
+struct MessageTypeDetails {
+    TypeDetail header;
+    TypeDetail user_header;
+    TypeDetail payload;
+
+    auto fields() const noexcept { return std::tie(header, user_header, payload); }
+
+    /// The room for a message whose payload has so many elements. All parts lie in it, apart and
+    /// aligned, for the service and for every compatible opener.
+    /// Refusal: `TooLarge` past 2^63 - 1 bytes.
+    Result<Layout> sample_layout(std::size_t number_of_elements) const noexcept {
+        const iox2sd_message_details details = as_c();
+        const iox2sd_layout_answer answer = iox2sd_message_layout(&details, number_of_elements);
+        return detail::result(answer.status, Layout{answer.size, answer.alignment});
+    }
+
+    /// The places of user header and payload in a message whose header is at the place `header`.
+    /// Refusal: `TooLarge` where the payload's place would pass 2^64 - 1.
+    Result<MessagePlaces> places(std::size_t header) const noexcept {
+        const iox2sd_message_details details = as_c();
+        const iox2sd_places_answer answer = iox2sd_message_places(&details, header);
+        return detail::result(answer.status, MessagePlaces{answer.user_header, answer.payload});
+    }
+
+    /// Whether an opener with these details may use the messages of a service with those: equal
+    /// headers, and user headers and payloads that are equal but for alignments, which are at most
+    /// those of the service. Reported is the first part that keeps the opener out.
+    Result<void, IncompatibleTypes> is_compatible_to(
+        const MessageTypeDetails& service) const noexcept {
+        const iox2sd_message_details opener = as_c(), other = service.as_c();
+        const iox2sd_part_answer answer = iox2sd_message_compatible(&opener, &other);
+        if (answer.status == IOX2SD_DONE) return {};
+        return IncompatibleTypes{Status{answer.status}, MessagePart{answer.part}};
+    }
+
+    /// The details as the C header takes them, which last as long as these.
+    iox2sd_message_details as_c() const noexcept {
+        return {header.as_c(), user_header.as_c(), payload.as_c()};
+    }
+};
+
+// ---- Settings ----
+
+/// What a sender does where a receiver's buffer is full and may not overflow.
+enum class BackpressureStrategy : std::uint32_t {
+    RetryUntilDelivered = IOX2SD_RETRY_UNTIL_DELIVERED,  ///< It tries until there is room.
+    DiscardData = IOX2SD_DISCARD_DATA,                   ///< It leaves the receiver out.
+};
+
+/// How the room for messages grows where their length is known at run time alone.
+enum class AllocationStrategy : std::uint32_t {
+    BestFit = IOX2SD_BEST_FIT,         ///< By as much as the message needs.
+    PowerOfTwo = IOX2SD_POWER_OF_TWO,  ///< To the next power of two.
+    Static = IOX2SD_STATIC,            ///< It does not grow.
+};
+
+/// A span of time.
+struct Duration {
+    std::uint64_t seconds;
+    std::uint32_t nanoseconds;  ///< Beside the seconds, below 1,000,000,000.
+
+    auto fields() const noexcept { return std::tie(seconds, nanoseconds); }
+};
+
+/// The number of an event.
+struct EventId {
+    std::size_t value;
+
+    auto fields() const noexcept { return std::tie(value); }
+};
+
+namespace detail {
+
+inline std::optional<EventId> from_c(const iox2sd_optional_event_id& c) noexcept {
+    if (!c.is_some) return std::nullopt;
+    return EventId{c.number};
+}
+
+inline std::optional<Duration> from_c(const iox2sd_optional_duration& c) noexcept {
+    if (!c.is_some) return std::nullopt;
+    return Duration{c.seconds, c.nanoseconds};
+}
+
+}  // namespace detail
+
+/// The settings of a publish-subscribe service.
+struct PublishSubscribeSettings {
+    std::size_t max_subscribers;  ///< How many may be attached at once; so are the next two.
+    std::size_t max_publishers;
+    std::size_t max_nodes;
+    std::size_t subscriber_max_buffer_size;       ///< Samples in a subscriber's buffer.
+    std::size_t subscriber_max_borrowed_samples;  ///< Samples that a subscriber may hold at once.
+    std::size_t publisher_max_loaned_samples;     ///< Samples taken and not yet sent.
+    std::size_t publisher_history_size;           ///< Samples kept for later subscribers.
+    std::size_t subscriber_expired_connection_buffer;  ///< Connections of publishers now gone.
+    BackpressureStrategy backpressure_strategy;
+    AllocationStrategy publisher_allocation_strategy;
+    bool enable_safe_overflow;  ///< Whether a new sample takes the oldest one's place.
+
+    auto fields() const noexcept {
+        return std::tie(max_subscribers, max_publishers, max_nodes, subscriber_max_buffer_size,
+                        subscriber_max_borrowed_samples, publisher_max_loaned_samples,
+                        publisher_history_size, subscriber_expired_connection_buffer,
+                        backpressure_strategy, publisher_allocation_strategy, enable_safe_overflow);
+    }
+
+    /// Those that a service gets where nothing else is said.
+    static PublishSubscribeSettings defaults() noexcept {
+        const iox2sd_publish_subscribe_settings c = iox2sd_publish_subscribe_defaults();
+        return {c.max_subscribers,
+                c.max_publishers,
+                c.max_nodes,
+                c.subscriber_max_buffer_size,
+                c.subscriber_max_borrowed_samples,
+                c.publisher_max_loaned_samples,
+                c.publisher_history_size,
+                c.subscriber_expired_connection_buffer,
+                BackpressureStrategy{c.backpressure_strategy},
+                AllocationStrategy{c.publisher_allocation_strategy},
+                c.enable_safe_overflow};
+    }
+};
+
+/// The settings of an event service.
+struct EventSettings {
+    std::size_t max_listeners;  ///< How many may be attached at once; so are the next two.
+    std::size_t max_notifiers;
+    std::size_t max_nodes;
+    std::size_t event_id_max_value;    ///< The greatest number of an event.
+    std::optional<Duration> deadline;  ///< The longest time between two events.
+    std::optional<EventId> notifier_created_event;
+    std::optional<EventId> notifier_dropped_event;
+    std::optional<EventId> notifier_dead_event;
+
+    auto fields() const noexcept {
+        return std::tie(max_listeners, max_notifiers, max_nodes, event_id_max_value, deadline,
+                        notifier_created_event, notifier_dropped_event, notifier_dead_event);
+    }
+
+    /// Those that a service gets where nothing else is said.
+    static EventSettings defaults() noexcept {
+        const iox2sd_event_settings c = iox2sd_event_defaults();
+        return {c.max_listeners,
+                c.max_notifiers,
+                c.max_nodes,
+                c.event_id_max_value,
+                detail::from_c(c.deadline),
+                detail::from_c(c.notifier_created_event),
+                detail::from_c(c.notifier_dropped_event),
+                detail::from_c(c.notifier_dead_event)};
+    }
+};
+
+/// The settings of a request-response service.
+struct RequestResponseSettings {
+    std::size_t max_active_requests_per_client;  ///< Open at each server at once.
+    std::size_t max_response_buffer_size;        ///< Responses to one request in a buffer.
+    std::size_t max_servers;  ///< How many may be attached at once; so are the next two.
+    std::size_t max_clients;
+    std::size_t max_nodes;
+    std::size_t max_borrowed_responses_per_pending_response;  ///< Held by a client at once.
+    std::size_t max_loaned_requests;                          ///< Taken and not yet sent.
+    std::size_t server_max_loaned_responses_per_request;      ///< Taken and not yet sent.
+    std::size_t client_expired_connection_buffer;             ///< Connections of servers now gone.
+    std::size_t server_expired_connection_buffer;
+    BackpressureStrategy client_backpressure_strategy;
+    BackpressureStrategy server_backpressure_strategy;
+    AllocationStrategy client_allocation_strategy;
+    AllocationStrategy server_allocation_strategy;
+    bool enable_safe_overflow_for_requests;
+    bool enable_safe_overflow_for_responses;
+    bool enable_fire_and_forget_requests;  ///< Whether a request may go without a response.
+
+    auto fields() const noexcept {
+        return std::tie(max_active_requests_per_client, max_response_buffer_size, max_servers,
+                        max_clients, max_nodes, max_borrowed_responses_per_pending_response,
+                        max_loaned_requests, server_max_loaned_responses_per_request,
+                        client_expired_connection_buffer, server_expired_connection_buffer,
+                        client_backpressure_strategy, server_backpressure_strategy,
+                        client_allocation_strategy, server_allocation_strategy,
+                        enable_safe_overflow_for_requests, enable_safe_overflow_for_responses,
+                        enable_fire_and_forget_requests);
+    }
+
+    /// Those that a service gets where nothing else is said.
+    static RequestResponseSettings defaults() noexcept {
+        const iox2sd_request_response_settings c = iox2sd_request_response_defaults();
+        return {c.max_active_requests_per_client,
+                c.max_response_buffer_size,
+                c.max_servers,
+                c.max_clients,
+                c.max_nodes,
+                c.max_borrowed_responses_per_pending_response,
+                c.max_loaned_requests,
+                c.server_max_loaned_responses_per_request,
+                c.client_expired_connection_buffer,
+                c.server_expired_connection_buffer,
+                BackpressureStrategy{c.client_backpressure_strategy},
+                BackpressureStrategy{c.server_backpressure_strategy},
+                AllocationStrategy{c.client_allocation_strategy},
+                AllocationStrategy{c.server_allocation_strategy},
+                c.enable_safe_overflow_for_requests,
+                c.enable_safe_overflow_for_responses,
+                c.enable_fire_and_forget_requests};
+    }
+};
+
+/// The settings of a blackboard service.
+struct BlackboardSettings {
+    std::size_t max_readers;  ///< How many may be attached at once; so is the next.
+    std::size_t max_nodes;
+
+    auto fields() const noexcept { return std::tie(max_readers, max_nodes); }
+
+    /// Those that a service gets where nothing else is said.
+    static BlackboardSettings defaults() noexcept {
+        const iox2sd_blackboard_settings c = iox2sd_blackboard_defaults();
+        return {c.max_readers, c.max_nodes};
+    }
+};
+
+/// The texts of the configuration.
+enum class ConfigEntry : std::uint32_t {
+    RootPath = IOX2SD_ROOT_PATH,
+    Prefix = IOX2SD_PREFIX,
+    ServiceDirectory = IOX2SD_SERVICE_DIRECTORY,
+    DataSegmentSuffix = IOX2SD_DATA_SEGMENT_SUFFIX,
+    StaticConfigStorageSuffix = IOX2SD_STATIC_CONFIG_STORAGE_SUFFIX,
+    DynamicConfigStorageSuffix = IOX2SD_DYNAMIC_CONFIG_STORAGE_SUFFIX,
+    ConnectionSuffix = IOX2SD_CONNECTION_SUFFIX,
+    EventConnectionSuffix = IOX2SD_EVENT_CONNECTION_SUFFIX,
+    BlackboardMgmtSuffix = IOX2SD_BLACKBOARD_MGMT_SUFFIX,
+    BlackboardDataSuffix = IOX2SD_BLACKBOARD_DATA_SUFFIX,
+    NodeDirectory = IOX2SD_NODE_DIRECTORY,
+    MonitorSuffix = IOX2SD_MONITOR_SUFFIX,
+    NodeStaticConfigSuffix = IOX2SD_NODE_STATIC_CONFIG_SUFFIX,
+    ServiceTagSuffix = IOX2SD_SERVICE_TAG_SUFFIX,
+    PortTagSuffix = IOX2SD_PORT_TAG_SUFFIX,
+    GlobalMgmtSuffix = IOX2SD_GLOBAL_MGMT_SUFFIX,
+    ConfigFileName = IOX2SD_CONFIG_FILE_NAME,
+    ConfigFilePath = IOX2SD_CONFIG_FILE_PATH,
+    RelativeConfigPath = IOX2SD_RELATIVE_CONFIG_PATH,
+    UserConfigFilePath = IOX2SD_USER_CONFIG_FILE_PATH,
+};
+
+/// A text of the configuration where nothing else is said. Refusal: `UnknownText`.
+inline Result<Text<255>> default_text(ConfigEntry entry) noexcept {
+    return Text<255>::written_by([entry](std::uint8_t* out, std::size_t capacity) {
+        return iox2sd_default_text(static_cast<std::uint32_t>(entry), out, capacity);
+    });
+}
+
+namespace detail {
+
+/// A directory below a root path.
+template <class Write>
+Result<Path> directory(const Path& root, Write write) noexcept {
+    const auto made = Text<255>::written_by([&](std::uint8_t* out, std::size_t capacity) {
+        return write(bytes(root), root.size(), out, capacity);
+    });
+    if (!made) return made.status();
+    return Path(*made, FromLibrary{});
+}
+
+}  // namespace detail
+
+/// The directory of services below a root path. Refusal: `TooLong`, past 255 bytes.
+inline Result<Path> service_dir(const Path& root) noexcept {
+    return detail::directory(root, iox2sd_service_directory);
+}
+
+/// The directory of nodes below a root path. Refusal: `TooLong`, past 255 bytes.
+inline Result<Path> node_dir(const Path& root) noexcept {
+    return detail::directory(root, iox2sd_node_directory);
+}
+
+// ---- Descriptions ----
+
+/// The description of a publish-subscribe service.
+struct PublishSubscribeStaticConfig {
+    std::size_t max_subscribers;
+    std::size_t max_publishers;
+    std::size_t max_nodes;
+    std::size_t history_size;
+    std::size_t subscriber_max_buffer_size;
+    std::size_t subscriber_max_borrowed_samples;
+    bool enable_safe_overflow;
+    MessageTypeDetails message_type_details;
+
+    PublishSubscribeStaticConfig(const PublishSubscribeSettings& settings,
+                                 const MessageTypeDetails& details) noexcept
+        : max_subscribers(settings.max_subscribers),
+          max_publishers(settings.max_publishers),
+          max_nodes(settings.max_nodes),
+          history_size(settings.publisher_history_size),
+          subscriber_max_buffer_size(settings.subscriber_max_buffer_size),
+          subscriber_max_borrowed_samples(settings.subscriber_max_borrowed_samples),
+          enable_safe_overflow(settings.enable_safe_overflow),
+          message_type_details(details) {}
+
+    auto fields() const noexcept {
+        return std::tie(max_subscribers, max_publishers, max_nodes, history_size,
+                        subscriber_max_buffer_size, subscriber_max_borrowed_samples,
+                        enable_safe_overflow, message_type_details);
+    }
+
+    /// The greatest number of one publisher's samples that can be in use at once, where it may have
+    /// so many loaned. Refusal: `TooLarge` past 2^64 - 1.
+    Result<std::size_t> required_amount_of_samples_per_data_segment(
+        std::size_t publisher_max_loaned_data) const noexcept {
+        const iox2sd_count_answer answer = iox2sd_publisher_chunks(
+            max_subscribers, subscriber_max_buffer_size, subscriber_max_borrowed_samples,
+            history_size, publisher_max_loaned_data);
+        return detail::result(answer.status, answer.count);
+    }
+};
+
+/// The description of an event service.
+using EventStaticConfig = EventSettings;
+
+/// The description of a request-response service.
+struct RequestResponseStaticConfig {
+    bool enable_safe_overflow_for_requests;
+    bool enable_safe_overflow_for_responses;
+    bool enable_fire_and_forget_requests;
+    std::size_t max_active_requests_per_client;
+    std::size_t max_loaned_requests;
+    std::size_t max_response_buffer_size;
+    std::size_t max_servers;
+    std::size_t max_clients;
+    std::size_t max_nodes;
+    std::size_t max_borrowed_responses_per_pending_response;
+    MessageTypeDetails request_message_type_details;
+    MessageTypeDetails response_message_type_details;
+
+    RequestResponseStaticConfig(const RequestResponseSettings& settings,
+                                const MessageTypeDetails& request,
+                                const MessageTypeDetails& response) noexcept
+        : enable_safe_overflow_for_requests(settings.enable_safe_overflow_for_requests),
+          enable_safe_overflow_for_responses(settings.enable_safe_overflow_for_responses),
+          enable_fire_and_forget_requests(settings.enable_fire_and_forget_requests),
+          max_active_requests_per_client(settings.max_active_requests_per_client),
+          max_loaned_requests(settings.max_loaned_requests),
+          max_response_buffer_size(settings.max_response_buffer_size),
+          max_servers(settings.max_servers),
+          max_clients(settings.max_clients),
+          max_nodes(settings.max_nodes),
+          max_borrowed_responses_per_pending_response(
+              settings.max_borrowed_responses_per_pending_response),
+          request_message_type_details(request),
+          response_message_type_details(response) {}
+
+    auto fields() const noexcept {
+        return std::tie(enable_safe_overflow_for_requests, enable_safe_overflow_for_responses,
+                        enable_fire_and_forget_requests, max_active_requests_per_client,
+                        max_loaned_requests, max_response_buffer_size, max_servers, max_clients,
+                        max_nodes, max_borrowed_responses_per_pending_response,
+                        request_message_type_details, response_message_type_details);
+    }
+
+    /// The greatest number of one client's requests that can be in use at once, where it may have
+    /// so many loaned. Refusal: `TooLarge` past 2^64 - 1.
+    Result<std::size_t> required_amount_of_chunks_per_client_data_segment(
+        std::size_t client_max_loaned_data) const noexcept {
+        const iox2sd_count_answer answer = iox2sd_client_chunks(
+            max_servers, max_active_requests_per_client, client_max_loaned_data);
+        return detail::result(answer.status, answer.count);
+    }
+
+    /// The greatest number of one server's responses that can be in use at once, where it may have
+    /// so many loaned for each request. Refusal: `TooLarge` past 2^64 - 1.
+    Result<std::size_t> required_amount_of_chunks_per_server_data_segment(
+        std::size_t server_max_loaned_responses_per_request) const noexcept {
+        const iox2sd_count_answer answer = iox2sd_server_chunks(
+            max_clients, max_active_requests_per_client, max_response_buffer_size,
+            max_borrowed_responses_per_pending_response, server_max_loaned_responses_per_request);
+        return detail::result(answer.status, answer.count);
+    }
+};
+
+/// The description of a blackboard service.
+struct BlackboardStaticConfig {
+    std::size_t max_readers;
+    std::size_t max_nodes;
+    TypeDetail type_details;  ///< The type of the keys.
+
+    BlackboardStaticConfig(const BlackboardSettings& settings, const TypeDetail& key) noexcept
+        : max_readers(settings.max_readers), max_nodes(settings.max_nodes), type_details(key) {}
+
+    auto fields() const noexcept { return std::tie(max_readers, max_nodes, type_details); }
+};
+
+/// The description of a service of one of the patterns.
+using MessagingPattern = std::variant<PublishSubscribeStaticConfig, EventStaticConfig,
+                                      RequestResponseStaticConfig, BlackboardStaticConfig>;
+
+/// The pattern of a description.
+inline PatternKind kind(const MessagingPattern& pattern) noexcept {
+    constexpr PatternKind kinds[] = {PatternKind::PublishSubscribe, PatternKind::Event,
+                                     PatternKind::RequestResponse, PatternKind::Blackboard};
+    return kinds[pattern.index()];
+}
+
+/// The description of a service: what its maker fixes, and what an opener verifies.
+class StaticConfig {
+public:
+    /// Refusal: `IllegalHash`, which was never seen.
+    static Result<StaticConfig> create(const ServiceName& name, const UniqueServiceId& id,
+                                       const AttributeSet& attributes,
+                                       const MessagingPattern& pattern) noexcept {
+        const Result<ServiceHash> hash = ServiceHash::create(name, iox2sd::kind(pattern));
+        if (!hash) return hash.error();
+        return StaticConfig(*hash, name, id, attributes, pattern);
+    }
+
+    const ServiceHash& service_hash() const noexcept { return service_hash_; }
+    const ServiceName& name() const noexcept { return name_; }
+    const UniqueServiceId& unique_service_id() const noexcept { return unique_service_id_; }
+    const AttributeSet& attributes() const noexcept { return attributes_; }
+    const MessagingPattern& messaging_pattern() const noexcept { return messaging_pattern_; }
+    PatternKind kind() const noexcept { return iox2sd::kind(messaging_pattern_); }
+
+    /// The part that only services of one pattern have; NULL for the other patterns.
+    const PublishSubscribeStaticConfig* publish_subscribe() const noexcept {
+        return std::get_if<PublishSubscribeStaticConfig>(&messaging_pattern_);
+    }
+    const EventStaticConfig* event() const noexcept {
+        return std::get_if<EventStaticConfig>(&messaging_pattern_);
+    }
+    const RequestResponseStaticConfig* request_response() const noexcept {
+        return std::get_if<RequestResponseStaticConfig>(&messaging_pattern_);
+    }
+    const BlackboardStaticConfig* blackboard() const noexcept {
+        return std::get_if<BlackboardStaticConfig>(&messaging_pattern_);
+    }
+
+    auto fields() const noexcept {
+        return std::tie(service_hash_, name_, unique_service_id_, attributes_, messaging_pattern_);
+    }
+
+private:
+    StaticConfig(const ServiceHash& hash, const ServiceName& name, const UniqueServiceId& id,
+                 const AttributeSet& attributes, const MessagingPattern& pattern) noexcept
+        : service_hash_(hash),
+          name_(name),
+          unique_service_id_(id),
+          attributes_(attributes),
+          messaging_pattern_(pattern) {}
+
+    ServiceHash service_hash_;
+    ServiceName name_;
+    UniqueServiceId unique_service_id_;
+    AttributeSet attributes_;
+    MessagingPattern messaging_pattern_;
+};
+
+// ---- Ports ----
+
+/// Whether a data segment may grow.
+enum class DataSegmentType : std::uint32_t {
+    Dynamic = IOX2SD_DYNAMIC_SEGMENT,  ///< It may be replaced by a larger one.
+    Static = IOX2SD_STATIC_SEGMENT,    ///< It keeps its size.
+};
+
+namespace detail {
+
+/// What all ports have, as the C header takes it.
+inline iox2sd_port port(Role role, const iox2sd_id& id, const UniqueNodeId& node) noexcept {
+    iox2sd_port made{};
+    made.role = static_cast<std::uint64_t>(role);
+    made.port = id;
+    made.node = node.parts();
+    return made;
+}
+
+inline UniqueNodeId node_of(const iox2sd_port& port) noexcept { return {port.node, FromLibrary{}}; }
+
+}  // namespace detail
+
+/// What a publisher reports of itself.
+struct PublisherDetails {
+    static constexpr Role role = Role::Publisher;
+    UniquePublisherId publisher_id;
+    UniqueNodeId node_id;
+    std::size_t number_of_samples = 0;
+    std::size_t max_slice_len = 0;
+    DataSegmentType data_segment_type = DataSegmentType::Static;
+    std::uint8_t max_number_of_segments = 0;
+
+    auto fields() const noexcept {
+        return std::tie(publisher_id, node_id, number_of_samples, max_slice_len, data_segment_type,
+                        max_number_of_segments);
+    }
+    UniquePortId port_id() const noexcept { return publisher_id; }
+
+    static PublisherDetails from_c(const iox2sd_port& c) noexcept {
+        return {UniquePublisherId(c.port),
+                detail::node_of(c),
+                c.number_of_samples,
+                c.max_slice_len,
+                DataSegmentType{c.data_segment},
+                c.max_number_of_segments};
+    }
+    iox2sd_port as_c() const noexcept {
+        iox2sd_port c = detail::port(role, publisher_id.parts(), node_id);
+        c.number_of_samples = number_of_samples;
+        c.max_slice_len = max_slice_len;
+        c.data_segment = static_cast<std::uint32_t>(data_segment_type);
+        c.max_number_of_segments = max_number_of_segments;
+        return c;
+    }
+};
+
+/// What a subscriber reports of itself.
+struct SubscriberDetails {
+    static constexpr Role role = Role::Subscriber;
+    UniqueSubscriberId subscriber_id;
+    UniqueNodeId node_id;
+    std::size_t buffer_size = 0;
+
+    auto fields() const noexcept { return std::tie(subscriber_id, node_id, buffer_size); }
+    UniquePortId port_id() const noexcept { return subscriber_id; }
+
+    static SubscriberDetails from_c(const iox2sd_port& c) noexcept {
+        return {UniqueSubscriberId(c.port), detail::node_of(c), c.buffer_size};
+    }
+    iox2sd_port as_c() const noexcept {
+        iox2sd_port c = detail::port(role, subscriber_id.parts(), node_id);
+        c.buffer_size = buffer_size;
+        return c;
+    }
+};
+
+/// What a notifier reports of itself.
+struct NotifierDetails {
+    static constexpr Role role = Role::Notifier;
+    UniqueNotifierId notifier_id;
+    UniqueNodeId node_id;
+
+    auto fields() const noexcept { return std::tie(notifier_id, node_id); }
+    UniquePortId port_id() const noexcept { return notifier_id; }
+
+    static NotifierDetails from_c(const iox2sd_port& c) noexcept {
+        return {UniqueNotifierId(c.port), detail::node_of(c)};
+    }
+    iox2sd_port as_c() const noexcept { return detail::port(role, notifier_id.parts(), node_id); }
+};
+
+/// What a listener reports of itself.
+struct ListenerDetails {
+    static constexpr Role role = Role::Listener;
+    UniqueListenerId listener_id;
+    UniqueNodeId node_id;
+
+    auto fields() const noexcept { return std::tie(listener_id, node_id); }
+    UniquePortId port_id() const noexcept { return listener_id; }
+
+    static ListenerDetails from_c(const iox2sd_port& c) noexcept {
+        return {UniqueListenerId(c.port), detail::node_of(c)};
+    }
+    iox2sd_port as_c() const noexcept { return detail::port(role, listener_id.parts(), node_id); }
+};
+
+/// What a client reports of itself.
+struct ClientDetails {
+    static constexpr Role role = Role::Client;
+    UniqueClientId client_id;
+    UniqueNodeId node_id;
+    std::size_t number_of_requests = 0;
+    std::size_t response_buffer_size = 0;
+    std::size_t max_slice_len = 0;
+    DataSegmentType data_segment_type = DataSegmentType::Static;
+    std::uint8_t max_number_of_segments = 0;
+
+    auto fields() const noexcept {
+        return std::tie(client_id, node_id, number_of_requests, response_buffer_size, max_slice_len,
+                        data_segment_type, max_number_of_segments);
+    }
+    UniquePortId port_id() const noexcept { return client_id; }
+
+    static ClientDetails from_c(const iox2sd_port& c) noexcept {
+        return {UniqueClientId(c.port),  detail::node_of(c), c.number_of_requests,
+                c.response_buffer_size,  c.max_slice_len,    DataSegmentType{c.data_segment},
+                c.max_number_of_segments};
+    }
+    iox2sd_port as_c() const noexcept {
+        iox2sd_port c = detail::port(role, client_id.parts(), node_id);
+        c.number_of_requests = number_of_requests;
+        c.response_buffer_size = response_buffer_size;
+        c.max_slice_len = max_slice_len;
+        c.data_segment = static_cast<std::uint32_t>(data_segment_type);
+        c.max_number_of_segments = max_number_of_segments;
+        return c;
+    }
+};
+
+/// What a server reports of itself.
+struct ServerDetails {
+    static constexpr Role role = Role::Server;
+    UniqueServerId server_id;
+    UniqueNodeId node_id;
+    std::size_t request_buffer_size = 0;
+    std::size_t number_of_responses = 0;
+    std::size_t max_slice_len = 0;
+    DataSegmentType data_segment_type = DataSegmentType::Static;
+    std::uint8_t max_number_of_segments = 0;
+
+    auto fields() const noexcept {
+        return std::tie(server_id, node_id, request_buffer_size, number_of_responses, max_slice_len,
+                        data_segment_type, max_number_of_segments);
+    }
+    UniquePortId port_id() const noexcept { return server_id; }
+
+    static ServerDetails from_c(const iox2sd_port& c) noexcept {
+        return {UniqueServerId(c.port),  detail::node_of(c), c.request_buffer_size,
+                c.number_of_responses,   c.max_slice_len,    DataSegmentType{c.data_segment},
+                c.max_number_of_segments};
+    }
+    iox2sd_port as_c() const noexcept {
+        iox2sd_port c = detail::port(role, server_id.parts(), node_id);
+        c.request_buffer_size = request_buffer_size;
+        c.number_of_responses = number_of_responses;
+        c.max_slice_len = max_slice_len;
+        c.data_segment = static_cast<std::uint32_t>(data_segment_type);
+        c.max_number_of_segments = max_number_of_segments;
+        return c;
+    }
+};
+
+/// What a reader reports of itself.
+struct ReaderDetails {
+    static constexpr Role role = Role::Reader;
+    UniqueReaderId reader_id;
+    UniqueNodeId node_id;
+
+    auto fields() const noexcept { return std::tie(reader_id, node_id); }
+    UniquePortId port_id() const noexcept { return reader_id; }
+
+    static ReaderDetails from_c(const iox2sd_port& c) noexcept {
+        return {UniqueReaderId(c.port), detail::node_of(c)};
+    }
+    iox2sd_port as_c() const noexcept { return detail::port(role, reader_id.parts(), node_id); }
+};
+
+/// What a writer reports of itself.
+struct WriterDetails {
+    static constexpr Role role = Role::Writer;
+    UniqueWriterId writer_id;
+    UniqueNodeId node_id;
+
+    auto fields() const noexcept { return std::tie(writer_id, node_id); }
+    UniquePortId port_id() const noexcept { return writer_id; }
+
+    static WriterDetails from_c(const iox2sd_port& c) noexcept {
+        return {UniqueWriterId(c.port), detail::node_of(c)};
+    }
+    iox2sd_port as_c() const noexcept { return detail::port(role, writer_id.parts(), node_id); }
+};
+
+/// A port of any kind.
+using PortDetails =
+    std::variant<PublisherDetails, SubscriberDetails, NotifierDetails, ListenerDetails,
+                 ClientDetails, ServerDetails, ReaderDetails, WriterDetails>;
+
+namespace detail {
+
+/// `std::visit`, which has no way to throw where no alternative's copy throws.
+template <class Visitor>
+auto visit(Visitor visitor, const PortDetails& details) noexcept {
+    return std::visit(visitor, details);
+}
+
+template <std::size_t Index = 0>
+PortDetails port_details(const iox2sd_port& c) noexcept {
+    if constexpr (Index == std::variant_size_v<PortDetails>) {
+        std::abort();  // The library lists ports of the eight kinds alone.
+    } else {
+        using Details = std::variant_alternative_t<Index, PortDetails>;
+        if (Role{c.role} == Details::role) return Details::from_c(c);
+        return port_details<Index + 1>(c);
+    }
+}
+
+inline iox2sd_port as_c(const PortDetails& details) noexcept {
+    return visit([](const auto& port) { return port.as_c(); }, details);
+}
+
+}  // namespace detail
+
+/// The role of a port.
+inline Role role(const PortDetails& details) noexcept {
+    return detail::visit([](const auto& port) { return port.role; }, details);
+}
+
+/// The id of a port.
+inline UniquePortId port_id(const PortDetails& details) noexcept {
+    return detail::visit([](const auto& port) { return port.port_id(); }, details);
+}
+
+/// The node that a port belongs to.
+inline UniqueNodeId node_id(const PortDetails& details) noexcept {
+    return detail::visit([](const auto& port) { return port.node_id; }, details);
+}
+
+// ---- Services ----
+
+/// What registering and attaching give, and what deregistering and releasing take. No handle is
+/// given twice by a service, and a removed one is refused for good.
+struct ContainerHandle {
+    std::uint64_t service = 0;  ///< The number of the service.
+    Role role = Role::Node;
+    std::size_t slot = 0;
+    std::uint64_t ticket = 0;  ///< How many entries of its kind had been given before.
+
+    auto fields() const noexcept { return std::tie(service, role, slot, ticket); }
+
+    static ContainerHandle from_c(const iox2sd_handle& c) noexcept {
+        return {c.service, Role{c.role}, c.slot, c.ticket};
+    }
+    iox2sd_handle as_c() const noexcept {
+        return {service, static_cast<std::uint64_t>(role), slot, ticket};
+    }
+};
+
+/// For how many nodes and ports at a time a service has room.
+struct Capacities {
+    std::size_t nodes;
+    std::size_t first;   ///< For publishers, listeners, servers or readers.
+    std::size_t second;  ///< For subscribers, notifiers, clients or writers.
+
+    auto fields() const noexcept { return std::tie(nodes, first, second); }
+};
+
+/// The roles of the two kinds of ports of a pattern, that first which is recovered first.
+struct PortRoles {
+    Role first;
+    Role second;
+
+    auto fields() const noexcept { return std::tie(first, second); }
+};
+
+/// Whether a service has nodes left.
+enum class DeregisterNodeState {
+    HasOwners,
+    NoMoreOwners,  ///< The service is locked for good: no node is registered any more.
+};
+
+/// What a death took from a service.
+struct Removal {
+    DeregisterNodeState state;
+    std::size_t first;   ///< How many publishers, listeners, servers or readers went.
+    std::size_t second;  ///< How many subscribers, notifiers, clients or writers went.
+
+    auto fields() const noexcept { return std::tie(state, first, second); }
+};
+
+/// Who is attached to a service: nodes and ports of its pattern, and what it has room for.
+///
+/// A service is moved and not copied, and freed at the end of its life. One that was moved from, or
+/// that was made by `Service()`, holds none, and each call on it is refused by `NoService`, before
+/// any other refusal.
+class Service {
+public:
+    /// All tickets that there are.
+    static constexpr std::uint64_t all_tickets = UINT64_MAX;
+
+    /// Makes a service with nothing attached. `number` is part of its handles, and the caller takes
+    /// care that it is unique. For nodes and for each kind of ports `tickets` tickets are given
+    /// out: each registering and each attaching takes one, and none comes back.
+    /// Refusals: `UnknownPattern`; `NoMemory`.
+    static Result<Service> create(PatternKind pattern, std::uint64_t number,
+                                  const Capacities& capacities,
+                                  std::uint64_t tickets = all_tickets) noexcept {
+        Service made;
+        const std::uint32_t status =
+            iox2sd_service_make(&made.place_, static_cast<std::uint32_t>(pattern), number,
+                                {capacities.nodes, capacities.first, capacities.second}, tickets);
+        if (status != IOX2SD_DONE) return Status{status};
+        return made;
+    }
+
+    Service() noexcept = default;
+    Service(Service&& other) noexcept : place_(std::exchange(other.place_, {})) {}
+    Service& operator=(Service&& other) noexcept {
+        if (this != &other) {
+            free();
+            place_ = std::exchange(other.place_, {});
+        }
+        return *this;
+    }
+    ~Service() { free(); }
+
+    /// Registers a node, which may have several handles. Refusals: `IsLocked`; `OutOfSpace`.
+    Result<ContainerHandle> register_node_id(const UniqueNodeId& node) noexcept {
+        const iox2sd_handle_answer answer = iox2sd_register(&place_, node.parts());
+        return detail::result(answer.status, ContainerHandle::from_c(answer.handle));
+    }
+
+    /// Deregisters the node with this handle.
+    /// Refusals: `UnknownRole`; `ForeignHandle`, also for a port's handle; `PortsStillAttached`,
+    /// where it is the only handle of its node and some port has that node.
+    Result<DeregisterNodeState> deregister_node_id(const ContainerHandle& handle) noexcept {
+        const std::uint32_t status = iox2sd_deregister(&place_, handle.as_c());
+        if (!is_state(status)) return Status{status};
+        return state(status);
+    }
+
+    /// Attaches a port.
+    /// Refusals: `UnknownSegment`; `RoleNotInPattern`; `IsLocked`; `NodeNotRegistered`, by the
+    /// whole id; `OutOfSpace`.
+    Result<ContainerHandle> attach(const PortDetails& details) noexcept {
+        const iox2sd_port port = detail::as_c(details);
+        const iox2sd_handle_answer answer = iox2sd_attach(&place_, &port);
+        return detail::result(answer.status, ContainerHandle::from_c(answer.handle));
+    }
+
+    /// Releases the port with this handle.
+    /// Refusals: `UnknownRole`; `ForeignHandle`, also for a node's handle.
+    Result<void> release_port(const ContainerHandle& handle) noexcept {
+        return detail::result(iox2sd_release(&place_, handle.as_c()));
+    }
+
+    /// Removes those ports of a dead node whose ids are not among `kept`, a range of ids of ports.
+    /// Where none of its ports is left, the node goes too, with all its handles.
+    /// Refusal: `NoMemory`, before `NoService`; never where nothing is to be kept.
+    template <class Range>
+    Result<Removal> remove_dead_node_id(const UniqueNodeId& dead, const Range& kept) noexcept {
+        const auto ids = List<iox2sd_id>::of(std::data(kept), std::size(kept),
+                                             [](const UniquePortId& port) { return port.parts(); });
+        if (!ids) return ids.error();
+        const iox2sd_death_answer answer =
+            iox2sd_dead(&place_, dead.parts(), ids->data(), ids->size());
+        if (!is_state(answer.status)) return Status{answer.status};
+        return Removal{state(answer.status), answer.first, answer.second};
+    }
+    Result<Removal> remove_dead_node_id(const UniqueNodeId& dead,
+                                        std::initializer_list<UniquePortId> kept = {}) noexcept {
+        return remove_dead_node_id<std::initializer_list<UniquePortId>>(dead, kept);
+    }
+
+    /// The messaging pattern.
+    Result<PatternKind> kind() const noexcept {
+        const iox2sd_number_answer answer = iox2sd_pattern(&place_);
+        return detail::result(answer.status,
+                              PatternKind{static_cast<std::uint32_t>(answer.number)});
+    }
+
+    /// The service's number, which each of its handles has.
+    Result<std::uint64_t> service_number() const noexcept {
+        const iox2sd_number_answer answer = iox2sd_service_number(&place_);
+        return detail::result(answer.status, answer.number);
+    }
+
+    /// The roles of the pattern's two kinds of ports.
+    Result<PortRoles> port_roles() const noexcept {
+        const iox2sd_roles_answer answer = iox2sd_roles(&place_);
+        return detail::result(answer.status, PortRoles{Role{answer.first}, Role{answer.second}});
+    }
+
+    /// Whether the pattern has ports of the role; no for `Role::Node`. Refusal: `UnknownRole`.
+    Result<bool> has_role(Role role) const noexcept {
+        return flag(iox2sd_has_role(&place_, number(role)));
+    }
+
+    /// Whether the service is locked for good: it has no node and no port, and takes none any more.
+    Result<bool> is_locked() const noexcept { return flag(iox2sd_is_locked(&place_)); }
+
+    /// How many handles of nodes there are: a node that is registered twice counts twice.
+    Result<std::size_t> number_of_nodes() const noexcept {
+        return count(iox2sd_number_of_nodes(&place_));
+    }
+
+    /// How many handles of nodes there may be at a time.
+    Result<std::size_t> max_nodes() const noexcept { return count(iox2sd_max_nodes(&place_)); }
+
+    /// Whether a node would be registered: the service is not locked, and a place and a ticket are
+    /// left.
+    Result<bool> has_room_for_node() const noexcept {
+        return flag(iox2sd_has_room_for_node(&place_));
+    }
+
+    /// How many ports of the role there are.
+    /// Refusals: `UnknownRole`; `RoleNotInPattern`, also for `Role::Node`.
+    Result<std::size_t> count_ports(Role role) const noexcept {
+        return count(iox2sd_count_ports(&place_, number(role)));
+    }
+
+    /// How many ports of the role there may be at a time. Refusals as of `count_ports`.
+    Result<std::size_t> max_ports(Role role) const noexcept {
+        return count(iox2sd_max_ports(&place_, number(role)));
+    }
+
+    /// Whether a port of the role would be attached, if its node is registered. Refusals as of
+    /// `count_ports`.
+    Result<bool> has_room(Role role) const noexcept {
+        return flag(iox2sd_has_room(&place_, number(role)));
+    }
+
+    /// The node that was registered with this handle and is still there.
+    /// Refusals: `UnknownRole`; `ForeignHandle`, also for a port's handle.
+    Result<UniqueNodeId> node(const ContainerHandle& handle) const noexcept {
+        const iox2sd_id_answer answer = iox2sd_find_node(&place_, handle.as_c());
+        return detail::result(answer.status, UniqueNodeId(answer.id, detail::FromLibrary{}));
+    }
+
+    /// The port that was attached with this handle and is still there.
+    /// Refusals: `UnknownRole`; `ForeignHandle`, also for a node's handle.
+    Result<PortDetails> port(const ContainerHandle& handle) const noexcept {
+        const iox2sd_port_answer answer = iox2sd_find_port(&place_, handle.as_c());
+        if (answer.status != IOX2SD_DONE) return Status{answer.status};
+        return detail::port_details(answer.port);
+    }
+
+    /// The ids of the nodes by rising slot, one for each handle. Refusal: `NoMemory`.
+    Result<List<UniqueNodeId>> nodes() const noexcept {
+        return listed<iox2sd_id>(
+            [this](iox2sd_id* out, std::size_t capacity) {
+                return iox2sd_nodes(&place_, out, capacity);
+            },
+            [](const iox2sd_id& id) { return UniqueNodeId(id, detail::FromLibrary{}); });
+    }
+
+    /// The ports of a role by rising slot.
+    /// Refusals: `UnknownRole`; `RoleNotInPattern`, also for `Role::Node`; `NoMemory`.
+    Result<List<PortDetails>> ports(Role role) const noexcept {
+        return listed<iox2sd_port>(
+            [this, role](iox2sd_port* out, std::size_t capacity) {
+                return iox2sd_ports(&place_, number(role), out, capacity);
+            },
+            detail::port_details<>);
+    }
+
+    /// The ports of a node, with exactly this id, those of the first role first, by rising slot.
+    /// Refusal: `NoMemory`.
+    Result<List<PortDetails>> ports_of(const UniqueNodeId& node) const noexcept {
+        return listed<iox2sd_port>(
+            [this, &node](iox2sd_port* out, std::size_t capacity) {
+                return iox2sd_ports_of(&place_, node.parts(), out, capacity);
+            },
+            detail::port_details<>);
+    }
+
+    /// The ports of one kind by rising slot. Refusals: `RoleNotInPattern`; `NoMemory`.
+    Result<List<PublisherDetails>> list_publishers() const noexcept {
+        return ports_as<PublisherDetails>();
+    }
+    Result<List<SubscriberDetails>> list_subscribers() const noexcept {
+        return ports_as<SubscriberDetails>();
+    }
+    Result<List<NotifierDetails>> list_notifiers() const noexcept {
+        return ports_as<NotifierDetails>();
+    }
+    Result<List<ListenerDetails>> list_listeners() const noexcept {
+        return ports_as<ListenerDetails>();
+    }
+    Result<List<ClientDetails>> list_clients() const noexcept { return ports_as<ClientDetails>(); }
+    Result<List<ServerDetails>> list_servers() const noexcept { return ports_as<ServerDetails>(); }
+    Result<List<ReaderDetails>> list_readers() const noexcept { return ports_as<ReaderDetails>(); }
+    Result<List<WriterDetails>> list_writers() const noexcept { return ports_as<WriterDetails>(); }
+
+private:
+    static std::uint64_t number(Role role) noexcept { return static_cast<std::uint64_t>(role); }
+
+    static Result<bool> flag(const iox2sd_flag_answer& answer) noexcept {
+        return detail::result(answer.status, answer.yes);
+    }
+
+    static Result<std::size_t> count(const iox2sd_count_answer& answer) noexcept {
+        return detail::result(answer.status, answer.count);
+    }
+
+    static bool is_state(std::uint32_t status) noexcept {
+        return status == IOX2SD_DONE || status == IOX2SD_DONE_LOCKED;
+    }
+
+    static DeregisterNodeState state(std::uint32_t status) noexcept {
+        return status == IOX2SD_DONE_LOCKED ? DeregisterNodeState::NoMoreOwners
+                                            : DeregisterNodeState::HasOwners;
+    }
+
+    /// What a call lists, where it says first how much there is.
+    template <class C, class Call, class Make>
+    static auto listed(Call call, Make make) noexcept
+        -> Result<List<decltype(make(std::declval<const C&>()))>> {
+        using Made = List<decltype(make(std::declval<const C&>()))>;
+        const iox2sd_count_answer needed = call(nullptr, 0);
+        if (needed.status == IOX2SD_DONE) return Made();
+        if (needed.status != IOX2SD_BUFFER_TOO_SHORT) return Status{needed.status};
+        const std::unique_ptr<C[]> out(new (std::nothrow) C[needed.count]);
+        if (out == nullptr) return Status::NoMemory;
+        const iox2sd_count_answer found = call(out.get(), needed.count);
+        if (found.status != IOX2SD_DONE) return Status{found.status};
+        return Made::of(out.get(), found.count, make);
+    }
+
+    template <class Details>
+    Result<List<Details>> ports_as() const noexcept {
+        return listed<iox2sd_port>(
+            [this](iox2sd_port* out, std::size_t capacity) {
+                return iox2sd_ports(&place_, number(Details::role), out, capacity);
+            },
+            Details::from_c);
+    }
+
+    /// Frees what the place holds; `NoService` where it holds none, which is as good.
+    void free() noexcept { iox2sd_service_free(&place_); }
+
+    /// The calls of the C header that only ask take a pointer to a place that is not `const` too.
+    mutable iox2sd_service place_ = IOX2SD_SERVICE_NONE;
+};
+
+/// The ported middleware's word for a `Service`.
+using DynamicConfig = Service;
+
+// ---- Scripts ----
+
+/// How a script ended.
+struct ScriptRun {
+    Status status;      ///< `Done`; `BadLine`; `NoMemory`.
+    std::size_t line;   ///< The number of the bad line, from 1 on; 0 where none is bad.
+    List<char> output;  ///< The reply lines.
+
+    /// The reply lines: with `BadLine` those to the commands before it, with `NoMemory` none or
+    /// whole ones of some first commands.
+    std::string_view replies() const noexcept { return {output.data(), output.size()}; }
+};
+
+/// Runs a whole script, a service and the commands on it as text (docs/SCRIPT.md).
+inline ScriptRun run_script(std::string_view script) noexcept {
+    const auto run = [script](std::uint8_t* out, std::size_t capacity) {
+        return iox2sd_script_run(detail::bytes(script), script.size(), out, capacity);
+    };
+    const iox2sd_script_answer needed = run(nullptr, 0);
+    if (needed.status != IOX2SD_BUFFER_TOO_SHORT) {
+        return {Status{needed.status}, needed.line, List<char>()};
+    }
+    const std::unique_ptr<std::uint8_t[]> out(new (std::nothrow) std::uint8_t[needed.length]);
+    if (out == nullptr) return {Status::NoMemory, 0, List<char>()};
+    const iox2sd_script_answer answer = run(out.get(), needed.length);
+    auto output = List<char>::of(out.get(), answer.length,
+                                 [](std::uint8_t byte) { return static_cast<char>(byte); });
+    if (!output) return {output.error(), 0, List<char>()};
+    return {Status{answer.status}, answer.line, std::move(output).value()};
+}
+
+// ---- Versions ----
+
+/// The version of this library, as "0.1.0".
+inline Text<31> version() noexcept { return *Text<31>::written_by(iox2sd_version); }
+
+/// The version of iceoryx2 whose layer this is, as "0.9.3".
+inline Text<31> layer_version() noexcept { return *Text<31>::written_by(iox2sd_layer_version); }
+
+/// A number that rises when a struct or a function of the library changes; `IOX2SD_ABI` is that of
+/// the header.
+inline std::uint32_t abi() noexcept { return iox2sd_abi(); }
+
+}  // namespace iox2sd
+
+#endif
