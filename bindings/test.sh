@@ -94,11 +94,13 @@ documented() { RUSTDOCFLAGS="--deny warnings" crate doc --no-deps; }
 
 has_cargo() { cargo "$1" --version > "$work/which" 2>&1 || { echo "not found: cargo $1"; return 1; }; }
 
-# Packs the crate, and tests it elsewhere with the library.
+# Packs the crate, and tests it elsewhere with an installed library.
 packaged() {
-    crate package --no-verify --allow-dirty &&
+    local prefix=$work/installed
+    ./install.sh "$prefix" &&
+        crate package --no-verify --allow-dirty &&
         tar xf "$work"/rust/package/iox2sd-*.crate -C "$work" &&
-        CARGO_TARGET_DIR=$work/rust IOX2SD_LIB_DIR=$PWD/out \
+        CARGO_TARGET_DIR=$work/rust IOX2SD_LIB_DIR=$prefix/lib \
             cargo test --quiet --jobs 1 --offline --manifest-path "$work"/iox2sd-*/Cargo.toml
 }
 
@@ -207,7 +209,7 @@ if has cargo; then
     run "cargo doc" documented
     if has_cargo clippy; then run "cargo clippy" crate clippy --all-targets -- --deny warnings; fi
     if has_cargo fmt; then run "cargo fmt" cargo fmt --check --manifest-path rust/Cargo.toml; fi
-    run "cargo package, and a build of what it packs" packaged
+    run "cargo package, and tests of what it packs" packaged
 fi
 if has python3; then
     has cc || echo "so the declarations of Python were not compared with the headers"
