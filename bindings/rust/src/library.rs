@@ -40,7 +40,7 @@ pub(crate) fn choice<T: Copy, N: PartialEq + std::fmt::Display>(
     }
 }
 
-/// Has a list written into a buffer that is made as long as the library says.
+/// Has a list written into a buffer that is just as long as the library says.
 fn list<T: Clone + Default>(
     call: impl Fn(&mut [T]) -> sys::iox2sd_count_answer,
 ) -> Result<Vec<T>, u32> {
@@ -48,10 +48,7 @@ fn list<T: Clone + Default>(
     loop {
         let answer = call(&mut items);
         match answer.status {
-            sys::IOX2SD_DONE => {
-                items.truncate(answer.count);
-                return Ok(items);
-            }
+            sys::IOX2SD_DONE => return Ok(items),
             sys::IOX2SD_BUFFER_TOO_SHORT => items.resize(answer.count, T::default()),
             refusal => return Err(refusal),
         }

@@ -184,3 +184,21 @@ fn each_declaration_is_that_of_the_headers() {
         assert_eq!(Some(declaration), headers.get(name), "{name}");
     }
 }
+
+/// The words of a text, without the marks of comments.
+fn words(text: &str) -> String {
+    let is_word = |word: &&str| !["*", "//"].contains(word);
+    text.split_whitespace()
+        .filter(is_word)
+        .collect::<Vec<_>>()
+        .join(" ")
+}
+
+#[test]
+fn a_service_is_sent_because_the_header_says_so() {
+    let sentence = "A service may be moved to another thread, ordered by a lock or a thread's \
+                    start or join, and is used by one thread at a time, by the functions that \
+                    only ask too.";
+    assert!(words(&read("../../include/iox2sd.h")).contains(sentence));
+    assert!(words(&read("src/library/service.rs")).contains(sentence));
+}
