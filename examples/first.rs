@@ -76,7 +76,11 @@ fn verify(description: &StaticConfig) -> Result<(), Box<dyn Error>> {
     println!("an opener with these types: {}", answer(same));
     println!("an opener with a wider payload: {}", answer(wider));
     let room = service.sample_layout(2)?;
-    println!("a message: {} bytes at a multiple of {}", room.size(), room.align());
+    println!(
+        "a message: {} bytes at a multiple of {}",
+        room.size(),
+        room.align()
+    );
     Ok(())
 }
 
@@ -93,7 +97,11 @@ fn live(service: &mut DynamicConfig) -> Result<(), Box<dyn Error>> {
         data_segment_type: DataSegmentType::Static,
         max_number_of_segments: 1,
     })?;
-    println!("publisher: slot {}, ticket {}", publisher.slot(), publisher.ticket());
+    println!(
+        "publisher: slot {}, ticket {}",
+        publisher.slot(),
+        publisher.ticket()
+    );
     for each in service.nodes() {
         println!("there is the node: {each}");
     }
@@ -112,7 +120,10 @@ fn live(service: &mut DynamicConfig) -> Result<(), Box<dyn Error>> {
     println!("died with {publishers} publishers, {subscribers} subscribers");
     let locked = state == DeregisterNodeState::NoMoreOwners;
     println!("the service is {}", if locked { "locked" } else { "open" });
-    println!("a late node: {}", answer(service.register_node_id(node_id).is_ok()));
+    println!(
+        "a late node: {}",
+        answer(service.register_node_id(node_id).is_ok())
+    );
     Ok(())
 }
 
@@ -128,7 +139,10 @@ fn main() -> Result<(), Box<dyn Error>> {
     description.publish_subscribe_mut().message_type_details = types(8)?;
     describe(
         &description,
-        settings.defaults.publish_subscribe.publisher_max_loaned_samples,
+        settings
+            .defaults
+            .publish_subscribe
+            .publisher_max_loaned_samples,
     )?;
     verify(&description)?;
     let config = description.publish_subscribe();
