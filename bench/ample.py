@@ -1,6 +1,6 @@
-"""What `iox2-replay` and `iox2-describe` are run on with ample memory: inputs of many sizes, which none may be too large for.
-Each comes with its name, the words after the program's name, and the number of lines that are to be written, if that is
-known."""
+"""What `iox2-replay` and `iox2-describe` are run on with ample memory: inputs of many sizes, which
+none may be too large for. Each comes with its name, the words after the program's name, and the
+number of lines that are to be written, if that is known."""
 
 SIZES = [
     *range(8), 100, 101, 1_000, 1_001, 4_095, 4_096, 4_097, 65_535, 65_536, 65_537, 1_000_000, 1_000_001
@@ -12,7 +12,8 @@ PIECE = b" 1.0.0.9"
 
 
 def whole_line(size):
-    """A line of a dead node of so many bytes with its newline, if there is one: as many ports, of which the last is longer."""
+    """A line of a dead node of this many bytes with its newline, if there is one: as many ports, of
+    which the last is longer."""
     front = b"dead 1.0.0.1 skip"
     pieces, more = divmod(size - len(front) - 1, len(PIECE))
     if pieces < 1:
@@ -21,7 +22,7 @@ def whole_line(size):
 
 
 def whole_script(size):
-    """A script of so many bytes, if there is one, and its number of commands."""
+    """A script of this many bytes, if there is one, and its number of commands."""
     lines, more = divmod(size - len(SERVICE), len(b"nodes\n"))
     if lines < 2:
         return None
@@ -47,14 +48,15 @@ def scripts(size):
 
 
 def message(prefix, elements):
-    """The lines of a message with so many elements."""
+    """The lines of a message with this many elements."""
     return f"{prefix}header 32 8 Header\n{prefix}user-header 4 4 Counter\n{prefix}payload dynamic 16 8 Distance\n" + (
         f"{prefix}elements {elements}\n{prefix}opener 8 2 4\n"
     )
 
 
 def attributes(size):
-    """Lines of so many bytes of attributes, if there are such: of each key 16, first those of the service."""
+    """Lines of this many bytes of attributes, if there are such: of each key 16, first those of the
+    service."""
     lines = []
     for word in ["attribute", "require"]:
         for number in range(16):

@@ -1,6 +1,7 @@
-"""Typed calls: `bench_calls` beside `plain_calls`, a program without proofs. Each takes lines of a call, the places of a service,
-a number of rounds and of calls in a round; a round sets up the same whatever the number of calls. So the instructions of a call
-are the difference of two runs that differ in that number alone."""
+"""Typed calls: `bench_calls` beside `plain_calls`, a program without proofs. Each takes lines of a
+call, the places of a service, a number of rounds and of calls in a round; a round sets up the same
+whatever the number of calls. So the instructions of a call are the difference of two runs that
+differ in that number alone."""
 
 import subprocess
 import sys
@@ -18,8 +19,9 @@ REFUSED = b"no such call\n"
 
 
 class Call(NamedTuple):
-    """A call with the places of its service (nodes, subscribers, publishers; for a layout the size of the header, the alignment
-    and the size of an element), and how often it is made in each of some rounds."""
+    """A call with the places of its service (nodes, subscribers, publishers; for a layout the size
+    of the header, the alignment and the size of an element), and how often it is made in each of
+    some rounds."""
 
     name: str
     places: str
@@ -54,7 +56,8 @@ CALLS = [
 
 
 def built():
-    """The paths of both programs, which are built first: `plain_calls` each time, the proved one where it is missing."""
+    """The paths of both programs, which are built first: `plain_calls` each time, the proved one
+    where it is missing."""
     subprocess.run(["cargo", "build", "--release", "--quiet", "--offline"], cwd=PLAIN, check=True)
     proved = PROVED / "out" / "bench_calls"
     if not proved.exists():
@@ -64,7 +67,8 @@ def built():
 
 
 def measured(programs, call, work):
-    """Instructions of one call in each of the programs, or `None` where the proved one has no such call."""
+    """Instructions of one call in each of the programs, or `None` where the proved one has no such
+    call."""
     scripts = []
     for calls in (call.few, call.many):
         script = Path(work) / f"{calls}"

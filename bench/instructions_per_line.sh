@@ -1,7 +1,8 @@
 #!/bin/sh
-# Prints how many instructions `iox2_replay` takes for a line of a long script, as the difference between two scripts:
-# of 10,000 and 20,000 lines, or of the two numbers that are given. There are three kinds of scripts. Needs valgrind, and
-# the built program: `rt run < stdin` in crates/iox2_replay builds it.
+# Prints how many instructions `iox2_replay` takes for a line of a long script, as the difference
+# between two scripts: of 10,000 and 20,000 lines, or of the two numbers that are given. There are
+# three kinds of scripts. Needs valgrind, and the built program: `rt run < stdin` in
+# crates/iox2_replay builds it.
 set -eu
 here=$(cd "$(dirname "$0")" && pwd)
 program=$here/../crates/iox2_replay/out/iox2_replay
@@ -10,7 +11,8 @@ many=${2:-20000}
 work=$(mktemp -d)
 trap 'rm -rf "$work"' EXIT
 
-# Places for 4 nodes: 4 nodes are registered, and from then on the oldest leaves and another takes its place.
+# Places for 4 nodes: 4 nodes are registered, and from then on the oldest leaves and another takes
+# its place.
 nodes() {
     awk -v lines="$1" 'BEGIN {
         print "service event 7 4 2 2"
@@ -25,9 +27,10 @@ nodes() {
     }'
 }
 
-# Places for 8 nodes and 8 ports of each kind, of which 6 are taken; then in turn a node is registered once more, a port
-# is attached to it, the port is released, and the handle of the node is given back. With `standing`, the second kind of
-# ports has so many entries, which are listed at each 1,000th command.
+# Places for 8 nodes and 8 ports of each kind, of which 6 are taken; then in turn a node is
+# registered once more, a port is attached to it, the port is released, and the handle of the node
+# is given back. With `standing`, the second kind of ports has this many entries, which are listed
+# at each 1,000th command.
 ports() {
     awk -v lines="$1" -v standing="$2" 'BEGIN {
         print "service publish-subscribe 7 8 8 " (standing ? standing : 8)

@@ -1,5 +1,5 @@
-"""A second, plain machine for the scripts of `iox2-replay`, written from their rules and from no program: what the programs are
-compared with. Entries stand in dictionaries by slot."""
+"""A second, plain machine for the scripts of `iox2-replay`, written from their rules and from no
+program: what the programs are compared with. Entries stand in dictionaries by slot."""
 
 import re
 from typing import NamedTuple
@@ -31,7 +31,7 @@ ONE_ID = re.compile(ID)
 
 
 class BadLine(Exception):
-    """The line is no line of a script at its place."""
+    """The line is not a line of a script at its place."""
 
 
 class NoRoom(Exception):
@@ -220,8 +220,8 @@ def node_id(word):
     return value
 
 
-# With so many places of each kind a service is made; from so many of one kind on no memory has room. Between them the answer
-# depends on the machine that runs the script.
+# With this many places of each kind a service is made; from this many of one kind on no memory has
+# room. Between them the answer depends on the machine that runs the script.
 MANY_PLACES = 200_000
 TOO_MANY_PLACES = 2**47
 

@@ -16,7 +16,8 @@ def instructions(program, script):
 
 
 def peak(program, script):
-    """The program's peak memory on the file, in bytes, by GNU time, since a child of this process counts its memory too."""
+    """The program's peak memory on the file, in bytes, by GNU time, since a child of this process
+    counts its memory too."""
     with open(script, "rb") as stdin:
         command = ["/usr/bin/time", "-f", "%M", program]
         ran = subprocess.run(command, stdin=stdin, stdout=subprocess.DEVNULL, stderr=subprocess.PIPE, timeout=SECONDS, check=True)

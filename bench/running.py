@@ -8,8 +8,9 @@ from typing import NamedTuple
 
 
 class Run(NamedTuple):
-    """How a run ended: an exit status, or the number of a signal below zero; processor time and time that passed, in
-    seconds; peak memory in bytes, which counts this process's own where that is greater."""
+    """How a run ended: an exit status, or the number of a signal below zero; processor time and
+    time that passed, in seconds; peak memory in bytes, which counts this process's own where that
+    is greater."""
 
     status: int
     processor: float
@@ -23,7 +24,7 @@ def bound_memory(gigabytes):
 
 
 def run(command, stdin, stdout, stderr, seconds):
-    """Runs `command` on three open files, and kills it after so many seconds."""
+    """Runs `command` on three open files, and kills it after this many seconds."""
     streams = [(os.POSIX_SPAWN_DUP2, opened.fileno(), number) for number, opened in enumerate((stdin, stdout, stderr))]
     begun = time.perf_counter()
     child = os.posix_spawn(command[0], command, os.environ, file_actions=streams)

@@ -84,6 +84,24 @@ same_statuses() {
         [ -z "$(cut -d ' ' -f 1 "$work/all" | sort | uniq -d)$(cut -d ' ' -f 2 "$work/all" | sort | uniq -d)" ]
 }
 
+# A command of cargo on the crate for Rust, with further arguments.
+crate() {
+    CARGO_TARGET_DIR=$work/rust IOX2SD_LIB_DIR=$PWD/out \
+        cargo "$1" --jobs 1 --offline --manifest-path rust/Cargo.toml "${@:2}"
+}
+
+documented() { RUSTDOCFLAGS="--deny warnings" crate doc --no-deps; }
+
+has_cargo() { cargo "$1" --version > "$work/which" 2>&1 || { echo "not found: cargo $1"; return 1; }; }
+
+# Packs the crate, and tests it elsewhere with the library.
+packaged() {
+    crate package --no-verify --allow-dirty &&
+        tar xf "$work"/rust/package/iox2sd-*.crate -C "$work" &&
+        CARGO_TARGET_DIR=$work/rust IOX2SD_LIB_DIR=$PWD/out \
+            cargo test --quiet --jobs 1 --offline --manifest-path "$work"/iox2sd-*/Cargo.toml
+}
+
 wrapped=-Wl,--wrap=malloc,--wrap=calloc,--wrap=realloc,--wrap=free
 for compiler in gcc clang; do
     for source in c/test_service.c c/test_values.c c/test_walk.c c/test_threads.c; do
@@ -214,10 +232,19 @@ installation() {
 installation
 
 if has cargo; then
-    run "cargo test" env CARGO_TARGET_DIR="$work/rust" cargo test --quiet --offline --manifest-path rust/Cargo.toml
+    run "cargo test" crate test --quiet
+    for example in first builder monitor discovery factory; do
+        run "cargo run --example $example" crate run --quiet --example "$example"
+    done
+    run "cargo doc" documented
+    if has_cargo clippy; then run "cargo clippy" crate clippy --all-targets -- --deny warnings; fi
+    if has_cargo fmt; then run "cargo fmt" cargo fmt --check --manifest-path rust/Cargo.toml; fi
+    run "cargo package, and a build of what it packs" packaged
 fi
 if has python3; then
+    has cc || echo "so the declarations of Python were not compared with the headers"
     run "python3 -m unittest" env PYTHONDONTWRITEBYTECODE=1 python3 -m unittest discover --start-directory python
+    if has mypy; then run "mypy" env -C python mypy --cache-dir "$work/mypy"; fi
 fi
 echo "$passed passed, $failed failed"
 [ "$failed" -eq 0 ]

@@ -1,8 +1,8 @@
 #!/bin/sh
-# Fails where a page quotes code that does not stand so, line by line, in the file that it names. A quote
-# is a block of code below a line `<!-- quote FILE -->`, where FILE is a path from the top of the
-# repository. Prints each such quote, and how many there are. Fails too where docs/PROMISES.md names a
-# must-fail edit, as `FUNCTION--mistake`, that no crate has.
+# Fails where a page quotes code that does not stand so, line by line, in the file that it names. A
+# quote is a block of code below a line `<!-- quote FILE -->`, where FILE is a path from the top of
+# the repository. Prints each such quote, and how many there are. Fails too where docs/PROMISES.md
+# names a must-fail edit, as `FUNCTION--mistake`, that no crate has.
 set -eu
 cd "$(dirname "$0")/.."
 awk '

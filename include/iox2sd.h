@@ -87,7 +87,9 @@ enum iox2sd_status {
     IOX2SD_OTHER_ALIGNMENT = 63,
     IOX2SD_GREATER_ALIGNMENT = 64,
     IOX2SD_UNKNOWN_TEXT = 65,
-    IOX2SD_BAD_LINE = 66 /* A line of a script is not valid. */
+    IOX2SD_BAD_LINE = 66, /* A line of a script is not valid. */
+    IOX2SD_UNKNOWN_STRATEGY = 67,
+    IOX2SD_BAD_DURATION = 68 /* The nanoseconds beside the seconds are 1,000,000,000 or more. */
 };
 
 /* Messaging patterns. */

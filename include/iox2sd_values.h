@@ -256,11 +256,27 @@ typedef struct iox2sd_optional_duration {
     bool is_some;
 } iox2sd_optional_duration;
 
+/* A span of time. */
+typedef struct iox2sd_duration {
+    uint64_t seconds;
+    uint32_t nanoseconds; /* Beside the seconds, below 1,000,000,000. */
+} iox2sd_duration;
+
 /* The number of an event, or none: then all fields are 0. */
 typedef struct iox2sd_optional_event_id {
     size_t number;
     bool is_some;
 } iox2sd_optional_event_id;
+
+/* The settings that all services and nodes of one system share, beside its texts. */
+typedef struct iox2sd_global_settings {
+    iox2sd_duration creation_timeout; /* How long an opener waits until the creator is ready. */
+    /* Whether what dead nodes left is removed first when a service is opened; when a node is
+     * created; when a node goes. */
+    bool cleanup_dead_nodes_on_open;
+    bool cleanup_dead_nodes_on_creation;
+    bool cleanup_dead_nodes_on_destruction;
+} iox2sd_global_settings;
 
 /* The settings of a publish-subscribe service. */
 typedef struct iox2sd_publish_subscribe_settings {
@@ -316,11 +332,65 @@ typedef struct iox2sd_blackboard_settings {
     size_t max_nodes;
 } iox2sd_blackboard_settings;
 
+/* The settings that a system has where nothing else is said. */
+iox2sd_global_settings iox2sd_global_defaults(void);
+
 /* The settings that a service of each pattern gets where nothing else is said. */
 iox2sd_publish_subscribe_settings iox2sd_publish_subscribe_defaults(void);
 iox2sd_event_settings iox2sd_event_defaults(void);
 iox2sd_request_response_settings iox2sd_request_response_defaults(void);
 iox2sd_blackboard_settings iox2sd_blackboard_defaults(void);
+
+/* The fields of settings that may be invalid, as answers name them. */
+enum {
+    IOX2SD_BACKPRESSURE_STRATEGY = 0, /* Of publish-subscribe; so is the next. */
+    IOX2SD_PUBLISHER_ALLOCATION_STRATEGY = 1,
+    IOX2SD_DEADLINE = 2,                     /* Of an event service. */
+    IOX2SD_CLIENT_BACKPRESSURE_STRATEGY = 3, /* Of request-response; so are the next three. */
+    IOX2SD_SERVER_BACKPRESSURE_STRATEGY = 4,
+    IOX2SD_CLIENT_ALLOCATION_STRATEGY = 5,
+    IOX2SD_SERVER_ALLOCATION_STRATEGY = 6,
+    IOX2SD_CREATION_TIMEOUT = 7 /* Of a system. */
+};
+
+/* Which field of settings is invalid, and why. */
+typedef struct iox2sd_field_answer {
+    uint32_t status;
+    uint32_t field; /* 0 where the status speaks of no field. */
+} iox2sd_field_answer;
+
+/* Functions that end in `_at` take a pointer and a count of 0 for NULL or 1; call those below. */
+iox2sd_field_answer
+iox2sd_global_settings_check_at(const iox2sd_global_settings *settings, size_t count);
+iox2sd_field_answer
+iox2sd_publish_subscribe_settings_check_at(const iox2sd_publish_subscribe_settings *settings,
+                                           size_t count);
+iox2sd_field_answer
+iox2sd_event_settings_check_at(const iox2sd_event_settings *settings, size_t count);
+iox2sd_field_answer
+iox2sd_request_response_settings_check_at(const iox2sd_request_response_settings *settings,
+                                          size_t count);
+
+/* Whether settings are valid. Where `is_some` of a deadline or an event is false, there is none,
+ * whatever the other fields are. The settings of a blackboard service are always valid.
+ * Errors: IOX2SD_NULL; of the first invalid field, which the answer names: IOX2SD_UNKNOWN_STRATEGY;
+ * IOX2SD_BAD_DURATION, of nanoseconds of 1,000,000,000 or more. */
+static inline iox2sd_field_answer
+iox2sd_global_settings_check(const iox2sd_global_settings *settings) {
+    return iox2sd_global_settings_check_at(settings, settings != NULL);
+}
+static inline iox2sd_field_answer
+iox2sd_publish_subscribe_settings_check(const iox2sd_publish_subscribe_settings *settings) {
+    return iox2sd_publish_subscribe_settings_check_at(settings, settings != NULL);
+}
+static inline iox2sd_field_answer
+iox2sd_event_settings_check(const iox2sd_event_settings *settings) {
+    return iox2sd_event_settings_check_at(settings, settings != NULL);
+}
+static inline iox2sd_field_answer
+iox2sd_request_response_settings_check(const iox2sd_request_response_settings *settings) {
+    return iox2sd_request_response_settings_check_at(settings, settings != NULL);
+}
 
 /* The functions that end in `_at` take a pointer and a count of 0 for NULL or 1; call those below them. */
 iox2sd_count_answer iox2sd_samples_of_at(const iox2sd_publish_subscribe_settings *settings, size_t count);
@@ -373,6 +443,201 @@ iox2sd_text_answer iox2sd_service_directory(const uint8_t *root, size_t length, 
 
 /* Writes the directory of nodes below a root path. Errors as above. */
 iox2sd_text_answer iox2sd_node_directory(const uint8_t *root, size_t length, uint8_t *out, size_t capacity);
+
+/* ---- Descriptions ---- */
+
+/* What is fixed of a publish-subscribe service, beside the types of its messages. */
+typedef struct iox2sd_publish_subscribe_config {
+    size_t max_subscribers; /* How many may be attached at once; so are the next two. */
+    size_t max_publishers;
+    size_t max_nodes;
+    size_t history_size;               /* How many a publisher keeps for later subscribers. */
+    size_t subscriber_max_buffer_size; /* How many samples a subscriber's buffer has room for. */
+    size_t subscriber_max_borrowed_samples; /* How many samples a subscriber may hold at once. */
+    bool enable_safe_overflow; /* Whether a new sample replaces the oldest in a full buffer. */
+} iox2sd_publish_subscribe_config;
+
+/* What is fixed of an event service. */
+typedef struct iox2sd_event_config {
+    size_t max_notifiers; /* How many may be attached at once; so are the next two. */
+    size_t max_listeners;
+    size_t max_nodes;
+    size_t event_id_max_value;         /* The greatest number of an event. */
+    iox2sd_optional_duration deadline; /* The longest time between two events. */
+    iox2sd_optional_event_id notifier_created_event;
+    iox2sd_optional_event_id notifier_dropped_event;
+    iox2sd_optional_event_id notifier_dead_event;
+} iox2sd_event_config;
+
+/* What is fixed of a request-response service, beside the types of its messages. */
+typedef struct iox2sd_request_response_config {
+    size_t max_active_requests_per_client; /* How many may be open at each server at once. */
+    size_t max_loaned_requests;      /* How many a client may have taken and not yet sent. */
+    size_t max_response_buffer_size; /* For how many responses to one request there is room. */
+    size_t max_servers;              /* How many may be attached at once; so are the next two. */
+    size_t max_clients;
+    size_t max_nodes;
+    size_t max_borrowed_responses_per_pending_response; /* How many a client may hold at once. */
+    bool enable_safe_overflow_for_requests;
+    bool enable_safe_overflow_for_responses;
+    bool enable_fire_and_forget_requests; /* Whether a client may take no response. */
+} iox2sd_request_response_config;
+
+/* What is fixed of a blackboard service, beside the type of its keys. */
+typedef struct iox2sd_blackboard_config {
+    size_t max_readers; /* How many may be attached at once; so are the next two. */
+    size_t max_writers;
+    size_t max_nodes;
+} iox2sd_blackboard_config;
+
+/* What is fixed of a service, beside its attributes and the types of its messages. It is a plain
+ * value: it points nowhere. */
+typedef struct iox2sd_description {
+    uint8_t name[256]; /* The service's name, then zeros: there is at least one. */
+    size_t name_length;
+    iox2sd_id id;
+    uint8_t hash[64]; /* The hash text, then zeros. It has 27 bytes. */
+    size_t hash_length;
+    uint32_t pattern; /* Its number. */
+    /* That of the pattern; all fields of the others are 0. */
+    iox2sd_publish_subscribe_config publish_subscribe;
+    iox2sd_event_config event;
+    iox2sd_request_response_config request_response;
+    iox2sd_blackboard_config blackboard;
+} iox2sd_description;
+
+/* Functions that end in `_at` take a pointer and a count of 0 for NULL or 1; call those below. */
+iox2sd_field_answer
+iox2sd_describe_publish_subscribe_at(const iox2sd_publish_subscribe_settings *settings,
+    size_t count, const uint8_t *name, size_t length, iox2sd_id id,
+    iox2sd_description *out, size_t out_count);
+iox2sd_field_answer
+iox2sd_describe_internal_publish_subscribe_at(const iox2sd_publish_subscribe_settings *settings,
+    size_t count, const uint8_t *name, size_t length, iox2sd_id id,
+    iox2sd_description *out, size_t out_count);
+iox2sd_field_answer
+iox2sd_describe_event_at(const iox2sd_event_settings *settings,
+    size_t count, const uint8_t *name, size_t length, iox2sd_id id,
+    iox2sd_description *out, size_t out_count);
+iox2sd_field_answer
+iox2sd_describe_internal_event_at(const iox2sd_event_settings *settings,
+    size_t count, const uint8_t *name, size_t length, iox2sd_id id,
+    iox2sd_description *out, size_t out_count);
+iox2sd_field_answer
+iox2sd_describe_request_response_at(const iox2sd_request_response_settings *settings,
+    size_t count, const uint8_t *name, size_t length, iox2sd_id id,
+    iox2sd_description *out, size_t out_count);
+iox2sd_field_answer
+iox2sd_describe_internal_request_response_at(const iox2sd_request_response_settings *settings,
+    size_t count, const uint8_t *name, size_t length, iox2sd_id id,
+    iox2sd_description *out, size_t out_count);
+iox2sd_field_answer
+iox2sd_describe_blackboard_at(const iox2sd_blackboard_settings *settings,
+    size_t count, const uint8_t *name, size_t length, iox2sd_id id,
+    iox2sd_description *out, size_t out_count);
+iox2sd_field_answer
+iox2sd_describe_internal_blackboard_at(const iox2sd_blackboard_settings *settings,
+    size_t count, const uint8_t *name, size_t length, iox2sd_id id,
+    iox2sd_description *out, size_t out_count);
+iox2sd_flag_answer iox2sd_has_same_messaging_pattern_at(const iox2sd_description *left,
+                                                        size_t left_count,
+                                                        const iox2sd_description *right,
+                                                        size_t right_count);
+iox2sd_count_answer iox2sd_samples_of_config_at(const iox2sd_publish_subscribe_config *config,
+                                                size_t count, size_t loaned_samples);
+iox2sd_count_answer iox2sd_requests_of_config_at(const iox2sd_request_response_config *config,
+                                                 size_t count, size_t loaned_requests);
+iox2sd_count_answer iox2sd_responses_of_config_at(const iox2sd_request_response_config *config,
+                                                  size_t count, size_t loaned_responses);
+
+/* Fills a description from a service's settings, its name, which a user gives, and its id. The hash
+ * text is that of iox2sd_hash_text.
+ * Errors, with which the place is as it was: IOX2SD_NULL, of the settings or the place;
+ * IOX2SD_NOT_UTF8; IOX2SD_BAD_SERVICE_NAME, of which iox2sd_service_name_check tells why;
+ * IOX2SD_UNKNOWN_STRATEGY or IOX2SD_BAD_DURATION with the field, as the checks of settings answer;
+ * IOX2SD_ILLEGAL_HASH. */
+static inline iox2sd_field_answer
+iox2sd_describe_publish_subscribe(const iox2sd_publish_subscribe_settings *settings,
+                                  const uint8_t *name, size_t length, iox2sd_id id,
+                                  iox2sd_description *out) {
+    return iox2sd_describe_publish_subscribe_at(settings, settings != NULL, name, length,
+                                                id, out, out != NULL);
+}
+static inline iox2sd_field_answer
+iox2sd_describe_event(const iox2sd_event_settings *settings,
+                      const uint8_t *name, size_t length, iox2sd_id id,
+                      iox2sd_description *out) {
+    return iox2sd_describe_event_at(settings, settings != NULL, name, length,
+                                    id, out, out != NULL);
+}
+static inline iox2sd_field_answer
+iox2sd_describe_request_response(const iox2sd_request_response_settings *settings,
+                                 const uint8_t *name, size_t length, iox2sd_id id,
+                                 iox2sd_description *out) {
+    return iox2sd_describe_request_response_at(settings, settings != NULL, name, length,
+                                               id, out, out != NULL);
+}
+static inline iox2sd_field_answer
+iox2sd_describe_blackboard(const iox2sd_blackboard_settings *settings,
+                           const uint8_t *name, size_t length, iox2sd_id id,
+                           iox2sd_description *out) {
+    return iox2sd_describe_blackboard_at(settings, settings != NULL, name, length,
+                                         id, out, out != NULL);
+}
+
+/* The same for a name that may be one of the system's own. */
+static inline iox2sd_field_answer
+iox2sd_describe_internal_publish_subscribe(const iox2sd_publish_subscribe_settings *settings,
+                                           const uint8_t *name, size_t length, iox2sd_id id,
+                                           iox2sd_description *out) {
+    return iox2sd_describe_internal_publish_subscribe_at(settings, settings != NULL, name, length,
+                                                         id, out, out != NULL);
+}
+static inline iox2sd_field_answer
+iox2sd_describe_internal_event(const iox2sd_event_settings *settings,
+                               const uint8_t *name, size_t length, iox2sd_id id,
+                               iox2sd_description *out) {
+    return iox2sd_describe_internal_event_at(settings, settings != NULL, name, length,
+                                             id, out, out != NULL);
+}
+static inline iox2sd_field_answer
+iox2sd_describe_internal_request_response(const iox2sd_request_response_settings *settings,
+                                          const uint8_t *name, size_t length, iox2sd_id id,
+                                          iox2sd_description *out) {
+    return iox2sd_describe_internal_request_response_at(settings, settings != NULL, name, length,
+                                                        id, out, out != NULL);
+}
+static inline iox2sd_field_answer
+iox2sd_describe_internal_blackboard(const iox2sd_blackboard_settings *settings,
+                                    const uint8_t *name, size_t length, iox2sd_id id,
+                                    iox2sd_description *out) {
+    return iox2sd_describe_internal_blackboard_at(settings, settings != NULL, name, length,
+                                                  id, out, out != NULL);
+}
+
+/* Whether two services have one messaging pattern, whatever is fixed beside it.
+ * Errors: IOX2SD_NULL; IOX2SD_UNKNOWN_PATTERN, of either. */
+static inline iox2sd_flag_answer
+iox2sd_has_same_messaging_pattern(const iox2sd_description *left, const iox2sd_description *right) {
+    return iox2sd_has_same_messaging_pattern_at(left, left != NULL, right, right != NULL);
+}
+
+/* The greatest number of one publisher's samples, one client's requests and one server's responses
+ * that can be in use at once, where a description has this config and the port loans up to so many
+ * of them (a server, for each request) to be written.
+ * Errors: IOX2SD_NULL; IOX2SD_TOO_LARGE past 2^64 - 1. */
+static inline iox2sd_count_answer
+iox2sd_samples_of_config(const iox2sd_publish_subscribe_config *config, size_t loaned_samples) {
+    return iox2sd_samples_of_config_at(config, config != NULL, loaned_samples);
+}
+static inline iox2sd_count_answer
+iox2sd_requests_of_config(const iox2sd_request_response_config *config, size_t loaned_requests) {
+    return iox2sd_requests_of_config_at(config, config != NULL, loaned_requests);
+}
+static inline iox2sd_count_answer
+iox2sd_responses_of_config(const iox2sd_request_response_config *config, size_t loaned_responses) {
+    return iox2sd_responses_of_config_at(config, config != NULL, loaned_responses);
+}
 
 /* ---- Versions ---- */
 

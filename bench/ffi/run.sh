@@ -4,5 +4,5 @@ set -euo pipefail
 cd "$(dirname "$0")"
 work=$(mktemp -d)
 trap 'rm -rf "$work"' EXIT
-"${CC:-cc}" -std=c99 -Wall -O2 -I../../include bench.c ../../bindings/out/libiox2_ffi.a -o "$work/bench"
+"${CC:-cc}" -std=c99 -Wall -O2 -I../../include bench.c ../../bindings/out/libiox2sd.a -o "$work/bench"
 "$work/bench"

@@ -37,6 +37,10 @@ static bool is_count(iox2sd_count_answer answer, uint32_t status, size_t count) 
     return answer.status == status && answer.count == count;
 }
 
+static bool is_field(iox2sd_field_answer answer, uint32_t status, uint32_t field) {
+    return answer.status == status && answer.field == field;
+}
+
 /* A text of bytes 'x' with one other byte. */
 static const uint8_t *with_byte(size_t at, uint8_t byte) {
     static uint8_t text[300];
@@ -377,6 +381,68 @@ static void settings(void) {
     CHECK(b.max_readers == 8 && b.max_nodes == 20);
 }
 
+static void global_settings(void) {
+    iox2sd_global_settings g = iox2sd_global_defaults();
+    CHECK(g.creation_timeout.seconds == 0 && g.creation_timeout.nanoseconds == 500000000);
+    CHECK(g.cleanup_dead_nodes_on_open && g.cleanup_dead_nodes_on_creation);
+    CHECK(g.cleanup_dead_nodes_on_destruction);
+    g.creation_timeout.seconds = UINT64_MAX;
+    g.creation_timeout.nanoseconds = 999999999;
+    CHECK(is_field(iox2sd_global_settings_check(&g), IOX2SD_DONE, 0));
+    g.creation_timeout.nanoseconds = 1000000000;
+    CHECK(is_field(iox2sd_global_settings_check(&g), IOX2SD_BAD_DURATION, IOX2SD_CREATION_TIMEOUT));
+    CHECK(is_field(iox2sd_global_settings_check(NULL), IOX2SD_NULL, 0));
+}
+
+static void publish_subscribe_settings(void) {
+    iox2sd_publish_subscribe_settings p = iox2sd_publish_subscribe_defaults();
+    CHECK(is_field(iox2sd_publish_subscribe_settings_check(&p), IOX2SD_DONE, 0));
+    p.backpressure_strategy = IOX2SD_DISCARD_DATA;
+    for (uint32_t number = 0; number < 3; number++) {
+        p.publisher_allocation_strategy = number;
+        CHECK(is_field(iox2sd_publish_subscribe_settings_check(&p), IOX2SD_DONE, 0));
+    }
+    p.publisher_allocation_strategy = 3;
+    CHECK(is_field(iox2sd_publish_subscribe_settings_check(&p), IOX2SD_UNKNOWN_STRATEGY,
+                   IOX2SD_PUBLISHER_ALLOCATION_STRATEGY));
+    p.backpressure_strategy = 2;
+    CHECK(is_field(iox2sd_publish_subscribe_settings_check(&p), IOX2SD_UNKNOWN_STRATEGY,
+                   IOX2SD_BACKPRESSURE_STRATEGY));
+    CHECK(is_field(iox2sd_publish_subscribe_settings_check(NULL), IOX2SD_NULL, 0));
+}
+
+static void event_settings(void) {
+    iox2sd_event_settings e = iox2sd_event_defaults();
+    CHECK(is_field(iox2sd_event_settings_check(&e), IOX2SD_DONE, 0));
+    e.notifier_dead_event.number = 5;
+    e.deadline.nanoseconds = 1000000000;
+    CHECK(is_field(iox2sd_event_settings_check(&e), IOX2SD_DONE, 0));
+    e.deadline.is_some = true;
+    CHECK(is_field(iox2sd_event_settings_check(&e), IOX2SD_BAD_DURATION, IOX2SD_DEADLINE));
+    e.deadline.nanoseconds = 999999999;
+    e.deadline.seconds = UINT64_MAX;
+    CHECK(is_field(iox2sd_event_settings_check(&e), IOX2SD_DONE, 0));
+    CHECK(is_field(iox2sd_event_settings_check(NULL), IOX2SD_NULL, 0));
+}
+
+static void request_response_settings(void) {
+    iox2sd_request_response_settings r = iox2sd_request_response_defaults();
+    CHECK(is_field(iox2sd_request_response_settings_check(&r), IOX2SD_DONE, 0));
+    r.server_allocation_strategy = 3;
+    CHECK(is_field(iox2sd_request_response_settings_check(&r), IOX2SD_UNKNOWN_STRATEGY,
+                   IOX2SD_SERVER_ALLOCATION_STRATEGY));
+    r.client_allocation_strategy = 3;
+    CHECK(is_field(iox2sd_request_response_settings_check(&r), IOX2SD_UNKNOWN_STRATEGY,
+                   IOX2SD_CLIENT_ALLOCATION_STRATEGY));
+    r.server_backpressure_strategy = 2;
+    CHECK(is_field(iox2sd_request_response_settings_check(&r), IOX2SD_UNKNOWN_STRATEGY,
+                   IOX2SD_SERVER_BACKPRESSURE_STRATEGY));
+    r.client_backpressure_strategy = UINT32_MAX;
+    CHECK(is_field(iox2sd_request_response_settings_check(&r), IOX2SD_UNKNOWN_STRATEGY,
+                   IOX2SD_CLIENT_BACKPRESSURE_STRATEGY));
+    CHECK(is_field(iox2sd_request_response_settings_check(NULL), IOX2SD_NULL, 0));
+}
+
 static void chunks_of(void) {
     iox2sd_publish_subscribe_settings p = iox2sd_publish_subscribe_defaults();
     iox2sd_request_response_settings r = iox2sd_request_response_defaults();
@@ -444,6 +510,188 @@ static void files(void) {
     CHECK(tells(iox2sd_version, "0.1.0") && tells(iox2sd_layer_version, "0.9.3"));
 }
 
+static const iox2sd_id some_id = {1, 2, 3, 4};
+
+/* Whether bytes are a text, and then zeros up to the end. */
+static bool holds(const uint8_t *found, size_t length, size_t end, const char *text) {
+    size_t at;
+    if (length != strlen(text) || memcmp(found, text, length) != 0) return false;
+    for (at = length; at < end; at++) {
+        if (found[at] != 0) return false;
+    }
+    return true;
+}
+
+/* Whether the description is of this pattern and name, with the hash text of both, and of `some_id`. */
+static bool describes(const iox2sd_description *d, uint32_t pattern, const char *name) {
+    uint8_t hash[28] = {0};
+    iox2sd_internal_hash_text(pattern, bytes(name), strlen(name), hash, sizeof hash);
+    return holds(d->name, d->name_length, sizeof d->name, name) && d->pattern == pattern
+           && holds(d->hash, d->hash_length, sizeof d->hash, (const char *)hash)
+           && d->id.process == 1 && d->id.seconds == 2 && d->id.nanoseconds == 3
+           && d->id.counter == 4;
+}
+
+static bool is_unset(const iox2sd_publish_subscribe_config *c) {
+    return c->max_subscribers + c->max_publishers + c->max_nodes + c->history_size == 0
+           && c->subscriber_max_buffer_size + c->subscriber_max_borrowed_samples == 0
+           && !c->enable_safe_overflow;
+}
+
+static void describe_publish_subscribe(void) {
+    iox2sd_publish_subscribe_settings s = iox2sd_publish_subscribe_defaults();
+    iox2sd_description d;
+    const iox2sd_publish_subscribe_config *c = &d.publish_subscribe;
+    memset(&d, 0xAA, sizeof d);
+    s.max_subscribers = 3;
+    s.max_publishers = 5;
+    s.max_nodes = 7;
+    s.publisher_history_size = 11;
+    s.subscriber_max_buffer_size = 13;
+    s.subscriber_max_borrowed_samples = 17;
+    CHECK(is_field(iox2sd_describe_publish_subscribe(&s, bytes("a/b"), 3, some_id, &d), IOX2SD_DONE,
+                   0));
+    CHECK(describes(&d, IOX2SD_PUBLISH_SUBSCRIBE, "a/b"));
+    CHECK(c->max_subscribers == 3 && c->max_publishers == 5 && c->max_nodes == 7);
+    CHECK(c->history_size == 11 && c->subscriber_max_buffer_size == 13);
+    CHECK(c->subscriber_max_borrowed_samples == 17 && c->enable_safe_overflow);
+    CHECK(d.event.max_nodes == 0 && !d.event.deadline.is_some && d.request_response.max_nodes == 0);
+    CHECK(!d.request_response.enable_fire_and_forget_requests && d.blackboard.max_writers == 0);
+    CHECK(is_count(iox2sd_samples_of_config(c, 19), IOX2SD_DONE, 3 * (13 + 17) + 11 + 19));
+    CHECK(is_count(iox2sd_samples_of_config(c, SIZE_MAX), IOX2SD_TOO_LARGE, 0));
+    CHECK(is_count(iox2sd_samples_of_config(NULL, 19), IOX2SD_NULL, 0));
+    CHECK(
+        is_field(iox2sd_describe_internal_publish_subscribe(&s, bytes("iox2://a"), 8, some_id, &d),
+                 IOX2SD_DONE, 0));
+    CHECK(describes(&d, IOX2SD_PUBLISH_SUBSCRIBE, "iox2://a"));
+}
+
+/* Each refusal, in the order in which they are reported: the place is as it was. */
+static void describe_refusals(void) {
+    iox2sd_publish_subscribe_settings s = iox2sd_publish_subscribe_defaults();
+    iox2sd_description d, before;
+    memset(&d, 0xAA, sizeof d);
+    memset(&before, 0xAA, sizeof before);
+    s.publisher_allocation_strategy = 3;
+    CHECK(is_field(iox2sd_describe_publish_subscribe(NULL, bytes("\xff"), 1, some_id, &d),
+                   IOX2SD_NULL, 0));
+    CHECK(is_field(iox2sd_describe_publish_subscribe(&s, bytes("\xff"), 1, some_id, NULL),
+                   IOX2SD_NULL, 0));
+    CHECK(is_field(iox2sd_describe_publish_subscribe(&s, bytes("\xff"), 1, some_id, &d),
+                   IOX2SD_NOT_UTF8, 0));
+    CHECK(is_field(iox2sd_describe_publish_subscribe(&s, bytes("iox2://a"), 8, some_id, &d),
+                   IOX2SD_BAD_SERVICE_NAME, 0));
+    CHECK(is_field(iox2sd_describe_internal_publish_subscribe(&s, NULL, 0, some_id, &d),
+                   IOX2SD_BAD_SERVICE_NAME, 0));
+    CHECK(is_field(iox2sd_describe_publish_subscribe(&s, bytes("a"), 1, some_id, &d),
+                   IOX2SD_UNKNOWN_STRATEGY, IOX2SD_PUBLISHER_ALLOCATION_STRATEGY));
+    CHECK(memcmp(&d, &before, sizeof d) == 0);
+}
+
+static void describe_event(void) {
+    iox2sd_event_settings s = iox2sd_event_defaults();
+    iox2sd_description d;
+    const iox2sd_event_config *c = &d.event;
+    const iox2sd_optional_duration deadline = {5, 999999999, true};
+    const iox2sd_optional_event_id dropped = {6, true};
+    memset(&d, 0xAA, sizeof d);
+    s.deadline = deadline;
+    s.notifier_created_event.number = 9;
+    s.notifier_dropped_event = dropped;
+    s.max_listeners = 3;
+    s.max_notifiers = 7;
+    CHECK(is_field(iox2sd_describe_event(&s, with_byte(0, 'y'), 255, some_id, &d), IOX2SD_DONE, 0));
+    CHECK(d.name_length == 255 && memcmp(d.name, with_byte(0, 'y'), 255) == 0 && d.name[255] == 0);
+    CHECK(d.pattern == IOX2SD_EVENT && is_unset(&d.publish_subscribe)
+          && d.blackboard.max_nodes == 0);
+    CHECK(c->max_listeners == 3 && c->max_notifiers == 7 && c->max_nodes == 36
+          && c->event_id_max_value == 255);
+    CHECK(c->deadline.is_some && c->deadline.seconds == 5 && c->deadline.nanoseconds == 999999999);
+    CHECK(!c->notifier_created_event.is_some && c->notifier_created_event.number == 0);
+    CHECK(c->notifier_dropped_event.is_some && c->notifier_dropped_event.number == 6);
+    CHECK(!c->notifier_dead_event.is_some);
+    s.deadline.nanoseconds = 1000000000;
+    CHECK(is_field(iox2sd_describe_internal_event(&s, bytes("iox2://a"), 8, some_id, &d),
+                   IOX2SD_BAD_DURATION, IOX2SD_DEADLINE));
+    s.deadline.is_some = false;
+    CHECK(is_field(iox2sd_describe_internal_event(&s, bytes("iox2://a"), 8, some_id, &d),
+                   IOX2SD_DONE, 0));
+    CHECK(describes(&d, IOX2SD_EVENT, "iox2://a") && !c->deadline.is_some
+          && c->deadline.nanoseconds == 0);
+    CHECK(is_field(iox2sd_describe_event(&s, bytes("iox2://a"), 8, some_id, &d),
+                   IOX2SD_BAD_SERVICE_NAME, 0));
+}
+
+static void describe_request_response(void) {
+    iox2sd_request_response_settings s = iox2sd_request_response_defaults();
+    iox2sd_description d;
+    const iox2sd_request_response_config *c = &d.request_response;
+    memset(&d, 0xAA, sizeof d);
+    s.max_active_requests_per_client = 3;
+    s.max_loaned_requests = 5;
+    s.max_response_buffer_size = 7;
+    s.max_servers = 11;
+    s.max_clients = 13;
+    s.max_nodes = 17;
+    s.max_borrowed_responses_per_pending_response = 19;
+    s.enable_safe_overflow_for_requests = false;
+    CHECK(
+        is_field(iox2sd_describe_request_response(&s, bytes("a"), 1, some_id, &d), IOX2SD_DONE, 0));
+    CHECK(describes(&d, IOX2SD_REQUEST_RESPONSE, "a") && is_unset(&d.publish_subscribe));
+    CHECK(c->max_active_requests_per_client == 3 && c->max_loaned_requests == 5);
+    CHECK(c->max_response_buffer_size == 7 && c->max_servers == 11 && c->max_clients == 13);
+    CHECK(c->max_nodes == 17 && c->max_borrowed_responses_per_pending_response == 19);
+    CHECK(!c->enable_safe_overflow_for_requests && c->enable_safe_overflow_for_responses);
+    CHECK(c->enable_fire_and_forget_requests);
+    CHECK(is_count(iox2sd_requests_of_config(c, 23), IOX2SD_DONE, 11 * 2 * 3 + 23));
+    CHECK(is_count(iox2sd_responses_of_config(c, 23), IOX2SD_DONE, 13 * 2 * 3 * (7 + 19 + 23)));
+    CHECK(is_count(iox2sd_requests_of_config(c, SIZE_MAX), IOX2SD_TOO_LARGE, 0));
+    CHECK(is_count(iox2sd_responses_of_config(c, SIZE_MAX), IOX2SD_TOO_LARGE, 0));
+    CHECK(is_count(iox2sd_requests_of_config(NULL, 23), IOX2SD_NULL, 0));
+    CHECK(is_count(iox2sd_responses_of_config(NULL, 23), IOX2SD_NULL, 0));
+    CHECK(is_field(iox2sd_describe_internal_request_response(&s, bytes("iox2://a"), 8, some_id, &d),
+                   IOX2SD_DONE, 0));
+    CHECK(describes(&d, IOX2SD_REQUEST_RESPONSE, "iox2://a"));
+    s.server_backpressure_strategy = 2;
+    CHECK(is_field(iox2sd_describe_request_response(&s, bytes("a"), 1, some_id, &d),
+                   IOX2SD_UNKNOWN_STRATEGY, IOX2SD_SERVER_BACKPRESSURE_STRATEGY));
+}
+
+static void describe_blackboard(void) {
+    const iox2sd_blackboard_settings s = {3, 5};
+    iox2sd_description d;
+    memset(&d, 0xAA, sizeof d);
+    CHECK(is_field(iox2sd_describe_blackboard(&s, bytes("a"), 1, some_id, &d), IOX2SD_DONE, 0));
+    CHECK(describes(&d, IOX2SD_BLACKBOARD, "a") && is_unset(&d.publish_subscribe));
+    CHECK(d.blackboard.max_readers == 3 && d.blackboard.max_writers == 1
+          && d.blackboard.max_nodes == 5);
+    CHECK(is_field(iox2sd_describe_blackboard(&s, bytes("iox2://a"), 8, some_id, &d),
+                   IOX2SD_BAD_SERVICE_NAME, 0));
+    CHECK(is_field(iox2sd_describe_internal_blackboard(&s, bytes("iox2://a"), 8, some_id, &d),
+                   IOX2SD_DONE, 0));
+    CHECK(describes(&d, IOX2SD_BLACKBOARD, "iox2://a"));
+}
+
+static bool is_flag(iox2sd_flag_answer answer, uint32_t status, bool yes) {
+    return answer.status == status && answer.yes == yes;
+}
+
+static void same_patterns(void) {
+    static iox2sd_description left, right;
+    for (left.pattern = 0; left.pattern < 4; left.pattern++) {
+        for (right.pattern = 0; right.pattern < 4; right.pattern++) {
+            CHECK(is_flag(iox2sd_has_same_messaging_pattern(&left, &right), IOX2SD_DONE,
+                          left.pattern == right.pattern));
+        }
+        CHECK(is_flag(iox2sd_has_same_messaging_pattern(&left, &right), IOX2SD_UNKNOWN_PATTERN,
+                      false));
+        CHECK(is_flag(iox2sd_has_same_messaging_pattern(&right, &left), IOX2SD_UNKNOWN_PATTERN,
+                      false));
+    }
+    CHECK(is_flag(iox2sd_has_same_messaging_pattern(&left, NULL), IOX2SD_NULL, false));
+    CHECK(is_flag(iox2sd_has_same_messaging_pattern(NULL, &left), IOX2SD_NULL, false));
+}
+
 int main(void) {
     checks();
     names();
@@ -454,7 +702,17 @@ int main(void) {
     compatible();
     chunks();
     settings();
+    global_settings();
+    publish_subscribe_settings();
+    event_settings();
+    request_response_settings();
     chunks_of();
     files();
+    describe_publish_subscribe();
+    describe_refusals();
+    describe_event();
+    describe_request_response();
+    describe_blackboard();
+    same_patterns();
     return wrong ? EXIT_FAILURE : EXIT_SUCCESS;
 }

@@ -1,4 +1,4 @@
-"""Which tests call a public function, as far as the names in their text tell it."""
+"""Which tests call a public function, as far as the names in their text show it."""
 
 import re
 from collections import defaultdict

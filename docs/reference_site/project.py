@@ -63,7 +63,7 @@ class Shown:
 
 @dataclass
 class Crate:
-    """A crate as its line of `crates.txt` and its folder tell of it.
+    """A crate as its line of `crates.txt` and its folder describe it.
 
     `unproved` is the paragraph of its README that says what is not proved.
     """
@@ -82,7 +82,7 @@ class Crate:
 
 @dataclass
 class Edit:
-    """A must-fail edit: the function and the mistake that its name tells, and its text."""
+    """A must-fail edit: the function and the mistake that its name says, and its text."""
 
     function: str
     mistake: str

@@ -7,7 +7,7 @@ use std::collections::TryReserveError;
 /// Why a script ended early.
 #[derive(Debug)]
 pub enum Fault {
-    /// The line with this number, from 1, is no line of a script.
+    /// The line with this number, from 1, is not a line of a script.
     BadLine(usize),
     NoMemory,
 }

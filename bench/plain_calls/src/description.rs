@@ -27,7 +27,7 @@ pub struct Layout {
 }
 
 impl Types {
-    /// The room for a message of so many elements, wherever its header lies, or `None` beyond 2^63 - 1 bytes.
+    /// The room for a message of this many elements, wherever its header lies, or `None` beyond 2^63 - 1 bytes.
     pub fn layout(&self, elements: usize) -> Option<Layout> {
         let size = self
             .payload

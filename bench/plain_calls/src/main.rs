@@ -1,4 +1,4 @@
-//! Makes one kind of call so often as each line of standard input says, and writes a number of what was answered, as
+//! Makes one kind of call as often as each line of standard input says, and writes a number of what was answered, as
 //! `bench_calls` does: what that program is measured against.
 
 mod attached;

@@ -43,7 +43,7 @@ pub struct Port {
     pub kind: PortKind,
 }
 
-/// What a port tells of itself beside its ids.
+/// What is known of a port beside its ids.
 #[derive(Clone, Copy, Debug)]
 #[allow(dead_code)]
 pub enum PortKind {

@@ -19,7 +19,7 @@ enum Call {
     HashText,
 }
 
-/// A line of standard input: in each round all is set up anew, and then the call is made so often.
+/// A line of standard input: in each round all is set up anew, and then the call is made this often.
 #[derive(Clone, Copy, Debug)]
 pub struct Task {
     call: Call,

@@ -1,32 +1,92 @@
-//! Safe Rust over the proved layer of service descriptions: what a service is, and who is attached to it.
+//! What a service of the zero-copy middleware iceoryx2 is, and who is attached to it: the layer of
+//! iceoryx2 0.9.3 that service builders, liveness monitors, discovery and port factories stand on,
+//! over a proved library.
 //!
-//! The layer is proved; this crate is plain Rust around it, with the `unsafe` that a call of C needs. Its users need
-//! none, and may write `#![forbid(unsafe_code)]`.
+//! Modules, types, methods and texts have the names that they have in iceoryx2, where they stand in
+//! its module `service` for the most part; so do they here, in [`service`] and one level above.
+//!
+//! | Module | What it has |
+//! |---|---|
+//! | [`service_name`], [`attribute`], [`paths`] | texts that are checked when they are made |
+//! | [`identifiers`] | the ids of nodes, ports and services |
+//! | [`config`] | the settings, and what they are by default |
+//! | [`static_config`], [`service_hash`] | the description of a service |
+//! | [`dynamic_config`], [`container`] | who is attached to a service |
 //!
 //! ```
-//! use service_descriptions::{MessagingPattern, Service};
+//! use iox2sd::dynamic_config::{event, DynamicConfig, MessagingPatternSettings};
+//! use iox2sd::identifiers::UniqueNodeId;
 //!
-//! let mut service = Service::new(MessagingPattern::Event, 7, 1, 2, 2)?;
-//! assert_eq!(service.command("register 1.0.0.1")?, "handle 0 0");
-//! assert_eq!(service.command("deregister 0")?, "no-owners");
-//! # Ok::<(), service_descriptions::Error>(())
+//! let room = event::DynamicConfigSettings { number_of_listeners: 2, number_of_notifiers: 2 };
+//! let mut service = DynamicConfig::new(&MessagingPatternSettings::Event(room), 1, 7)?;
+//! let node = UniqueNodeId::new(1, 0, 0, 1).expect("the id of a node");
+//! let handle = service.register_node_id(node)?;
+//! assert_eq!(service.nodes().collect::<Vec<_>>(), [node]);
+//! service.deregister_node_id(handle)?;
+//! assert!(service.is_locked());
+//! # Ok::<(), Box<dyn std::error::Error>>(())
 //! ```
-#![deny(unsafe_op_in_unsafe_fn)]
-#![warn(missing_docs)]
+//!
+//! # What is proved
+//!
+//! The library `libiox2sd` is proved to answer each call as its definitions say. This crate keeps
+//! values, and asks the library for each rule: what a legal text is, how a set is sorted and
+//! verified, how a message is laid out, who may attach. That it asks rightly is tested, not proved.
+//! It is plain Rust with `unsafe` calls of C, all of them in one module; its users need none, and
+//! may write `#![forbid(unsafe_code)]`.
 
-mod chunks;
-mod error;
-mod message;
-mod service;
-#[allow(missing_docs)]
-pub mod sys;
+#![deny(unsafe_code, unsafe_op_in_unsafe_fn)]
+#![warn(
+    missing_docs,
+    missing_debug_implementations,
+    clippy::undocumented_unsafe_blocks
+)]
+
+pub mod attribute;
+pub mod config;
+pub mod container;
+pub mod dynamic_config;
+pub mod identifiers;
+pub mod messaging_pattern;
+pub mod paths;
+pub mod prelude;
+pub mod semantic_string;
+pub mod service_hash;
+pub mod service_name;
+pub mod static_config;
+
+mod callback_progression;
+mod display;
+#[allow(unsafe_code)]
+mod library;
+#[allow(missing_debug_implementations)]
+mod sys;
 mod text;
 
-pub use chunks::{PublishSubscribeLimits, RequestResponseLimits};
-pub use error::{Error, ScriptError};
-pub use message::{MessageTypeDetails, Places, TypeDetail, TypeVariant};
-pub use service::{run_script, run_script_into, MessagingPattern, Service};
-pub use text::{
-    check_attribute_key, check_attribute_value, check_path, check_service_name, hash_text, id_text,
-    version,
-};
+pub use callback_progression::CallbackProgression;
+
+/// The modules of this crate that stand in the module `service` of iceoryx2.
+pub mod service {
+    pub use crate::{
+        attribute, dynamic_config, messaging_pattern, service_hash, service_name, static_config,
+    };
+}
+
+/// The version of the library, as `0.1.0`.
+pub fn version() -> String {
+    library::version().unwrap_or_else(|status| library::unexpected(status))
+}
+
+/// The version of iceoryx2 whose layer this is, as `0.9.3`.
+///
+/// ```
+/// assert_eq!(iox2sd::layer_version(), "0.9.3");
+/// ```
+pub fn layer_version() -> String {
+    library::layer_version().unwrap_or_else(|status| library::unexpected(status))
+}
+
+/// Runs the example of the README as a test.
+#[cfg(doctest)]
+#[doc = include_str!("../README.md")]
+struct ReadMe;

@@ -1,33 +1,220 @@
-//! The declarations of `include/iox2_ffi.h`, which says what each call owes and refuses.
+//! The declarations of `iox2sd.h` and `iox2sd_values.h` that this crate uses, under their names
+//! there. `tests/declarations.rs` compares them with the headers.
+#![allow(non_camel_case_types)]
 
 use std::ffi::c_void;
 
-pub const OK: u32 = 0;
-pub const BUFFER_TOO_SHORT: u32 = 1;
-pub const NO_MEMORY: u32 = 2;
-pub const NOT_UTF8: u32 = 3;
-pub const INVALID_CONTENT: u32 = 4;
-pub const TOO_LONG: u32 = 5;
-pub const BAD_LINE: u32 = 6;
-pub const NO_SERVICE: u32 = 7;
-pub const HAS_SERVICE: u32 = 8;
-pub const UNKNOWN_PATTERN: u32 = 9;
-pub const UNKNOWN_VARIANT: u32 = 10;
-pub const BAD_ALIGNMENT: u32 = 11;
-pub const TOO_LARGE: u32 = 12;
-pub const INCOMPATIBLE: u32 = 13;
-pub const ILLEGAL_HASH: u32 = 14;
+pub const IOX2SD_DONE: u32 = 0;
+pub const IOX2SD_DONE_LOCKED: u32 = 1;
+pub const IOX2SD_BUFFER_TOO_SHORT: u32 = 2;
+pub const IOX2SD_NO_MEMORY: u32 = 3;
+pub const IOX2SD_IS_LOCKED: u32 = 9;
+pub const IOX2SD_OUT_OF_SPACE: u32 = 10;
+pub const IOX2SD_FOREIGN_HANDLE: u32 = 11;
+pub const IOX2SD_PORTS_STILL_ATTACHED: u32 = 12;
+pub const IOX2SD_NODE_NOT_REGISTERED: u32 = 13;
+pub const IOX2SD_ROLE_NOT_IN_PATTERN: u32 = 14;
+pub const IOX2SD_TOO_MANY: u32 = 18;
+pub const IOX2SD_EMPTY: u32 = 40;
+pub const IOX2SD_TOO_LONG: u32 = 41;
+pub const IOX2SD_ILLEGAL_BYTE: u32 = 42;
+pub const IOX2SD_NO_FILE_NAME: u32 = 43;
+pub const IOX2SD_RESERVED_PREFIX: u32 = 44;
+pub const IOX2SD_ILLEGAL_HASH: u32 = 49;
+pub const IOX2SD_TOO_MANY_REQUIRED: u32 = 53;
+pub const IOX2SD_MISSING_PAIR: u32 = 54;
+pub const IOX2SD_MISSING_KEY: u32 = 55;
+pub const IOX2SD_NO_SUCH_VALUE: u32 = 56;
+pub const IOX2SD_BAD_ALIGNMENT: u32 = 57;
+pub const IOX2SD_TOO_LARGE: u32 = 58;
+pub const IOX2SD_OTHER_NAME: u32 = 60;
+pub const IOX2SD_OTHER_VARIANT: u32 = 61;
+pub const IOX2SD_OTHER_SIZE: u32 = 62;
+pub const IOX2SD_OTHER_ALIGNMENT: u32 = 63;
+pub const IOX2SD_GREATER_ALIGNMENT: u32 = 64;
+
+pub const IOX2SD_PUBLISH_SUBSCRIBE: u32 = 0;
+pub const IOX2SD_EVENT: u32 = 1;
+pub const IOX2SD_REQUEST_RESPONSE: u32 = 2;
+pub const IOX2SD_BLACKBOARD: u32 = 3;
+
+pub const IOX2SD_NODE: u64 = 0;
+pub const IOX2SD_PUBLISHER: u64 = 1;
+pub const IOX2SD_SUBSCRIBER: u64 = 2;
+pub const IOX2SD_NOTIFIER: u64 = 3;
+pub const IOX2SD_LISTENER: u64 = 4;
+pub const IOX2SD_CLIENT: u64 = 5;
+pub const IOX2SD_SERVER: u64 = 6;
+pub const IOX2SD_READER: u64 = 7;
+pub const IOX2SD_WRITER: u64 = 8;
+
+pub const IOX2SD_DYNAMIC_SEGMENT: u32 = 0;
+pub const IOX2SD_STATIC_SEGMENT: u32 = 1;
+
+pub const IOX2SD_FIXED_SIZE: u32 = 0;
+pub const IOX2SD_DYNAMIC: u32 = 1;
+
+pub const IOX2SD_HEADER: u32 = 0;
+pub const IOX2SD_USER_HEADER: u32 = 1;
+pub const IOX2SD_PAYLOAD: u32 = 2;
+
+pub const IOX2SD_RETRY_UNTIL_DELIVERED: u32 = 0;
+pub const IOX2SD_DISCARD_DATA: u32 = 1;
+
+pub const IOX2SD_BEST_FIT: u32 = 0;
+pub const IOX2SD_POWER_OF_TWO: u32 = 1;
+pub const IOX2SD_STATIC: u32 = 2;
+
+pub const IOX2SD_ROOT_PATH: u32 = 0;
+pub const IOX2SD_PREFIX: u32 = 1;
+pub const IOX2SD_SERVICE_DIRECTORY: u32 = 2;
+pub const IOX2SD_DATA_SEGMENT_SUFFIX: u32 = 3;
+pub const IOX2SD_STATIC_CONFIG_STORAGE_SUFFIX: u32 = 4;
+pub const IOX2SD_DYNAMIC_CONFIG_STORAGE_SUFFIX: u32 = 5;
+pub const IOX2SD_CONNECTION_SUFFIX: u32 = 6;
+pub const IOX2SD_EVENT_CONNECTION_SUFFIX: u32 = 7;
+pub const IOX2SD_BLACKBOARD_MGMT_SUFFIX: u32 = 8;
+pub const IOX2SD_BLACKBOARD_DATA_SUFFIX: u32 = 9;
+pub const IOX2SD_NODE_DIRECTORY: u32 = 10;
+pub const IOX2SD_MONITOR_SUFFIX: u32 = 11;
+pub const IOX2SD_NODE_STATIC_CONFIG_SUFFIX: u32 = 12;
+pub const IOX2SD_SERVICE_TAG_SUFFIX: u32 = 13;
+pub const IOX2SD_PORT_TAG_SUFFIX: u32 = 14;
+pub const IOX2SD_GLOBAL_MGMT_SUFFIX: u32 = 15;
+pub const IOX2SD_CONFIG_FILE_NAME: u32 = 16;
+pub const IOX2SD_CONFIG_FILE_PATH: u32 = 17;
+pub const IOX2SD_RELATIVE_CONFIG_PATH: u32 = 18;
+pub const IOX2SD_USER_CONFIG_FILE_PATH: u32 = 19;
 
 #[repr(C)]
-#[derive(Clone, Copy, Debug, PartialEq, Eq)]
-pub struct TextAnswer {
+#[derive(Clone, Copy, Debug, Default, PartialEq, Eq, Hash)]
+pub struct iox2sd_id {
+    pub process: u32,
+    pub seconds: u32,
+    pub nanoseconds: u32,
+    pub counter: u32,
+}
+
+#[repr(C)]
+#[derive(Clone, Copy, Debug, Default, PartialEq, Eq)]
+pub struct iox2sd_handle {
+    pub service: u64,
+    pub role: u64,
+    pub slot: usize,
+    pub ticket: u64,
+}
+
+#[repr(C)]
+#[derive(Clone, Copy, Debug, Default, PartialEq, Eq)]
+pub struct iox2sd_port {
+    pub role: u64,
+    pub port: iox2sd_id,
+    pub node: iox2sd_id,
+    pub number_of_samples: usize,
+    pub buffer_size: usize,
+    pub request_buffer_size: usize,
+    pub number_of_responses: usize,
+    pub number_of_requests: usize,
+    pub response_buffer_size: usize,
+    pub max_slice_len: usize,
+    pub data_segment: u32,
+    pub max_number_of_segments: u8,
+}
+
+#[repr(C)]
+#[derive(Clone, Copy, Debug)]
+pub struct iox2sd_capacities {
+    pub nodes: usize,
+    pub first: usize,
+    pub second: usize,
+}
+
+#[repr(C)]
+#[derive(Debug)]
+pub struct iox2sd_service {
+    pub full: bool,
+    pub at: *mut c_void,
+}
+
+#[repr(C)]
+pub struct iox2sd_handle_answer {
+    pub status: u32,
+    pub handle: iox2sd_handle,
+}
+
+#[repr(C)]
+pub struct iox2sd_count_answer {
+    pub status: u32,
+    pub count: usize,
+}
+
+#[repr(C)]
+pub struct iox2sd_text_answer {
     pub status: u32,
     pub length: usize,
 }
 
 #[repr(C)]
-#[derive(Clone, Copy, Debug)]
-pub struct TypeDetail {
+pub struct iox2sd_number_answer {
+    pub status: u32,
+    pub number: u64,
+}
+
+#[repr(C)]
+pub struct iox2sd_roles_answer {
+    pub status: u32,
+    pub first: u64,
+    pub second: u64,
+}
+
+#[repr(C)]
+pub struct iox2sd_flag_answer {
+    pub status: u32,
+    pub yes: bool,
+}
+
+#[repr(C)]
+pub struct iox2sd_id_answer {
+    pub status: u32,
+    pub id: iox2sd_id,
+}
+
+#[repr(C)]
+pub struct iox2sd_port_answer {
+    pub status: u32,
+    pub port: iox2sd_port,
+}
+
+#[repr(C)]
+pub struct iox2sd_death_answer {
+    pub status: u32,
+    pub first: usize,
+    pub second: usize,
+}
+
+#[repr(C)]
+pub struct iox2sd_place_answer {
+    pub status: u32,
+    pub at: usize,
+}
+
+#[repr(C)]
+#[derive(Clone, Copy)]
+pub struct iox2sd_attribute {
+    pub key: *const u8,
+    pub key_length: usize,
+    pub value: *const u8,
+    pub value_length: usize,
+}
+
+#[repr(C)]
+pub struct iox2sd_key {
+    pub text: *const u8,
+    pub length: usize,
+}
+
+#[repr(C)]
+pub struct iox2sd_type_detail {
     pub name: *const u8,
     pub name_length: usize,
     pub variant: u32,
@@ -36,120 +223,319 @@ pub struct TypeDetail {
 }
 
 #[repr(C)]
-#[derive(Clone, Copy, Debug)]
-pub struct MessageDetails {
-    pub header: TypeDetail,
-    pub user_header: TypeDetail,
-    pub payload: TypeDetail,
+pub struct iox2sd_message_details {
+    pub header: iox2sd_type_detail,
+    pub user_header: iox2sd_type_detail,
+    pub payload: iox2sd_type_detail,
 }
 
 #[repr(C)]
-#[derive(Clone, Copy, Debug, PartialEq, Eq)]
-pub struct LayoutAnswer {
+pub struct iox2sd_layout_answer {
     pub status: u32,
     pub size: usize,
     pub alignment: usize,
 }
 
 #[repr(C)]
-#[derive(Clone, Copy, Debug, PartialEq, Eq)]
-pub struct PlacesAnswer {
+pub struct iox2sd_places_answer {
     pub status: u32,
     pub user_header: usize,
     pub payload: usize,
 }
 
 #[repr(C)]
-#[derive(Clone, Copy, Debug, PartialEq, Eq)]
-pub struct CountAnswer {
+pub struct iox2sd_part_answer {
     pub status: u32,
-    pub count: usize,
+    pub side: u32,
+    pub part: u32,
 }
 
 #[repr(C)]
-#[derive(Clone, Copy, Debug, PartialEq, Eq)]
-pub struct ScriptAnswer {
-    pub status: u32,
-    pub line: usize,
-    pub length: usize,
+pub struct iox2sd_optional_duration {
+    pub seconds: u64,
+    pub nanoseconds: u32,
+    pub is_some: bool,
 }
 
 #[repr(C)]
-#[derive(Debug)]
-pub struct Service {
-    full: bool,
-    service: *mut c_void,
+pub struct iox2sd_optional_event_id {
+    pub number: usize,
+    pub is_some: bool,
 }
 
-impl Service {
-    /// The handle that holds no service.
-    pub const NONE: Service = Service {
-        full: false,
-        service: std::ptr::null_mut(),
-    };
+#[repr(C)]
+pub struct iox2sd_publish_subscribe_settings {
+    pub max_subscribers: usize,
+    pub max_publishers: usize,
+    pub max_nodes: usize,
+    pub subscriber_max_buffer_size: usize,
+    pub subscriber_max_borrowed_samples: usize,
+    pub publisher_max_loaned_samples: usize,
+    pub publisher_history_size: usize,
+    pub subscriber_expired_connection_buffer: usize,
+    pub backpressure_strategy: u32,
+    pub publisher_allocation_strategy: u32,
+    pub enable_safe_overflow: bool,
+}
+
+#[repr(C)]
+pub struct iox2sd_event_settings {
+    pub max_listeners: usize,
+    pub max_notifiers: usize,
+    pub max_nodes: usize,
+    pub event_id_max_value: usize,
+    pub deadline: iox2sd_optional_duration,
+    pub notifier_created_event: iox2sd_optional_event_id,
+    pub notifier_dropped_event: iox2sd_optional_event_id,
+    pub notifier_dead_event: iox2sd_optional_event_id,
+}
+
+#[repr(C)]
+pub struct iox2sd_request_response_settings {
+    pub max_active_requests_per_client: usize,
+    pub max_response_buffer_size: usize,
+    pub max_servers: usize,
+    pub max_clients: usize,
+    pub max_nodes: usize,
+    pub max_borrowed_responses_per_pending_response: usize,
+    pub max_loaned_requests: usize,
+    pub server_max_loaned_responses_per_request: usize,
+    pub client_expired_connection_buffer: usize,
+    pub server_expired_connection_buffer: usize,
+    pub client_backpressure_strategy: u32,
+    pub server_backpressure_strategy: u32,
+    pub client_allocation_strategy: u32,
+    pub server_allocation_strategy: u32,
+    pub enable_safe_overflow_for_requests: bool,
+    pub enable_safe_overflow_for_responses: bool,
+    pub enable_fire_and_forget_requests: bool,
+}
+
+#[repr(C)]
+pub struct iox2sd_blackboard_settings {
+    pub max_readers: usize,
+    pub max_nodes: usize,
 }
 
 extern "C" {
-    pub fn iox2_version(out: *mut u8, capacity: usize) -> TextAnswer;
-    pub fn iox2_id_text(
-        process: u32,
-        seconds: u32,
-        nanoseconds: u32,
-        counter: u32,
+    pub fn iox2sd_status_text(status: u32, out: *mut u8, capacity: usize) -> iox2sd_text_answer;
+    pub fn iox2sd_version(out: *mut u8, capacity: usize) -> iox2sd_text_answer;
+    pub fn iox2sd_layer_version(out: *mut u8, capacity: usize) -> iox2sd_text_answer;
+
+    pub fn iox2sd_id_is_node(id: iox2sd_id) -> bool;
+    pub fn iox2sd_id_owner(id: iox2sd_id) -> u64;
+    pub fn iox2sd_id_is_before(id: iox2sd_id, other: iox2sd_id) -> bool;
+    pub fn iox2sd_id_text(id: iox2sd_id, out: *mut u8, capacity: usize) -> iox2sd_text_answer;
+
+    pub fn iox2sd_service_make_at(
+        places: *mut iox2sd_service,
+        count: usize,
+        pattern: u32,
+        number: u64,
+        capacities: iox2sd_capacities,
+        tickets: u64,
+    ) -> u32;
+    pub fn iox2sd_service_free_at(places: *mut iox2sd_service, count: usize) -> u32;
+    pub fn iox2sd_register_at(
+        places: *mut iox2sd_service,
+        count: usize,
+        node: iox2sd_id,
+    ) -> iox2sd_handle_answer;
+    pub fn iox2sd_deregister_at(
+        places: *mut iox2sd_service,
+        count: usize,
+        handle: iox2sd_handle,
+    ) -> u32;
+    pub fn iox2sd_attach_at(
+        places: *mut iox2sd_service,
+        count: usize,
+        ports: *const iox2sd_port,
+        port_count: usize,
+    ) -> iox2sd_handle_answer;
+    pub fn iox2sd_release_at(
+        places: *mut iox2sd_service,
+        count: usize,
+        handle: iox2sd_handle,
+    ) -> u32;
+    pub fn iox2sd_dead_at(
+        places: *mut iox2sd_service,
+        count: usize,
+        dead: iox2sd_id,
+        kept: *const iox2sd_id,
+        kept_count: usize,
+    ) -> iox2sd_death_answer;
+    pub fn iox2sd_service_number_at(
+        places: *mut iox2sd_service,
+        count: usize,
+    ) -> iox2sd_number_answer;
+    pub fn iox2sd_roles_at(places: *mut iox2sd_service, count: usize) -> iox2sd_roles_answer;
+    pub fn iox2sd_has_role_at(
+        places: *mut iox2sd_service,
+        count: usize,
+        role: u64,
+    ) -> iox2sd_flag_answer;
+    pub fn iox2sd_is_locked_at(places: *mut iox2sd_service, count: usize) -> iox2sd_flag_answer;
+    pub fn iox2sd_number_of_nodes_at(
+        places: *mut iox2sd_service,
+        count: usize,
+    ) -> iox2sd_count_answer;
+    pub fn iox2sd_max_nodes_at(places: *mut iox2sd_service, count: usize) -> iox2sd_count_answer;
+    pub fn iox2sd_has_room_for_node_at(
+        places: *mut iox2sd_service,
+        count: usize,
+    ) -> iox2sd_flag_answer;
+    pub fn iox2sd_count_ports_at(
+        places: *mut iox2sd_service,
+        count: usize,
+        role: u64,
+    ) -> iox2sd_count_answer;
+    pub fn iox2sd_max_ports_at(
+        places: *mut iox2sd_service,
+        count: usize,
+        role: u64,
+    ) -> iox2sd_count_answer;
+    pub fn iox2sd_has_room_at(
+        places: *mut iox2sd_service,
+        count: usize,
+        role: u64,
+    ) -> iox2sd_flag_answer;
+    pub fn iox2sd_find_node_at(
+        places: *mut iox2sd_service,
+        count: usize,
+        handle: iox2sd_handle,
+    ) -> iox2sd_id_answer;
+    pub fn iox2sd_find_port_at(
+        places: *mut iox2sd_service,
+        count: usize,
+        handle: iox2sd_handle,
+    ) -> iox2sd_port_answer;
+    pub fn iox2sd_nodes_at(
+        places: *mut iox2sd_service,
+        count: usize,
+        out: *mut iox2sd_id,
+        capacity: usize,
+    ) -> iox2sd_count_answer;
+    pub fn iox2sd_ports_at(
+        places: *mut iox2sd_service,
+        count: usize,
+        role: u64,
+        out: *mut iox2sd_port,
+        capacity: usize,
+    ) -> iox2sd_count_answer;
+
+    pub fn iox2sd_service_name_check(text: *const u8, length: usize) -> iox2sd_place_answer;
+    pub fn iox2sd_internal_service_name_check(
+        text: *const u8,
+        length: usize,
+    ) -> iox2sd_place_answer;
+    pub fn iox2sd_has_internal_prefix(text: *const u8, length: usize) -> bool;
+    pub fn iox2sd_internal_service_name(
+        text: *const u8,
+        length: usize,
         out: *mut u8,
         capacity: usize,
-    ) -> TextAnswer;
-    pub fn iox2_hash_text(
+    ) -> iox2sd_text_answer;
+    pub fn iox2sd_attribute_key_check(text: *const u8, length: usize) -> iox2sd_place_answer;
+    pub fn iox2sd_attribute_value_check(text: *const u8, length: usize) -> iox2sd_place_answer;
+    pub fn iox2sd_path_check(text: *const u8, length: usize) -> iox2sd_place_answer;
+    pub fn iox2sd_file_name_check(text: *const u8, length: usize) -> iox2sd_place_answer;
+    pub fn iox2sd_file_path_check(text: *const u8, length: usize) -> iox2sd_place_answer;
+    pub fn iox2sd_restricted_name_check(text: *const u8, length: usize) -> iox2sd_place_answer;
+    pub fn iox2sd_path_join(
+        path: *const u8,
+        path_length: usize,
+        entry: *const u8,
+        entry_length: usize,
+        out: *mut u8,
+        capacity: usize,
+    ) -> iox2sd_text_answer;
+    pub fn iox2sd_file_path_join(
+        path: *const u8,
+        path_length: usize,
+        file: *const u8,
+        file_length: usize,
+        out: *mut u8,
+        capacity: usize,
+    ) -> iox2sd_text_answer;
+    pub fn iox2sd_internal_hash_text(
         pattern: u32,
         name: *const u8,
         length: usize,
         out: *mut u8,
         capacity: usize,
-    ) -> TextAnswer;
-    pub fn iox2_service_name_check(text: *const u8, length: usize) -> u32;
-    pub fn iox2_attribute_key_check(text: *const u8, length: usize) -> u32;
-    pub fn iox2_attribute_value_check(text: *const u8, length: usize) -> u32;
-    pub fn iox2_path_check(text: *const u8, length: usize) -> u32;
-    pub fn iox2_message_layout(details: *const MessageDetails, elements: usize) -> LayoutAnswer;
-    pub fn iox2_message_places(details: *const MessageDetails, header: usize) -> PlacesAnswer;
-    pub fn iox2_message_compatible(
-        opener: *const MessageDetails,
-        service: *const MessageDetails,
-    ) -> u32;
-    pub fn iox2_publisher_chunks(
+    ) -> iox2sd_text_answer;
+
+    pub fn iox2sd_attributes_check(
+        pairs: *const iox2sd_attribute,
+        length: usize,
+    ) -> iox2sd_place_answer;
+    pub fn iox2sd_attributes_sort(
+        pairs: *mut iox2sd_attribute,
+        length: usize,
+    ) -> iox2sd_place_answer;
+    pub fn iox2sd_attribute_values(
+        pairs: *const iox2sd_attribute,
+        length: usize,
+        key: *const u8,
+        key_length: usize,
+    ) -> iox2sd_count_answer;
+    pub fn iox2sd_attribute_value(
+        pairs: *const iox2sd_attribute,
+        length: usize,
+        key: *const u8,
+        key_length: usize,
+        index: usize,
+        out: *mut u8,
+        capacity: usize,
+    ) -> iox2sd_text_answer;
+    pub fn iox2sd_attributes_verify(
+        pairs: *const iox2sd_attribute,
+        length: usize,
+        required: *const iox2sd_attribute,
+        required_length: usize,
+        keys: *const iox2sd_key,
+        keys_length: usize,
+    ) -> iox2sd_place_answer;
+
+    pub fn iox2sd_message_layout_at(
+        details: *const iox2sd_message_details,
+        count: usize,
+        elements: usize,
+    ) -> iox2sd_layout_answer;
+    pub fn iox2sd_message_places_at(
+        details: *const iox2sd_message_details,
+        count: usize,
+        header: usize,
+    ) -> iox2sd_places_answer;
+    pub fn iox2sd_message_compatible_at(
+        opener: *const iox2sd_message_details,
+        opener_count: usize,
+        service: *const iox2sd_message_details,
+        service_count: usize,
+    ) -> iox2sd_part_answer;
+    pub fn iox2sd_publisher_chunks(
         max_subscribers: usize,
         subscriber_max_buffer_size: usize,
         subscriber_max_borrowed_samples: usize,
         history_size: usize,
         loaned_samples: usize,
-    ) -> CountAnswer;
-    pub fn iox2_client_chunks(
+    ) -> iox2sd_count_answer;
+    pub fn iox2sd_client_chunks(
         max_servers: usize,
         max_active_requests_per_client: usize,
         loaned_requests: usize,
-    ) -> CountAnswer;
-    pub fn iox2_server_chunks(
+    ) -> iox2sd_count_answer;
+    pub fn iox2sd_server_chunks(
         max_clients: usize,
         max_active_requests_per_client: usize,
         max_response_buffer_size: usize,
         max_borrowed_responses_per_pending_response: usize,
         loaned_responses: usize,
-    ) -> CountAnswer;
-    pub fn iox2_script_run(
-        script: *const u8,
-        length: usize,
-        out: *mut u8,
-        capacity: usize,
-    ) -> ScriptAnswer;
-    pub fn iox2_service_make(
-        service: *mut Service,
-        pattern: u32,
-        number: u64,
-        max_nodes: usize,
-        first: usize,
-        second: usize,
-    ) -> u32;
-    pub fn iox2_service_command(service: *mut Service, line: *const u8, length: usize) -> u32;
-    pub fn iox2_service_reply(service: *mut Service, out: *mut u8, capacity: usize) -> TextAnswer;
-    pub fn iox2_service_free(service: *mut Service) -> u32;
+    ) -> iox2sd_count_answer;
+
+    pub fn iox2sd_publish_subscribe_defaults() -> iox2sd_publish_subscribe_settings;
+    pub fn iox2sd_event_defaults() -> iox2sd_event_settings;
+    pub fn iox2sd_request_response_defaults() -> iox2sd_request_response_settings;
+    pub fn iox2sd_blackboard_defaults() -> iox2sd_blackboard_settings;
+    pub fn iox2sd_default_text(which: u32, out: *mut u8, capacity: usize) -> iox2sd_text_answer;
 }

@@ -55,7 +55,7 @@ fn compared_by_calls(alloc: Global, calls: usize) -> Result<bool, AllocError> {
     compared(alloc, 1, &all)
 }
 
-/// A listing of so many entries.
+/// A listing of this many entries.
 fn compared_by_entries(alloc: Global, entries: usize) -> Result<bool, AllocError> {
     let mut all: Vec<Call> = Vec::new(alloc);
     if let Some(node) = UniqueNodeId::new(1, 0, 0, 1) {

@@ -5,7 +5,7 @@ use iox2_ids::identifiers::UniqueNodeId;
 use service_callers::discovery::list_attached;
 use std::alloc::{AllocError, Global};
 
-/// A list of so many members.
+/// A list of this many members.
 fn listed(alloc: Global, members: usize) -> Result<(), AllocError> {
     let ports = event::DynamicConfigSettings {
         number_of_listeners: 1,

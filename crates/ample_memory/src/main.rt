@@ -1,4 +1,4 @@
-//! Makes each call of the layer that may want memory, once for each size on standard input, a
+//! Makes each call of the layer that may take memory, once for each size on standard input, a
 //! number on each line. For each it writes a line: the size, whether the call was `given` what it
 //! wanted or `refused`, and what was called. With ample memory none is refused, which no contract
 //! can say; `bench/refuse_memory` looks at that.

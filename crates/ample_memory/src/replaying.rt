@@ -5,10 +5,10 @@ use service_descriptions::dynamic_config::{
     ListenerDetails, MessagingPatternSettings, PortDetails, event,
 };
 use service_descriptions::identifiers::{UniqueListenerId, UniqueNodeId};
-use service_descriptions::replay::{Command, ServiceState, replay, replay_line, write_reply};
+use service_descriptions::replay::{Command, ServiceState, replay, write_reply};
 use std::alloc::{AllocError, Global};
 
-/// A service with so many places for nodes and for listeners.
+/// A service with this many places for nodes and for listeners.
 fn state(alloc: Global, places: usize) -> Result<ServiceState, AllocError> {
     let ports = event::DynamicConfigSettings {
         number_of_listeners: places,
@@ -52,16 +52,6 @@ fn over_many(alloc: Global, calls: usize) -> Result<(), AllocError> {
     )
 }
 
-/// So many lines, of which each is a call.
-fn over_many_lines(alloc: Global, calls: usize) -> Result<(), AllocError> {
-    let mut state = state(alloc, 1)?;
-    let mut out = Vec::new(alloc);
-    for _ in 0..calls {
-        let _ = replay_line(alloc, &mut state, b"count listener", &mut out)?;
-    }
-    Ok(())
-}
-
 /// A node and a port of it come.
 fn coming() -> Option<[Command; 2]> {
     let node_id = UniqueNodeId::new(1, 0, 0, 1)?;
@@ -75,7 +65,7 @@ fn coming() -> Option<[Command; 2]> {
     ])
 }
 
-/// Listings of so many nodes and ports, and their lines.
+/// Listings of this many nodes and ports, and their lines.
 fn listed(alloc: Global, entries: usize) -> Result<(), AllocError> {
     let mut state = state(alloc, entries)?;
     if let Some(commands) = coming() {
@@ -91,14 +81,10 @@ fn listed(alloc: Global, entries: usize) -> Result<(), AllocError> {
     Ok(())
 }
 
-pub(super) fn calls(alloc: Global, size: usize) -> [Called; 4] {
+pub(super) fn calls(alloc: Global, size: usize) -> [Called; 3] {
     [
         ("replay by commands", at_once(alloc, size).is_ok()),
         ("replay by earlier commands", over_many(alloc, size).is_ok()),
-        (
-            "replay_line by earlier commands",
-            over_many_lines(alloc, size).is_ok(),
-        ),
         (
             "replay and write_reply by entries",
             listed(alloc, size).is_ok(),

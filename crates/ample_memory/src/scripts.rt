@@ -3,7 +3,7 @@ use super::Called;
 use service_descriptions::replay::{read_line, run_script, run_streams};
 use std::alloc::{AllocError, Global};
 
-/// Appends a text so many times.
+/// Appends a text this many times.
 fn append(out: &mut Vec<u8>, text: &[u8], times: usize) -> Result<(), AllocError> {
     for _ in 0..times {
         out.extend_from_slice(text)?;
@@ -11,14 +11,14 @@ fn append(out: &mut Vec<u8>, text: &[u8], times: usize) -> Result<(), AllocError
     Ok(())
 }
 
-/// Appends the line of a dead node with so many ports to skip, of which none is there.
+/// Appends the line of a dead node with this many ports to skip, of which none is there.
 fn append_dead(out: &mut Vec<u8>, ports: usize) -> Result<(), AllocError> {
     append(out, b"dead 1.0.0.1", 1)?;
     append(out, b" skip", ports.min(1))?;
     append(out, b" 1.0.0.9", ports)
 }
 
-/// A line with so many ports.
+/// A line with this many ports.
 fn reads(alloc: Global, ports: usize) -> Result<bool, AllocError> {
     let mut line = Vec::new(alloc);
     append_dead(&mut line, ports)?;
@@ -35,7 +35,7 @@ fn runs(alloc: Global, script: &[u8]) -> bool {
         && run_streams(alloc, &mut input, &mut output, &mut errors) == 0
 }
 
-/// A script of so many commands.
+/// A script of this many commands.
 fn runs_lines(alloc: Global, commands: usize) -> Result<bool, AllocError> {
     let mut script = Vec::new(alloc);
     append(&mut script, b"service event 7 1 1 1\n", 1)?;
@@ -43,7 +43,7 @@ fn runs_lines(alloc: Global, commands: usize) -> Result<bool, AllocError> {
     Ok(runs(alloc, &script))
 }
 
-/// A script whose one command has so many ports to skip.
+/// A script whose one command has this many ports to skip.
 fn runs_long_line(alloc: Global, ports: usize) -> Result<bool, AllocError> {
     let mut script = Vec::new(alloc);
     append(&mut script, b"service event 7 1 1 1\n", 1)?;

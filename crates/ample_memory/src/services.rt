@@ -9,7 +9,7 @@ use std::alloc::{AllocError, Global};
 /// How many first ports, second ports and nodes a service has room for.
 type Places = (usize, usize, usize);
 
-/// The settings of each pattern, with so many places for the ports that are recovered first, and
+/// The settings of each pattern, with this many places for the ports that are recovered first, and
 /// for the others.
 fn settings(first: usize, second: usize) -> [MessagingPatternSettings; 4] {
     [
@@ -67,7 +67,7 @@ fn services(alloc: Global, (nodes, first, second): Places) -> Result<(), AllocEr
     Ok(())
 }
 
-/// A service of each pattern with so many tickets.
+/// A service of each pattern with this many tickets.
 fn by_tickets(alloc: Global, tickets: u64) -> Result<(), AllocError> {
     for settings in &settings(1, 1) {
         let _ = DynamicConfig::with_tickets(alloc, settings, 1, 7, tickets)?;

@@ -58,7 +58,7 @@ impl Attached {
         Ok(attached)
     }
 
-    /// Registers so many nodes, and says how many there are.
+    /// Registers this many nodes, and says how many there are.
     pub(super) fn register(&mut self, count: u32) -> Result<u64, AllocError> {
         for number in 0..count {
             let Some(id) = node(number + 1) else {
@@ -71,7 +71,8 @@ impl Attached {
         Ok(self.nodes.len() as u64)
     }
 
-    /// Attaches so many subscribers, the first one to the last node and so on, and says how many there are.
+    /// Attaches this many subscribers, the first one to the
+    /// last node and so on, and says how many there are.
     pub(super) fn attach_subscribers(&mut self, count: u32) -> Result<u64, AllocError> {
         for number in 0..count {
             let Some(node_id) = node(self.places.nodes.saturating_sub(number)) else {
@@ -89,7 +90,7 @@ impl Attached {
         Ok(self.subscribers.len() as u64)
     }
 
-    /// Attaches so many publishers, the first one to the last node and so on.
+    /// Attaches this many publishers, the first one to the last node and so on.
     pub(super) fn attach_publishers(&mut self, count: u32) {
         for number in 0..count {
             let Some(node_id) = node(self.places.nodes.saturating_sub(number)) else {
@@ -113,7 +114,7 @@ impl Attached {
         self.service.attach(details).ok()
     }
 
-    /// Shows all subscribers to a callback so often, and adds up the last parts of their ids.
+    /// Shows all subscribers to a callback this often, and adds up the last parts of their ids.
     pub(super) fn list(&self, count: u32) -> u64 {
         let mut digest = 0u64;
         let mut add = |details: &PortDetails| -> CallbackProgression {
@@ -128,7 +129,8 @@ impl Attached {
         digest
     }
 
-    /// Makes a list of all nodes so often, and adds up the last parts of the ids of its last node.
+    /// Makes a list of all nodes this often, and adds
+    /// up the last parts of the ids of its last node.
     pub(super) fn list_nodes(&self, alloc: Global, count: u32) -> Result<u64, AllocError> {
         let mut digest = 0u64;
         for _ in 0..count {
@@ -139,7 +141,8 @@ impl Attached {
         Ok(digest)
     }
 
-    /// Makes a list of all subscribers so often, and adds up the last parts of the ids of its last one.
+    /// Makes a list of all subscribers this often, and
+    /// adds up the last parts of the ids of its last one.
     pub(super) fn list_subscribers(&self, alloc: Global, count: u32) -> Result<u64, AllocError> {
         let mut digest = 0u64;
         for _ in 0..count {
@@ -153,7 +156,7 @@ impl Attached {
         Ok(digest)
     }
 
-    /// Releases so many subscribers, and says how many went.
+    /// Releases this many subscribers, and says how many went.
     pub(super) fn release(&mut self, count: u32) -> u64 {
         let mut gone = 0u64;
         for handle in self.subscribers.iter().take(count as usize) {
@@ -162,7 +165,7 @@ impl Attached {
         gone
     }
 
-    /// Deregisters so many nodes, and says how many went.
+    /// Deregisters this many nodes, and says how many went.
     pub(super) fn deregister(&mut self, count: u32) -> u64 {
         let mut gone = 0u64;
         for handle in self.nodes.iter().take(count as usize) {

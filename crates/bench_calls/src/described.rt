@@ -13,7 +13,7 @@ pub(super) struct Sizes {
     pub(super) alignment: u32,
 }
 
-/// Lays out messages of 0, 1, 2 and so many elements, and adds up their sizes.
+/// Lays out messages of 0, 1, 2 and this many elements, and adds up their sizes.
 pub(super) fn layouts(given: Sizes, count: u32) -> u64 {
     let Some(types) = types(given) else {
         return 0;
@@ -42,8 +42,8 @@ fn types(given: Sizes) -> Option<MessageTypeDetails> {
     })
 }
 
-/// Verifies 16 attributes so often, of which each second is required with its value and each other by its key, and says
-/// how often they were as required.
+/// Verifies 16 attributes this often, of which each second is required with its value and each
+/// other by its key, and says how often they were as required.
 pub(super) fn verifications(count: u32) -> u64 {
     let Some((attributes, verifier)) = attributes() else {
         return 0;
@@ -73,7 +73,7 @@ fn attributes() -> Option<(AttributeSet, AttributeVerifier)> {
     Some((attributes, verifier))
 }
 
-/// Makes the hash text of a service so often, and adds up their first bytes.
+/// Makes the hash text of a service this often, and adds up their first bytes.
 pub(super) fn hash_texts(count: u32) -> u64 {
     let Ok(name) = ServiceName::new("My/Funk/ServiceName") else {
         return 0;

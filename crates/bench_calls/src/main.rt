@@ -1,5 +1,5 @@
-//! Makes one kind of call so often as each line of standard input says, and writes a number of what was answered: to be
-//! measured beside a program without proofs.
+//! Makes one kind of call as often as each line of standard input says, and writes a number of what
+//! was answered: to be measured beside a program without proofs.
 #![tactic(auto, using(iox2_dynamic::proofs::Callbacks::callbacks))]
 
 mod attached;

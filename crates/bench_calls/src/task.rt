@@ -32,7 +32,8 @@ enum Call {
     HashText,
 }
 
-/// A line of standard input: in each round all is set up anew, and then the call is made so often.
+/// A line of standard input: in each round all is set
+/// up anew, and then the call is made this often.
 #[derive(Clone, Copy, Debug)]
 pub(super) struct Task {
     call: Call,
@@ -42,8 +43,9 @@ pub(super) struct Task {
 }
 
 impl Task {
-    /// The task of a line `CALL NODES SUBSCRIBERS PUBLISHERS ROUNDS CALLS`. For layouts the three numbers behind the
-    /// call are the size of the header, the alignment, and the size of an element.
+    /// The task of a line `CALL NODES SUBSCRIBERS PUBLISHERS ROUNDS CALLS`.
+    /// For layouts the three numbers behind the call are the size of the
+    /// header, the alignment, and the size of an element.
     pub(super) fn read(line: &str) -> Option<Self> {
         let mut words = line.split_whitespace();
         let call = Call::named(words.next()?)?;

@@ -1,6 +1,7 @@
 //! Bytes that come from a reader whole, or go to a writer whole.
 //!
-//! A read or a write that fails is not tried again, whatever its cause: an interrupted one counts as failed.
+//! A read or a write that fails is not tried again,
+//! whatever its cause: an interrupted one counts as failed.
 #![tactic(auto)]
 
 ghost use Rattle.std.specs.Prelude.{◌≡◌, IfOk, IfSome, OnOk};

@@ -1,4 +1,5 @@
--- What `==` decides: a derived test asks each field's test in turn, and so decides equality where those do.
+-- What `==` decides: a derived test asks each field's
+-- test in turn, and so decides equality where those do.
 use Rattle.std.proofs.Common.{rules, ◌≡◌, ◌∙◌, ℕ, List, Bool, true, ◌&&◌, nat_eq, Option, Some, None, refl, sym, ap}
 use Rattle.std.proofs.Math.Bool.{beq}
 use Rattle.std.proofs.lemmas.Bool.Decides.{Decides-and, Decides-like}

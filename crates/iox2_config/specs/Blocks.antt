@@ -6,16 +6,17 @@ use Rattle.iox2_config.specs.Layout.{payload_place, payload_part, parts, element
 use Rattle.iox2_config.specs.Parts.{Part, IsAligned, Within, Apart, Holds}
 use Rattle.iox2_config.specs.declared.types.message_details.MessageTypeDetails.{MessageTypeDetails}
 
--- an opener that may use the service's messages: its details were given, and are compatible to the service's
+-- an opener that may use the service's messages: its
+-- details were given, and are compatible to the service's
 pub record MayOpen (opener service : MessageTypeDetails) : Type 0 where
   pub header_power : IsTrue (is_power_of_two opener.header.alignment)
   pub user_header_power : IsTrue (is_power_of_two opener.user_header.alignment)
   pub payload_power : IsTrue (is_power_of_two opener.payload.alignment)
   pub compatible : Compatible opener service
 
--- a block of this size holds a message of n elements whose header lies at the block's start: the payload has a place
--- of 64 bits, the parts are aligned for the service and for every opener, and so is each element where its size allows
--- that
+-- a block of this size holds a message of n elements whose header lies at the block's start: the
+-- payload has a place of 64 bits, the parts are aligned for the service and for every opener, and
+-- so is each element where its size allows that
 pub record HoldsMessage (d : MessageTypeDetails) (n size header : ℕ) : Type 0 where
   pub place_fits : payload_place d header < 2 ^ 64
   pub own : Holds header size (parts d d header n)
@@ -28,8 +29,8 @@ abbrev pub block : MessageTypeDetails → ℕ → ℕ → ℕ → Part
 block d size header i =
     record { start = header + i * size; end = header + (i + 1) * size; alignment = d.header.alignment }
 
--- each block of this size that starts at a multiple of the header's alignment holds a message of n elements, and so do
--- blocks that lie end to end, of which no two share a place
+-- each block of this size that starts at a multiple of the header's alignment holds a message of n
+-- elements, and so do blocks that lie end to end, of which no two share a place
 pub record HoldsEverywhere (d : MessageTypeDetails) (n size : ℕ) : Type 0 where
   pub alone : (header : ℕ) → d.header.alignment ∣ header → header + size < 2 ^ 64 → HoldsMessage d n size header
   pub in_rows : (header count : ℕ) → d.header.alignment ∣ header → header + count * size < 2 ^ 64 →

@@ -3,7 +3,8 @@ use Rattle.std.specs.Prelude.{◌≡◌, ◌≤◌}
 use Rattle.iox2_config.specs.TypeDetailParts.{TypeDetailParts}
 use Rattle.iox2_config.specs.declared.types.message_details.MessageTypeDetails.{MessageTypeDetails}
 
--- one type of an opener suits that of the service: it is the same but for its alignment, which may be smaller
+-- one type of an opener suits that of the service: it is
+-- the same but for its alignment, which may be smaller
 pub record Suits (opener service : TypeDetailParts) : Type 0 where
   pub type_name : opener.type_name ≡ service.type_name
   pub variant : opener.variant ≡ service.variant

@@ -30,7 +30,8 @@ abbrev pub AreApart : List Part → Type 0
 AreApart [] = ⊤
 AreApart (part ∷ others) = AllByRecursion (Apart part) others × AreApart others
 
--- the parts lie within the `size` places from `header` on, no two share a place, and each is aligned
+-- the parts lie within the `size` places from `header`
+-- on, no two share a place, and each is aligned
 pub record Holds (header size : ℕ) (parts : List Part) : Type 0 where
   pub inside : AllByRecursion (λ part. (header ≤ part.start) × (part.end ≤ header + size)) parts
   pub apart : AreApart parts

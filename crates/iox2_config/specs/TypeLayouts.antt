@@ -1,5 +1,5 @@
--- That sizes and alignments are those that types may have. This proof stands here since a `ghost` member of an
--- implementation, such as the `lawful` of `ZeroCopySend`, may name `specs` alone.
+-- That sizes and alignments are those that types may have. This proof stands here since a `ghost`
+-- member of an implementation, such as the `lawful` of `ZeroCopySend`, may name `specs` alone.
 use Rattle.std.specs.Prelude.{◌≡◌, ℕ, ◌*◌, ◌^◌, ◌==◌, IsTrue, refl}
 use Rattle.std.specs.Int.Count.{ones}
 use Rattle.std.proofs.Common.{sym, ◌∙◌, ap, subst, add-zero}

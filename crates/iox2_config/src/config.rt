@@ -1,5 +1,5 @@
-//! The configuration: where the system's files lie, how they are called, and the limits that services have where
-//! nothing else is said.
+//! The configuration: where the system's files lie, how they are called, and the limits that
+//! services have where nothing else is said.
 //!
 //! `Default` of each struct is the table that `specs/Defaults.antt` states.
 ghost use Rattle.std.specs.Prelude.{◌≡◌};
@@ -65,14 +65,16 @@ impl Config {
         literal(b"config/iceoryx2.toml")
     }
 
-    /// The directory, below one for configurations, that has this system's configuration: `iceoryx2`.
+    /// The directory, below one for configurations, that
+    /// has this system's configuration: `iceoryx2`.
     pub fn relative_config_path() -> Path
         ensures { result ≡ codes "iceoryx2" }
     {
         literal(b"iceoryx2")
     }
 
-    /// The configuration file below a user's directory for configurations, `iceoryx2/iceoryx2.toml`.
+    /// The configuration file below a user's directory for configurations,
+    /// `iceoryx2/iceoryx2.toml`.
     pub fn default_user_config_file_path() -> FilePath
         ensures { result ≡ codes "iceoryx2/iceoryx2.toml" }
     {

@@ -153,7 +153,8 @@ pub fn configurations_are_equal_by_fields(one: &Config, other: &Config) -> bool
     one == other
 }
 
-/// Variants of types are equal exactly where they are the same, are hashed by their place, and a clone is the same.
+/// Variants of types are equal exactly where they are the
+/// same, are hashed by their place, and a clone is the same.
 pub fn type_variants_go_by_variant<H: Hasher>(
     one: &TypeVariant,
     other: &TypeVariant,

@@ -11,7 +11,7 @@ use Rattle.iox2_container.specs.declared.container.calls.RegistryReply.TheVarian
 use Rattle.iox2_container.specs.Agreement.{EquallyMany, AgreesBy}
 use Rattle.iox2_container.specs.Calls.{SameReply, SameKind}
 
--- the test of each item in turn tells it, where the lists are equally long
+-- the test of each item in turn decides it, where the lists are equally long
 pub tells_equally_many : {T : Type 0} (eq : T → T → Bool) (ones others : List T) (all : Bool) → length ones ≡ length others → all ≡ list_all (λ x. eqb (count_by (eq x) ones) (count_by (eq x) others)) ones → IsTrue all ↔ EquallyMany eq ones others
 tells_equally_many eq ones others all as_long e = (
   λ yes. record {

@@ -9,7 +9,8 @@ use Rattle.iox2_texts.specs.declared.bounded.CallbackProgression.TheVariants.{Co
 use Rattle.iox2_container.specs.Steps.{Asked, Visit}
 use Rattle.iox2_container.specs.Callbacks.{MayAsk, CanBeAsked, MayVisit, CanVisit}
 
--- a callback that may always be called may be asked about any items, and always be called afterwards
+-- a callback that may always be called may be asked
+-- about any items, and always be called afterwards
 module _ {F A R : Type 0} (g : Mut F (Bor A × Unit {0}) R) where
   takes_always : (f : F) (x : A) → always_mut g f → TakesAt g f x
   takes_always f x m = λ y e. (m.at ((y, tt) ∷ [])).0
@@ -132,6 +133,6 @@ module _ {F A B R S : Type 0} (takes : F → B → Type 0) (calls : F → B → 
 pub CanBeAsked-first : {F A R : Type 0} (takes : F → A → Type 0) (calls : F → A → R → F → Type 0) (f : F) (xs ys : List A) → CanBeAsked takes calls f (xs ++ ys) → CanBeAsked takes calls f xs
 CanBeAsked-first takes calls f xs ys m = record { asks = MayAsk-first takes calls f xs ys m.asks }
 
--- what a caller's proofs need whose callback may always be called: to be named by `using` on a crate, so that its calls
--- need no answer
+-- what a caller's proofs need whose callback may always be called: to be named by `using` on a
+-- crate, so that its calls need no answer
 pub ruleset callbacks = (CanVisit-from_total, CanBeAsked-from_total, CanVisit-from_always, CanBeAsked-from_always, CanBeAsked-from_always_values, always_after_Visit, always_after_Asked)

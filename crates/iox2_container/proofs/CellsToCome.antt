@@ -1,4 +1,5 @@
--- Passes over cells, as far as the cells to come, whose callbacks may be asked about what stands there.
+-- Passes over cells, as far as the cells to come, whose
+-- callbacks may be asked about what stands there.
 use Rattle.std.proofs.Common.{◌≡◌, ℕ, zero, suc, ◌+◌, ◌-◌, ◌≤◌, Bool, true, false, Option, Some, None, List, [], ◌∷◌, drop, refl, sym, ap, subst, add-one, arith}
 use Rattle.std.specs.Prelude.{slice_get, IsTrue, if◌then◌else◌}
 use Rattle.std.specs.Bool.{MatchBool}

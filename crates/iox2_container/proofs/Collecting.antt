@@ -10,7 +10,8 @@ use Rattle.iox2_container.specs.State.{Entry}
 use Rattle.iox2_container.specs.Steps.{Asked, Visit}
 use Rattle.iox2_container.proofs.Callable.{CanVisit-by}
 
--- a callback that puts what it makes of each item that passes a test at the end of a list, and goes on
+-- a callback that puts what it makes of each item that
+-- passes a test at the end of a list, and goes on
 module _ {F A B N : Type 0} (calls : F → A → CallbackProgression → F → Type 0) (name : F → N) (keeps : F → Type 0) (items_of : F → List B) (len room : F → ℕ) (p : A → Bool) (u : A → B)
     (step : (q : F) (x : A) (r : CallbackProgression) (v : F) → keeps q → calls q x r v → (name v ≡ name q) × (r ≡ Continue) × (items_of v ≡ (if p x then items_of q ++ u x ∷ [] else items_of q)) × (len v ≡ (if p x then len q + 1 else len q)) × (room v ≡ room q) × keeps v) where
   abbrev made : List A → List B

@@ -16,7 +16,7 @@ use Rattle.iox2_container.proofs.FreeList.{taken_apart, threads_kept, threads_fr
 use Rattle.iox2_container.proofs.ListEdits.{get_set_other}
 use Rattle.iox2_container.proofs.ShownCells.{shown_at, shown_set, nothing_shown_yet}
 
--- so many entries stand in the slots
+-- this many entries stand in the slots
 abbrev pub standing : {T : Type 0} → List (Linked T) → ℕ
 standing cells = length (entries_from 0 (map shown cells))
 

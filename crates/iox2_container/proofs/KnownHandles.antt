@@ -20,7 +20,7 @@ use Rattle.iox2_container.proofs.Members.{Among, of_all, moved, among_more, amon
 use Rattle.iox2_container.proofs.Leaving.{stays_among}
 use Rattle.iox2_container.proofs.SameEntries.{ticket_in}
 
--- a handle whose ticket was handed out is told by its ticket
+-- a handle whose ticket was handed out is determined by its ticket
 pub record Knows {T : Type 0} (r : RegistryState T) (handle : Handle) : Type 0 where
   pub ticket : handle.ticket < r.used
   pub same : (x : Entry T) → Among x r.entries → x.ticket ≡ handle.ticket → handle ≡ handle_of r x

@@ -19,7 +19,7 @@ use Rattle.iox2_container.proofs.Gaining.{AllPairs-head, AllPairs-tail}
 use Rattle.iox2_container.proofs.ListEdits.{get_set_other}
 use Rattle.iox2_container.proofs.AskedInTurn.{Asked-push, details_of, details-append, taken_more, taken_free}
 
--- one entry more, that is no candidate
+-- one entry more, which is not a candidate
 staying-push_other : {T : Type 0} (is_dead : T → Bool) (es : List (Entry T)) (answers : List Bool) (x : Entry T) → is_dead x.details ≡ false → staying is_dead (es ++ x ∷ []) answers ≡ staying is_dead es answers ++ x ∷ []
 staying-push_other is_dead [] answers x h = rw h refl
 staying-push_other {T} is_dead (e ∷ es) answers x h =
@@ -88,7 +88,7 @@ candidates-push {T} is_dead es x true h =
 candidates-push {T} is_dead es x false h =
     ap details_of (filter-append (λ (e : Entry T). is_dead e.details) es (x ∷ [])) ∙ (details-append (candidates is_dead es) (candidates is_dead (x ∷ [])) ∙ rw h refl)
 
--- an entry that is no candidate comes after those swept
+-- an entry that is not a candidate comes after those swept
 swept_other : {F T : Type 0} (calls : F → T → Bool → F → Type 0) (is_dead : T → Bool) (f g : F) (old new : List (Entry T)) (gone : ℕ) (x : Entry T) → is_dead x.details ≡ false → Swept calls is_dead f old g new gone → Swept calls is_dead f (old ++ x ∷ []) g (new ++ x ∷ []) gone
 swept_other {F} {T} calls is_dead f g old new gone x h w = record {
   answers = w.answers;

@@ -53,7 +53,8 @@ RemoveGiven old None mode reply new = (reply ≡ Reply.NoHandle) × (new ≡ old
 RemoveGiven old (Some handle) mode reply new =
     (result : Result ReleaseState ContainerRemoveError) × Removes old handle mode result new × (reply ≡ reply_of_remove result)
 
--- what a registry may reply to a call, after it gave the earlier replies, and how often it touches its slots
+-- what a registry may reply to a call, after it gave the
+-- earlier replies, and how often it touches its slots
 abbrev pub CallStep : {T : Type 0} → (T → ℕ) → (T → ℕ)
     → ContainerState T → List (RegistryReply T) → RegistryCall T → RegistryReply T → ContainerState T → Type 0
 CallStep node number old earlier (Call.Add details) reply new =

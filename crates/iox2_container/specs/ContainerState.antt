@@ -8,7 +8,7 @@ pub record ContainerState (T : Type 0) : Type 0 where
   pub registry : RegistryState T
   pub touches : ℕ
 
--- a registry that was touched so often
+-- a registry that was touched this often
 abbrev pub container : {T : Type 0} → RegistryState T → ℕ → ContainerState T
 container registry touches = record { registry = registry; touches = touches }
 

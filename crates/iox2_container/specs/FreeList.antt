@@ -44,7 +44,8 @@ abbrev pub TakesLastFreed : List ℕ → ℕ → ℕ → List ℕ → ℕ → Ty
 TakesLastFreed [] fresh slot left fresh' = (slot ≡ fresh) × (left ≡ []) × (fresh' ≡ fresh + 1)
 TakesLastFreed (last ∷ freed) fresh slot left fresh' = (slot ≡ last) × (left ≡ freed) × (fresh' ≡ fresh)
 
--- whatever slots are free again, the one that was freed last is taken, or else the first that was never used
+-- whatever slots are free again, the one that was freed
+-- last is taken, or else the first that was never used
 abbrev pub PutsFirst : {T : Type 0} → FreeList → List (Linked T) → ℕ → FreeList → List (Linked T) → Type 0
 PutsFirst old cells slot new cells' =
     (freed : List ℕ) → AreFreed old cells freed

@@ -33,8 +33,8 @@ ChangeStep old (Recovering is_dead answers went mode state) new =
     × Recovers is_dead answers old mode state new
     × (went ≡ map (handle_of old) (leaving is_dead old.entries answers))
 
--- a change `Recovering`, with the answers that a callback gave about the candidates in turn, leads from the old state to
--- the new one
+-- a change `Recovering`, with the answers that a callback gave about the candidates in turn, leads
+-- from the old state to the new one
 abbrev pub IsRecoveryChange : {F T : Type 0} → (F → T → Bool → F → Type 0) → (T → Bool)
     → RegistryState T → F → ReleaseMode → ReleaseState → RegistryState T → F → Type 0
 IsRecoveryChange calls is_dead old f mode state new f' =

@@ -5,7 +5,7 @@ use Rattle.iox2_container.specs.declared.container.cell.Occupant.{Occupant}
 use Rattle.iox2_container.specs.State.{RegistryState, IsRegistry}
 use Rattle.iox2_container.specs.Places.{entries_from}
 
--- the registry that they stand for
+-- the registry that a ledger and cells stand for
 abbrev pub registry_of : {T : Type 0} → Ledger → List (Option (Occupant T)) → RegistryState T
 registry_of a cells = record {
   service = a.service;
@@ -17,6 +17,6 @@ registry_of a cells = record {
   used = a.used;
 }
 
--- they fit together
+-- ledger and cells fit together
 abbrev pub AreRegistry : {T : Type 0} → Ledger → List (Option (Occupant T)) → Type 0
 AreRegistry a cells = IsRegistry (registry_of a cells) × (a.count ≡ length (entries_from 0 cells))

@@ -43,7 +43,7 @@ SweptCell calls is_dead f None goes f' = (goes ≡ false) × (f' ≡ f)
 SweptCell calls is_dead f (Some o) goes f' =
     MatchBool (is_dead o.details) (calls f o.details goes f') ((goes ≡ false) × (f' ≡ f))
 
--- so many entries went, as the callback said of the candidates in turn
+-- this many entries went, as the callback said of the candidates in turn
 pub record Swept {F T : Type 0} (calls : F → T → Bool → F → Type 0) (is_dead : T → Bool)
     (f : F) (old : List (Entry T)) (f' : F) (new : List (Entry T)) (gone : ℕ) : Type 0 where
   pub answers : List Bool

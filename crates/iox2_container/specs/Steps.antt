@@ -52,7 +52,7 @@ AddStep old details (Ok handle) new = (old.locked ≡ false) × HasRoom old × E
 abbrev pub release_state : Bool → ReleaseState
 release_state locked = if locked then Locked else Unlocked
 
--- the lock, after some entry went and so many are left
+-- the lock, after some entry went and this many are left
 abbrev pub lock_after : ReleaseMode → ℕ → Bool → Bool
 lock_after LockIfLastIndex zero locked = true
 lock_after LockIfLastIndex (suc left) locked = locked
@@ -91,8 +91,8 @@ Asked {F} calls f (item ∷ items) (answer ∷ answers) f' =
 abbrev pub listed : {T : Type 0} → RegistryState T → List T
 listed r = map (λ e. e.details) r.entries
 
--- a callback was asked about the items in order, up to and with the first answer `Stop`, or about all. It is a record, so
--- that a proof finds the calls in it
+-- a callback was asked about the items in order, up to and with the first answer `Stop`, or about
+-- all. It is a record, so that a proof finds the calls in it
 pub record Visit {F A : Type 0} (calls : F → A → CallbackProgression → F → Type 0) (f : F) (items : List A) (f' : F) : Type 0 where
   pub visits : Visits calls f items f'
 
@@ -100,7 +100,7 @@ pub record Visit {F A : Type 0} (calls : F → A → CallbackProgression → F �
 abbrev pub is_of : {T : Type 0} → (T → ℕ) → ℕ → T → Bool
 is_of node id details = node details == id
 
--- the entries whose details are so
+-- the entries whose details pass a test
 abbrev pub candidates : {T : Type 0} → (T → Bool) → List (Entry T) → List (Entry T)
 candidates is_dead entries = filter (λ e. is_dead e.details) entries
 

@@ -1,4 +1,5 @@
-//! Registries: bounded maps from handles to details. No handle is given twice, and a locked registry stays locked.
+//! Registries: bounded maps from handles to details. No handle is given twice, and a locked
+//! registry stays locked.
 
 mod agreement;
 mod attached;

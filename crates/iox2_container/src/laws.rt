@@ -1,5 +1,5 @@
-//! What holds of a container over every list of changes, from a new one on, and how `==` and `clone` see the
-//! values that it takes and gives.
+//! What holds of a container over every list of changes, from a new one on, and how `==` and
+//! `clone` see the values that it takes and gives.
 ghost use Rattle.std.specs.Prelude.{◌≡◌, ◌↔◌, ◌≢◌, Bool, IsTrue, IsOkAnd, List, AllPairs, Any, fold};
 ghost use Rattle.std.specs.Fn.{CalledAt};
 ghost use Rattle.iox2_container.specs.Handle.{Handle};
@@ -15,8 +15,8 @@ use crate::container::{
 };
 use std::alloc::AllocError;
 
-/// A recovery is exactly one of the changes, with the answers that its callback gave in turn and the handles of the
-/// entries that went.
+/// A recovery is exactly one of the changes, with the answers that its callback gave in turn and
+/// the handles of the entries that went.
 pub fn recoveries_are_changes<T, F: FnMut(&T) -> bool>()
     ensures { (is_dead : T → Bool) (old new : RegistryState T)
         (f left : F) (mode : ReleaseMode) (state : ReleaseState)

@@ -19,7 +19,7 @@ fn by_list(slot: usize, ticket: u64) -> Reply {
     RegistryReply::Handle(ContainerHandle::from_parts(2, Role::Reader, slot, ticket))
 }
 
-/// The answer and both lists of replies, for registries of so many places.
+/// The answer and both lists of replies, for registries of this many places.
 fn compared(
     alloc: Global,
     capacity: usize,
@@ -103,7 +103,8 @@ fn recovered_and_locked(alloc: Global, of_a: Reply, of_b: Reply) -> Result<Vec<R
     ]?)
 }
 
-/// Two recoveries keep an entry or take it, the last one locks, and removals name calls that gave no live handle.
+/// Two recoveries keep an entry or take it, the last one
+/// locks, and removals name calls that gave no live handle.
 #[test]
 fn both_recover_and_lock(rt: HostRuntime) -> Result<(), Fail> {
     let alloc = rt.alloc();
@@ -152,7 +153,8 @@ fn both_run_out_of_tickets(rt: HostRuntime) -> Result<(), Fail> {
     Ok(())
 }
 
-/// The replies to the calls of `listings_of_five`, where the first two places are freed and taken again.
+/// The replies to the calls of `listings_of_five`, where
+/// the first two places are freed and taken again.
 fn five_listed(
     alloc: Global,
     handles: [Reply; 7],

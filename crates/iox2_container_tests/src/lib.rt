@@ -1,5 +1,6 @@
-//! Worked examples of registries, and of two of them under the same calls. They are tests of what no contract says: worked
-//! rows, and each public call once with ample memory and with memory refused.
+//! Worked examples of registries, and of two of them under the same
+//! calls. They are tests of what no contract says: worked rows, and
+//! each public call once with ample memory and with memory refused.
 #![tactic(auto, using(iox2_container::proofs::Callable::callbacks))]
 
 #[cfg(test)]

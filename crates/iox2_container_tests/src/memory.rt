@@ -1,5 +1,6 @@
-//! `compare` where memory is refused. With ample memory it gives its full answer; where one request is refused
-//! (`bench/refuse_memory` does that), both registries have made the calls of a beginning of it.
+//! `compare` where memory is refused. With ample memory it gives its
+//! full answer; where one request is refused (`bench/refuse_memory` does
+//! that), both registries have made the calls of a beginning of it.
 use super::comparison::by_scan;
 use super::nodes::node;
 use iox2_container::container::*;
@@ -18,7 +19,8 @@ fn each_add_gave_its_handle(rt: &impl Abort, replies: &[RegistryReply<UniqueNode
     }
 }
 
-/// Whatever request for memory is refused, both registries have made as many calls as there are replies.
+/// Whatever request for memory is refused, both registries
+/// have made as many calls as there are replies.
 #[test]
 fn memory_is_taken_for_both_before_either_changes(rt: HostRuntime) -> Result<(), Fail> {
     let alloc = rt.alloc();

@@ -1,4 +1,4 @@
-//! Registries of both kinds, and what their calls tell.
+//! Registries of both kinds, and what their calls answer.
 use iox2_container::container::*;
 use iox2_ids::identifiers::UniqueNodeId;
 use iox2_texts::bounded::CallbackProgression;

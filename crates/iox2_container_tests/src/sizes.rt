@@ -1,4 +1,4 @@
-//! What a free list costs is told by what stands in it, and not by its capacity.
+//! What a free list costs depends on what stands in it, and not on its capacity.
 use super::nodes::node;
 use iox2_container::container::*;
 use iox2_ids::identifiers::UniqueNodeId;

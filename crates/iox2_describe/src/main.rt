@@ -1,4 +1,5 @@
-//! Draws the service that is described on standard input: as text, or with the argument `svg` as a picture.
+//! Draws the service that is described on standard input:
+//! as text, or with the argument `svg` as a picture.
 #![tactic(auto)]
 
 use service_drawing::describe_streams;

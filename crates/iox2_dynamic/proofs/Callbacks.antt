@@ -21,5 +21,6 @@ always_after_ListsIn g a b p role f false h m l = subst (always_mut g) (sym l.1)
 always_after_ListsIn g a b p role f true h m (inl l) = always_after_Visit g f (listed p.first.registry) h m l.1
 always_after_ListsIn g a b p role f true h m (inr l) = always_after_Visit g f (listed p.second.registry) h m l.1
 
--- what a caller's proofs need whose callback may always be called: to be named by `using` on a crate
+-- what a caller's proofs need whose callback may
+-- always be called: to be named by `using` on a crate
 pub ruleset callbacks = (container_callbacks, CanListIn-from_total, CanListIn-from_always)

@@ -25,7 +25,8 @@ pub RecoversPorts-as : {F T : Type 0} (calls : F → UniquePortId → PortCleanu
 RecoversPorts-as {F} {T} calls g node same dead old f state new h r =
     (state, (RecoverStep-as g (is_of node dead) (is_of node_of dead) (λ x. ap (λ n. n == dead) (same x)) (λ i d goes j. AskedToGo calls i (port_of (g d)) goes j) (λ i d goes j. AskedToGo calls i (port_of d) goes j) (λ i x b j c. c) old.registry f Default state new.registry h r.0, StaysRegistry-as g old new r.1))
 
--- a dead node's recovery by a callback of which each call is one of others, while the first state stands for the second
+-- a dead node's recovery by a callback of which each call is one of others, while the first state
+-- stands for the second
 module _ {F G : Type 0} (calls : F → UniquePortId → PortCleanupAction → F → Type 0) (others : G → UniquePortId → PortCleanupAction → G → Type 0) (k : F → G) (I : F → Type 0)
     (step : (f : F) (x : UniquePortId) (r : PortCleanupAction) (h : F) → I f → calls f x r h → others (k f) x r (k h) × I h) where
   RecoversPorts-through : (dead : ℕ) (old : ContainerState PortDetails) (f : F) (new : ContainerState PortDetails) (h : F)

@@ -1,5 +1,5 @@
--- Promises: what the details of a port tell, what a service and its ports are, what the calls on them do and answer, and what
--- becomes of the ports and nodes of a dead node.
+-- Promises: what the details of a port say, what a service and its ports are, what the calls on
+-- them do and answer, and what becomes of the ports and nodes of a dead node.
 pub mod Details
 pub mod Service
 pub mod Ports
@@ -7,7 +7,8 @@ pub mod PortsState
 pub mod Steps
 pub mod Recoveries
 pub mod Answers
--- Inner facts: how private fields make what contracts see of a service, and how lists of ports grow.
+-- Inner facts: how private fields make what contracts
+-- see of a service, and how lists of ports grow.
 pub mod Patterns
 pub mod Fields
 pub mod Lists

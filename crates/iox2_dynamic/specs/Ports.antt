@@ -29,7 +29,7 @@ Ports = PortsState PortDetails PortDetails
 abbrev pub ports_as : {A B : Type 0} → (A → PortDetails) → (B → PortDetails) → PortsState A B → Ports
 ports_as f g p = record { first = container_as f p.first; second = container_as g p.second }
 
--- no port yet, for so many of the first kind and so many of the second
+-- no port yet, for this many of the first kind and this many of the second
 abbrev pub empty_ports : {A B : Type 0} → Role → Role → ℕ → ℕ → ℕ → ℕ → PortsState A B
 empty_ports a b service first second tickets = record {
   first = fresh service a first tickets;
@@ -40,7 +40,7 @@ empty_ports a b service first second tickets = record {
 abbrev pub IsEither : Role → Role → Role → Type 0
 IsEither a b role = (role ≡ a) ⊎ (role ≡ b)
 
--- the role is none of these two
+-- the role is neither of these two
 abbrev pub IsNeither : Role → Role → Role → Type 0
 IsNeither a b role = (role ≢ a) × (role ≢ b)
 
@@ -62,7 +62,8 @@ RemovesFrom a b old handle answer new =
     ⊎ ((handle.role ≡ b) × Removes old.second handle Default answer new.second × (new ≡ record old { second = new.second }))
     ⊎ (IsNeither a b handle.role × (answer ≡ Err ContainerHandleNotOwnedByContainer) × (new ≡ old))
 
--- the ids of the ports of a dead node, those of the first kind before those of the second, each by rising slot
+-- the ids of the ports of a dead node, those of the first
+-- kind before those of the second, each by rising slot
 abbrev pub ports_asked_about : ℕ → Ports → List UniquePortId
 ports_asked_about dead p = ids_asked_about dead p.first ++ ids_asked_about dead p.second
 
@@ -73,13 +74,13 @@ RecoversBoth {F} calls dead old f new f' =
     × RecoversPorts calls dead old.first f new.first between
     × RecoversPorts calls dead old.second between new.second f'
 
--- what is said of the ports of a role; nothing is said of another role
+-- what is said of the ports of a role; for another role nothing is said
 abbrev pub OfRole : {A : Type 0} → (RegistryState PortDetails → A → Type 0) → Role → Role → Ports → Role → Option A → Type 0
 OfRole says a b p role None = IsNeither a b role
 OfRole says a b p role (Some x) =
     ((role ≡ a) × says p.first.registry x) ⊎ ((role ≡ b) × says p.second.registry x)
 
--- how many ports of a role there are; none is told for another role
+-- how many ports of a role there are; `None` for another role
 abbrev pub CountsIn : Role → Role → Ports → Role → Option ℕ → Type 0
 CountsIn = OfRole (λ r n. n ≡ length r.entries)
 

@@ -25,7 +25,8 @@ AskedToGo calls f port goes f' =
 abbrev pub ids_asked_about : ℕ → ContainerState PortDetails → List UniquePortId
 ids_asked_about dead c = map port_of (asked_about (is_of node_of dead) c.registry)
 
--- a callback was asked once about each port of the dead node, by rising slot, and exactly those go that it removes
+-- a callback was asked once about each port of the dead
+-- node, by rising slot, and exactly those go that it removes
 abbrev pub RecoversPorts : {F : Type 0} → (F → UniquePortId → PortCleanupAction → F → Type 0) → ℕ → ContainerState PortDetails → F → ContainerState PortDetails → F → Type 0
 RecoversPorts calls dead old f new f' =
     (state : ReleaseState) × RecoversBy (λ g d goes h. AskedToGo calls g (port_of d) goes h) (is_of node_of dead) old f Default state new f'

@@ -71,7 +71,8 @@ entries_of_node id nodes = entries_of (λ i. i) id nodes
 abbrev pub Registered : RegistryState ℕ → List (Entry PortDetails) → Type 0
 Registered nodes ports = All (λ e. 0 < entries_of_node (node_of e.details) nodes) ports
 
--- a registry of ports of this role: it has the number of the nodes' registry, it is not locked, and the node of each port is registered
+-- a registry of ports of this role: it has the number of the nodes' registry, it is not locked, and
+-- the node of each port is registered
 pub record IsPortRegistry (nodes : RegistryState ℕ) (role : Role) (ports : RegistryState PortDetails) : Type 0 where
   pub is_registry : IsRegistry ports
   pub number_is : ports.service ≡ nodes.service

@@ -74,12 +74,14 @@ abbrev pub ReleaseStep : Service → Handle → Result (Unit {0}) ContainerRemov
 ReleaseStep old handle (Ok _) new = (state : ReleaseState) × RemovesPort old handle (Ok state) new
 ReleaseStep old handle (Err why) new = RemovesPort old handle (Err why) new
 
--- the nodes, after the ports of the dead node were asked about: where one of them is left, nothing goes
+-- the nodes, after the ports of the dead node were
+-- asked about: where one of them is left, nothing goes
 abbrev pub NodesAfter : ℕ → Bool → ContainerState ℕ → ReleaseState → ContainerState ℕ → Type 0
 NodesAfter dead true old state new = (state ≡ release_state old.registry.locked) × (new ≡ old)
 NodesAfter dead false old state new = RecoversNodes dead old state new
 
--- the ports of the node, the first and then the second, and then all its entries if none of its ports is left
+-- what the recovery of a dead node does: its ports of the first kind are asked about, then those of
+-- the second, and then all its entries go if none of its ports is left
 abbrev pub DeadStep : {F : Type 0} → (F → UniquePortId → PortCleanupAction → F → Type 0) → Service → F → ℕ → DeregisterNodeState → Service → F → Type 0
 DeadStep calls old f dead answer new f' =
     RecoversBoth calls dead old.ports f new.ports f'

@@ -1,5 +1,5 @@
-//! The nodes and the ports of a service. A port stands only on a registered node of an unlocked service, and a node
-//! cannot leave its ports behind.
+//! The nodes and the ports of a service. A port stands only on a registered node of an unlocked
+//! service, and a node cannot leave its ports behind.
 
 mod answers;
 pub mod blackboard;

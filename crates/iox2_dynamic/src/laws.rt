@@ -26,8 +26,8 @@ pub fn locked_services_have_no_port()
     ensures { (s : Service) → IsService s → IsTrue s.nodes.registry.locked → HasNoPort s.ports }
 {}
 
-/// The ports of a dead node that are left by its recovery are as many as its callback kept: where a port is left, some
-/// answer was `SkipPort`, and where none was, none is left.
+/// The ports of a dead node that are left by its recovery are as many as its callback kept: where a
+/// port is left, some answer was `SkipPort`, and where none was, none is left.
 pub fn skipped_ports_are_left()
     ensures { (dead : ℕ) (old new : RegistryState PortDetails) (answers : List Bool)
         (mode : ReleaseMode) (state : ReleaseState)
@@ -49,7 +49,8 @@ pub fn ports_are_attached_where_there_is_room()
         → AttachStep old details answer new → IsOk answer ↔ TakesPort old (role_of details) }
 {}
 
-/// Details are equal exactly where all their fields are, and a clone of them is equal and takes no memory.
+/// Details are equal exactly where all their fields are,
+/// and a clone of them is equal and takes no memory.
 pub fn details_go_by_fields(
     one: &PortDetails,
     other: &PortDetails,
@@ -93,7 +94,8 @@ pub type Clones<S, A, B> = (
     Result<B, AllocError>,
 );
 
-/// A clone of publish-subscribe settings, or of details of a publisher or a subscriber, is equal and takes no memory.
+/// A clone of publish-subscribe settings, or of details of a
+/// publisher or a subscriber, is equal and takes no memory.
 pub fn publish_subscribe_details_are_cloned(
     settings: &publish_subscribe::DynamicConfigSettings,
     publisher: &PublisherDetails,
@@ -106,7 +108,8 @@ pub fn publish_subscribe_details_are_cloned(
     (settings.clone(), publisher.clone(), subscriber.clone())
 }
 
-/// A clone of event settings, or of details of a listener or a notifier, is equal and takes no memory.
+/// A clone of event settings, or of details of a
+/// listener or a notifier, is equal and takes no memory.
 pub fn event_details_are_cloned(
     settings: &event::DynamicConfigSettings,
     listener: &ListenerDetails,
@@ -119,7 +122,8 @@ pub fn event_details_are_cloned(
     (settings.clone(), listener.clone(), notifier.clone())
 }
 
-/// A clone of request-response settings, or of details of a server or a client, is equal and takes no memory.
+/// A clone of request-response settings, or of details of
+/// a server or a client, is equal and takes no memory.
 pub fn request_response_details_are_cloned(
     settings: &request_response::DynamicConfigSettings,
     server: &ServerDetails,
@@ -132,7 +136,8 @@ pub fn request_response_details_are_cloned(
     (settings.clone(), server.clone(), client.clone())
 }
 
-/// A clone of blackboard settings, or of details of a reader or a writer, is equal and takes no memory.
+/// A clone of blackboard settings, or of details of a
+/// reader or a writer, is equal and takes no memory.
 pub fn blackboard_details_are_cloned(
     settings: &blackboard::DynamicConfigSettings,
     reader: &ReaderDetails,

@@ -84,7 +84,8 @@ const NO_TICKET_IS_LEFT: [Row; 1] = [Row::Register(
     Err(RegisterNodeResult::ExceedsMaxNumberOfNodes),
 )];
 
-/// Makes the calls of the rows on a new service of each pattern, with three places of each kind and so many tickets.
+/// Makes the calls of the rows on a new service of each pattern,
+/// with three places of each kind and this many tickets.
 fn each_pattern_answers_by_tickets(
     rt: &impl Abort,
     alloc: Global,

@@ -1,12 +1,13 @@
 //! Nodes that die, and what becomes of their ports.
-use super::rows::{Handle, Row, each_pattern_answers};
+use super::rows::{Handle, Row, are_answered, each_pattern_answers};
 use super::services::*;
-use iox2_container::container::Role;
 use iox2_dynamic::dynamic_config::*;
-use iox2_ids::identifiers::{UniquePortId, UniquePublisherId, UniqueSubscriberId};
+use iox2_ids::identifiers::{UniqueNodeId, UniquePortId, UniquePublisherId, UniqueSubscriberId};
+use std::alloc::Global;
 use std::test::Fail;
 
-/// A node with two ports of each kind. The callback keeps one port of each, and none when it is asked again.
+/// A node with two ports of each kind. The callback keeps
+/// one port of each, and none when it is asked again.
 const A_CALLBACK_IS_ASKED_AGAIN: [Row; 13] = [
     Row::Register(A, Ok(Handle(7, Kind::Node, 0, 0))),
     Row::Attach(Kind::First, 11, A, Ok(Handle(7, Kind::First, 0, 0))),
@@ -28,8 +29,8 @@ fn a_callback_sees_each_port_once_and_keeps_two(rt: HostRuntime) -> Result<(), F
     each_pattern_answers(&rt, rt.alloc(), (2, 2, 2), &A_CALLBACK_IS_ASKED_AGAIN)
 }
 
-/// A dead node has ports 10 and 11, and another node of its owner id port 12. The callback keeps port 10, and is not asked
-/// about that of the other node.
+/// A dead node has ports 10 and 11, and another node of its owner id port 12. The callback keeps
+/// port 10, and is not asked about that of the other node.
 const ONE_PORT_IS_KEPT: [Row; 12] = [
     Row::Register(ONE_OF_FIVE, Ok(Handle(7, Kind::Node, 0, 0))),
     Row::Register(TWO_OF_FIVE, Ok(Handle(7, Kind::Node, 1, 1))),
@@ -103,31 +104,49 @@ fn a_dead_node_leaves_with_all_its_handles(rt: HostRuntime) -> Result<(), Fail> 
     each_pattern_answers(&rt, rt.alloc(), (2, 2, 2), &ALL_HANDLES_GO)
 }
 
-/// The callback is told of the publisher and then of the subscriber, each by its kind and its whole id.
-#[test]
-fn a_callback_is_told_of_ports_by_kind_and_id(rt: HostRuntime) -> Result<(), Fail> {
-    let node = ONE_OF_FIVE.id()?;
-    let mut service = service(rt.alloc(), PUBLISH_SUBSCRIBE.kind, (2, 2, 2))?;
-    service.register_node_id(node)?;
-    attach(&rt, &mut service, Role::Publisher, 10, node)??;
-    attach(&rt, &mut service, Role::Subscriber, 11, node)??;
-    let mut asked = Vec::new(rt.alloc());
+/// A publisher and a subscriber of one node.
+const ONE_OF_EACH_KIND: [Row; 3] = [
+    Row::Register(ONE_OF_FIVE, Ok(Handle(7, Kind::Node, 0, 0))),
+    Row::Attach(
+        Kind::First,
+        10,
+        ONE_OF_FIVE,
+        Ok(Handle(7, Kind::First, 0, 0)),
+    ),
+    Row::Attach(
+        Kind::Second,
+        11,
+        ONE_OF_FIVE,
+        Ok(Handle(7, Kind::Second, 0, 0)),
+    ),
+];
+
+/// The ports that the recovery of a dead node asks about, none of which stays, and whether the
+/// service still has owners.
+fn recovered(
+    alloc: Global,
+    service: &mut DynamicConfig,
+    dead: &UniqueNodeId,
+) -> (Vec<UniquePortId>, bool) {
+    let mut asked = Vec::new(alloc);
     let mut clean = |id: UniquePortId| {
         // Where there is no memory, a port is missing.
         let _ = asked.push(id);
         PortCleanupAction::RemovePort
     };
-    let owned = has_owners(service.remove_dead_node_id(&node, &mut clean));
-    assert_eq!(rt;
-        (owned, asked.as_slice()),
-        (
-            false,
-            [
-                UniquePortId::Publisher(UniquePublisherId::new(1, 0, 0, 10)),
-                UniquePortId::Subscriber(UniqueSubscriberId::new(1, 0, 0, 11)),
-            ]
-            .as_slice()
-        )
-    );
+    let owned = has_owners(service.remove_dead_node_id(dead, &mut clean));
+    (asked, owned)
+}
+
+/// The callback sees the publisher and then the subscriber, each by its kind and its whole id.
+#[test]
+fn a_callback_sees_ports_by_kind_and_id(rt: HostRuntime) -> Result<(), Fail> {
+    let mut service = service(rt.alloc(), PUBLISH_SUBSCRIBE.kind, (2, 2, 2))?;
+    are_answered(&rt, &mut service, &PUBLISH_SUBSCRIBE, &ONE_OF_EACH_KIND)?;
+    let (asked, owned) = recovered(rt.alloc(), &mut service, &ONE_OF_FIVE.id()?);
+    let publisher = UniquePortId::Publisher(UniquePublisherId::new(1, 0, 0, 10));
+    let subscriber = UniquePortId::Subscriber(UniqueSubscriberId::new(1, 0, 0, 11));
+    assert!(rt; !owned);
+    assert_eq!(rt; asked.as_slice(), [publisher, subscriber].as_slice());
     Ok(())
 }

@@ -1,5 +1,6 @@
-//! Worked examples of services whose nodes and ports come and go, on each of the four patterns. They are tests of what no
-//! contract says: worked rows, and each public call once with ample memory and with memory refused.
+//! Worked examples of services whose nodes and ports come and go, on each of the four patterns.
+//! They are tests of what no contract says: worked rows, and each public call once with ample
+//! memory and with memory refused.
 #![tactic(auto, using(iox2_dynamic::proofs::Callbacks::callbacks))]
 
 #[cfg(test)]

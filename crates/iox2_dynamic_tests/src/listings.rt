@@ -36,7 +36,8 @@ fn three_and_one(rt: &impl Abort, alloc: Global, pattern: &Pattern) -> Result<Dy
     Ok(service)
 }
 
-/// Of a service with three ports and one: what listings noted that stop at the second port, and how many ports there are.
+/// Of a service with three ports and one: what listings noted that stop at the second port, and how
+/// many ports there are.
 fn two_and_one_are_noted(
     rt: &impl Abort,
     first: &ArrayVec<u128, 4>,

@@ -12,7 +12,8 @@ const TWO_PORTS_COME: [Row; 3] = [
 
 const WITH_THE_THIRD: Option<&[u128]> = Some(&[9, 11]);
 
-/// A third port comes, which takes this ticket, and goes. Meanwhile its kind is listed and the node asks to leave.
+/// A third port comes, which takes this ticket, and goes.
+/// Meanwhile its kind is listed and the node asks to leave.
 fn one_comes_and_goes(ticket: u64) -> [Row<'static>; 4] {
     let port = Handle(7, Kind::First, 1, ticket);
     [

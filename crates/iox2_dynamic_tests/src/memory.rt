@@ -1,5 +1,6 @@
-//! Services where memory is refused. With ample memory they are made; where one request is refused (`bench/refuse_memory`
-//! does that), the maker says so. No call on a service that was made takes memory.
+//! Services where memory is refused. With ample memory they are made;
+//! where one request is refused (`bench/refuse_memory` does that), the
+//! maker says so. No call on a service that was made takes memory.
 use super::rows::{Handle, Row, are_answered};
 use super::services::*;
 use iox2_dynamic::dynamic_config::*;
@@ -58,7 +59,7 @@ fn a_service_is_made_whole_or_not_at_all(rt: HostRuntime) -> Result<(), Fail> {
     Ok(())
 }
 
-/// With so many places, no memory holds a service of this pattern.
+/// With this many places, no memory holds a service of this pattern.
 fn no_memory_holds(
     rt: &impl Abort,
     alloc: Global,

@@ -1,142 +1,203 @@
-//! What a service tells those who ask before they act.
+//! What a service answers to those who ask before they act.
+use super::rows::{Handle, Row, are_answered, counter_of, each_pattern_answers};
 use super::services::*;
-use iox2_container::container::{ContainerHandle, Role};
+use arrayvec::ArrayVec;
+use iox2_container::container::Role;
 use iox2_dynamic::dynamic_config::*;
-use iox2_ids::identifiers::*;
 use std::process::Abort;
 use std::test::Fail;
 
-/// Whether there is room for a node, and for a port of each of the two kinds.
-fn room(rt: &impl Abort, service: &DynamicConfig) -> (bool, bool, bool) {
-    let (first, second) = service.kind().port_roles();
-    assert!(rt; service.has_role(first));
-    assert!(rt; service.has_role(second));
-    (
-        service.has_room_for_node(),
-        service.has_room(first),
-        service.has_room(second),
-    )
-}
-
-/// The numbers that a service tells: its own, of nodes, and how many nodes and ports there may be.
-fn numbers(service: &DynamicConfig) -> (u64, usize, usize, [Option<usize>; 3]) {
-    (
-        service.service_number(),
-        service.number_of_nodes(),
-        service.max_nodes(),
-        [
-            service.max_ports(Role::Publisher),
-            service.max_ports(Role::Subscriber),
-            service.max_ports(Role::Node),
-        ],
-    )
-}
-
-#[test]
-fn a_service_tells_its_numbers(rt: HostRuntime) -> Result<(), Fail> {
-    let mut service = service(rt.alloc(), PUBLISH_SUBSCRIBE.kind, (5, 3, 2))?;
-    let before = numbers(&service);
-    service.register_node_id(A.id()?)?;
-    assert_eq!(rt;
-        (before, numbers(&service)),
-        (
-            (7, 0, 5, [Some(3), Some(2), None]),
-            (7, 1, 5, [Some(3), Some(2), None]),
-        )
-    );
-    Ok(())
-}
+/// There is room as long as a place is left, and none without a lock or with one.
+const ROOM_BY_PLACES: [Row; 8] = [
+    Row::Room([true, true, true], false),
+    Row::Register(A, Ok(Handle(7, Kind::Node, 0, 0))),
+    Row::Room([false, true, true], false),
+    Row::Attach(Kind::First, 8, A, Ok(Handle(7, Kind::First, 0, 0))),
+    Row::Room([false, false, true], false),
+    Row::Attach(Kind::Second, 9, A, Ok(Handle(7, Kind::Second, 0, 0))),
+    Row::Release(Handle(7, Kind::First, 0, 0), Ok(())),
+    Row::Room([false, true, false], false),
+];
 
 #[test]
 fn room_goes_by_places(rt: HostRuntime) -> Result<(), Fail> {
-    let mut service = service(rt.alloc(), EVENT.kind, (1, 1, 0))?;
-    let empty = room(&rt, &service);
-    service.register_node_id(A.id()?)?;
-    let _ = attach(&rt, &mut service, Role::Listener, 1, A.id()?)?;
-    assert_eq!(rt;
-        (empty, room(&rt, &service)),
-        ((true, true, false), (false, false, false))
-    );
-    Ok(())
+    each_pattern_answers(&rt, rt.alloc(), (1, 1, 1), &ROOM_BY_PLACES)
 }
 
-#[test]
-fn room_goes_by_tickets(rt: HostRuntime) -> Result<(), Fail> {
-    let mut service = service_by_tickets(rt.alloc(), EVENT.kind, (9, 9, 9), 1)?;
-    service.register_node_id(A.id()?)?;
-    assert_eq!(rt; room(&rt, &service), (false, true, true));
-    Ok(())
-}
+/// A service that is locked has no room, although places and tickets are left.
+const NO_ROOM_WITH_A_LOCK: [Row; 4] = [
+    Row::Room([true, true, true], false),
+    Row::Register(A, Ok(Handle(7, Kind::Node, 0, 0))),
+    Row::Deregister(Handle(7, Kind::Node, 0, 0), Ok(false)),
+    Row::Room([false, false, false], true),
+];
 
 #[test]
 fn a_locked_service_has_no_room(rt: HostRuntime) -> Result<(), Fail> {
-    let mut service = service(rt.alloc(), EVENT.kind, (2, 2, 2))?;
-    let before = service.is_locked();
-    let handle = service.register_node_id(A.id()?)?;
-    let left = service.deregister_node_id(handle).is_ok();
-    assert_eq!(rt;
-        (before, left, service.is_locked(), room(&rt, &service)),
-        (false, true, true, (false, false, false))
-    );
+    each_pattern_answers(&rt, rt.alloc(), (2, 2, 2), &NO_ROOM_WITH_A_LOCK)
+}
+
+/// Without a ticket there is no room, although places are left.
+const ROOM_BY_TICKETS: [Row; 4] = [
+    Row::Register(A, Ok(Handle(7, Kind::Node, 0, 0))),
+    Row::Room([false, true, true], false),
+    Row::Attach(Kind::Second, 9, A, Ok(Handle(7, Kind::Second, 0, 0))),
+    Row::Room([false, true, false], false),
+];
+
+#[test]
+fn room_goes_by_tickets(rt: HostRuntime) -> Result<(), Fail> {
+    for pattern in &PATTERNS {
+        let mut service = service_by_tickets(rt.alloc(), pattern.kind, (9, 9, 9), 1)?;
+        are_answered(&rt, &mut service, pattern, &ROOM_BY_TICKETS)?;
+    }
     Ok(())
 }
 
-/// The handle with another ticket.
-fn of_ticket(handle: ContainerHandle, ticket: u64) -> ContainerHandle {
-    ContainerHandle::from_parts(handle.service(), handle.role(), handle.slot(), ticket)
-}
+/// A handle stands for what was given it, by its service, its kind, its
+/// slot and its ticket, until that goes.
+const HANDLES: [Row; 11] = [
+    Row::Register(A, Ok(Handle(7, Kind::Node, 0, 0))),
+    Row::Attach(Kind::Second, 9, A, Ok(Handle(7, Kind::Second, 0, 0))),
+    Row::StandsFor(Handle(7, Kind::Node, 0, 0), Some(1)),
+    Row::StandsFor(Handle(7, Kind::Second, 0, 0), Some(9)),
+    Row::StandsFor(Handle(7, Kind::First, 0, 0), None),
+    Row::StandsFor(Handle(7, Kind::Other, 0, 0), None),
+    Row::StandsFor(Handle(8, Kind::Second, 0, 0), None),
+    Row::StandsFor(Handle(7, Kind::Second, 1, 0), None),
+    Row::StandsFor(Handle(7, Kind::Second, 0, 1), None),
+    Row::Release(Handle(7, Kind::Second, 0, 0), Ok(())),
+    Row::StandsFor(Handle(7, Kind::Second, 0, 0), None),
+];
 
 #[test]
-fn a_handle_stands_for_what_it_was_given(rt: HostRuntime) -> Result<(), Fail> {
-    let mut service = service(rt.alloc(), EVENT.kind, (2, 2, 2))?;
-    let node = service.register_node_id(A.id()?)?;
-    let listener = port(Role::Listener, 9, A.id()?)?;
-    let Ok(handle) = attach(&rt, &mut service, Role::Listener, 9, A.id()?)? else {
-        return Err("the listener found no room".into());
-    };
-    assert_eq!(rt;
-        (
-            service.node(node),
-            service.node(handle),
-            service.node(of_ticket(node, 1))
-        ),
-        (Some(A.id()?), None, None)
-    );
-    assert_eq!(rt;
-        (
-            service.port(handle),
-            service.port(node),
-            service.port(of_ticket(handle, 1))
-        ),
-        (Some(listener), None, None)
-    );
+fn a_handle_stands_for_what_was_given_it(rt: HostRuntime) -> Result<(), Fail> {
+    each_pattern_answers(&rt, rt.alloc(), (2, 2, 2), &HANDLES)
+}
+
+/// Two nodes that share an owner id, and ports of both of each kind.
+const ALL_ARE_ATTACHED: [Row; 6] = [
+    Row::Register(ONE_OF_FIVE, Ok(Handle(7, Kind::Node, 0, 0))),
+    Row::Register(TWO_OF_FIVE, Ok(Handle(7, Kind::Node, 1, 1))),
+    Row::Attach(
+        Kind::Second,
+        8,
+        ONE_OF_FIVE,
+        Ok(Handle(7, Kind::Second, 0, 0)),
+    ),
+    Row::Attach(
+        Kind::First,
+        9,
+        TWO_OF_FIVE,
+        Ok(Handle(7, Kind::First, 0, 0)),
+    ),
+    Row::Attach(
+        Kind::First,
+        7,
+        ONE_OF_FIVE,
+        Ok(Handle(7, Kind::First, 1, 1)),
+    ),
+    Row::Attach(
+        Kind::Second,
+        6,
+        TWO_OF_FIVE,
+        Ok(Handle(7, Kind::Second, 1, 1)),
+    ),
+];
+
+/// The counters of ports. No list here has more.
+fn counters(ports: &[PortDetails]) -> ArrayVec<u128, 4> {
+    let mut counters = ArrayVec::new();
+    for details in ports {
+        let _ = counters.try_push(counter_of(details.port_id().value()));
+    }
+    counters
+}
+
+/// Compares the list of nodes.
+fn nodes_are(
+    rt: &(impl Abort + AllocGlobal),
+    service: &DynamicConfig,
+    wanted: [Node; 2],
+) -> Result<(), Fail> {
+    let [first, second] = wanted;
+    let nodes = service.nodes(rt.alloc())?;
+    assert_eq!(rt; nodes.as_slice(), [first.id()?, second.id()?].as_slice());
+    Ok(())
+}
+
+/// Compares the list of the ports of a role, which is none where the pattern lacks the role.
+fn ports_are(
+    rt: &(impl Abort + AllocGlobal),
+    service: &DynamicConfig,
+    role: Role,
+    wanted: Option<&[u128]>,
+) -> Result<(), Fail> {
+    let ports = service
+        .ports(rt.alloc(), role)?
+        .map(|ports| counters(&ports));
+    assert_eq!(rt; ports.as_ref().map(|counters| counters.as_slice()), wanted);
+    Ok(())
+}
+
+/// Compares the list of the ports of a node.
+fn ports_of_are(
+    rt: &(impl Abort + AllocGlobal),
+    service: &DynamicConfig,
+    node: Node,
+    wanted: &[u128],
+) -> Result<(), Fail> {
+    let ports = service.ports_of(rt.alloc(), &node.id()?)?;
+    assert_eq!(rt; counters(&ports).as_slice(), wanted);
     Ok(())
 }
 
 #[test]
 fn who_is_there_is_listed_at_once(rt: HostRuntime) -> Result<(), Fail> {
-    let mut service = service(rt.alloc(), REQUEST_RESPONSE.kind, (2, 2, 2))?;
-    let ids = [ONE_OF_FIVE.id()?, TWO_OF_FIVE.id()?];
-    for id in ids {
-        service.register_node_id(id)?;
+    for pattern in &PATTERNS {
+        let mut service = service(rt.alloc(), pattern.kind, (2, 2, 2))?;
+        are_answered(&rt, &mut service, pattern, &ALL_ARE_ATTACHED)?;
+        nodes_are(&rt, &service, [ONE_OF_FIVE, TWO_OF_FIVE])?;
+        ports_are(&rt, &service, pattern.first, Some(&[9, 7]))?;
+        ports_are(&rt, &service, pattern.second, Some(&[8, 6]))?;
+        ports_are(&rt, &service, pattern.other, None)?;
+        ports_of_are(&rt, &service, ONE_OF_FIVE, &[7, 8])?;
+        ports_of_are(&rt, &service, A, &[])?;
     }
-    let client = port(Role::Client, 3, ids[0])?;
-    let server = port(Role::Server, 4, ids[0])?;
-    let other = port(Role::Server, 5, ids[1])?;
-    for details in [client, other, server] {
-        assert!(rt; service.has_role(details.role()));
-        assert!(rt; service.attach(details).is_ok());
-    }
-    assert_eq!(rt; service.nodes(rt.alloc())?.as_slice(), &ids[..]);
-    let servers = service.ports(rt.alloc(), Role::Server)?;
-    assert_eq!(rt;
-        servers.as_ref().map(|list| list.as_slice()),
-        Some(&[other, server][..])
-    );
-    assert!(rt; service.ports(rt.alloc(), Role::Reader)?.is_none());
-    assert_eq!(rt;
-        service.ports_of(rt.alloc(), &ids[0])?.as_slice(),
-        &[server, client][..]
-    );
     Ok(())
+}
+
+/// Compares the numbers of a service: its own, its nodes,
+/// and how many nodes and ports there may be.
+fn numbers_are(rt: &impl Abort, service: &DynamicConfig, pattern: &Pattern, nodes: usize) {
+    assert_eq!(rt;
+        (
+            service.service_number(),
+            service.number_of_nodes(),
+            service.max_nodes()
+        ),
+        (7, nodes, 5)
+    );
+    assert_eq!(rt;
+        [pattern.first, pattern.second, pattern.other].map(|role| service.max_ports(role)),
+        [Some(3), Some(2), None]
+    );
+}
+
+#[test]
+fn a_service_knows_its_numbers(rt: HostRuntime) -> Result<(), Fail> {
+    for pattern in &PATTERNS {
+        let mut service = service(rt.alloc(), pattern.kind, (5, 3, 2))?;
+        numbers_are(&rt, &service, pattern, 0);
+        service.register_node_id(A.id()?)?;
+        numbers_are(&rt, &service, pattern, 1);
+    }
+    Ok(())
+}
+
+#[test]
+fn roles_are_in_the_order_of_recovery(rt: HostRuntime) {
+    for pattern in &PATTERNS {
+        assert_eq!(rt; pattern.kind.port_roles(), (pattern.first, pattern.second));
+    }
 }

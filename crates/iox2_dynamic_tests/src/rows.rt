@@ -1,4 +1,5 @@
-//! Calls on a service as rows of a table, each with what it must answer. One table serves for all patterns.
+//! Calls on a service as rows of a table, each with what
+//! it must answer. One table serves for all patterns.
 use super::services::*;
 use arrayvec::ArrayVec;
 use iox2_container::container::{ContainerHandle, ContainerRemoveError, Role};
@@ -25,7 +26,7 @@ impl Handle {
     }
 }
 
-/// What is answered for a handle that is no port's here.
+/// What is answered for a handle that is not a port's here.
 pub(super) const NOT_A_PORT: Result<(), ContainerRemoveError> = Err(
     ContainerRemoveError::ContainerHandleNotOwnedByContainer,
 );
@@ -35,19 +36,24 @@ pub(super) const NOT_A_PORT: Result<(), ContainerRemoveError> = Err(
 pub(super) enum Row<'a> {
     /// Registers a node.
     Register(Node, Result<Handle, RegisterNodeResult>),
-    /// Takes out a node, and tells whether the service still has owners.
+    /// Takes out a node, and answers whether the service still has owners.
     Deregister(Handle, Result<bool, DeregisterError>),
     /// Attaches a port of this counter and node.
     Attach(Kind, u32, Node, Result<Handle, AttachError>),
     /// Releases a port.
     Release(Handle, Result<(), ContainerRemoveError>),
-    /// Recovers a dead node by a callback that keeps the ports of the first counters. Tells the ports that it was asked
-    /// about, in order, and whether the service still has owners.
+    /// Recovers a dead node by a callback that keeps the ports of the first counters. Answers the
+    /// ports that it was asked about, in order, and whether the service still has owners.
     Recover(Node, &'a [u128], &'a [u128], bool),
     /// How many nodes are listed.
     Nodes(u64),
     /// The ports of a kind by rising slot, or `None` where the pattern lacks the kind.
     Ports(Kind, Option<&'a [u128]>),
+    /// Whether there is room for a node, for a first port and for another,
+    /// and whether the service is locked.
+    Room([bool; 3], bool),
+    /// The counter of the node or port that a handle stands for, if it stands for one.
+    StandsFor(Handle, Option<u128>),
 }
 
 /// The counter of a port of process 1, by the number of its id.
@@ -55,7 +61,8 @@ pub(super) fn counter_of(number_of_id: u128) -> u128 {
     number_of_id.wrapping_sub(number(0))
 }
 
-/// Recovers a dead node by a callback that keeps the ports of some counters, in the row of this index.
+/// Recovers a dead node by a callback that keeps the
+/// ports of some counters, in the row of this index.
 fn recovers(
     rt: &impl Abort,
     service: &mut DynamicConfig,
@@ -79,8 +86,8 @@ fn recovers(
     assert_eq!(rt; (at, asked.as_slice(), owned), (at, wanted.0, wanted.1));
 }
 
-/// Lists the ports of a role in the row of this index, and tells whether the service has the role and how many ports of it
-/// there are.
+/// Lists the ports of a role in the row of this index, and checks whether the service has the role
+/// and how many ports of it there are.
 fn lists(rt: &impl Abort, service: &DynamicConfig, at: usize, role: Role, wanted: Option<&[u128]>) {
     let mut listed: ArrayVec<u128, 8> = ArrayVec::new();
     let mut note = |details: &PortDetails| {
@@ -108,6 +115,45 @@ fn count_nodes(service: &DynamicConfig) -> u64 {
         CallbackProgression::Continue
     });
     count
+}
+
+/// Asks a service for room and for its lock, in the row of this index.
+fn has_room(
+    rt: &impl Abort,
+    service: &DynamicConfig,
+    pattern: &Pattern,
+    at: usize,
+    wanted: ([bool; 3], bool),
+) {
+    assert!(rt; service.has_role(pattern.first));
+    assert!(rt; service.has_role(pattern.second));
+    let room = [
+        service.has_room_for_node(),
+        service.has_room(pattern.first),
+        service.has_room(pattern.second),
+    ];
+    assert_eq!(rt; (at, (room, service.is_locked())), (at, wanted));
+}
+
+/// Asks a service what a handle stands for, in the row of this index.
+fn stands_for(
+    rt: &impl Abort,
+    service: &DynamicConfig,
+    at: usize,
+    handle: ContainerHandle,
+    wanted: Option<u128>,
+) {
+    let node = service.node(handle).map(|id| counter_of(id.value()));
+    let port = service
+        .port(handle)
+        .map(|details| counter_of(details.port_id().value()));
+    let is_node = handle.role() == Role::Node;
+    let found = if is_node {
+        (wanted, None)
+    } else {
+        (None, wanted)
+    };
+    assert_eq!(rt; (at, (node, port)), (at, found));
 }
 
 /// Makes the call of the row of this index, and compares its answer. No call takes memory.
@@ -144,6 +190,10 @@ fn is_answered(
         }
         Row::Nodes(count) => assert_eq!(rt; (at, count_nodes(service)), (at, count)),
         Row::Ports(kind, wanted) => lists(rt, service, at, pattern.role(kind), wanted),
+        Row::Room(room, is_locked) => has_room(rt, service, pattern, at, (room, is_locked)),
+        Row::StandsFor(handle, wanted) => {
+            stands_for(rt, service, at, handle.on(pattern), wanted);
+        }
     }
     Ok(())
 }
@@ -161,8 +211,8 @@ pub(super) fn are_answered(
     Ok(())
 }
 
-/// Makes the calls of the rows on a new service of each pattern, with so many places for nodes, for the first ports and for
-/// the others.
+/// Makes the calls of the rows on a new service of each pattern, with this many places for nodes,
+/// for the first ports and for the others.
 pub(super) fn each_pattern_answers(
     rt: &impl Abort,
     alloc: Global,

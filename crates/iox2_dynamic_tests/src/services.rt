@@ -1,4 +1,4 @@
-//! Services of each pattern, their ports, and what their calls tell.
+//! Services of each pattern, their ports, and what their calls answer.
 use iox2_config::config::DataSegmentType;
 use iox2_config::hash::PatternKind;
 use iox2_container::container::{ContainerHandle, Role};
@@ -89,7 +89,8 @@ pub(super) const ONE_OF_FIVE: Node = Node(1, 5);
 
 pub(super) const TWO_OF_FIVE: Node = Node(2, 5);
 
-/// The settings with so many places for the ports that are recovered first, and so many for the others.
+/// The settings with this many places for the ports that
+/// are recovered first, and this many for the others.
 pub(super) fn settings(
     pattern: PatternKind,
     first: usize,
@@ -121,7 +122,7 @@ pub(super) fn settings(
     }
 }
 
-/// A service of number 7 with so many places for nodes, for the first ports and for the others.
+/// A service of number 7 with this many places for nodes, for the first ports and for the others.
 pub(super) fn service(
     alloc: Global,
     pattern: PatternKind,
@@ -131,7 +132,7 @@ pub(super) fn service(
     DynamicConfig::new(alloc, &settings(pattern, first, second), nodes, 7)
 }
 
-/// As `service`, with so many tickets of each kind.
+/// As `service`, with this many tickets of each kind.
 pub(super) fn service_by_tickets(
     alloc: Global,
     pattern: PatternKind,

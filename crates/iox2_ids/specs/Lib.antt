@@ -1,4 +1,5 @@
--- Promises: how the parts of an id are packed into its number and printed, the number of a port's id, and what a time is.
+-- Promises: how the parts of an id are packed into its number and printed, the number of a port's
+-- id, and what a time is.
 pub mod Packing
 pub mod PortId
 pub mod Time

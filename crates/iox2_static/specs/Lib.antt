@@ -1,5 +1,6 @@
--- Promises: what a description and each pattern's configuration are, how many chunks are in use at most, what is given
--- to a hasher, and what a description is once a borrow of its pattern's configuration ends.
+-- Promises: what a description and each pattern's configuration are, how
+-- many chunks are in use at most, what is given to a hasher, and what a
+-- description is once a borrow of its pattern's configuration ends.
 pub mod Blackboard
 pub mod Chunks
 pub mod Description

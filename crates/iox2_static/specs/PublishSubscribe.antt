@@ -17,7 +17,8 @@ publish_subscribe_of defaults = record {
   message_type_details = default_details;
 }
 
--- how many samples each subscriber can hold, how many the publisher keeps as its history, and how many it has loaned
+-- how many samples each subscriber can hold, how many the
+-- publisher keeps as its history, and how many it has loaned
 abbrev pub sample_limits : StaticConfig → ℕ → List ℕ
 sample_limits s loans =
     replicate s.max_subscribers (s.subscriber_max_buffer_size + s.subscriber_max_borrowed_samples)

@@ -1,4 +1,5 @@
--- What a description is once a borrow of its pattern's configuration ends: as before, with what the borrow left there.
+-- What a description is once a borrow of its pattern's
+-- configuration ends: as before, with what the borrow left there.
 use Rattle.std.specs.Borrow.{Lends, MutBor, Fml}
 use Rattle.iox2_static.specs.declared.static_config.messaging_pattern.MessagingPattern.TheVariants as pattern
 use Rattle.iox2_static.specs.declared.static_config.request_response.StaticConfig.{StaticConfig as RequestResponseConfig}
@@ -12,22 +13,22 @@ use Rattle.iox2_static.specs.contracts.static_config.publish_subscribe.StaticCon
 use Rattle.iox2_static.specs.contracts.static_config.event.StaticConfig.{the_row as event_row}
 use Rattle.iox2_static.specs.contracts.static_config.blackboard.StaticConfig.{the_row as blackboard_row}
 
--- of request-response
+-- a description once a borrow of its request-response configuration ends
 abbrev pub LendsRequestResponse : MutBor Description → MutBor RequestResponseConfig → Fml
 LendsRequestResponse s r =
     Lends service_row request_response_row s r (λ config. record s.now { pattern = pattern.RequestResponse config })
 
--- of publish-subscribe
+-- a description once a borrow of its publish-subscribe configuration ends
 abbrev pub LendsPublishSubscribe : MutBor Description → MutBor PublishSubscribeConfig → Fml
 LendsPublishSubscribe s r =
     Lends service_row publish_subscribe_row s r (λ config. record s.now { pattern = pattern.PublishSubscribe config })
 
--- of event
+-- a description once a borrow of its event configuration ends
 abbrev pub LendsEvent : MutBor Description → MutBor EventConfig → Fml
 LendsEvent s r =
     Lends service_row event_row s r (λ config. record s.now { pattern = pattern.Event config })
 
--- of blackboard
+-- a description once a borrow of its blackboard configuration ends
 abbrev pub LendsBlackboard : MutBor Description → MutBor BlackboardConfig → Fml
 LendsBlackboard s r =
     Lends service_row blackboard_row s r (λ config. record s.now { pattern = pattern.Blackboard config })

@@ -1,5 +1,5 @@
-//! Laws of static configurations: two of one type are equal exactly where all their fields are, and each gives its
-//! fields in turn to a hasher, so `==` and hashing agree.
+//! Laws of static configurations: two of one type are equal exactly where all their fields are, and
+//! each gives its fields in turn to a hasher, so `==` and hashing agree.
 ghost use Rattle.std.specs.Prelude.{◌≡◌, ◌↔◌, IsTrue, IsOkAnd, fold};
 ghost use Rattle.iox2_static.specs.HashWrites.{publish_subscribe_writes, request_response_writes};
 ghost use Rattle.iox2_static.specs.HashWrites.{deadline_writes, event_writes};

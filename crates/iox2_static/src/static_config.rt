@@ -1,5 +1,5 @@
-//! What is fixed of a service: its name, its id, its hash text, its pattern with that pattern's settings, and its
-//! attributes.
+//! What is fixed of a service: its name, its id, its hash text, its pattern with that pattern's
+//! settings, and its attributes.
 ghost use Rattle.std.specs.Prelude.{◌≡◌, ◌↔◌, IsTrue};
 ghost use Rattle.iox2_static.specs.PublishSubscribe.{publish_subscribe_of};
 ghost use Rattle.iox2_static.specs.RequestResponse.{request_response_of};
@@ -79,10 +79,11 @@ impl StaticConfig {
         })
     }
 
-    /// The description of a request-response service with the defaults of a configuration and without attributes.
+    /// The description of a request-response service with the
+    /// defaults of a configuration and without attributes.
     ///
-    /// Refuses as [`ServiceHash::new`] does for the name and the pattern: `HasherFailed` only where `H` may refuse
-    /// them, and else `IllegalText` exactly where `H` makes no legal text of them.
+    /// Refuses as [`ServiceHash::new`] does for the name and the pattern: `HasherFailed` only where
+    /// `H` may refuse them, and else `IllegalText` exactly where `H` makes no legal text of them.
     pub fn new_request_response<H: Hash>(
         service_name: &ServiceName,
         config: &Config,
@@ -100,7 +101,8 @@ impl StaticConfig {
         )
     }
 
-    /// The description of an event service with the defaults of a configuration and without attributes.
+    /// The description of an event service with the
+    /// defaults of a configuration and without attributes.
     ///
     /// Refuses as [`StaticConfig::new_request_response`] does.
     pub fn new_event<H: Hash>(
@@ -119,7 +121,8 @@ impl StaticConfig {
         )
     }
 
-    /// The description of a publish-subscribe service with the defaults of a configuration and without attributes.
+    /// The description of a publish-subscribe service with the
+    /// defaults of a configuration and without attributes.
     ///
     /// Refuses as [`StaticConfig::new_request_response`] does.
     pub fn new_publish_subscribe<H: Hash>(
@@ -139,7 +142,8 @@ impl StaticConfig {
         )
     }
 
-    /// The description of a blackboard service with the defaults of a configuration and without attributes.
+    /// The description of a blackboard service with the
+    /// defaults of a configuration and without attributes.
     ///
     /// Refuses as [`StaticConfig::new_request_response`] does.
     pub fn new_blackboard<H: Hash>(

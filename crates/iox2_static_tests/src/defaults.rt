@@ -125,7 +125,7 @@ fn copies_are_equal(rt: HostRuntime) {
     assert!(rt; values.copied() == values);
 }
 
-/// The events that tell of a new notifier, of one that went, and of one that died.
+/// The events that report a new notifier, one that went, and one whose node died.
 fn told_events(config: &event::StaticConfig) -> [Option<EventId>; 3] {
     [
         config.notifier_created_event(),

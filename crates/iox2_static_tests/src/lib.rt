@@ -1,5 +1,5 @@
-//! Worked examples of static configurations and counts of chunks. They are tests of what no contract says, with values from
-//! outside: worked rows, printed texts, and each public call once.
+//! Worked examples of static configurations and counts of chunks. They are tests of what no
+//! contract says, with values from outside: worked rows, printed texts, and each public call once.
 #![tactic(auto)]
 
 #[cfg(test)]

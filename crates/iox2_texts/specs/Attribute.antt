@@ -5,7 +5,8 @@ use Rattle.iox2_texts.specs.Pair.{Pair, pair_cmp}
 use Rattle.iox2_texts.specs.declared.bounded.CallbackProgression.{CallbackProgression}
 use Rattle.iox2_texts.specs.declared.bounded.CallbackProgression.TheVariants.{Continue, Stop}
 
--- `listing` is the sorted list of the pairs `content`, which stand in any order and with their repeats
+-- `listing` is the sorted list of the pairs `content`,
+-- which stand in any order and with their repeats
 abbrev pub IsListing : List Pair → List Pair → Type 0
 IsListing content listing = IsPermutation content listing × IsSorted pair_cmp listing
 
@@ -21,8 +22,8 @@ values_of pairs key = map (λ pair. pair.value) (filter (has_key key) pairs)
 abbrev pub ContainsKey : List Pair → List ℕ → Type 0
 ContainsKey pairs key = Any (λ pair. pair.key ≡ key) pairs
 
--- the callback, from the state `before`, was given the items in order, up to and with the first that it answered
--- `Stop`, and was left in the state `after`
+-- the callback, from the state `before`, was given the items in order, up to and with the first
+-- that it answered `Stop`, and was left in the state `after`
 abbrev pub Visits : {F X : Type 0} → (F → X → CallbackProgression → F → Type 0) → F → List X → F → Type 0
 Visits step before [] after = after ≡ before
 Visits {F} step before (item ∷ items) after =

@@ -1,5 +1,5 @@
--- Promises: what a text, a name, a path, a pair, a set, a verifier and `align` are, what their makers answer, and what
--- errors turn into and print.
+-- Promises: what a text, a name, a path, a pair, a set, a verifier and `align` are, what their
+-- makers answer, and what errors turn into and print.
 pub mod Attribute
 pub mod Errors
 pub mod Multiple

@@ -23,12 +23,12 @@ EndsPlain bytes = IsPlain (after_last is_slash bytes)
 abbrev pub is_restricted : ℕ → Bool
 is_restricted b = is_ascii_alphanumeric b || list_any (nat_eq b) (codes "-.:_")
 
--- such bytes alone and at least one, and neither `.` nor `..`
+-- such letters, digits and signs alone, at least one, and neither `.` nor `..`
 abbrev pub IsRestricted : List ℕ → Type 0
 IsRestricted bytes =
     (1 ≤ length bytes) × All (λ b. IsTrue (is_restricted b)) bytes × (bytes ≢ codes ".") × (bytes ≢ codes "..")
 
--- a text of at most `n` of them
+-- a text of at most `n` bytes that is a restricted name
 abbrev pub IsRestrictedName : ℕ → List ℕ → Type 0
 IsRestrictedName n bytes = IsAllowed IsRestricted n bytes
 

@@ -6,7 +6,8 @@ use Rattle.iox2_texts.specs.Verify.{Requirements, IsSatisfied, IsLeastMissing, I
 use Rattle.iox2_texts.specs.declared.attribute.verifier.AttributeVerificationError.{AttributeVerificationError}
 use Rattle.iox2_texts.specs.declared.attribute.verifier.AttributeVerificationError.TheVariants.{NonExistingKey, IncompatibleAttribute}
 
--- what verifying a set answers: yes where all is satisfied, else the least missing pair, else the first missing key
+-- what verifying a set answers: yes where all is satisfied,
+-- else the least missing pair, else the first missing key
 abbrev pub Verifies : Requirements → List Pair → Result (Unit {0}) AttributeVerificationError → Type 0
 Verifies required pairs (Ok _) = IsSatisfied required pairs
 Verifies required pairs (Err (IncompatibleAttribute fault)) =

@@ -1,4 +1,5 @@
-//! Attributes of services: pairs of a key and a value, sets of them, and what an opener requires of a set.
+//! Attributes of services: pairs of a key and a value,
+//! sets of them, and what an opener requires of a set.
 
 mod pair;
 mod set;

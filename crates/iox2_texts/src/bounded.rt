@@ -1,4 +1,5 @@
-//! Texts of a bounded length, those of them that have a meaning, the answers of callbacks, and least multiples.
+//! Texts of a bounded length, those of them that have a
+//! meaning, the answers of callbacks, and least multiples.
 //!
 //! A text holds bytes from 1 to 127 alone: ASCII without the zero byte.
 ghost use Rattle.std.specs.Prelude.{◌≡◌, ◌↔◌, ◌+◌, ◌<◌, ◌^◌, ◌≤◌, ◌++◌, [], Some, length, IsTrue};
@@ -30,7 +31,7 @@ pub enum StringModificationError {
     InvalidCharacter,
 }
 
-/// Why bytes are no name, key, value or path.
+/// Why bytes are not a name, key, value or path.
 #[derive(Clone, Copy, Debug, PartialEq, Eq)]
 pub enum SemanticStringError {
     /// The bytes are short enough, but are empty where that is forbidden or hold what is forbidden.
@@ -103,7 +104,7 @@ impl<const N: usize> StaticString<N> {
 
     /// The text of these bytes.
     ///
-    /// Refused are more than `N` bytes, and then a byte that is not from 1 to 127.
+    /// More than `N` bytes are refused, and then a byte that is not from 1 to 127.
     pub fn from_bytes(bytes: &[u8]) -> Result<Self, StringModificationError>
         ensures { MakesText N bytes.now result }
     {
@@ -114,7 +115,7 @@ impl<const N: usize> StaticString<N> {
 
     /// Appends these bytes, or changes nothing.
     ///
-    /// Refused is what would be longer than `N` bytes, and then a byte that is not from 1 to 127.
+    /// What would be longer than `N` bytes is refused, and then a byte that is not from 1 to 127.
     pub(crate) fn try_push_bytes(&mut self, more: &[u8]) -> Result<(), StringModificationError>
         ensures { AppendsText N self.old more.now result self.new }
     {

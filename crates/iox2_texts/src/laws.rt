@@ -1,6 +1,7 @@
 //! Laws of texts, sets of attributes and least multiples that no single call carries.
 //!
-//! Texts of each type are equal, ordered and hashed by their bytes, so `==`, `cmp` and hashing agree.
+//! Texts of each type are equal, ordered and hashed
+//! by their bytes, so `==`, `cmp` and hashing agree.
 ghost use Rattle.std.specs.Prelude.{◌≡◌, ◌↔◌, IsTrue, IsOkAnd, IsPermutation, fold};
 ghost use Rattle.iox2_texts.specs.Laws.{ListingsAreUnique, ValuesAreCounted};
 ghost use Rattle.iox2_texts.specs.Laws.{LeastMultiplesAreUnique};
@@ -187,7 +188,8 @@ pub fn service_name_errors_go_by_variant(
     (one == other, one.clone())
 }
 
-/// Errors of defining attributes are equal exactly where they are the same, and a clone is the same.
+/// Errors of defining attributes are equal exactly
+/// where they are the same, and a clone is the same.
 pub fn attribute_definition_errors_go_by_variant(
     one: &AttributeDefinitionError,
     other: &AttributeDefinitionError,

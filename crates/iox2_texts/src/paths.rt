@@ -1,8 +1,9 @@
 //! Paths and the names of files.
 //!
-//! All of them hold bytes from 1 to 127 alone. Each maker refuses, in this order, the empty text where that is
-//! forbidden (`InvalidContent`), a text that is too long (`ExceedsMaximumLength`), and any other illegal content
-//! (`InvalidContent`). Nothing is normalised: no `//`, `.` or `..` is taken out of a path.
+//! All of them hold bytes from 1 to 127 alone. Each maker refuses, in this order, the empty text
+//! where that is forbidden (`InvalidContent`), a text that is too long (`ExceedsMaximumLength`),
+//! and any other illegal content (`InvalidContent`). Nothing is normalised: no `//`, `.` or `..` is
+//! taken out of a path.
 
 mod file_name;
 mod file_path;

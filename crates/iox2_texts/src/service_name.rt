@@ -15,10 +15,11 @@ pub const INTERNAL_SERVICE_PREFIX: &str = "iox2://";
 /// The greatest number of bytes of a name.
 pub const MAX_SERVICE_NAME_LENGTH: usize = 255;
 
-/// Why a text is no service name.
+/// Why a text is not a service name.
 #[derive(Clone, Copy, Debug, PartialEq, Eq)]
 pub enum ServiceNameError {
-    /// The name is empty, has a byte that is not from 1 to 127, or begins with the prefix where that is refused.
+    /// The name is empty, has a byte that is not from 1 to
+    /// 127, or begins with the prefix where that is refused.
     InvalidContent,
     /// The name has more than 255 bytes. It is reported before an illegal byte.
     ExceedsMaximumLength,
@@ -74,8 +75,8 @@ impl Model for ServiceName {
 }
 
 impl ServiceName {
-    /// A name that a user gives: one that begins with the prefix is refused as an invalid content, before
-    /// anything else, and every other text is taken or refused as by `internal_new`.
+    /// A name that a user gives: one that begins with the prefix is refused as an invalid content,
+    /// before anything else, and every other text is taken or refused as by `internal_new`.
     pub fn new(name: &str) -> Result<Self, ServiceNameError>
         ensures { MakesPublicName name.now result }
     {
@@ -85,8 +86,8 @@ impl ServiceName {
         Self::internal_new(name)
     }
 
-    /// A name that may begin with the prefix. Refused are, in this order, the empty text, more than 255 bytes,
-    /// and a byte that is not from 1 to 127.
+    /// A name that may begin with the prefix. Refused are, in this order, the empty text, more than
+    /// 255 bytes, and a byte that is not from 1 to 127.
     pub fn internal_new(name: &str) -> Result<Self, ServiceNameError>
         ensures { MakesServiceName name.now result }
     {

@@ -3,11 +3,14 @@ pub mod Answers
 pub mod Attributes
 pub mod Chunks
 pub mod Compatible
+pub mod Describe
+pub mod Descriptions
 pub mod Details
 pub mod Files
 pub mod Layouts
 pub mod Names
 pub mod Paths
+pub mod ReadSettings
 pub mod Requirements
 pub mod Settings
 pub mod Status

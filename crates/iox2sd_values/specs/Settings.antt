@@ -1,7 +1,9 @@
 -- The settings that services get where nothing else is said, as plain values.
-use Rattle.std.specs.Prelude.{ℕ, ◌/◌, ◌%◌, true, false, Option, Some, None}
+use Rattle.std.specs.Prelude.{◌≡◌, ℕ, ◌/◌, ◌%◌, true, false, Option, Some, None}
 use Rattle.std.specs.Duration.{as_nanos}
 use Rattle.std.specs.declared.time.Duration.{Duration}
+use Rattle.iox2_config.specs.Defaults.{IsDefaultGlobal}
+use Rattle.iox2_config.specs.GlobalSettings.{GlobalSettings}
 use Rattle.iox2_config.specs.declared.config.blackboard.Blackboard.{Blackboard}
 use Rattle.iox2_config.specs.declared.config.choices.AllocationStrategy.{AllocationStrategy}
 use Rattle.iox2_config.specs.declared.config.choices.AllocationStrategy.TheVariants.{BestFit, PowerOfTwo, Static}
@@ -12,6 +14,7 @@ use Rattle.iox2_config.specs.declared.config.publish_subscribe.PublishSubscribe.
 use Rattle.iox2_config.specs.declared.config.request_response.RequestResonse.{RequestResonse}
 use Rattle.iox2sd_values.specs.declared.settings.BlackboardSettings.{BlackboardSettings}
 use Rattle.iox2sd_values.specs.declared.settings.EventSettings.{EventSettings}
+use Rattle.iox2sd_values.specs.declared.settings.GlobalSettings.{GlobalSettings as PlainGlobal}
 use Rattle.iox2sd_values.specs.declared.settings.OptionalDuration.{OptionalDuration}
 use Rattle.iox2sd_values.specs.declared.settings.OptionalEventId.{OptionalEventId}
 use Rattle.iox2sd_values.specs.declared.settings.PublishSubscribeSettings.{PublishSubscribeSettings}
@@ -38,6 +41,22 @@ told_duration None = record { seconds = 0; nanoseconds = 0; is_some = false }
 abbrev pub told_event_id : Option ℕ → OptionalEventId
 told_event_id (Some number) = record { number = number; is_some = true }
 told_event_id None = record { number = 0; is_some = false }
+
+-- the settings of a system beside its texts
+abbrev pub told_global : GlobalSettings → PlainGlobal
+told_global s = record {
+  creation_timeout = record {
+    seconds = as_nanos s.creation_timeout / 1_000_000_000;
+    nanoseconds = as_nanos s.creation_timeout % 1_000_000_000;
+  };
+  cleanup_dead_nodes_on_open = s.service.cleanup_dead_nodes_on_open;
+  cleanup_dead_nodes_on_creation = s.node.cleanup_dead_nodes_on_creation;
+  cleanup_dead_nodes_on_destruction = s.node.cleanup_dead_nodes_on_destruction;
+}
+
+-- the settings that a system has by default
+abbrev pub TellsGlobalDefaults : PlainGlobal → Type 0
+TellsGlobalDefaults answer = (s : GlobalSettings) × IsDefaultGlobal s × (answer ≡ told_global s)
 
 -- the settings of a publish-subscribe service
 abbrev pub told_publish_subscribe : PublishSubscribe → PublishSubscribeSettings

@@ -52,6 +52,8 @@ code status.OtherSize = 62
 code status.OtherAlignment = 63
 code status.GreaterAlignment = 64
 code status.UnknownText = 65
+code status.UnknownStrategy = 67
+code status.BadDuration = 68
 
 -- the number at the end of a call that makes something or is refused
 abbrev pub end_code : {A : Type 0} → Result A Status → ℕ

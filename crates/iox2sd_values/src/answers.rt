@@ -1,7 +1,7 @@
 //! What exports answer beside a status: a place, a count, or a text for a buffer.
-ghost use Rattle.std.specs.Prelude.{◌≡◌};
+ghost use Rattle.std.specs.Prelude.{◌≡◌, ◌≤◌, ◌++◌, length, drop};
 ghost use Rattle.iox2sd_values.specs.Answers.{place_answer, count_answer, text_answer, Writes};
-ghost use Rattle.iox2sd_values.specs.Answers.{Written};
+ghost use Rattle.iox2sd_values.specs.Answers.{Written, flag_answer, zero_padded};
 
 use super::status::Status;
 
@@ -23,6 +23,16 @@ pub struct CountAnswer {
     pub status: u32,
     /// How many; 0 where the status is not that of `Done`.
     pub count: usize,
+}
+
+/// Yes or no.
+#[repr(C)]
+#[derive(Clone, Copy)]
+pub struct FlagAnswer {
+    /// The number of a [`Status`].
+    pub status: u32,
+    /// Whether it is so; false where the status is not that of `Done`.
+    pub yes: bool,
 }
 
 /// What became of a text for a buffer.
@@ -55,6 +65,16 @@ pub(super) fn count(status: Status, count: usize) -> CountAnswer
     }
 }
 
+/// The answer of this status with yes or no.
+pub(super) fn flag(status: Status, yes: bool) -> FlagAnswer
+    ensures { result ≡ flag_answer status yes }
+{
+    FlagAnswer {
+        status: status.code(),
+        yes,
+    }
+}
+
 /// The answer where there is no text.
 pub(super) fn no_text(status: Status) -> TextAnswer
     ensures { result ≡ text_answer status 0 }
@@ -65,16 +85,33 @@ pub(super) fn no_text(status: Status) -> TextAnswer
     }
 }
 
+/// Writes the text to the front of the bytes.
+fn write_front(text: &[u8], out: &mut [u8])
+    requires { length text.now ≤ length out.old }
+    ensures { out.new ≡ text.now ++ drop (length text.now) out.old }
+{
+    let (front, _) = out.split_at_mut(text.len());
+    front.copy_from_slice(text);
+}
+
+/// The text in an array, followed by zeros.
+pub(super) fn zero_padded<const N: usize>(text: &[u8]) -> [u8; N]
+    requires { length text.now ≤ N }
+    ensures { result ≡ zero_padded N text.now }
+{
+    let mut bytes = [0; N];
+    write_front(text, &mut bytes);
+    bytes
+}
+
 /// Writes the text to the front of the buffer, or nothing where it does not fit.
 fn put(text: &[u8], out: &mut [u8]) -> Status
     ensures { Writes text.now out.old result out.new }
 {
-    let length = text.len();
-    if length > out.len() {
+    if text.len() > out.len() {
         return Status::BufferTooShort;
     }
-    let (front, _) = out.split_at_mut(length);
-    front.copy_from_slice(text);
+    write_front(text, out);
     Status::Done
 }
 

@@ -5,9 +5,11 @@ ghost use Rattle.iox2_config.specs.Defaults.{default_request_response, default_b
 ghost use Rattle.iox2sd_values.specs.Settings.{backpressure_number, allocation_number, told_duration};
 ghost use Rattle.iox2sd_values.specs.Settings.{told_event_id, told_publish_subscribe, told_event};
 ghost use Rattle.iox2sd_values.specs.Settings.{told_request_response, told_blackboard};
+ghost use Rattle.iox2sd_values.specs.Settings.{TellsGlobalDefaults};
 
 use iox2_config::config::{
-    AllocationStrategy, BackpressureStrategy, Blackboard, Event, PublishSubscribe, RequestResonse,
+    AllocationStrategy, BackpressureStrategy, Blackboard, Event, Global, PublishSubscribe,
+    RequestResonse,
 };
 use std::time::Duration;
 
@@ -23,6 +25,16 @@ pub struct OptionalDuration {
     pub is_some: bool,
 }
 
+/// A span of time.
+#[repr(C)]
+#[derive(Clone, Copy)]
+pub struct PlainDuration {
+    /// Whole seconds.
+    pub seconds: u64,
+    /// The nanoseconds beside the seconds, below 1,000,000,000.
+    pub nanoseconds: u32,
+}
+
 /// The number of an event, or none.
 #[repr(C)]
 #[derive(Clone, Copy)]
@@ -31,6 +43,20 @@ pub struct OptionalEventId {
     pub number: usize,
     /// Whether there is one.
     pub is_some: bool,
+}
+
+/// The settings that all services and nodes of one system share, beside its texts.
+#[repr(C)]
+#[derive(Clone, Copy)]
+pub struct GlobalSettings {
+    /// For how long somebody who opens a thing waits until its creator has made it.
+    pub creation_timeout: PlainDuration,
+    /// Whether somebody who opens a service first removes what dead nodes left in it.
+    pub cleanup_dead_nodes_on_open: bool,
+    /// Whether somebody who creates a node first removes what dead nodes left.
+    pub cleanup_dead_nodes_on_creation: bool,
+    /// Whether a node that goes removes what dead nodes left.
+    pub cleanup_dead_nodes_on_destruction: bool,
 }
 
 /// The settings of a publish-subscribe service.
@@ -155,7 +181,7 @@ fn allocation_number(strategy: AllocationStrategy) -> u32
 }
 
 /// The span of time, if there is one.
-fn duration_of(duration: Option<Duration>) -> OptionalDuration
+pub(super) fn duration_of(duration: Option<Duration>) -> OptionalDuration
     ensures { result ≡ told_duration duration }
 {
     match duration {
@@ -173,7 +199,7 @@ fn duration_of(duration: Option<Duration>) -> OptionalDuration
 }
 
 /// The number of the event, if there is one.
-fn event_id_of(event: Option<usize>) -> OptionalEventId
+pub(super) fn event_id_of(event: Option<usize>) -> OptionalEventId
     ensures { result ≡ told_event_id event }
 {
     match event {
@@ -185,6 +211,23 @@ fn event_id_of(event: Option<usize>) -> OptionalEventId
             number: 0,
             is_some: false,
         },
+    }
+}
+
+/// The settings that a system has by default.
+#[unsafe(no_mangle)]
+pub extern "C" fn iox2sd_global_defaults() -> GlobalSettings
+    ensures { TellsGlobalDefaults result }
+{
+    let settings = Global::default();
+    GlobalSettings {
+        creation_timeout: PlainDuration {
+            seconds: settings.creation_timeout.as_secs(),
+            nanoseconds: settings.creation_timeout.subsec_nanos(),
+        },
+        cleanup_dead_nodes_on_open: settings.service.cleanup_dead_nodes_on_open,
+        cleanup_dead_nodes_on_creation: settings.node.cleanup_dead_nodes_on_creation,
+        cleanup_dead_nodes_on_destruction: settings.node.cleanup_dead_nodes_on_destruction,
     }
 }
 

@@ -99,6 +99,10 @@ pub enum Status {
     GreaterAlignment = 64,
     /// The number is not that of a text of the configuration.
     UnknownText = 65,
+    /// The number is not that of a strategy.
+    UnknownStrategy = 67,
+    /// The nanoseconds beside the seconds are 1,000,000,000 or more.
+    BadDuration = 68,
 }
 
 impl Status {

@@ -28,7 +28,8 @@ ports_in ports = map Port (listed ports.registry)
 abbrev pub members_of : Service → List Member
 members_of s = nodes_in s ++ ports_in s.ports.first ++ ports_in s.ports.second
 
--- each of them once, and nobody else, by rising node; those of one node stand as they do above, so the node comes first
+-- every entry of a node and every port once, and nobody else, by rising node; a node comes before
+-- its ports
 pub record IsRoster (s : Service) (members : List Member) : Type 0 where
   pub each_once : IsPermutation (members_of s) members
   pub by_node : IsNonDecreasingBy node_of_member members

@@ -24,13 +24,14 @@ use Rattle.service_callers.specs.declared.builder.OpenedService.{OpenedService}
 use Rattle.service_callers.specs.declared.builder.OpenError.{OpenError}
 use Rattle.service_callers.specs.declared.builder.OpenError.TheVariants.{IncompatibleMessagingPattern, IncompatibleAttributes, IncompatibleTypes, MessageTooLarge, NodeRefused}
 
--- wherever a block of this size begins at a multiple of the header's alignment, the parts of a message of n elements lie
--- inside, apart and aligned, for the service and for the opener
+-- wherever a block of this size begins at a multiple of the header's alignment, the parts of a
+-- message of n elements lie inside, apart and aligned, for the service and for the opener
 pub record MessagesFit (service opener : MessageTypeDetails) (n size : ℕ) : Type 0 where
   pub for_service : (header : ℕ) → service.header.alignment ∣ header → header + size < 2 ^ 64 → Holds header size (parts service service header n)
   pub for_opener : (header : ℕ) → service.header.alignment ∣ header → header + size < 2 ^ 64 → Holds header size (parts service opener header n)
 
--- the types of a publish-subscribe service's messages; the default ones stand for a service of another pattern
+-- the types of a publish-subscribe service's messages;
+-- the default ones stand for a service of another pattern
 abbrev pub types_of : MessagingPattern → MessageTypeDetails
 types_of (pattern.PublishSubscribe settings) = settings.message_type_details
 types_of (pattern.RequestResponse settings) = default_details
@@ -41,11 +42,11 @@ types_of (pattern.Blackboard settings) = default_details
 abbrev pub IsVerified : Description → Opener → Type 0
 IsVerified d o = (kind_of d.pattern ≡ kind.PublishSubscribe) × IsSatisfied o.verifier d.attributes
 
--- and the opener may use its messages
+-- the service is as required, and the opener may use its messages
 abbrev pub IsCompatible : Description → Opener → Type 0
 IsCompatible d o = IsVerified d o × MayOpen o.types (types_of d.pattern)
 
--- the opener may use the messages, which fit the room that it was told, and its node is registered
+-- the opener may use the messages, which fit the room that it was given, and its node is registered
 abbrev pub Opens : Description → Opener → Service → OpenedService → Service → Type 0
 Opens d o old opened new =
     IsCompatible d o

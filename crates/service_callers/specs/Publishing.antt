@@ -21,8 +21,9 @@ use Rattle.service_callers.specs.declared.factory.PublisherError.{PublisherError
 use Rattle.service_callers.specs.declared.factory.PublisherError.TheVariants.{TypesNotGiven, TooManyChunks, MessageTooLarge, SegmentTooLarge, NotAttached}
 use Rattle.service_callers.specs.declared.factory.PublisherSettings.{PublisherSettings}
 
--- as many blocks as the greatest number of chunks that can be in use, which lie end to end and apart; wherever the first
--- begins at a multiple of the header's alignment, each holds a message of n elements
+-- as many blocks as the greatest number of chunks that can be in use,
+-- which lie end to end and apart; wherever the first begins at a
+-- multiple of the header's alignment, each holds a message of n elements
 pub record IsSegment (s : StaticConfig) (loans n : ℕ) (segment : DataSegment) : Type 0 where
   pub blocks_are : IsGreatest (sample_limits s loans) segment.blocks
   pub size_is : segment.size ≡ segment.blocks * segment.block.size
@@ -50,7 +51,7 @@ GivesSegment s loans n (Err SegmentTooLarge) =
     × (2 ^ 63 ≤ chunks * bound s.message_type_details n)
 GivesSegment s loans n (Err (NotAttached why)) = ⊥
 
--- what a publisher with so many samples tells of itself
+-- the details of a publisher with this many samples
 abbrev pub publisher_of : PublisherSettings → ℕ → PortDetails
 publisher_of p samples = of.Publisher (record {
   publisher_id = p.publisher;

@@ -6,7 +6,7 @@ use Rattle.iox2_dynamic.specs.declared.dynamic_config.port_details.PortDetails.{
 use Rattle.iox2_dynamic.specs.Details.{node_of}
 use Rattle.iox2_dynamic.specs.Service.{Service}
 
--- the entries whose node is none of the dead
+-- the entries whose node is not one of the dead
 abbrev pub others : {T : Type 0} → (T → ℕ) → List ℕ → List (Entry T) → List (Entry T)
 others node dead entries = filter (λ e. is_outside node dead e.details) entries
 
@@ -27,7 +27,8 @@ nodes_without dead nodes = record nodes {
   locked = nodes.locked || last_went nodes.entries (others (λ id. id) dead nodes.entries);
 }
 
--- no port and no entry of a dead node is left, each other entry stays as it was, and the last death locks
+-- no port and no entry of a dead node is left, each
+-- other entry stays as it was, and the last death locks
 pub record OnlyOthersStay (dead : List ℕ) (old new : Service) : Type 0 where
   pub pattern : new.pattern ≡ old.pattern
   pub nodes : new.nodes.registry ≡ nodes_without dead old.nodes.registry

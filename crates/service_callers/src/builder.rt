@@ -35,10 +35,10 @@ pub struct OpenedService {
     pub message: SampleLayout,
 }
 
-/// Why a service was not opened. The first cause is told, and nothing is registered.
+/// Why a service was not opened. The first cause is reported, and nothing is registered.
 #[derive(Debug, Drop, PartialEq, Eq)]
 pub enum OpenError {
-    /// It is no publish-subscribe service.
+    /// It is not a publish-subscribe service.
     IncompatibleMessagingPattern,
     /// It lacks an attribute that the opener requires.
     IncompatibleAttributes(AttributeVerificationError),
@@ -50,8 +50,8 @@ pub enum OpenError {
     NodeRefused(RegisterNodeResult),
 }
 
-/// Opens the service with this description: verifies its attributes, compares the types, lays out a message, and
-/// registers the opener's node.
+/// Opens the service with this description: verifies its attributes, compares the types, lays out a
+/// message, and registers the opener's node.
 pub fn open_service(
     description: &StaticConfig,
     service: &mut DynamicConfig,
@@ -99,8 +99,8 @@ fn room_for(types: &MessageTypeDetails, opener: &Opener) -> Result<SampleLayout,
     }
 }
 
-/// Whether an opener with these types may use the messages of the service: its types were given, and suit the
-/// service's.
+/// Whether an opener with these types may use the messages of the service: its types were given,
+/// and suit the service's.
 fn may_open(opener: &MessageTypeDetails, service: &MessageTypeDetails) -> bool
     ensures { IsTrue result ↔ MayOpen opener.now service.now }
 {

@@ -10,7 +10,7 @@ use iox2_texts::bounded::CallbackProgression;
 pub fn count_entries<T: Attached + Copy, R: Registry<T>>(registry: &R) -> usize
     ensures { result ≡ length (R.state registry.now).entries }
 {
-    // Tells the proof that the number of entries fits a `usize`.
+    // For the proof: the number of entries fits a `usize`.
     let _bound = registry.len();
     let mut count = 0usize;
     let mut one_more = |_: &T| -> CallbackProgression
@@ -32,7 +32,7 @@ pub fn count_asked<T: Attached + Copy, R: Registry<T>>(
 ) -> usize
     ensures { result ≡ entries_of T.node node.now (R.state registry.old) }
 {
-    // Tells the proof that the number of candidates fits a `usize`.
+    // For the proof: the number of candidates fits a `usize`.
     let _bound = registry.entries_of(node);
     let mut count = 0usize;
     let mut stays = |_: &T| -> bool
@@ -51,7 +51,7 @@ pub fn count_asked<T: Attached + Copy, R: Registry<T>>(
 pub fn count_nodes(nodes: &Container<UniqueNodeId>) -> usize
     ensures { result ≡ length nodes.now.registry.entries }
 {
-    // Tells the proof that the number of entries fits a `usize`.
+    // For the proof: the number of entries fits a `usize`.
     let _bound = nodes.len();
     let mut count = 0usize;
     let mut one_more = |_: &UniqueNodeId| {

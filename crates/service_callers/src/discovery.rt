@@ -34,9 +34,9 @@ impl Member {
     }
 }
 
-/// Puts everybody who is attached to the service into the list, in place of what it held: each node and each port once,
-/// by rising node, and for each node first the node and then its ports. It takes room for all of them at once. Where
-/// memory is refused, the list is empty.
+/// Puts everybody who is attached to the service into the list, in place of what it held: each node
+/// and each port once, by rising node, and for each node first the node and then its ports. It
+/// takes room for all of them at once. Where memory is refused, the list is empty.
 pub fn list_attached(
     alloc: Global,
     service: &DynamicConfig,

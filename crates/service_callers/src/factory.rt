@@ -24,7 +24,8 @@ pub struct PublisherSettings {
     pub max_elements: usize,
 }
 
-/// The memory of a publisher: blocks of one size that lie end to end, one for each chunk that can be in use.
+/// The memory of a publisher: blocks of one size that lie
+/// end to end, one for each chunk that can be in use.
 #[derive(Clone, Copy, Debug, PartialEq, Eq)]
 pub struct DataSegment {
     /// The room of one message. The segment begins at a multiple of its alignment.
@@ -44,7 +45,7 @@ pub struct Publisher {
     pub segment: DataSegment,
 }
 
-/// Why a publisher was not attached. The first cause is told, and nothing is attached.
+/// Why a publisher was not attached. The first cause is reported, and nothing is attached.
 #[derive(Clone, Copy, Debug, PartialEq, Eq)]
 pub enum PublisherError {
     /// The types of the service's messages were not given.
@@ -62,7 +63,8 @@ pub enum PublisherError {
 /// The greatest size of a block of memory, 2^63 - 1.
 const GREATEST_SIZE: usize = isize::MAX as usize;
 
-/// Attaches a publisher to a publish-subscribe service with these settings, and gives its data segment.
+/// Attaches a publisher to a publish-subscribe service
+/// with these settings, and gives its data segment.
 pub fn attach_publisher(
     settings: &StaticConfig,
     service: &mut DynamicConfig,
@@ -93,7 +95,8 @@ pub fn attach_publisher(
     }
 }
 
-/// The memory of a publisher that has up to so many samples loaned at once, each of up to so many elements.
+/// The memory of a publisher that has up to this many
+/// samples loaned at once, each of up to this many elements.
 pub fn data_segment(
     settings: &StaticConfig,
     max_loaned_samples: usize,
@@ -122,7 +125,7 @@ pub fn data_segment(
     }
 }
 
-/// How many bytes so many blocks of a size take, or `None` where these are more than 2^63 - 1.
+/// How many bytes this many blocks of a size take, or `None` where these are more than 2^63 - 1.
 fn size_of_row(size: usize, blocks: usize) -> Option<usize>
     ensures { MatchOption result (2 ^ 63 ≤ blocks * size)
         (λ bytes. (bytes ≡ blocks * size) × (bytes < 2 ^ 63)) }

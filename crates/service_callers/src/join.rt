@@ -15,7 +15,7 @@ pub struct Joined {
     pub port: ContainerHandle,
 }
 
-/// Why a node did not join. The first cause is told, and nothing has changed.
+/// Why a node did not join. The first cause is reported, and nothing has changed.
 #[derive(Clone, Copy, Debug, PartialEq, Eq)]
 pub enum JoinError {
     /// The service's pattern has no ports of this role.
@@ -26,14 +26,15 @@ pub enum JoinError {
     ServiceIsLocked,
     /// There are as many nodes as there may be, or every ticket for nodes was handed out.
     NoRoomForNode,
-    /// There are as many ports of this role as there may be, or every ticket for them was handed out.
+    /// There are as many ports of this role as there
+    /// may be, or every ticket for them was handed out.
     NoRoomForPort,
 }
 
 /// Registers the node and attaches this port of it, or changes nothing at all.
 ///
-/// It asks before it acts: a registration that was taken back because the port found no room would lock a service for
-/// good that had no other node.
+/// It asks before it acts: a registration that was taken back because the port found no room would
+/// lock a service for good that had no other node.
 pub fn join(
     service: &mut DynamicConfig,
     node: UniqueNodeId,

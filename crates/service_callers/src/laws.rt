@@ -1,4 +1,4 @@
-//! How what the callers tell is compared and copied.
+//! How the answers of the callers are compared and copied.
 ghost use Rattle.std.specs.Prelude.{◌≡◌, ◌↔◌, IsTrue, IsOkAnd};
 
 use crate::builder::OpenError;

@@ -7,8 +7,8 @@ ghost use Rattle.service_callers.specs.Removal.{OnlyOthersStay};
 use iox2_dynamic::dynamic_config::{DeregisterNodeState, DynamicConfig, PortCleanupAction};
 use iox2_ids::identifiers::{UniqueNodeId, UniquePortId};
 
-/// Removes all ports and all entries of the dead nodes, and nothing else. Where the last node of the service is among
-/// them, the service is locked for good.
+/// Removes all ports and all entries of the dead nodes, and nothing else. Where the last node of
+/// the service is among them, the service is locked for good.
 ///
 /// Says whether the service has nodes left or may have some again, or `None` where no node is dead.
 pub fn remove_dead_nodes(
@@ -26,8 +26,8 @@ pub fn remove_dead_nodes(
     told
 }
 
-/// Removes all ports and all entries of one dead node, and says whether the service has nodes left or may have some
-/// again.
+/// Removes all ports and all entries of one dead node, and says whether the service has nodes left
+/// or may have some again.
 fn remove_dead_node(service: &mut DynamicConfig, dead: &UniqueNodeId) -> DeregisterNodeState
     ensures removed { OnlyOthersStay (dead.now ∷ []) service.old service.new }
     ensures told { state_of result ≡ release_state service.new.nodes.registry.locked }

@@ -15,7 +15,8 @@ fn attach(rt: &impl Abort, service: &mut DynamicConfig, port: PortDetails) {
     assert!(rt; service.attach(port).is_ok());
 }
 
-/// Node 1, which is registered twice, with a publisher and a subscriber, and node 2 with a publisher.
+/// Node 1, which is registered twice, with a publisher
+/// and a subscriber, and node 2 with a publisher.
 fn peopled(rt: &impl Abort, alloc: Global) -> Result<DynamicConfig, Fail> {
     let mut service = service(alloc, 3)?;
     service.register_node_id(node(rt, 1))?;

@@ -1,4 +1,4 @@
-//! What a node is told that joins with its first port.
+//! What is answered to a node that joins with its first port.
 use super::services::*;
 use iox2_dynamic::dynamic_config::{
     DynamicConfig, ListenerDetails, MessagingPatternSettings, PortDetails, publish_subscribe,
@@ -9,10 +9,10 @@ use service_callers::monitor::remove_dead_nodes;
 use std::process::Abort;
 use std::test::Fail;
 
-/// What a node is told: its ticket and that of its port, or why it did not join.
+/// What is answered to a node: its ticket and that of its port, or why it did not join.
 type Told = Result<(u64, u64), JoinError>;
 
-/// What the node with this counter is told.
+/// What is answered to the node with this counter.
 fn told(rt: &impl Abort, service: &mut DynamicConfig, counter: u32, port: PortDetails) -> Told {
     join(service, node(rt, counter), port).map(|joined| (
         joined.node.ticket(),
@@ -28,7 +28,8 @@ fn listener(rt: &impl Abort, counter: u32, node_counter: u32) -> PortDetails {
     })
 }
 
-/// What the service tells whose last node is gone: each port has one fault less than the one before.
+/// What a service answers whose last node is gone:
+/// each port has one fault less than the one before.
 fn told_late(rt: &impl Abort, service: &mut DynamicConfig) -> [Told; 3] {
     remove_dead_nodes(service, &[node(rt, 1)]);
     [
@@ -38,8 +39,8 @@ fn told_late(rt: &impl Abort, service: &mut DynamicConfig) -> [Told; 3] {
     ]
 }
 
-/// One place for a node: the first one joins, with two subscribers there is no room for any more, and its death ends the
-/// service.
+/// One place for a node: the first one joins, with two subscribers there is no room for any more,
+/// and its death ends the service.
 #[test]
 fn the_first_cause_is_told(rt: HostRuntime) -> Result<(), Fail> {
     let mut service = service(rt.alloc(), 1)?;
@@ -63,7 +64,8 @@ fn the_first_cause_is_told(rt: HostRuntime) -> Result<(), Fail> {
     Ok(())
 }
 
-/// Two places for publishers: the third node finds none, uses up no ticket, and joins with a subscriber.
+/// Two places for publishers: the third node finds none,
+/// uses up no ticket, and joins with a subscriber.
 #[test]
 fn who_finds_no_room_may_join_otherwise(rt: HostRuntime) -> Result<(), Fail> {
     let mut service = service(rt.alloc(), 3)?;
@@ -86,7 +88,8 @@ fn who_finds_no_room_may_join_otherwise(rt: HostRuntime) -> Result<(), Fail> {
     Ok(())
 }
 
-/// The only node of a service with no place for its port does not join, and the service is not locked.
+/// The only node of a service with no place for its
+/// port does not join, and the service is not locked.
 #[test]
 fn a_fresh_service_stays_open(rt: HostRuntime) -> Result<(), Fail> {
     let no_ports = publish_subscribe::DynamicConfigSettings {

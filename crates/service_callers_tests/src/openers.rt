@@ -1,4 +1,4 @@
-//! What a service builder tells.
+//! What a service builder answers.
 use super::services::*;
 use iox2_config::config::Config;
 use iox2_config::hash::Sha1Hasher;
@@ -36,7 +36,8 @@ fn open(
     }
 }
 
-/// What an opener is told by the red service that wants this color, messages of these types, and so many elements.
+/// What the red service answers to an opener that wants this
+/// color, messages of these types, and this many elements.
 fn told(
     rt: &impl Abort,
     service: &mut DynamicConfig,
@@ -50,7 +51,7 @@ fn told(
     open(&description(rt), service, &faulty)
 }
 
-/// What an opener with each fault is told by an event service.
+/// What an event service answers to an opener with each fault.
 fn told_by_event(
     rt: &impl Abort,
     service: &mut DynamicConfig,
@@ -64,8 +65,8 @@ fn told_by_event(
     open(&event, service, &opener(rt, "blue", 1))
 }
 
-/// Each opener has one fault less than the one before; the last has none, and gets the first place. A message of two
-/// numbers behind a header of 40 bytes takes 64.
+/// Each opener has one fault less than the one before; the last has none, and gets the first place.
+/// A message of two numbers behind a header of 40 bytes takes 64.
 #[test]
 fn the_first_cause_is_told_and_nothing_stays(rt: HostRuntime) -> Result<(), Fail> {
     let mut service = service(rt.alloc(), 1)?;

@@ -1,4 +1,4 @@
-//! What a factory of publishers tells.
+//! What a factory of publishers answers.
 use super::services::*;
 use iox2_config::config::Config;
 use iox2_dynamic::dynamic_config::{AttachError, DynamicConfig};
@@ -8,7 +8,8 @@ use service_callers::monitor::remove_dead_nodes;
 use std::process::Abort;
 use std::test::Fail;
 
-/// The default settings with this alignment of payloads, and so many samples that wait for a subscriber.
+/// The default settings with this alignment of payloads,
+/// and this many samples that wait for a subscriber.
 fn settings(rt: &impl Abort, buffer: usize) -> StaticConfig {
     let mut settings = StaticConfig::new(&Config::default());
     settings.subscriber_max_buffer_size = buffer;
@@ -30,7 +31,7 @@ fn attach(
     ))
 }
 
-/// What a publisher of node 1 with this counter is told.
+/// What is answered to a publisher of node 1 with this counter.
 fn told(
     rt: &impl Abort,
     service: &mut DynamicConfig,
@@ -39,7 +40,8 @@ fn told(
     attach(rt, service, &publisher(rt, counter, 1))
 }
 
-/// What publishers of node 1 are told before it is registered, while it is, and after its death.
+/// What is answered to publishers of node 1 before it
+/// is registered, while it is, and after its death.
 fn all_told(
     rt: &impl Abort,
     service: &mut DynamicConfig,
@@ -54,7 +56,8 @@ fn all_told(
     [unknown, first, second, third, late]
 }
 
-/// 34 samples can be in use by the defaults, and a message of two numbers behind a header of 40 bytes takes 64.
+/// 34 samples can be in use by the defaults, and a message
+/// of two numbers behind a header of 40 bytes takes 64.
 #[test]
 fn a_publisher_has_a_block_for_each_sample_in_use(rt: HostRuntime) -> Result<(), Fail> {
     let mut service = service(rt.alloc(), 1)?;

@@ -24,7 +24,8 @@ fn part(rt: &impl Abort, name: &str, variant: TypeVariant, layout: (usize, usize
     TypeDetail::from_parts(variant, name, layout.0, layout.1).expect(rt, "a name and an alignment")
 }
 
-/// A header of 40 bytes, no user header, and numbers of 64 bits, whose places are multiples of 8 and of `alignment`.
+/// A header of 40 bytes, no user header, and numbers of 64
+/// bits, whose places are multiples of 8 and of `alignment`.
 pub(super) fn types(rt: &impl Abort, alignment: usize) -> MessageTypeDetails {
     MessageTypeDetails {
         header: part(rt, "Header", TypeVariant::FixedSize, (40, 8)),
@@ -56,7 +57,8 @@ pub(super) fn description(rt: &impl Abort) -> StaticConfig {
     service.with_attributes(&attributes)
 }
 
-/// A service of number 7 with so many places for nodes, two for publishers and two for subscribers.
+/// A service of number 7 with this many places for
+/// nodes, two for publishers and two for subscribers.
 pub(super) fn service(alloc: Global, nodes: usize) -> Result<DynamicConfig, AllocError> {
     let ports = publish_subscribe::DynamicConfigSettings {
         number_of_publishers: 2,

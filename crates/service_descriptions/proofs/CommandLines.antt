@@ -13,7 +13,7 @@ use Rattle.service_descriptions.specs.declared.replay.command.Command.TheVariant
 use Rattle.service_descriptions.proofs.Ids.{skip_ends, same_ids, same_plain, same_role, same_skips}
 use Rattle.service_descriptions.proofs.Numerals.{cancel, same_number}
 
--- what tells commands apart: the first and the third byte
+-- what distinguishes commands: the first and the third byte
 abbrev tag : List ℕ → ℕ
 tag bytes = get_or bytes 0 0 * 256 + get_or bytes 2 0
 

@@ -60,7 +60,7 @@ same_ids a b x y p q u v e =
       fourth.1,
     )
 
--- what tells roles apart: the first two bytes
+-- what distinguishes roles: the first two bytes
 abbrev role_tag : List ℕ → Role
 role_tag bytes =
     if get_or bytes 0 0 == 112 then role.Publisher

@@ -166,7 +166,7 @@ acts old handles (command.Dead dead cleanup) reply.HasOwners new s = dies (Clean
 acts old handles (command.Dead dead cleanup) reply.NoMoreOwners new s = dies (Cleans cleanup) old _ dead nodes.NoMoreOwners new s.0 s.1
 acts old handles _ _ new s = absurd s
 
--- what is told of the description is no handle
+-- an answer about the description is not a handle
 told : (old : Service) (about : Option Description) (c : Command) (r : Reply) (new : Service) → Tells about c r → new ≡ old → Moves old new (handle_in r)
 told old about (command.Verify required) reply.Verified new t e = still old new e
 told old about (command.Verify required) (reply.Refused fault) new t e = still old new e

@@ -92,7 +92,8 @@ next_number number old new (Some h) i is (inl n) = n.service ∙ is
 next_number number old new (Some h) i is (inr (inl n)) = n.service ∙ i.ports_are.first.number_is ∙ is
 next_number number old new (Some h) i is (inr (inr n)) = n.service ∙ i.ports_are.second.number_is ∙ is
 
--- after a command, what is kept of its reply stands for the handle that it gives, and no two handles are equal
+-- after a command, what is kept of its reply stands for
+-- the handle that it gives, and no two handles are equal
 still_sound : (number : ℕ) (old new : Service) (about : Option Description) (kept : List Earlier) (cell : Earlier) (c : Command) (r : Reply) → Serves old about (handles_in number kept) c r new
     → ((n : ℕ) → IfSome (handle_in r) (λ h. h.service ≡ n) → handle_at n cell ≡ handle_in r)
     → IsService old → old.nodes.registry.service ≡ number → KeepsHandles old (handles_in number kept)

@@ -10,7 +10,7 @@ use Rattle.service_descriptions.specs.declared.replay.earlier.Earlier.TheVariant
 abbrev pub Gave : List (Option Handle) → ℕ → Handle → Type 0
 Gave handles k handle = slice_get handles k ≡ Some (Some handle)
 
--- k is no earlier command, or one that was answered with no handle
+-- k is not an earlier command, or one that was answered with no handle
 abbrev pub GaveNone : List (Option Handle) → ℕ → Type 0
 GaveNone handles k = (handle : Handle) → ¬ (Gave handles k handle)
 
@@ -38,6 +38,6 @@ abbrev pub handle_at : ℕ → Earlier → Option Handle
 handle_at number earlier.Nothing = None
 handle_at number (earlier.Given role slot ticket) = Some (record { service = number; role = role; slot = slot; ticket = ticket })
 
--- the handles that are kept so
+-- the handles that are kept without the number of their service
 abbrev pub handles_in : ℕ → List Earlier → List (Option Handle)
 handles_in number kept = map (handle_at number) kept

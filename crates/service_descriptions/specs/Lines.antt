@@ -78,7 +78,7 @@ plain role.Client port node = of.Client (record {
 plain role.Writer port node = of.Writer (record { writer_id = port; node_id = node })
 plain _ port node = of.Reader (record { reader_id = port; node_id = node })
 
--- details as a script gives them
+-- details of a port as a script gives them, with an id and a node alone
 pub record IsPlain (d : PortDetails) : Type 0 where
   pub port : IsId (port_value (port_of d))
   pub node : IsNodeId (node_of d)
@@ -126,7 +126,7 @@ IsIdFront front = IsId front.0 × EndsNumber front.1
 abbrev pub IsNodeFront : ℕ × List ℕ → Type 0
 IsNodeFront front = IsNodeId front.0 × EndsNumber front.1
 
--- their text
+-- the text of an id and what follows it
 abbrev pub id_front : ℕ × List ℕ → List ℕ
 id_front front = id_text front.0 ++ front.1
 
@@ -134,7 +134,7 @@ id_front front = id_text front.0 ++ front.1
 abbrev pub IsRoleFront : Role × List ℕ → Type 0
 IsRoleFront front = front.0 ≢ role.Node
 
--- their text
+-- the word for a role and what follows it
 abbrev pub role_front : Role × List ℕ → List ℕ
 role_front front = role_word front.0 ++ front.1
 
@@ -156,7 +156,7 @@ abbrev pub ports_then : List ℕ → List ℕ → List ℕ
 ports_then [] rest = rest
 ports_then (port ∷ ports) rest = spaced (id_text port) (ports_then ports rest)
 
--- their text
+-- the text of the ports that stay, and what follows it
 abbrev pub skip_front : List ℕ × List ℕ → List ℕ
 skip_front ([], rest) = rest
 skip_front (port ∷ ports, rest) = codes " skip" ++ ports_then (port ∷ ports) rest
@@ -165,12 +165,12 @@ skip_front (port ∷ ports, rest) = codes " skip" ++ ports_then (port ∷ ports)
 abbrev pub IsDeadFront : ℕ × List ℕ × List ℕ → Type 0
 IsDeadFront front = IsNodeId front.0 × IsSkipFront (front.1, front.2)
 
--- their text
+-- the text of a dead node and the ports that stay, and what follows it
 abbrev pub dead_front : ℕ × List ℕ × List ℕ → List ℕ
 dead_front front = id_text front.0 ++ skip_front (front.1, front.2)
 
--- Ports were read after others, and what is left does not go on with them. Where nothing is left to tell, the bytes
--- have no such ports at their front.
+-- Ports were read after others, and what is left does not go on with them. Where `None` is
+-- answered, the bytes have no such ports at their front.
 abbrev pub GoesOn : List ℕ → List ℕ → Option (List ℕ) → List ℕ → Type 0
 GoesOn before bytes (Some rest) after =
     (ports : List ℕ) × (after ≡ before ++ ports) × AllByRecursion IsId ports × (bytes ≡ ports_then ports rest) × (get_or rest 0 0 ≢ 32) × EndsNumber rest
@@ -189,7 +189,7 @@ plain_of p = plain p.role (value_of p.port) p.node
 abbrev pub IsPlainFront : PortDetails × List ℕ → Type 0
 IsPlainFront front = IsPlain front.0 × EndsNumber front.1
 
--- their text
+-- the text of the details of a port, and what follows it
 abbrev pub plain_front : PortDetails × List ℕ → List ℕ
 plain_front front = role_word (role_of front.0) ++ spaced (id_text (port_value (port_of front.0))) (spaced (id_text (node_of front.0)) front.1)
 
@@ -211,7 +211,7 @@ SameCommand c d = c ≡ d
 abbrev pub IsCommandFront : Command × List ℕ → Type 0
 IsCommandFront front = IsCommand front.0 × EndsCommand front.0 front.1
 
--- their text
+-- the text of a command, and what follows it
 abbrev pub command_front : Command × List ℕ → List ℕ
 command_front front = line_of front.0 ++ front.1
 

@@ -92,8 +92,8 @@ LacksService script = (service : ServiceLine) (tail : List ℕ) → IsServiceLin
 abbrev pub BeginsBadly : List ℕ → Type 0
 BeginsBadly rest = (rest ≢ []) × ((command : Command) (tail : List ℕ) → IsCommand command → rest ≢ line_of command ++ 10 ∷ tail)
 
--- The script may end so and give this text: all replies, those to the lines before the bad one, or those to some
--- first lines. The line after so many commands is the one of that number and 2.
+-- The script may end so and give this text: all replies, those to the lines before the bad one, or
+-- those to some first lines. The line after n commands has the number n + 2.
 abbrev pub Scripted : List ℕ → Result (Unit {0}) ScriptError → List ℕ → Type 0
 Scripted script (Ok done) text =
     (service : ServiceLine) × (commands : List Command) × Begins script service commands [] × Replied service commands text
@@ -105,19 +105,11 @@ Scripted script (Err (error.NoMemory why)) text =
     (text ≡ [])
     ⊎ ((service : ServiceLine) × (commands : List Command) × (rest : List ℕ) × Begins script service commands rest × Replied service commands text)
 
--- The first of the lines was run, and its reply line appended; the rest follows it. Where nothing is told to follow, no
--- command's line begins the lines, and nothing changed.
+-- The first of the lines was run, and its reply line appended; the rest follows it. Where `None` is
+-- answered, no command's line begins the lines, and nothing changed.
 abbrev pub RanLine : State → List ℕ → List ℕ → Option (List ℕ) → State → List ℕ → Type 0
 RanLine old lines before (Some rest) new after =
     (command : Command) × (reply : Reply) × IsCommand command × (lines ≡ line_of command ++ 10 ∷ rest)
     × ServiceStep old command reply new × (after ≡ before ++ reply_line reply)
 RanLine old lines before None new after =
     ((command : Command) (rest : List ℕ) → IsCommand command → lines ≢ line_of command ++ 10 ∷ rest) × (new ≡ old) × (after ≡ before)
-
--- The command that the line spells took its step, and its reply was appended. Where the line spells none, nothing changed.
-abbrev pub LineStep : State → List ℕ → List Reply → Bool → State → List Reply → Type 0
-LineStep old line before true new after =
-    (command : Command) × (reply : Reply) × IsCommand command × (line ≡ line_of command)
-    × ServiceStep old command reply new × (after ≡ before ++ reply ∷ [])
-LineStep old line before false new after =
-    ((command : Command) → IsCommand command → line ≢ line_of command) × (new ≡ old) × (after ≡ before)

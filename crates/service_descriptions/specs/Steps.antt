@@ -32,7 +32,8 @@ use Rattle.service_descriptions.specs.Listings.{ArePorts, LacksRole}
 abbrev pub Attaches : Service → PortDetails → Result Handle AttachError → Service → Type 0
 Attaches old details answer new = HasRole old.pattern (role_of details) × AttachStep old details answer new
 
--- the service, where earlier commands were answered with these handles, may answer a command on it so
+-- the service, where earlier commands were answered
+-- with these handles, may answer a command on it so
 abbrev pub Acts : Service → List (Option Handle) → Command → Reply → Service → Type 0
 Acts old handles (command.Register id) (reply.Handle handle) new = RegisterStep old id (Ok handle) new
 Acts old handles (command.Register id) reply.Locked new = RegisterStep old id (Err MarkedForDestruction) new
@@ -99,7 +100,8 @@ Tells about (command.Compatible part opener) reply.NoDescription = about ≡ Non
 -- no other reply is given
 Tells about _ _ = ⊥
 
--- the service, where it is described so and earlier commands were answered with these handles, may answer so
+-- the service, where it is described so and earlier
+-- commands were answered with these handles, may answer so
 abbrev pub Serves : Service → Option Description → List (Option Handle) → Command → Reply → Service → Type 0
 Serves old about handles (command.Verify required) r new = Tells about (command.Verify required) r × (new ≡ old)
 Serves old about handles (command.Layout part n) r new = Tells about (command.Layout part n) r × (new ≡ old)
@@ -107,7 +109,8 @@ Serves old about handles (command.Places part header) r new = Tells about (comma
 Serves old about handles (command.Compatible part opener) r new = Tells about (command.Compatible part opener) r × (new ≡ old)
 Serves old about handles c r new = Acts old handles c r new
 
--- a service, its description or none, and for each earlier command the handle that it was answered with, or none
+-- a service, its description or none, and for each earlier
+-- command the handle that it was answered with, or none
 pub record State : Type 0 where
   pub service : Service
   pub description : Option Description

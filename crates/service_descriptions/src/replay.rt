@@ -23,5 +23,5 @@ pub use line::read_line;
 pub use reply::Reply;
 pub use reply_line::write_reply;
 pub use script::{ScriptError, run_script};
-pub use state::{ServiceState, replay, replay_line};
+pub use state::{ServiceState, replay};
 pub use streams::run_streams;

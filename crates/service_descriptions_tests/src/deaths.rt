@@ -23,7 +23,7 @@ const LISTINGS: [&str; 3] = ["list publisher", "list subscriber", "nodes"];
 pub(super) const LINES: &str =
     "handle 0 0\nhandle 0 0\nhandle 1 1\nhandle 0 0\nhandle 1 1\nhas-owners\nlist 100000000000000000000000c\nlist 100000000000000000000000d\nlist 1000000000000000000000001\nno-owners\nlist\nlist\nlist\n";
 
-/// Appends the command that tells of a dead node, with these answers in order.
+/// Appends the command of a dead node, with these answers in order.
 fn die(
     alloc: Global,
     dead: UniqueNodeId,
@@ -36,7 +36,7 @@ fn die(
     Ok(())
 }
 
-/// The commands, of which those that tell of the death have no line.
+/// The commands, of which those of the death have no line.
 pub(super) fn commands(alloc: Global, dead: UniqueNodeId) -> Result<Vec<Command>, AllocError> {
     let mut commands = Vec::new(alloc);
     spell(alloc, &COMING, &mut commands)?;

@@ -148,8 +148,8 @@ fn of_eights(alloc: Global, state: &mut ServiceState, out: &mut Vec<u8>) -> Resu
     Ok(())
 }
 
-/// With that of three numbers: an opener, and what verifiers say. The handle that the first command was answered with is
-/// still named.
+/// With that of three numbers: an opener, and what verifiers say. The handle that the first command
+/// was answered with is still named.
 fn for_openers(
     alloc: Global,
     state: &mut ServiceState,

@@ -126,7 +126,7 @@ fn laws_of_refusals(rt: HostRuntime) {
     all_differ(&rt, &replies);
 }
 
-/// The reply that gives the room of so many elements.
+/// The reply that gives the room of this many elements.
 fn layout(details: &MessageTypeDetails, n: usize) -> Option<Reply> {
     if !details.has_alignments() {
         return None;

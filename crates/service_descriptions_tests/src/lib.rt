@@ -1,5 +1,6 @@
-//! Worked examples of commands on a service, of scripts and of streams. They are tests of what no contract says: worked rows,
-//! each public call once with ample memory and with memory refused, and streams that fail.
+//! Worked examples of commands on a service, of scripts and of streams.
+//! They are tests of what no contract says: worked rows, each public call
+//! once with ample memory and with memory refused, and streams that fail.
 #![tactic(auto)]
 
 #[cfg(test)]

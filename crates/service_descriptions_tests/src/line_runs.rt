@@ -2,72 +2,41 @@
 
 use super::serving::{new_service, write_replies};
 use super::worked::ROWS;
-use service_descriptions::replay::{Reply, ServiceState, read_line, replay, replay_line};
+use service_descriptions::replay::{ServiceState, read_line, replay};
 use std::alloc::{AllocError, Global};
 use std::process::Abort;
 use std::test::Fail;
 
-/// How a line reaches the service.
-#[derive(Clone, Copy)]
-enum Way {
-    /// It is read, and its command is replayed.
-    ByCommand,
-    /// It is replayed.
-    ByLine,
-}
-
-const WAYS: [Way; 2] = [Way::ByCommand, Way::ByLine];
-
-/// Does what `replay_line` does by reading the line and replaying its command.
-fn replay_command(
-    alloc: Global,
-    state: &mut ServiceState,
-    line: &[u8],
-    replies: &mut Vec<Reply>,
-) -> Result<bool, AllocError> {
-    let Some(command) = read_line(alloc, line)? else {
-        return Ok(false);
-    };
-    replay(alloc, state, &[command], replies)?;
-    Ok(true)
-}
-
 /// Appends the reply line to the line, or `?` where it spells no command.
 fn serve_line(
     alloc: Global,
-    way: Way,
     state: &mut ServiceState,
     line: &str,
     out: &mut Vec<u8>,
 ) -> Result<(), AllocError> {
-    let mut replies = Vec::new(alloc);
-    let spelled = match way {
-        Way::ByCommand => replay_command(alloc, state, line.as_bytes(), &mut replies)?,
-        Way::ByLine => replay_line(alloc, state, line.as_bytes(), &mut replies)?,
-    };
-    if !spelled {
+    let Some(command) = read_line(alloc, line.as_bytes())? else {
         return out.extend_from_slice(b"?\n");
-    }
+    };
+    let mut replies = Vec::new(alloc);
+    replay(alloc, state, &[command], &mut replies)?;
     write_replies(&replies, out)
 }
 
 /// Makes the service of a script's first line, and appends its reply lines to the others.
-fn serve_script(alloc: Global, way: Way, script: &str, out: &mut Vec<u8>) -> Result<(), Fail> {
+fn serve_script(alloc: Global, script: &str, out: &mut Vec<u8>) -> Result<(), Fail> {
     let (service, rest) = script.split_once('\n').ok_or("a service line")?;
     let mut state = new_service(alloc, service)?;
     for line in rest.split_terminator('\n') {
-        serve_line(alloc, way, &mut state, line, out)?;
+        serve_line(alloc, &mut state, line, out)?;
     }
     Ok(())
 }
 
-/// Asserts that a script gives these lines, whichever way its own reach the service.
+/// Asserts that a script gives these lines.
 fn assert_serves(rt: &(impl Abort + AllocGlobal), script: &str, lines: &str) -> Result<(), Fail> {
-    for way in WAYS {
-        let mut out = Vec::new(rt.alloc());
-        serve_script(rt.alloc(), way, script, &mut out)?;
-        assert_eq!(rt; (script, out.as_slice()), (script, lines.as_bytes()));
-    }
+    let mut out = Vec::new(rt.alloc());
+    serve_script(rt.alloc(), script, &mut out)?;
+    assert_eq!(rt; (script, out.as_slice()), (script, lines.as_bytes()));
     Ok(())
 }
 
@@ -80,10 +49,10 @@ fn worked_scripts(rt: HostRuntime) -> Result<(), Fail> {
 }
 
 /// Lines of all kinds, good and bad, on a new service.
-fn serve_lines(alloc: Global, way: Way, out: &mut Vec<u8>) -> Result<(), Fail> {
+fn serve_lines(alloc: Global, out: &mut Vec<u8>) -> Result<(), Fail> {
     let lines = [
         "register 1.0.0.1",
-        // A bad line is no command: the next handle is that of command 1.
+        // A bad line is not a command: the next handle is that of command 1.
         "register 1.0.0.1 ",
         "register 1.0.0.1\n",
         "",
@@ -101,20 +70,18 @@ fn serve_lines(alloc: Global, way: Way, out: &mut Vec<u8>) -> Result<(), Fail> {
     ];
     let mut state = new_service(alloc, "service event 7 2 2 2")?;
     for line in lines {
-        serve_line(alloc, way, &mut state, line, out)?;
+        serve_line(alloc, &mut state, line, out)?;
     }
     Ok(())
 }
 
 #[test]
 fn lines_on_one_state(rt: HostRuntime) -> Result<(), Fail> {
-    for way in WAYS {
-        let mut out = Vec::new(rt.alloc());
-        serve_lines(rt.alloc(), way, &mut out)?;
-        assert_eq!(rt;
-            out.as_slice(),
-            b"handle 0 0\n?\n?\n?\nhandle 0 0\nlist 1000000000000000000000009\ncount 0\nports-attached\nreleased\nno-handle\n?\nhandle 0 1\nhas-owners\nno-owners\nlocked\n".as_slice()
-        );
-    }
+    let mut out = Vec::new(rt.alloc());
+    serve_lines(rt.alloc(), &mut out)?;
+    assert_eq!(rt;
+        out.as_slice(),
+        b"handle 0 0\n?\n?\n?\nhandle 0 0\nlist 1000000000000000000000009\ncount 0\nports-attached\nreleased\nno-handle\n?\nhandle 0 1\nhas-owners\nno-owners\nlocked\n".as_slice()
+    );
     Ok(())
 }

@@ -1,5 +1,6 @@
-//! Calls that are refused memory. With ample memory they give their full answers; where one request is refused
-//! (`bench/refuse_memory` does that), they give a beginning of these, and the rest when they are called again.
+//! Calls that are refused memory. With ample memory they give their full answers; where one request
+//! is refused (`bench/refuse_memory` does that), they give a beginning of these, and the rest when
+//! they are called again.
 
 use super::serving::write_replies;
 use super::worked::SKIPPED;
@@ -91,7 +92,8 @@ fn a_run_goes_on_where_it_was_refused(rt: HostRuntime) -> Result<(), Fail> {
     Ok(())
 }
 
-/// The status of a run of the program, and what it writes to its output and its errors, which have room for it.
+/// The status of a run of the program, and what it writes
+/// to its output and its errors, which have room for it.
 fn streamed(alloc: Global, script: &str) -> Result<(u8, Vec<u8>, Vec<u8>), AllocError> {
     let mut output = Vec::with_capacity(alloc, 400)?;
     let mut errors = Vec::with_capacity(alloc, 40)?;
@@ -104,8 +106,8 @@ fn begins(lines: &str, text: &[u8]) -> bool {
     lines.as_bytes().starts_with(text) && (text.is_empty() || text.ends_with(b"\n"))
 }
 
-/// The script gives all its lines, or is refused memory after some first ones. So does the program, and after the same ones
-/// where both are refused.
+/// The script gives all its lines, or is refused memory after some first ones. So does the program,
+/// and after the same ones where both are refused.
 fn gives_whole_lines(rt: &(impl Abort + AllocGlobal + Env), script: &str, lines: &str) {
     let mut text = Vec::new(rt.alloc());
     let end = run_script(rt.alloc(), script.as_bytes(), &mut text);

@@ -46,7 +46,8 @@ fn many_calls_on_one_state(rt: HostRuntime) -> Result<(), Fail> {
     Ok(())
 }
 
-/// Gives the commands to a new service, so many in each call, and appends the lines of its replies.
+/// Gives the commands to a new service, this many in
+/// each call, and appends the lines of its replies.
 fn serve_some_at_once(
     alloc: Global,
     commands: &[Command],

@@ -36,7 +36,8 @@ impl Calls {
     }
 }
 
-/// Gives a text in pieces of so many bytes at most, and notes the greatest piece that was asked for.
+/// Gives a text in pieces of this many bytes at most,
+/// and notes the greatest piece that was asked for.
 #[derive(Clone, Copy)]
 struct Source<'a> {
     text: &'a [u8],
@@ -56,7 +57,7 @@ impl Read for Source<'_> {
     }
 }
 
-/// Takes so many bytes at a call at most.
+/// Takes this many bytes at a call at most.
 #[derive(Drop)]
 struct Sink {
     bytes: Vec<u8>,
@@ -141,7 +142,8 @@ fn run(alloc: Global, script: &[u8], streams: Streams) -> Ended {
     }
 }
 
-/// A run on streams that do not fail gives this output and these errors, and asks for no more than 4,096 bytes at once.
+/// A run on streams that do not fail gives this output and
+/// these errors, and asks for no more than 4,096 bytes at once.
 fn gives(
     rt: &(impl Abort + AllocGlobal),
     script: &str,
@@ -238,7 +240,8 @@ fn a_long_script(rt: HostRuntime) -> Result<(), Fail> {
     Ok(())
 }
 
-/// Where a stream fails at a call, whatever the kind of the failure, the status is 3 and the streams have had so many calls.
+/// Where a stream fails at a call, whatever the kind of the failure, the status is 3 and the
+/// streams have had this many calls.
 fn fails(rt: &(impl Abort + AllocGlobal), script: &str, failing: [Option<u64>; 3], made: [u64; 3]) {
     for kind in [ErrorKind::Other, ErrorKind::Interrupted] {
         let streams = Streams {
@@ -273,7 +276,8 @@ fn a_write_or_flush_of_a_good_script_that_fails(rt: HostRuntime) {
 /// The output is written, then the errors, then the output is flushed, then the errors.
 #[test]
 fn a_write_or_flush_of_a_bad_script_that_fails(rt: HostRuntime) {
-    // The script is read in two pieces and the replies are written in three, as is the error with its number.
+    // The script is read in two pieces and the replies are
+    // written in three, as is the error with its number.
     for call in 0..3 {
         fails(&rt, BAD.0, [None, Some(call), None], [3, call + 1, 0]);
         fails(&rt, BAD.0, [None, None, Some(call)], [3, 3, call + 1]);

@@ -3,7 +3,8 @@
 use super::deaths;
 use super::stored_run::{LINES, SCRIPT};
 
-/// Ports of two nodes of one process and one counter, one of which dies; one of its ports stays, and so does it.
+/// Ports of two nodes of one process and one counter, one
+/// of which dies; one of its ports stays, and so does it.
 pub(super) const SKIPPED: (&str, &str) = (
     "service publish-subscribe 9 4 4 4\nregister 1.1.0.5\nregister 1.2.0.5\nadd publisher 1.1.0.10 1.1.0.5\nadd subscriber 1.1.0.11 1.1.0.5\nadd publisher 1.2.0.12 1.2.0.5\ndead 1.1.0.5 skip 1.1.0.10\nlist publisher\nlist subscriber\nnodes\n",
     "handle 0 0\nhandle 1 1\nhandle 0 0\nhandle 0 0\nhandle 1 1\nhas-owners\nlist 100000001000000000000000a 100000002000000000000000c\nlist\nlist 1000000010000000000000005 1000000020000000000000005\n",
@@ -58,7 +59,7 @@ pub(super) const ROWS: [(&str, &str); 16] = [
         "service event 7 3 0 0\nregister 1.0.0.1\nadd listener 1.0.0.9 1.0.0.1\nlist listener\ndead 1.0.0.1\nregister 2.0.0.2\n",
         "handle 0 0\nfull\nlist\nno-owners\nlocked\n",
     ),
-    // A port's handle is no node's, and the other way round.
+    // A port's handle is not a node's, and the other way round.
     (
         "service event 7 2 2 2\nregister 1.0.0.1\nadd listener 1.0.0.9 1.0.0.1\nderegister 1\nrelease 0\nrelease 1\nrelease 1\nrelease 2\nnodes\n",
         "handle 0 0\nhandle 0 0\nnot-owned\nnot-owned\nreleased\nnot-owned\nno-handle\nlist 1000000000000000000000001\n",
@@ -68,7 +69,7 @@ pub(super) const ROWS: [(&str, &str); 16] = [
         "service event 7 1 2 2\nregister 1.0.0.1\nadd listener 0.0.0.0 1.0.0.1\nlist listener\n",
         "handle 0 0\nhandle 0 0\nlist 0\n",
     ),
-    // What is told first of a port that cannot be attached.
+    // What is reported first of a port that cannot be attached.
     (
         "service event 7 1 0 2\nadd listener 1.0.0.9 1.0.0.1\nregister 1.0.0.1\nadd listener 1.0.0.9 1.0.0.1\nadd publisher 1.0.0.9 1.0.0.1\nderegister 1\nadd listener 1.0.0.9 1.0.0.1\n",
         "not-registered\nhandle 0 0\nfull\nwrong-pattern\nno-owners\nlocked\n",

@@ -17,7 +17,7 @@ use Rattle.service_drawing.specs.declared.fault.Fault.TheVariants.{BadArgument, 
 abbrev pub words_of : IntoIter (String Global) Global → List (List ℕ)
 words_of words = map string_bytes (into_iter_items words)
 
--- the words ask for nothing that there is
+-- the words are no request that the program knows
 abbrev pub IsNoRequest : List (List ℕ) → Type 0
 IsNoRequest words =
     (words ≢ []) × (words ≢ codes "svg" ∷ []) × (words ≢ codes "--help" ∷ [])
@@ -50,7 +50,8 @@ abbrev pub IsTextOrNoMemory : List ℕ → Result (String Global) Fault → Type
 IsTextOrNoMemory text (Ok copy) = string_bytes copy ≡ text
 IsTextOrNoMemory text (Err fault) = fault ≡ NoMemory
 
--- what is answered: a drawing or why there is none, or the text that was asked for unless there is no memory for it
+-- what is answered: a drawing or why there is none, or the
+-- text that was asked for unless there is no memory for it
 abbrev pub Answers : Result Asked Fault → Result (String Global) Fault → Type 0
 Answers (Err fault) end = end ≡ Err fault
 Answers (Ok (Drawing form)) end = Unit {0}

@@ -10,7 +10,7 @@ use Rattle.service_drawing.specs.declared.layout.Part.TheVariants as part
 use Rattle.service_drawing.specs.declared.layout.Clash.{Clash}
 use Rattle.service_drawing.specs.declared.layout.Clash.TheVariants as clash
 
--- the span of so many bytes from this place on
+-- the span of this many bytes from this place on
 abbrev pub span : ℕ → ℕ → Extent
 span start size = record { start = start; end = start + size }
 
@@ -23,8 +23,8 @@ pub record IsLayoutOf (l : MessageLayout) (d : MessageTypeDetails) (n : ℕ) : T
   pub elements : l.elements ≡ n
   pub size : l.size ≡ bound d n
 
--- the parts lie one behind the other, with the gaps between them, the payload is its elements, and the room is no larger
--- than a block of memory can be
+-- the parts lie one behind the other, with the gaps between them, the payload is its elements, and
+-- the room is no larger than a block of memory can be
 pub record IsWhole (l : MessageLayout) : Type 0 where
   pub begins : l.header.start ≡ 0
   pub header_first : l.header.end ≤ l.user_header.start

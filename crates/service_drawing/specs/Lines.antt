@@ -75,7 +75,7 @@ exchange_front (exchange.RequestResponse request response) rest =
     message_front (codes "request-") request (message_front (codes "response-") response rest)
 exchange_front (exchange.Blackboard key) rest = type_front (codes "key ") key rest
 
--- the pattern whose ports exchange so
+-- the pattern of a kind of exchange
 abbrev pub kind_of : Exchange → PatternKind
 kind_of (exchange.PublishSubscribe message) = PublishSubscribe
 kind_of exchange.Event = Event
@@ -107,7 +107,7 @@ IsInternal line =
     (kind : PatternKind) × (name : List ℕ) × (line ≡ pattern_word kind ++ name)
     × IsTrue (starts_with nat_eq name (codes "iox2://"))
 
--- for this reason the line spells no service: an internal name is told wherever there is one
+-- for this reason the line spells no service: an internal name is reported wherever there is one
 abbrev pub IsNoService : List ℕ → Reason → Type 0
 IsNoService line reason.InternalName = IsInternal line
 IsNoService line reason.OtherForm = ¬ IsInternal line

@@ -22,14 +22,15 @@ abbrev pub response_limits_of : Defaults → List ℕ
 response_limits_of d =
     server_limits (request_response_of d.request_response) d.request_response.server_max_loaned_responses_per_request
 
--- ports of this name send this message, which is called so, and of one port that many are in use at most
+-- ports of this name send this message, which is called
+-- so, and of one port that many are in use at most
 pub record IsSegment (s : Segment) (title port : List ℕ) (message : Message) (limits : List ℕ) : Type 0 where
   pub called : s.title.now ≡ title
   pub sender : s.port.now ≡ port
   pub sent : s.message.now ≡ message
   pub chunks : TellsGreatest limits s.chunks
 
--- these are the messages that ports exchange so
+-- the messages that ports of this kind of exchange send
 abbrev pub AreSegments : List (Option Segment) → Exchange → Defaults → Type 0
 AreSegments segments (PublishSubscribe message) d =
     (s : Segment) × (segments ≡ Some s ∷ None ∷ [])

@@ -121,8 +121,8 @@ pub record HasName (names : List (List ℕ)) (index : ℕ) (word : List ℕ) : T
 abbrev pub word_of : List ℕ → List ℕ
 word_of text = before_first (λ b. b == 32) text
 
--- the text names one of the settings, which no line before has set, and a value, and that setting alone has got that value
--- and is marked as set
+-- the text names one of the settings, which no line before has set, and a value, and that setting
+-- alone has got that value and is marked as set
 pub record Sets (names : List (List ℕ)) (old : List Value) (given : List Bool) (text : List ℕ) (new : List Value)
     (marked : List Bool) : Type 0 where
   pub index : ℕ

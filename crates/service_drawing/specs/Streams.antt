@@ -31,18 +31,19 @@ cause_text (Read OtherForm) = codes ": "
 abbrev pub expected : List ℕ → List ℕ → List ℕ
 expected prefix form = codes "expected " ++ prefix ++ (form ++ codes "\n")
 
--- the line that tells of a bad line
+-- the line that reports a bad line
 abbrev pub bad_line_text : ℕ → Cause → List ℕ → List ℕ → List ℕ
 bad_line_text line cause prefix form =
     codes "bad line " ++ decimal line ++ (cause_text cause ++ expected prefix form)
 
--- the line that tells of a fault
+-- the line that reports a fault
 abbrev pub fault_text : Fault → List ℕ
 fault_text (BadLine line cause prefix form) = bad_line_text line cause prefix.now form.now
 fault_text BadArgument = codes "bad argument: expected svg, --help, --version, or no argument" ++ 10 ∷ []
 fault_text NoMemory = codes "no memory" ++ 10 ∷ []
 
--- the fault of the line with which what is left begins: its number, the cause, and what was expected
+-- the fault of the line with which what is left
+-- begins: its number, the cause, and what was expected
 abbrev pub TellsBadLine : List ℕ → Wanted → Fault → Type 0
 TellsBadLine bytes wanted (BadLine line cause prefix form) =
     ((read : List ℕ) → bytes ≡ read ++ wanted.rest.now → line ≡ count_by (λ b. b == 10) read + 1)
@@ -68,8 +69,8 @@ status_of (Err (BadLine line cause prefix form)) = 1
 status_of (Err BadArgument) = 1
 status_of (Err NoMemory) = 2
 
--- what was asked for was answered or there was a fault: that is the status, the writers got what fits it, and for a drawing
--- the input was read to its end
+-- what was asked for was answered or there was a fault: that is the status, the writers got what
+-- fits it, and for a drawing the input was read to its end
 pub record Reported (arguments : Result (IntoIter (String Global) Global) Error) (status : ℕ)
     (left out_old out_new err_old err_new : Option (List ℕ)) : Type 0 where
   pub asked : Result Asked Fault

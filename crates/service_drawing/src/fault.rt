@@ -1,4 +1,4 @@
-//! Why nothing was drawn, and how it is told.
+//! Why nothing was drawn, and how it is reported.
 ghost use Rattle.std.specs.Prelude.{◌≡◌, ℕ, List, ◌+◌, ◌++◌, ◌==◌, OnOk, count_by};
 ghost use Rattle.std.specs.Io.KnownBytes.{Appends};
 ghost use Rattle.service_drawing.specs.Streams.{expected, cause_text, bad_line_text, fault_text};
@@ -15,10 +15,10 @@ use std::io::Write;
 /// Why nothing was drawn.
 #[derive(Clone, Copy)]
 pub(crate) enum Fault {
-    /// The arguments are neither none nor one of the words that there are.
+    /// There are arguments, and not one of the known words alone.
     BadArgument,
-    /// The line of this number is bad for this cause, and a line of this form, after the prefix, was expected. Lines are
-    /// numbered from 1.
+    /// The line of this number is bad for this cause, and a line of this form, after the prefix,
+    /// was expected. Lines are numbered from 1.
     BadLine {
         line: usize,
         cause: Cause,
@@ -29,7 +29,8 @@ pub(crate) enum Fault {
     NoMemory,
 }
 
-/// The number of the line where what is left begins: 1, and one more for each newline that was read before.
+/// The number of the line where what is left begins: 1,
+/// and one more for each newline that was read before.
 fn line_number(bytes: &[u8], rest: &[u8]) -> usize
     ensures { (read : List ℕ) → bytes.now ≡ read ++ rest.now
         → result ≡ count_by (λ b. b == 10) read + 1 }
@@ -107,7 +108,7 @@ fn write_byte<E: Write>(errors: &mut E, byte: u8) -> io::Result<()>
     write_whole(errors, b", and a line holds bytes from 32 to 126; ")
 }
 
-/// Writes the line that tells of a bad line.
+/// Writes the line that reports a bad line.
 fn write_bad_line<E: Write>(
     errors: &mut E,
     line: usize,
@@ -132,7 +133,7 @@ fn write_reason<E: Write>(errors: &mut E, cause: Cause, prefix: &str, form: &str
     write_expected(errors, prefix, form)
 }
 
-/// Writes the line that tells why nothing was drawn.
+/// Writes the line that says why nothing was drawn.
 pub(crate) fn write_fault<E: Write>(errors: &mut E, fault: &Fault) -> io::Result<()>
     ensures { OnOk result
         (Appends (E.contents errors.old) (E.contents errors.new) (fault_text fault.now)) }

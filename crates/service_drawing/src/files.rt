@@ -8,8 +8,8 @@ use iox2_config::hash::ServiceHash;
 use iox2_texts::bounded::SemanticStringError;
 use iox2_texts::paths::FileName;
 
-/// The name of the file of a service: the prefix, the hash text and the suffix. Refused where it has more than 255
-/// bytes.
+/// The name of the file of a service: the prefix, the hash text and the suffix. Refused where it
+/// has more than 255 bytes.
 pub(crate) fn file_name(
     prefix: &FileName,
     hash: &ServiceHash,

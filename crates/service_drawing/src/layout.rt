@@ -41,7 +41,7 @@ pub(crate) enum Part {
 }
 
 impl MessageLayout {
-    /// The layout of a message of so many elements, or `None` where it would pass 2^63 - 1 bytes.
+    /// The layout of a message of this many elements, or `None` where it would pass 2^63 - 1 bytes.
     #[tactic(auto, using(crate::proofs::Inside::ends_inside, iox2_texts::proofs::Multiple::multiples))]
     pub(crate) fn of(details: &MessageTypeDetails, elements: usize) -> Option<Self>
         ensures some { IfSome result (λ layout. IsLayoutOf layout details.now elements) }
@@ -116,7 +116,7 @@ impl MessageLayout {
         }
     }
 
-    /// How many bytes so many messages take, or `None` where that passes 2^64 - 1.
+    /// How many bytes this many messages take, or `None` where that passes 2^64 - 1.
     pub(crate) fn memory(&self, chunks: usize) -> Option<usize>
         ensures { MatchOption result (2 ^ 64 ≤ chunks * self.now.size)
             (λ bytes. bytes ≡ chunks * self.now.size) }
@@ -136,7 +136,8 @@ pub(crate) enum Clash {
     Payload,
 }
 
-/// The first cause for which an opener may not use a service's messages, or `None` exactly where it may.
+/// The first cause for which an opener may not use a
+/// service's messages, or `None` exactly where it may.
 pub(crate) fn first_clash(
     opener: &MessageTypeDetails,
     service: &MessageTypeDetails,

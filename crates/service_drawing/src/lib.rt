@@ -1,8 +1,9 @@
-//! What a service is, for a person to look at: its name and its files, its settings, where the parts of its messages lie,
-//! how much memory its ports take, and whether its attributes are what an opener requires.
+//! What a service is, for a person to look at: its name and its files,
+//! its settings, where the parts of its messages lie, how much memory its
+//! ports take, and whether its attributes are what an opener requires.
 //!
-//! Every number comes from a call whose contract says what it is; how it is laid out as text or as a picture is only
-//! tested.
+//! Every number comes from a call whose contract says what it is; how it is laid out as text or as
+//! a picture is only tested.
 #![tactic(auto)]
 
 mod arguments;

@@ -1,4 +1,5 @@
-//! The messages that the ports of a service send, and how many of them a port's data segment has room for.
+//! The messages that the ports of a service send, and
+//! how many of them a port's data segment has room for.
 ghost use Rattle.iox2_static.specs.Chunks.{TellsGreatest};
 ghost use Rattle.service_drawing.specs.Segments.{sample_limits_of, request_limits_of};
 ghost use Rattle.service_drawing.specs.Segments.{response_limits_of, AreSegments};

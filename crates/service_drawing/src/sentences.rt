@@ -50,7 +50,8 @@ pub(crate) fn opener_sentence(message: &Message) -> Option<&'static str> {
     })
 }
 
-/// Appends how many messages the data segment of a port has room for, and the memory that they take.
+/// Appends how many messages the data segment of a
+/// port has room for, and the memory that they take.
 pub(crate) fn write_memory(
     out: &mut String,
     segment: Segment<'_>,

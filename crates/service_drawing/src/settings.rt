@@ -30,8 +30,8 @@ pub(crate) trait Settings {
         ensures value { option_map (λ row. row.1) result ≡ slice_get (values self.now) index }
         ensures few { IfSome result (λ row. index < 32) };
 
-    /// Sets the setting of this number. Refused is a number that no setting has, and a value of another kind than the
-    /// setting's.
+    /// Sets the setting of this number. A number that no setting has is refused, and a value of
+    /// another kind than the setting's.
     fn set(&mut self, index: usize, value: Value) -> bool
         ensures set { IsTrue result → values self.new ≡ slice_set (values self.old) index value }
         ensures kept { result ≡ false → self.new ≡ self.old };

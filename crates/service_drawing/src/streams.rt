@@ -62,7 +62,8 @@ fn report<W: Write, E: Write>(
     errors.flush()
 }
 
-/// What there is to write: a drawing of the description that the reader gives, or what is told without one.
+/// What there is to write: a drawing of the description
+/// that the reader gives, or what is reported without one.
 fn answer<R: Read>(
     alloc: Global,
     asked: Result<Asked, Fault>,
@@ -111,13 +112,14 @@ fn run<R: Read, W: Write, E: Write>(
     Ok(status(&end))
 }
 
-/// Draws the description of a service that the reader gives, writes the drawing to `output`, and answers the status of
-/// the program: as text without arguments, and as an SVG document with the one argument `svg`. With `--help` or
-/// `--version` it reads nothing and writes how it is used, or the version. The first argument is the program's name.
+/// Draws the description of a service that the reader gives, writes the drawing to `output`, and
+/// answers the status of the program: as text without arguments, and as an SVG document with the
+/// one argument `svg`. With `--help` or `--version` it reads nothing and writes how it is used, or
+/// the version. The first argument is the program's name.
 ///
 /// - 0: the whole input was read, the drawing was written, and nothing to `errors`.
-/// - 1: an argument or a line is bad. Nothing was written to `output`, and to `errors` the number of the line, why it is
-///   bad and what was expected.
+/// - 1: an argument or a line is bad. Nothing was written to `output`, and to `errors` the number of
+///   the line, why it is bad and what was expected.
 /// - 2: memory was refused. Nothing was written to `output`, and `no memory` to `errors`.
 /// - 3: a read, a write or a flush failed, for any cause. Nothing was written after it.
 pub fn describe_streams<R: Read, W: Write, E: Write>(
@@ -128,7 +130,8 @@ pub fn describe_streams<R: Read, W: Write, E: Write>(
     errors: &mut E,
 ) -> u8
     ensures range { result < 4 }
-    // A status below 3 tells whether what was asked for was written, and the writers got what fits it.
+    // A status below 3 says whether what was asked for
+    // was written, and the writers got what fits it.
     ensures reported { result < 3 → Reported arguments result (R.remaining input.new)
         (W.contents output.old) (W.contents output.new)
         (E.contents errors.old) (E.contents errors.new) }

@@ -19,8 +19,8 @@ fn assert_drawn(rt: &impl Abort, alloc: Global, words: &[&str], input: &str, dra
     );
 }
 
-/// A service of each pattern, with each kind of opener, without one and with each verdict, and the smallest message, large
-/// ones and one without a layout.
+/// A service of each pattern, with each kind of opener, without one and with each verdict, and the
+/// smallest message, large ones and one without a layout.
 #[test]
 fn each_pattern(rt: HostRuntime) {
     let alloc = rt.alloc();
@@ -34,8 +34,8 @@ fn each_pattern(rt: HostRuntime) {
     assert_drawn(&rt, alloc, &words, UNBOUNDED.0, UNBOUNDED.1);
 }
 
-/// Pictures of no message, of one and of two, with an opener and without one, with a layout and without one, and with more
-/// elements than are drawn one by one.
+/// Pictures of no message, of one and of two, with an opener and without one, with a layout and
+/// without one, and with more elements than are drawn one by one.
 #[test]
 fn pictures(rt: HostRuntime) -> Result<(), Fail> {
     let alloc = rt.alloc();

@@ -199,7 +199,8 @@ required by an opener
 ",
 );
 
-/// More chunks than 64 bits tell, many elements, and an opener whose user header has too great an alignment.
+/// More chunks than 64 bits can count, many elements, and
+/// an opener whose user header has too great an alignment.
 pub(super) const LARGE: (&str, &str) = (
     "publish-subscribe Big
 set max_subscribers 4611686018427387904

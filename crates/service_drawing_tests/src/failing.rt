@@ -64,7 +64,8 @@ impl Write for Sink {
     }
 }
 
-/// The status of a run where each stream fails at the call of its own number, and how many calls each had.
+/// The status of a run where each stream fails at the
+/// call of its own number, and how many calls each had.
 fn run(
     alloc: Global,
     input: &str,

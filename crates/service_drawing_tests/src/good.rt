@@ -23,7 +23,7 @@ fn assert_line(rt: &impl Abort, alloc: Global, input: &str, line: &str) {
     );
 }
 
-/// A text of so many letters.
+/// A text of this many letters.
 fn letters(alloc: Global, letter: char, count: usize) -> Result<String, AllocError> {
     let mut text = String::new(alloc);
     for _ in 0..count {
@@ -144,7 +144,8 @@ const ELEMENTS: [usize; 20] = [
     1000001,
 ];
 
-/// With ample memory a message of any number of elements is drawn in both forms, and so is a drawing of more than 4,096 bytes.
+/// With ample memory a message of any number of elements is drawn in both forms, and so is a
+/// drawing of more than 4,096 bytes.
 #[test]
 fn sizes(rt: HostRuntime) -> Result<(), Fail> {
     let alloc = rt.alloc();

@@ -1,5 +1,6 @@
-//! Whole runs of the program: drawings worked out by hand, refusals, memory that is refused, and streams that fail. They are
-//! tests of what no contract says: the text and the picture, and that a run succeeds with ample memory.
+//! Whole runs of the program: drawings worked out by hand, refusals, memory that is refused, and
+//! streams that fail. They are tests of what no contract says: the text and the picture, and that a
+//! run succeeds with ample memory.
 #![tactic(auto)]
 
 #[cfg(test)]

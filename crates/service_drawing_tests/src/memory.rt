@@ -1,5 +1,5 @@
-//! Drawings where memory is refused. With ample memory they are whole; where one request is refused (`bench/refuse_memory`
-//! does that), nothing is drawn, and the program says why.
+//! Drawings where memory is refused. With ample memory they are whole; where one request is refused
+//! (`bench/refuse_memory` does that), nothing is drawn, and the program says why.
 
 use super::expected::pictures::{COLORS, PICTURE};
 use super::expected::{EVENT, PUBLISH_SUBSCRIBE};

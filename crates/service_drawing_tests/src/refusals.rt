@@ -59,7 +59,8 @@ fn assert_bad_line(
     Ok(())
 }
 
-/// Each line after a good start is refused for its own cause, with the number of the line and what was expected there.
+/// Each line after a good start is refused for its own cause,
+/// with the number of the line and what was expected there.
 #[test]
 fn bad_lines(rt: HostRuntime) -> Result<(), Fail> {
     for (begin, rest, line, expected) in [
@@ -148,7 +149,7 @@ fn bad_arguments(rt: HostRuntime) {
     }
 }
 
-/// Descriptions whose last line is bad for a cause of its own, and what is told of it.
+/// Descriptions whose last line is bad for a cause of its own, and what is reported of it.
 const CAUSES: [(&str, &str); 14] = [
     (
         "event A",

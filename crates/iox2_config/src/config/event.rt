@@ -15,11 +15,11 @@ pub struct Event {
     pub event_id_max_value: usize,
     /// The longest time that may pass between two events, if there is such a limit.
     pub deadline: Option<Duration>,
-    /// The number of the event that tells of a new notifier, if any does.
+    /// The number of the event that reports a new notifier, if any does.
     pub notifier_created_event: Option<usize>,
-    /// The number of the event that tells of a notifier that went, if any does.
+    /// The number of the event that reports that a notifier went, if any does.
     pub notifier_dropped_event: Option<usize>,
-    /// The number of the event that tells of a notifier whose node died, if any does.
+    /// The number of the event that reports a notifier whose node died, if any does.
     pub notifier_dead_event: Option<usize>,
 }
 

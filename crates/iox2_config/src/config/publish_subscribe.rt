@@ -23,7 +23,8 @@ pub struct PublishSubscribe {
     pub enable_safe_overflow: bool,
     /// What a publisher does where a buffer is full and may not overflow.
     pub backpressure_strategy: BackpressureStrategy,
-    /// How many connections of publishers that are gone a subscriber keeps, since samples lie in them.
+    /// How many connections of publishers that are gone
+    /// a subscriber keeps, since samples lie in them.
     pub subscriber_expired_connection_buffer: usize,
     /// How a publisher's room grows for payloads whose length is known only at run time.
     pub publisher_allocation_strategy: AllocationStrategy,

@@ -33,7 +33,8 @@ impl HashValue {
         }
     }
 
-    /// The bytes of the text. They are as the hasher gave them: nothing checks that they are of an alphabet.
+    /// The bytes of the text. They are as the hasher gave
+    /// them: nothing checks that they are of an alphabet.
     pub fn as_base64url(&self) -> &[u8]
         ensures value { result.now ≡ self.now }
         ensures bound { length result.now ≤ 128 }

@@ -12,8 +12,8 @@ pub enum HashError {
 
 /// A hasher of bytes.
 ///
-/// What it means, and which inputs it may refuse, depend on the input alone: two hashers of one type that were made of
-/// one input answer the same text, or refuse.
+/// What it means, and which inputs it may refuse, depend on the input alone: two hashers of one
+/// type that were made of one input answer the same text, or refuse.
 pub trait Hash: Drop {
     /// The text that the hasher means by an input.
     ghost meaning: { List ℕ → List ℕ };
@@ -28,7 +28,8 @@ pub trait Hash: Drop {
     fn new(bytes: &[u8]) -> Self
         ensures { takes result bytes.now };
 
-    /// The text that is meant by the input, or a refusal, which comes only for inputs that may be refused.
+    /// The text that is meant by the input, or a refusal,
+    /// which comes only for inputs that may be refused.
     fn value(&self) -> Result<HashValue, HashError>
         ensures ok { (input : List ℕ) → takes self.now input
             → IfOk result (λ text. text ≡ meaning input) }

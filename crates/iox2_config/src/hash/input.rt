@@ -6,12 +6,13 @@ use arrayvec::ArrayVec;
 use iox2_texts::bounded::StaticString;
 use iox2_texts::service_name::ServiceName;
 
-/// The pattern by which the ports of a service exchange messages. Its number stands in the hash text.
+/// The pattern by which the ports of a service exchange
+/// messages. Its number stands in the hash text.
 #[derive(Clone, Copy, Debug, PartialEq, Eq)]
 pub enum PatternKind {
     /// Publishers send samples to subscribers.
     PublishSubscribe = 0,
-    /// Notifiers tell listeners of events.
+    /// Notifiers send events to listeners.
     Event = 1,
     /// Clients send requests, to which servers send responses.
     RequestResponse = 2,

@@ -16,13 +16,13 @@ pub const SERVICE_HASH_CAPACITY: usize = 64;
 pub enum ServiceHashError {
     /// The hasher refused the service's pattern and name.
     HasherFailed,
-    /// The hasher's text cannot be the name of a file: it is empty, has more than 64 bytes, has another character than
-    /// letters, digits, `-`, `.`, `:` and `_`, or is `.` or `..`.
+    /// The hasher's text cannot be the name of a file: it is empty, has more than 64 bytes, has
+    /// another character than letters, digits, `-`, `.`, `:` and `_`, or is `.` or `..`.
     IllegalText,
 }
 
-/// The hash text of a service, under which its files are found: the name of a file, of at most 64 bytes. Comparisons
-/// and hashes go by its bytes.
+/// The hash text of a service, under which its files are found: the name of a file, of at most 64
+/// bytes. Comparisons and hashes go by its bytes.
 #[derive(Debug, Drop, PartialEq, Eq, PartialOrd, Ord, Hash)]
 pub struct ServiceHash {
     text: RestrictedFileName<SERVICE_HASH_CAPACITY>,
@@ -43,8 +43,8 @@ impl ServiceHash {
 
     /// The text that hashers of the type `H` mean by the service's pattern and name.
     ///
-    /// It is first reported that the hasher failed, which happens only where it may refuse this input; then
-    /// that the text is not legal.
+    /// It is first reported that the hasher failed, which happens only where it may refuse this
+    /// input; then that the text is not legal.
     pub fn new<H: Hash>(name: &ServiceName, kind: PatternKind) -> Result<Self, ServiceHashError>
         ensures { MakesHash H.meaning H.may_refuse (hash_input kind name.now) result }
     {

@@ -6,8 +6,8 @@ use base64::engine::general_purpose::URL_SAFE_NO_PAD;
 use sha1::Sha1;
 use std::marker::Model;
 
-/// A hasher whose texts are the SHA-1 digest (FIPS 180-4, section 6.1) of the input in the URL-safe alphabet (RFC 4648,
-/// section 5) without padding: 27 bytes. It refuses no input.
+/// A hasher whose texts are the SHA-1 digest (FIPS 180-4, section 6.1) of the input in the URL-safe
+/// alphabet (RFC 4648, section 5) without padding: 27 bytes. It refuses no input.
 #[derive(Debug, Drop)]
 pub struct Sha1Hasher {
     digest: [u8; 20],

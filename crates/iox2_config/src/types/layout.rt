@@ -24,8 +24,8 @@ impl MessageTypeDetails {
             && self.payload.alignment() != 0
     }
 
-    /// Whether a message with its header at the place `header` has a place for its payload: no alignment is 0, and the
-    /// payload's place fits 64 bits.
+    /// Whether a message with its header at the place `header` has a place for its payload: no
+    /// alignment is 0, and the payload's place fits 64 bits.
     #[tactic(auto, using(iox2_texts::proofs::Multiple::multiples))]
     pub fn has_places(&self, header: usize) -> bool
         ensures { IsTrue result ↔ HasPlaces self.now header }
@@ -45,8 +45,8 @@ impl MessageTypeDetails {
         checked_align(user_header_end, self.payload.alignment()).is_some()
     }
 
-    /// The place of the user header in a message with its header at the place `header`, for which `has_places` says
-    /// yes.
+    /// The place of the user header in a message with its header at the place `header`, for which
+    /// `has_places` says yes.
     #[tactic(auto, using(iox2_texts::proofs::Multiple::multiples))]
     pub fn user_header_ptr_from_header(&self, header: usize) -> usize
         requires { HasPlaces self.now header }
@@ -55,7 +55,8 @@ impl MessageTypeDetails {
         align(header + self.header.size(), self.user_header.alignment())
     }
 
-    /// The place of the payload in a message with its header at the place `header`, for which `has_places` says yes.
+    /// The place of the payload in a message with its header at the place `header`, for which
+    /// `has_places` says yes.
     #[tactic(auto, using(iox2_texts::proofs::Multiple::multiples))]
     pub fn payload_ptr_from_header(&self, header: usize) -> usize
         requires { HasPlaces self.now header }
@@ -67,12 +68,12 @@ impl MessageTypeDetails {
         )
     }
 
-    /// The room for a message whose payload has `n` elements, or `None` exactly where it would pass 2^63 - 1 bytes. It
-    /// is asked of details for which `has_alignments` says yes.
+    /// The room for a message whose payload has `n` elements, or `None` exactly where it would pass
+    /// 2^63 - 1 bytes. It is asked of details for which `has_alignments` says yes.
     ///
-    /// Wherever the header lies at a multiple of its alignment, all parts lie in the room, apart and aligned, for the
-    /// service and for every compatible opener; so they do in rooms that lie end to end. The room need not be the
-    /// least.
+    /// Wherever the header lies at a multiple of its alignment, all parts lie in the room, apart
+    /// and aligned, for the service and for every compatible opener; so they do in rooms that lie
+    /// end to end. The room need not be the least.
     #[tactic(auto, using(iox2_texts::proofs::Multiple::multiples))]
     pub fn sample_layout(&self, n: usize) -> Option<SampleLayout>
         requires { HaveAlignments self.now }
@@ -94,8 +95,9 @@ impl MessageTypeDetails {
         Some(SampleLayout::new(size, self.header.alignment()))
     }
 
-    /// Whether an opener with these details may use a service with the details `rhs`: the headers are equal, and user
-    /// headers and payloads are equal but for their alignments, which are at most those of `rhs`.
+    /// Whether an opener with these details may use a service with the
+    /// details `rhs`: the headers are equal, and user headers and payloads
+    /// are equal but for their alignments, which are at most those of `rhs`.
     pub fn is_compatible_to(&self, rhs: &Self) -> bool
         ensures { IsTrue result ↔ Compatible self.now rhs.now }
     {

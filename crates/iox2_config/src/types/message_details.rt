@@ -38,7 +38,7 @@ impl MessageTypeDetails {
 
     /// The details of messages with these three types. There is one header and one user header.
     ///
-    /// Refused is the first of the three names that is invalid.
+    /// The first of the three names that is invalid is refused.
     pub fn from<Header: ZeroCopySend, UserHeader: ZeroCopySend, Payload: ZeroCopySend>(
         payload_variant: TypeVariant,
     ) -> Result<Self, TypeDetailError>

@@ -25,7 +25,7 @@ impl Model for SampleLayout {
 }
 
 impl SampleLayout {
-    /// The room of so many bytes at a multiple of the alignment.
+    /// The room of this many bytes at a multiple of the alignment.
     pub(super) fn new(size: usize, alignment: usize) -> Self
         requires { IsSampleLayout size alignment }
         ensures { result ≡ record { size = size; alignment = alignment } }

@@ -11,8 +11,8 @@ pub const MAX_TYPE_NAME_LENGTH: usize = 256;
 /// The name of a type.
 pub type TypeName = StaticString<MAX_TYPE_NAME_LENGTH>;
 
-/// Whether a message has one value of a type, or a number of them that is known only at run time. The default is
-/// `FixedSize`.
+/// Whether a message has one value of a type, or a number of them that is known only at run time.
+/// The default is `FixedSize`.
 #[derive(Clone, Copy, Debug, PartialEq, Eq, Hash)]
 pub enum TypeVariant {
     /// One value.
@@ -39,15 +39,15 @@ impl Default for TypeVariant {
 pub enum TypeDetailError {
     /// The name has more than 256 bytes, or a byte that is not from 1 to 127.
     Name(StringModificationError),
-    /// The alignment is no power of two. It is reported after what is wrong with the name.
+    /// The alignment is not a power of two. It is reported after what is wrong with the name.
     AlignmentNotPowerOfTwo,
 }
 
-/// What a service knows of a type: its name, how many of its values a message has, their size in bytes and the number
-/// of which their places are multiples.
+/// What a service knows of a type: its name, how many of its values a message has, their size in
+/// bytes and the number of which their places are multiples.
 ///
-/// The alignment is a power of two, but for the default details, which stand where none were given: their alignment and
-/// size are 0, and their name is empty.
+/// The alignment is a power of two, but for the default details, which stand where none were given:
+/// their alignment and size are 0, and their name is empty.
 #[derive(Debug, Drop, PartialEq, Eq, Hash)]
 pub struct TypeDetail {
     variant: TypeVariant,
@@ -105,7 +105,7 @@ impl TypeDetail {
 
     /// The details of the type `T`.
     ///
-    /// Refused is an invalid name.
+    /// An invalid name is refused.
     pub fn new<T: ZeroCopySend>(variant: TypeVariant) -> Result<Self, TypeDetailError>
         ensures { DescribesType (detail variant T.type_name T.SIZE T.ALIGNMENT) result }
     {
@@ -114,7 +114,7 @@ impl TypeDetail {
 
     /// The details with these parts.
     ///
-    /// Refused is an invalid name, and then an alignment that is no power of two.
+    /// An invalid name is refused, and then an alignment that is not a power of two.
     pub fn from_parts(
         variant: TypeVariant,
         type_name: &str,
@@ -159,7 +159,8 @@ impl TypeDetail {
         self.size
     }
 
-    /// The number of which the place of each value is a multiple: a power of two, or 0 in the default details.
+    /// The number of which the place of each value is a
+    /// multiple: a power of two, or 0 in the default details.
     pub fn alignment(&self) -> usize
         ensures value { result ≡ self.now.alignment }
         ensures power { IsAlignment result }

@@ -6,8 +6,9 @@ ghost use Rattle.iox2_config.specs.TypeLayouts.{units};
 
 /// A type whose values may lie in memory that processes share.
 ///
-/// An implementation says its name, size and alignment, and proves that the alignment is a power of two and the size a
-/// multiple of it. `units k n` of `specs/TypeLayouts.antt` proves that for `n` units of 2^k bytes.
+/// An implementation says its name, size and alignment, and proves that the
+/// alignment is a power of two and the size a multiple of it. `units k n`
+/// of `specs/TypeLayouts.antt` proves that for `n` units of 2^k bytes.
 pub trait ZeroCopySend {
     ghost type_name: { List ℕ };
 

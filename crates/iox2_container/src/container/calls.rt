@@ -31,7 +31,7 @@ pub enum RegistryReply<T: Copy> {
     State(ReleaseState),
     /// A removal was refused, since its handle is not one of the registry's.
     NotOwned,
-    /// A removal named a call that is no earlier one or that gave no handle.
+    /// A removal named a call that is not an earlier one or that gave no handle.
     NoHandle,
     /// The details of all entries by rising slot.
     Entries(Vec<T>),

@@ -1,4 +1,5 @@
-//! Places of which the one that was freed last is taken. The free ones are in a list that is linked through the cells.
+//! Places of which the one that was freed last is taken. The
+//! free ones are in a list that is linked through the cells.
 ghost use Rattle.std.specs.Prelude.{◌≡◌, ◌+◌, ◌*◌, ◌≤◌, ◌<◌, ◌^◌, ℕ, List, [], ◌∷◌, Some, None};
 ghost use Rattle.std.specs.Prelude.{length, map, replicate, slice_get, slice_set};
 ghost use Rattle.iox2_container.specs.declared.container.cell.Cell.TheVariants.{Free};
@@ -73,7 +74,8 @@ impl<T: Copy> FreeSlots<T> for FreeList {
         self.fresh
     }
 
-    /// Puts an entry into the place that was freed last, or else into the first that was never used.
+    /// Puts an entry into the place that was freed last,
+    /// or else into the first that was never used.
     fn put(&mut self, places: &mut LinkedPlaces<T>, ticket: u64, details: T) -> usize
         requires fits { IsFreeList self.old places.old.cells }
         requires room { length (entries_from 0 (map shown places.old.cells))
@@ -88,7 +90,7 @@ impl<T: Copy> FreeSlots<T> for FreeList {
         ensures few { places.new.touches ≤ places.old.touches + 2 }
         ensures counted { places.old.touches ≤ places.new.touches }
     {
-        // Tells the proof that the number of places fits a `usize`.
+        // For the proof: the number of places fits a `usize`.
         let _fits = places.len();
         let slot = self.take_first(places);
         places.write(slot, Cell::Taken { ticket, details });

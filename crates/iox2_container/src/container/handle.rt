@@ -4,8 +4,8 @@ ghost use Rattle.std.specs.Prelude.{◌≡◌};
 use super::role::Role;
 use std::marker::Model;
 
-/// Names an entry of a container. It is a value: a container takes it for its own exactly where the service number,
-/// the role, the slot and the ticket are those of an entry that stands in it.
+/// Names an entry of a container. It is a value: a container takes it for its own exactly where the
+/// service number, the role, the slot and the ticket are those of an entry that stands in it.
 #[derive(Clone, Copy, Debug, PartialEq, Eq)]
 pub struct ContainerHandle {
     service: u64,

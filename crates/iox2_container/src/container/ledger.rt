@@ -7,8 +7,8 @@ use super::handle::ContainerHandle;
 use super::release::{ReleaseMode, ReleaseState};
 use super::role::Role;
 
-/// Whose container it is, how many entries stand in its places, how many tickets it handed out and may hand out, and
-/// whether it is locked.
+/// Whose container it is, how many entries stand in its places, how many tickets it handed out and
+/// may hand out, and whether it is locked.
 #[derive(Debug, Drop)]
 pub(super) struct Ledger {
     service: u64,
@@ -106,8 +106,8 @@ impl Ledger {
         ContainerHandle::from_parts(self.service, self.role, slot, ticket)
     }
 
-    /// Counts so many entries less, locks where the last one went and the mode says so, and tells whether the
-    /// container is locked then.
+    /// Counts this many entries less, locks where the last one went and the mode says so, and
+    /// answers whether the container is locked then.
     pub(super) fn leave(&mut self, gone: usize, mode: ReleaseMode) -> ReleaseState
         requires { gone ≤ self.old.count }
         ensures left { self.new ≡ record self.old {

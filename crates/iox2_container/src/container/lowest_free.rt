@@ -1,8 +1,9 @@
 //! Places of which the lowest free one is taken, found by reading them from the first on.
-ghost use Rattle.std.specs.Prelude.{◌≡◌, ◌≢◌, ◌+◌, ◌≤◌, ◌<◌, ℕ, Some, None, IfSome, IfNone};
-ghost use Rattle.std.specs.Prelude.{length, map, slice_get};
+ghost use Rattle.std.specs.Prelude.{◌≡◌, ◌≢◌, ◌+◌, ◌*◌, ◌≤◌, ◌<◌, ℕ};
+ghost use Rattle.std.specs.Prelude.{Some, None, IfSome, IfNone};
+ghost use Rattle.std.specs.Prelude.{length, map, slice_get, slice_set};
 ghost use Rattle.iox2_container.specs.Places.{entries_from};
-ghost use Rattle.iox2_container.specs.Cells.{shown};
+ghost use Rattle.iox2_container.specs.Cells.{occupant, shown};
 
 use super::cell::Cell;
 use super::free_slots::FreeSlots;
@@ -46,7 +47,22 @@ impl<T: Copy> FreeSlots<T> for LowestFree {
         places.len()
     }
 
-    fn put(&mut self, places: &mut Places<T, ()>, ticket: u64, details: T) -> usize {
+    /// Puts an entry into the lowest free place.
+    fn put(&mut self, places: &mut Places<T, ()>, ticket: u64, details: T) -> usize
+        requires fits { Unit {0} }
+        requires room { length (entries_from 0 (map shown places.old.cells))
+            < length places.old.cells }
+        ensures fits { Unit {0} }
+        ensures free { slice_get (map shown places.old.cells) result ≡ Some None }
+        ensures lowest { (k : ℕ) → k < result
+            → slice_get (map shown places.old.cells) k ≢ Some None }
+        ensures cells { map shown places.new.cells ≡
+            slice_set (map shown places.old.cells) result (Some (occupant ticket details)) }
+        ensures touched { places.new.touches ≤ places.old.touches + 2 * length places.old.cells }
+        ensures few { places.new.touches ≤
+            places.old.touches + (length places.old.cells + 1) }
+        ensures counted { places.old.touches ≤ places.new.touches }
+    {
         match lowest_free(places) {
             Some(slot) => {
                 places.write(slot, Cell::Taken { ticket, details });

@@ -112,7 +112,7 @@ fn are_four_others<T: Attached + Copy, N: Copy>(
     ensures { IsTrue result →
         AreOthers T.node node.now (map shown places.now.cells) slot (slot + 4) }
 {
-    // Tells the proof that the number of places fits a `usize`.
+    // For the proof: the number of places fits a `usize`.
     let _fits = places.len();
     let first = is_of_node(places, slot, node);
     if first {
@@ -133,8 +133,8 @@ fn are_four_others<T: Attached + Copy, N: Copy>(
     true
 }
 
-/// The first place from one on where an entry of the node stands; the end, where none stands before it. Eight places
-/// are passed over at once where none stands in them.
+/// The first place from one on where an entry of the node stands; the end, where none stands before
+/// it. Eight places are passed over at once where none stands in them.
 fn next_of<T: Attached + Copy, N: Copy>(
     places: &Places<T, N>,
     start: usize,

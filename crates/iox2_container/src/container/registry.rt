@@ -15,8 +15,8 @@ use iox2_texts::bounded::CallbackProgression;
 
 /// A bounded map from handles, of which none is given twice, to details.
 ///
-/// No change reads or writes its slots more than twice as often as it has slots. No call takes memory, and a refused
-/// one changes no entry, no lock and no ticket.
+/// No change reads or writes its slots more than twice as often as it has slots. No call takes
+/// memory, and a refused one changes no entry, no lock and no ticket.
 pub trait Registry<T: Attached + Copy> {
     /// What the registry holds.
     ghost state: { Self → RegistryState T };
@@ -24,8 +24,8 @@ pub trait Registry<T: Attached + Copy> {
     /// How often a change read or wrote one of its slots.
     ghost touches: { Self → ℕ };
 
-    /// Adds an entry in a free slot, with the next ticket. Refused where the registry is locked, and else where every
-    /// slot is taken or every ticket was handed out.
+    /// Adds an entry in a free slot, with the next ticket. Refused where the registry is locked,
+    /// and else where every slot is taken or every ticket was handed out.
     fn add(&mut self, details: T) -> Result<ContainerHandle, ContainerAddFailure>
         ensures step { AddStep (state self.old) details result (state self.new) }
         ensures known { IsRegistry (state self.old) }
@@ -33,8 +33,8 @@ pub trait Registry<T: Attached + Copy> {
         ensures touched { touches self.new ≤ touches self.old + 2 * (state self.old).capacity }
         ensures counted { touches self.old ≤ touches self.new };
 
-    /// Removes the entry of a handle, and says whether the registry is locked then. Refused for each handle that is
-    /// not that of an entry.
+    /// Removes the entry of a handle, and says whether the registry is locked then. Refused for
+    /// each handle that is not that of an entry.
     fn remove(
         &mut self,
         handle: ContainerHandle,
@@ -46,9 +46,10 @@ pub trait Registry<T: Attached + Copy> {
         ensures touched { touches self.new ≤ touches self.old + 2 * (state self.old).capacity }
         ensures counted { touches self.old ≤ touches self.new };
 
-    /// Asks the callback once about each entry of the dead node, by rising slot, and removes those that it answers
-    /// with `true`. Says whether the registry is locked then. Where no entry goes, nothing is locked. The callback must
-    /// be callable on those entries in turn, each time as the call before left it.
+    /// Asks the callback once about each entry of the dead node, by rising slot, and removes those
+    /// that it answers with `true`. Says whether the registry is locked then. Where no entry goes,
+    /// nothing is locked. The callback must be callable on those entries in turn, each time as the
+    /// call before left it.
     fn recover<F: FnMut(&T) -> bool>(
         &mut self,
         dead: &UniqueNodeId,
@@ -64,8 +65,8 @@ pub trait Registry<T: Attached + Copy> {
         ensures touched { touches self.new ≤ touches self.old + 2 * (state self.old).capacity }
         ensures counted { touches self.old ≤ touches self.new };
 
-    /// Calls the callback on the details by rising slot, each once, up to and with the first answer `Stop`. It must be
-    /// callable on them in turn, each time as the call before left it.
+    /// Calls the callback on the details by rising slot, each once, up to and with the first answer
+    /// `Stop`. It must be callable on them in turn, each time as the call before left it.
     fn for_each<F: FnMut(&T) -> CallbackProgression>(&self, f: &mut F)
         requires { CanVisit (TakesAt F.FnMut) (CalledAt F.FnMut) f.old
             (listed (state self.now)) }

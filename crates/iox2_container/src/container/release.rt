@@ -12,7 +12,7 @@ pub enum ReleaseMode {
 }
 
 impl ReleaseMode {
-    /// The lock after some entry went, where so many are left.
+    /// The lock after some entry went, where this many are left.
     pub(super) fn lock_after(self, left: usize, locked: bool) -> bool
         ensures { result ≡ lock_after self left locked }
     {

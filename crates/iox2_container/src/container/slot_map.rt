@@ -23,16 +23,17 @@ use iox2_texts::bounded::CallbackProgression;
 use std::alloc::{AllocError, Global};
 use std::marker::Model;
 
-/// A registry that puts each entry into the lowest free slot, which it finds by reading the slots from the first on.
-/// Adding touches at most one slot more often than there are slots, removing at most two slots.
+/// A registry that puts each entry into the lowest free slot, which it
+/// finds by reading the slots from the first on. Adding touches at most
+/// one slot more often than there are slots, removing at most two slots.
 pub type Container<T> = SlotMap<T, LowestFree>;
 
-/// A registry that puts each entry into the slot that was freed last, or else into the lowest that was never used.
-/// Adding and removing touch at most two slots.
+/// A registry that puts each entry into the slot that was freed last, or else into the lowest that
+/// was never used. Adding and removing touch at most two slots.
 pub type ListContainer<T> = SlotMap<T, FreeList>;
 
-/// A registry, by what finds its free slots. An add touches slots at most as often as `most_for_put` of that says, a
-/// removal at most twice.
+/// A registry, by what finds its free slots. An add touches slots at most as often as
+/// `most_for_put` of that says, a removal at most twice.
 #[derive(Debug, Drop)]
 pub struct SlotMap<T: Copy, S: FreeSlots<T>> {
     ledger: Ledger,
@@ -60,8 +61,8 @@ impl<T: Copy, S: FreeSlots<T>> Model for SlotMap<T, S> {
 }
 
 impl<T: Copy, S: FreeSlots<T>> SlotMap<T, S> {
-    /// An empty container of a service, for so many entries at a time and so many in all. Refused where there is no
-    /// memory for its slots; no call on it takes memory afterwards.
+    /// An empty container of a service, for this many entries at a time and this many in all.
+    /// Refused where there is no memory for its slots; no call on it takes memory afterwards.
     pub fn new(
         alloc: Global,
         service: u64,

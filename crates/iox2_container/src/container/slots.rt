@@ -24,7 +24,8 @@ impl<C: Copy> Model for Slots<C> {
 }
 
 impl<C: Copy> Slots<C> {
-    /// So many slots, each with this cell in it, untouched so far. Refused where there is no memory for them.
+    /// So many slots, each with this cell in it, untouched
+    /// so far. Refused where there is no memory for them.
     pub fn new(alloc: Global, capacity: usize, fill: C) -> Result<Self, AllocError>
         ensures cells { IfOk result (λ s. s.cells ≡ replicate capacity fill) }
         ensures touches { IfOk result (λ s. s.touches ≡ 0) }
@@ -68,7 +69,7 @@ impl<C: Copy> Slots<C> {
         self.cells[index] = cell;
     }
 
-    /// The cell in a slot, for calls that change nothing. This is no touch.
+    /// The cell in a slot, for calls that change nothing. This is not a touch.
     pub fn peek(&self, index: usize) -> C
         requires { index < length self.now.cells }
         ensures { slice_get self.now.cells index ≡ Some result }
@@ -76,7 +77,7 @@ impl<C: Copy> Slots<C> {
         self.cells[index]
     }
 
-    /// Counts so many reads of slots that `peek` made.
+    /// Counts this many reads of slots that `peek` made.
     pub fn count_reads(&mut self, reads: usize)
         ensures cells { self.new.cells ≡ self.old.cells }
         ensures touches { self.new.touches ≡ self.old.touches + reads }

@@ -25,8 +25,8 @@ pub struct DynamicConfigSettings {
 pub type DynamicConfig = PortRegistries<ReaderDetails, WriterDetails>;
 
 impl DynamicConfig {
-    /// A configuration without ports, and with all the tickets that there are. Refused where there is no memory for
-    /// all the ports that the settings allow; no call takes memory afterwards.
+    /// A configuration without ports, and with all the tickets that there are. Refused where there
+    /// is no memory for all the ports that the settings allow; no call takes memory afterwards.
     pub fn new(
         alloc: Global,
         settings: &DynamicConfigSettings,
@@ -44,7 +44,8 @@ impl DynamicConfig {
         )
     }
 
-    /// Calls the callback on the details of the readers by rising slot, up to and with the first answer `Stop`.
+    /// Calls the callback on the details of the readers by
+    /// rising slot, up to and with the first answer `Stop`.
     pub fn list_readers<F: FnMut(&ReaderDetails) -> CallbackProgression>(&self, f: &mut F)
         requires { CanVisit (TakesAt F.FnMut) (CalledAt F.FnMut) f.old (listed self.now.first.registry) }
         ensures { Visit (CalledAt F.FnMut) f.old (listed self.now.first.registry) f.new }
@@ -59,7 +60,8 @@ impl DynamicConfig {
         self.first.len()
     }
 
-    /// Calls the callback on the details of the writers by rising slot, up to and with the first answer `Stop`.
+    /// Calls the callback on the details of the writers by
+    /// rising slot, up to and with the first answer `Stop`.
     pub fn list_writers<F: FnMut(&WriterDetails) -> CallbackProgression>(&self, f: &mut F)
         requires { CanVisit (TakesAt F.FnMut) (CalledAt F.FnMut) f.old (listed self.now.second.registry) }
         ensures { Visit (CalledAt F.FnMut) f.old (listed self.now.second.registry) f.new }

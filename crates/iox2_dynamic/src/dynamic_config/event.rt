@@ -25,8 +25,8 @@ pub struct DynamicConfigSettings {
 pub type DynamicConfig = PortRegistries<ListenerDetails, NotifierDetails>;
 
 impl DynamicConfig {
-    /// A configuration without ports, and with all the tickets that there are. Refused where there is no memory for
-    /// all the ports that the settings allow; no call takes memory afterwards.
+    /// A configuration without ports, and with all the tickets that there are. Refused where there
+    /// is no memory for all the ports that the settings allow; no call takes memory afterwards.
     pub fn new(
         alloc: Global,
         settings: &DynamicConfigSettings,
@@ -44,7 +44,8 @@ impl DynamicConfig {
         )
     }
 
-    /// Calls the callback on the details of the listeners by rising slot, up to and with the first answer `Stop`.
+    /// Calls the callback on the details of the listeners by
+    /// rising slot, up to and with the first answer `Stop`.
     pub fn list_listeners<F: FnMut(&ListenerDetails) -> CallbackProgression>(&self, f: &mut F)
         requires { CanVisit (TakesAt F.FnMut) (CalledAt F.FnMut) f.old (listed self.now.first.registry) }
         ensures { Visit (CalledAt F.FnMut) f.old (listed self.now.first.registry) f.new }
@@ -59,7 +60,8 @@ impl DynamicConfig {
         self.first.len()
     }
 
-    /// Calls the callback on the details of the notifiers by rising slot, up to and with the first answer `Stop`.
+    /// Calls the callback on the details of the notifiers by
+    /// rising slot, up to and with the first answer `Stop`.
     pub fn list_notifiers<F: FnMut(&NotifierDetails) -> CallbackProgression>(&self, f: &mut F)
         requires { CanVisit (TakesAt F.FnMut) (CalledAt F.FnMut) f.old (listed self.now.second.registry) }
         ensures { Visit (CalledAt F.FnMut) f.old (listed self.now.second.registry) f.new }

@@ -27,7 +27,7 @@ pub trait PortKind: Attached + Copy {
     fn into_details(self) -> PortDetails
         ensures { result ≡ details self };
 
-    /// They tell the kind.
+    /// They have the kind's role.
     ghost same_role: { (x : Self) → role_of (details x) ≡ ROLE };
 
     /// The node stays the same.

@@ -23,7 +23,8 @@ use iox2_texts::bounded::CallbackProgression;
 use std::alloc::{AllocError, Global};
 use std::marker::Model;
 
-/// A registry for each of two kinds of ports, of which the first is recovered first. A port's removal locks neither.
+/// A registry for each of two kinds of ports, of which the first is recovered first. A port's
+/// removal locks neither.
 #[derive(Debug, Drop)]
 pub struct PortRegistries<A: Copy, B: Copy> {
     pub(super) first: ServiceRegistry<A>,
@@ -39,7 +40,7 @@ impl<A: Copy, B: Copy> Model for PortRegistries<A, B> {
 }
 
 impl<A: PortKind, B: PortKind> PortRegistries<A, B> {
-    /// No port yet, for so many of each kind at a time, and so many of each kind in all.
+    /// No port yet, for this many of each kind at a time, and this many of each kind in all.
     pub(super) fn with_capacities(
         alloc: Global,
         service_number: u64,
@@ -120,8 +121,8 @@ impl<A: PortKind, B: PortKind> PortRegistries<A, B> {
         Err(of_neither_kind)
     }
 
-    /// Asks about each port of a dead node whether it goes, first about those of the first kind, and says whether one is
-    /// left.
+    /// Asks about each port of a dead node whether it goes, first about those of the first kind,
+    /// and says whether one is left.
     pub(super) fn recover<F: FnMut(UniquePortId) -> PortCleanupAction>(
         &mut self,
         dead: &UniqueNodeId,

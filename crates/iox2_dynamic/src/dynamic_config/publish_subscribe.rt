@@ -21,12 +21,13 @@ pub struct DynamicConfigSettings {
     pub number_of_publishers: usize,
 }
 
-/// The publishers and the subscribers of a service. The publishers of a dead node are recovered first.
+/// The publishers and the subscribers of a service.
+/// The publishers of a dead node are recovered first.
 pub type DynamicConfig = PortRegistries<PublisherDetails, SubscriberDetails>;
 
 impl DynamicConfig {
-    /// A configuration without ports, and with all the tickets that there are. Refused where there is no memory for
-    /// all the ports that the settings allow; no call takes memory afterwards.
+    /// A configuration without ports, and with all the tickets that there are. Refused where there
+    /// is no memory for all the ports that the settings allow; no call takes memory afterwards.
     pub fn new(
         alloc: Global,
         settings: &DynamicConfigSettings,
@@ -44,7 +45,8 @@ impl DynamicConfig {
         )
     }
 
-    /// Calls the callback on the details of the publishers by rising slot, up to and with the first answer `Stop`.
+    /// Calls the callback on the details of the publishers by
+    /// rising slot, up to and with the first answer `Stop`.
     pub fn list_publishers<F: FnMut(&PublisherDetails) -> CallbackProgression>(&self, f: &mut F)
         requires { CanVisit (TakesAt F.FnMut) (CalledAt F.FnMut) f.old (listed self.now.first.registry) }
         ensures { Visit (CalledAt F.FnMut) f.old (listed self.now.first.registry) f.new }
@@ -59,7 +61,8 @@ impl DynamicConfig {
         self.first.len()
     }
 
-    /// Calls the callback on the details of the subscribers by rising slot, up to and with the first answer `Stop`.
+    /// Calls the callback on the details of the subscribers by
+    /// rising slot, up to and with the first answer `Stop`.
     pub fn list_subscribers<F: FnMut(&SubscriberDetails) -> CallbackProgression>(&self, f: &mut F)
         requires { CanVisit (TakesAt F.FnMut) (CalledAt F.FnMut) f.old (listed self.now.second.registry) }
         ensures { Visit (CalledAt F.FnMut) f.old (listed self.now.second.registry) f.new }

@@ -1,4 +1,4 @@
-//! What a service tells those who ask before they act.
+//! What a service answers to those who ask before they act.
 ghost use Rattle.std.specs.Prelude.{◌≡◌, ◌↔◌, IfOk, IfSome, IsTrue, MatchOption, length, map, vec_capacity};
 ghost use Rattle.iox2_container.specs.Steps.{IsForeign, Stands, TakesEntry, listed};
 ghost use Rattle.iox2_dynamic.specs.Details.{port_of};
@@ -46,7 +46,8 @@ impl DynamicConfig {
         self.nodes.service()
     }
 
-    /// How many ports of the role there may be at a time; `None` where the pattern has no such ports.
+    /// How many ports of the role there may be at a
+    /// time; `None` where the pattern has no such ports.
     pub fn max_ports(&self, role: Role) -> Option<usize>
         ensures capacity { OfRole (λ r n. n ≡ r.capacity) (first_role self.now.pattern)
             (second_role self.now.pattern) self.now.ports role result }
@@ -55,7 +56,8 @@ impl DynamicConfig {
         self.pattern.capacity(role)
     }
 
-    /// Whether `register_node_id` would register a node: the service is not locked, and a place and a ticket are left.
+    /// Whether `register_node_id` would register a node: the
+    /// service is not locked, and a place and a ticket are left.
     pub fn has_room_for_node(&self) -> bool
         ensures room { IsTrue result ↔ TakesEntry self.now.nodes.registry }
         ensures kept { IsService self.now }
@@ -63,8 +65,9 @@ impl DynamicConfig {
         self.nodes.has_room()
     }
 
-    /// Whether `attach` would attach a port of the role, if its node is registered: the service is not locked, and a place
-    /// and a ticket are left for such ports. The role is one of the pattern's, as `has_role` tells.
+    /// Whether `attach` would attach a port of the role, if its node is registered: the service is
+    /// not locked, and a place and a ticket are left for such ports. The role is one of the
+    /// pattern's, as `has_role` says.
     pub fn has_room(&self, role: Role) -> bool
         requires { HasRole self.now.pattern role }
         ensures room { IsTrue result ↔ TakesPort self.now role }
@@ -73,7 +76,8 @@ impl DynamicConfig {
         !self.nodes.is_locked() && self.pattern.has_room(role)
     }
 
-    /// The node that was registered with this handle and is still there; `None` for each other handle.
+    /// The node that was registered with this handle and
+    /// is still there; `None` for each other handle.
     pub fn node(&self, handle: ContainerHandle) -> Option<UniqueNodeId>
         ensures node { MatchOption result (IsForeign self.now.nodes.registry handle)
             (Stands self.now.nodes.registry handle) }
@@ -82,7 +86,8 @@ impl DynamicConfig {
         self.nodes.get(handle)
     }
 
-    /// The port that was attached with this handle and is still there; `None` for each other handle, a node's too.
+    /// The port that was attached with this handle and is still there; `None` for each other
+    /// handle, a node's too.
     pub fn port(&self, handle: ContainerHandle) -> Option<PortDetails>
         ensures port { MatchOption result (IsNoPort self.now.ports handle)
             (StandsAmong self.now.ports handle) }
@@ -91,8 +96,8 @@ impl DynamicConfig {
         self.pattern.get(handle)
     }
 
-    /// The ids of the nodes by rising slot, one for each handle. The list takes just the room that it needs, in one
-    /// request; refused where there is no memory for it.
+    /// The ids of the nodes by rising slot, one for each handle. The list takes just the room that
+    /// it needs, in one request; refused where there is no memory for it.
     pub fn nodes(&self, alloc: Global) -> Result<Vec<UniqueNodeId>, AllocError>
         ensures listed { IfOk result (λ ids. ids.items ≡ listed self.now.nodes.registry) }
         ensures exact { IfOk result (λ ids. vec_capacity ids ≡ length ids.items) }
@@ -101,8 +106,8 @@ impl DynamicConfig {
         entries(alloc, &self.nodes)
     }
 
-    /// The ports of the role by rising slot; `None` where the pattern has no such ports. The list takes just the room that
-    /// it needs, in one request; refused where there is no memory for it.
+    /// The ports of the role by rising slot; `None` where the pattern has no such ports. The list
+    /// takes just the room that it needs, in one request; refused where there is no memory for it.
     pub fn ports(&self, alloc: Global, role: Role) -> Result<Option<Vec<PortDetails>>, AllocError>
         ensures listed { IfOk result (OfRole (λ r list. list.items ≡ listed r)
             (first_role self.now.pattern) (second_role self.now.pattern) self.now.ports role) }
@@ -113,9 +118,10 @@ impl DynamicConfig {
         self.pattern.ports(alloc, role)
     }
 
-    /// The ports of the node, by its whole id: those of the pattern's first kind before those of its second, each kind by
-    /// rising slot, which is what `remove_dead_node_id` asks about. The list takes just the room that it needs, in one
-    /// request; refused where there is no memory for it.
+    /// The ports of the node, by its whole id: those of the pattern's first kind before those of
+    /// its second, each kind by rising slot, which is what `remove_dead_node_id` asks about. The
+    /// list takes just the room that it needs, in one request; refused where there is no memory for
+    /// it.
     pub fn ports_of(
         &self,
         alloc: Global,

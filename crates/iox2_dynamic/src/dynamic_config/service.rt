@@ -33,8 +33,9 @@ use std::marker::Model;
 
 /// The nodes of a service and the ports of its pattern.
 ///
-/// The node of every port is registered. A service is locked for good when its last node leaves; so a locked service has
-/// no port. A refused call changes no entry, no lock and no ticket. No call on a service that was made takes memory.
+/// The node of every port is registered. A service is locked for good when its last node leaves; so
+/// a locked service has no port. A refused call changes no entry, no lock and no ticket. No call on
+/// a service that was made takes memory.
 #[derive(Debug, Drop)]
 pub struct DynamicConfig {
     pub(super) pattern: MessagingPattern,
@@ -53,8 +54,9 @@ impl Model for DynamicConfig {
 }
 
 impl DynamicConfig {
-    /// A service without nodes and ports, for at most `max_nodes` nodes at a time and as many ports of each kind as the
-    /// settings say, with all the tickets that there are. Refused where there is no memory for all of them.
+    /// A service without nodes and ports, for at most `max_nodes` nodes at a time and as many ports
+    /// of each kind as the settings say, with all the tickets that there are. Refused where there
+    /// is no memory for all of them.
     pub fn new(
         alloc: Global,
         settings: &MessagingPatternSettings,
@@ -68,8 +70,8 @@ impl DynamicConfig {
         DynamicConfig::with_tickets(alloc, settings, max_nodes, service_number, u64::MAX)
     }
 
-    /// As `new`, but there are so many tickets for nodes in all, and so many for each kind of ports: each registering
-    /// and each attaching takes one, and none comes back.
+    /// As `new`, but there are this many tickets for nodes in all, and this many for each kind of
+    /// ports: each registering and each attaching takes one, and none comes back.
     pub fn with_tickets(
         alloc: Global,
         settings: &MessagingPatternSettings,
@@ -86,8 +88,8 @@ impl DynamicConfig {
         Ok(DynamicConfig { pattern, nodes })
     }
 
-    /// Registers a node, which may have several handles. Refused where the service is locked, and else where there are
-    /// `max_nodes` nodes or no ticket is left.
+    /// Registers a node, which may have several handles. Refused where the service is locked, and
+    /// else where there are `max_nodes` nodes or no ticket is left.
     pub fn register_node_id(
         &mut self,
         id: UniqueNodeId,
@@ -104,8 +106,9 @@ impl DynamicConfig {
         }
     }
 
-    /// Takes out the node with this handle. Where it was the last one, the service is locked for good. Refused for each
-    /// handle that is not that of a node here, and else where it is the only one of its node and some port has that node.
+    /// Takes out the node with this handle. Where it was the last one, the service is locked for
+    /// good. Refused for each handle that is not that of a node here, and else where it is the only
+    /// one of its node and some port has that node.
     pub fn deregister_node_id(
         &mut self,
         handle: ContainerHandle,
@@ -132,7 +135,8 @@ impl DynamicConfig {
         self.pattern.has_ports_of(id) && self.nodes.entries_of(id) == 1
     }
 
-    /// Calls the callback on the nodes by rising slot, one time for each handle, up to and with the first answer `Stop`.
+    /// Calls the callback on the nodes by rising slot, one time
+    /// for each handle, up to and with the first answer `Stop`.
     pub fn list_node_ids<F: FnMut(&UniqueNodeId) -> CallbackProgression>(&self, f: &mut F)
         requires { CanVisit (TakesAt F.FnMut) (CalledAt F.FnMut) f.old (listed self.now.nodes.registry) }
         ensures visit { Visit (CalledAt F.FnMut) f.old (listed self.now.nodes.registry) f.new }
@@ -156,8 +160,9 @@ impl DynamicConfig {
         self.nodes.has_entry_of(id)
     }
 
-    /// Attaches a port of one of the pattern's roles, as `has_role` tells. Refused where the service is locked, else where
-    /// the port's node is not registered, by its whole id, and else where there is no place or no ticket for the port.
+    /// Attaches a port of one of the pattern's roles, as `has_role` says. Refused where the service
+    /// is locked, else where the port's node is not registered, by its whole id, and else where
+    /// there is no place or no ticket for the port.
     pub fn attach(&mut self, details: PortDetails) -> Result<ContainerHandle, AttachError>
         requires { HasRole self.old.pattern (role_of details) }
         ensures step { AttachStep self.old details result self.new }
@@ -175,7 +180,8 @@ impl DynamicConfig {
         Ok(handle)
     }
 
-    /// Releases the port with this handle. Refused for each handle that is not that of a port here, a node's too.
+    /// Releases the port with this handle. Refused for each
+    /// handle that is not that of a port here, a node's too.
     pub fn release_port(&mut self, handle: ContainerHandle) -> Result<(), ContainerRemoveError>
         ensures step { ReleaseStep self.old handle result self.new }
         ensures kept { IsService self.new }
@@ -186,10 +192,11 @@ impl DynamicConfig {
         }
     }
 
-    /// Asks the callback once about each port of the dead node, those of the pattern's first kind before those of its
-    /// second and each kind by rising slot, and removes exactly those that it answers with `RemovePort`. Where none of its
-    /// ports is left, the node goes too, with all its handles; where it was the last one, the service is locked for good.
-    /// Where one is left, no node goes.
+    /// Asks the callback once about each port of the dead node, those of the pattern's first kind
+    /// before those of its second and each kind by rising slot, and removes exactly those that it
+    /// answers with `RemovePort`. Where none of its ports is left, the node goes too, with all its
+    /// handles; where it was the last one, the service is locked for good. Where one is left, no
+    /// node goes.
     pub fn remove_dead_node_id<F: FnMut(UniquePortId) -> PortCleanupAction>(
         &mut self,
         dead: &UniqueNodeId,
@@ -223,8 +230,8 @@ impl DynamicConfig {
         self.pattern.count(role)
     }
 
-    /// Calls the callback on the details of the ports of the role by rising slot, up to and with the first answer `Stop`.
-    /// `false`, and no call, where the pattern has no such ports.
+    /// Calls the callback on the details of the ports of the role by rising slot, up to and with
+    /// the first answer `Stop`. `false`, and no call, where the pattern has no such ports.
     pub fn list_ports<F: FnMut(&PortDetails) -> CallbackProgression>(
         &self,
         role: Role,

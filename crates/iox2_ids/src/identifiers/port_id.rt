@@ -6,7 +6,7 @@ use super::unique_id::{
     UniqueServerId, UniqueSubscriberId, UniqueWriterId,
 };
 
-/// The id of a port, which tells its kind.
+/// The id of a port, which says its kind.
 #[derive(Clone, Copy, Debug, PartialEq, Eq)]
 pub enum UniquePortId {
     /// The id of a publisher.

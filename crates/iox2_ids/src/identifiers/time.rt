@@ -35,8 +35,8 @@ impl ProcessId {
     }
 }
 
-/// A time: whole seconds, and the nanoseconds beside them, which may be any number of their type. The default is 0
-/// seconds and 0 nanoseconds.
+/// A time: whole seconds, and the nanoseconds beside them, which may be any number of their type.
+/// The default is 0 seconds and 0 nanoseconds.
 #[derive(Clone, Copy, Debug, Default, PartialEq, Eq, Hash)]
 pub struct Time {
     seconds: u64,

@@ -27,11 +27,11 @@ pub struct StaticConfig {
     pub event_id_max_value: usize,
     /// The deadline, if there is one.
     pub deadline: Option<Deadline>,
-    /// The number of the event that tells of a new notifier, if there is one.
+    /// The number of the event that reports a new notifier, if there is one.
     pub notifier_created_event: Option<usize>,
-    /// The number of the event that tells that a notifier went, if there is one.
+    /// The number of the event that reports that a notifier went, if there is one.
     pub notifier_dropped_event: Option<usize>,
-    /// The number of the event that tells of a notifier whose node died, if there is one.
+    /// The number of the event that reports a notifier whose node died, if there is one.
     pub notifier_dead_event: Option<usize>,
 }
 
@@ -96,21 +96,21 @@ impl StaticConfig {
         self.event_id_max_value
     }
 
-    /// The event that tells of a new notifier, if there is one.
+    /// The event that reports a new notifier, if there is one.
     pub fn notifier_created_event(&self) -> Option<EventId>
         ensures { result ≡ self.now.notifier_created_event }
     {
         self.notifier_created_event.map(EventId::new)
     }
 
-    /// The event that tells that a notifier went, if there is one.
+    /// The event that reports that a notifier went, if there is one.
     pub fn notifier_dropped_event(&self) -> Option<EventId>
         ensures { result ≡ self.now.notifier_dropped_event }
     {
         self.notifier_dropped_event.map(EventId::new)
     }
 
-    /// The event that tells of a notifier whose node died, if there is one.
+    /// The event that reports a notifier whose node died, if there is one.
     pub fn notifier_dead_event(&self) -> Option<EventId>
         ensures { result ≡ self.now.notifier_dead_event }
     {

@@ -47,8 +47,9 @@ impl StaticConfig {
         }
     }
 
-    /// The greatest number of one publisher's samples that can be in use at once, where the publisher loans up to
-    /// `publisher_max_loaned_samples` of them to be written. `None` exactly where that number passes a `usize`.
+    /// The greatest number of one publisher's samples that can be in use at once, where the
+    /// publisher loans up to `publisher_max_loaned_samples` of them to be written. `None` exactly
+    /// where that number passes a `usize`.
     pub fn required_amount_of_samples_per_data_segment(
         &self,
         publisher_max_loaned_samples: usize,

@@ -60,10 +60,12 @@ impl StaticConfig {
         }
     }
 
-    /// The greatest number of one client's requests that can be in use at once, where the client loans up to
-    /// `client_max_loaned_requests` of them to be written. `None` exactly where that number passes a `usize`.
+    /// The greatest number of one client's requests that can be in use at once, where the client
+    /// loans up to `client_max_loaned_requests` of them to be written. `None` exactly where that
+    /// number passes a `usize`.
     ///
-    /// A server can hold requests that the client has given up beside as many that the client has sent since.
+    /// A server can hold requests that the client has given
+    /// up beside as many that the client has sent since.
     pub fn required_amount_of_chunks_per_client_data_segment(
         &self,
         client_max_loaned_requests: usize,
@@ -78,9 +80,9 @@ impl StaticConfig {
         )
     }
 
-    /// The greatest number of one server's responses that can be in use at once, where the server loans up to
-    /// `max_loaned_responses_per_request` of them to be written for each request. `None` exactly where that number
-    /// passes a `usize`.
+    /// The greatest number of one server's responses that can be in use at once, where the server
+    /// loans up to `max_loaned_responses_per_request` of them to be written for each request.
+    /// `None` exactly where that number passes a `usize`.
     pub fn required_amount_of_chunks_per_server_data_segment(
         &self,
         max_loaned_responses_per_request: usize,

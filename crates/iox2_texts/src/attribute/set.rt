@@ -124,8 +124,8 @@ impl AttributeSet {
             .count()
     }
 
-    /// The value at `index`, counted from 0, of the key's values in rising order, or `None` where there are
-    /// not that many.
+    /// The value at `index`, counted from 0, of the key's values in rising order, or `None` where
+    /// there are not that many.
     pub fn key_value(&self, key: &AttributeKey, index: usize) -> Option<&AttributeValue>
         ensures { option_copied result ≡ slice_get (values_of self.now key.now) index }
     {
@@ -141,7 +141,8 @@ impl AttributeSet {
         None
     }
 
-    /// Calls `callback` with the key's values in rising order, up to and with the first that it answers `Stop`.
+    /// Calls `callback` with the key's values in rising order,
+    /// up to and with the first that it answers `Stop`.
     ///
     /// The callback is left in the state after its last call.
     pub fn iter_key_values<F: FnMut(&AttributeValue) -> CallbackProgression>(

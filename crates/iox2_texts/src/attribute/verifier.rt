@@ -18,11 +18,11 @@ use std::marker::Model;
 /// What a set of attributes lacks.
 #[derive(Debug, Drop, PartialEq, Eq)]
 pub enum AttributeVerificationError {
-    /// No pair has this key, the first of the required keys that lacks one. It is reported only where no required
-    /// pair is missing.
+    /// No pair has this key, the first of the required keys that lacks one. It is reported only
+    /// where no required pair is missing.
     NonExistingKey(AttributeKey),
-    /// This pair is not in the set, the least of the required pairs that are not. The key may have other values,
-    /// or none.
+    /// This pair is not in the set, the least of the required pairs that are not. The key may have
+    /// other values, or none.
     IncompatibleAttribute((AttributeKey, AttributeValue)),
 }
 
@@ -106,7 +106,8 @@ impl AttributeVerifier {
         self.attributes.number_of_attributes() + self.keys.len() == MAX_ATTRIBUTES
     }
 
-    /// Requires a pair too. Refused where pairs and keys are 16 together, and then the verifier is spent.
+    /// Requires a pair too. Refused where pairs and keys
+    /// are 16 together, and then the verifier is spent.
     pub fn require(
         self,
         key: &AttributeKey,
@@ -125,8 +126,8 @@ impl AttributeVerifier {
         Ok(verifier)
     }
 
-    /// Requires a key too, with any value. Refused where pairs and keys are 16 together, and then the verifier is
-    /// spent.
+    /// Requires a key too, with any value. Refused where pairs and keys are 16 together, and then
+    /// the verifier is spent.
     pub fn require_key(self, key: &AttributeKey) -> Result<Self, AttributeDefinitionError>
         ensures variant { IsOk result ↔ (length self.pairs + length self.keys < 16) }
         ensures added { IfOk result
@@ -154,10 +155,11 @@ impl AttributeVerifier {
         self.keys.as_slice()
     }
 
-    /// Whether `attributes` has each required pair, and for each required key some pair with it. A pair that is
-    /// required twice is met by one.
+    /// Whether `attributes` has each required pair, and for each required key some pair with it. A
+    /// pair that is required twice is met by one.
     ///
-    /// Refused with the least required pair that is missing, or else with the first required key that no pair has.
+    /// Refused with the least required pair that is missing,
+    /// or else with the first required key that no pair has.
     pub fn verify_requirements(
         &self,
         attributes: &AttributeSet,

@@ -9,8 +9,8 @@ use super::joining::joined;
 use super::path::Path;
 use crate::bounded::{Content, SemanticString, SemanticStringError};
 
-/// The path of a file: 1 to 255 bytes, of which those after the last `/` are a file name. Where there is no `/`,
-/// all of them are. `a/` and `a/..` are refused.
+/// The path of a file: 1 to 255 bytes, of which those after the last `/` are a file name. Where
+/// there is no `/`, all of them are. `a/` and `a/..` are refused.
 pub type FilePath = SemanticString<FilePathContent, MAX_PATH_LENGTH>;
 
 /// What the path of a file allows: a last part that is a file name.
@@ -38,7 +38,8 @@ fn last_part(bytes: &[u8]) -> &[u8]
 }
 
 impl FilePath {
-    /// The file in the directory `path`, with one `/` between them unless the path is empty or ends in `/`.
+    /// The file in the directory `path`, with one `/`
+    /// between them unless the path is empty or ends in `/`.
     ///
     /// Refused where that would be longer than 255 bytes.
     pub fn from_path_and_file(path: &Path, file: &FileName) -> Result<Self, SemanticStringError>

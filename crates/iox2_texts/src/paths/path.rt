@@ -24,7 +24,8 @@ impl Content for PathContent {
 }
 
 impl Path {
-    /// Joins an entry to the path, with one `/` between them unless the path is empty or ends in `/`.
+    /// Joins an entry to the path, with one `/` between
+    /// them unless the path is empty or ends in `/`.
     ///
     /// Where that would be longer than 255 bytes it is refused, and the path stays as it was.
     pub fn add_path_entry(&mut self, entry: &Path) -> Result<(), SemanticStringError>

@@ -4,12 +4,12 @@ ghost use Rattle.iox2_texts.specs.Path.{is_restricted};
 
 use crate::bounded::{Content, SemanticString};
 
-/// The name of a file: 1 to `N` letters `A` to `Z` and `a` to `z`, digits, `-`, `.`, `:` and `_`, and neither `.` nor
-/// `..`.
+/// The name of a file: 1 to `N` letters `A` to `Z` and `a` to `z`, digits, `-`, `.`, `:` and `_`,
+/// and neither `.` nor `..`.
 pub type RestrictedFileName<const N: usize> = SemanticString<RestrictedFileNameContent, N>;
 
-/// What a restricted name allows: not the empty text, letters, digits, `-`, `.`, `:` and `_` alone, and neither `.` nor
-/// `..`.
+/// What a restricted name allows: not the empty text, letters, digits, `-`, `.`, `:` and `_` alone,
+/// and neither `.` nor `..`.
 pub enum RestrictedFileNameContent {}
 
 impl Content for RestrictedFileNameContent {

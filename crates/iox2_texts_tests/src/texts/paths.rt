@@ -126,7 +126,7 @@ fn separators_and_spaces_are_refused_by_some(rt: HostRuntime) {
     );
 }
 
-/// All that a semantic string tells of itself.
+/// All that a semantic string answers of itself.
 fn tells<C: Content, const N: usize>(
     rt: &(impl Abort + AllocGlobal),
     found: &SemanticString<C, N>,

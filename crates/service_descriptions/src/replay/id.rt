@@ -214,7 +214,8 @@ pub(super) fn plain_before(bytes: &[u8]) -> Option<(PlainPort, &[u8])>
     Some((PlainPort { role, port, node }, rest))
 }
 
-/// Takes in the ports that are spelled at the front, each with a space before it, and gives what follows them.
+/// Takes in the ports that are spelled at the front, each
+/// with a space before it, and gives what follows them.
 fn more_ports<'a>(ports: &mut Vec<u128>, bytes: &'a [u8]) -> Result<Option<&'a [u8]>, AllocError>
     requires { EndsNumber bytes.now }
     ensures { IfOk result (λ found. GoesOn ports.old.items bytes.now

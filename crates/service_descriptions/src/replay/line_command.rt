@@ -7,7 +7,8 @@ use super::id::PlainPort;
 use iox2_container::container::Role;
 use iox2_ids::identifiers::UniqueNodeId;
 
-/// A command that a line can spell. It is small, where a [`Command`] has room for what a verifier requires.
+/// A command that a line can spell. It is small, where
+/// a [`Command`] has room for what a verifier requires.
 #[derive(Drop)]
 pub(super) enum LineCommand {
     Register(UniqueNodeId),

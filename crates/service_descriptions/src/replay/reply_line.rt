@@ -92,17 +92,33 @@ fn append_ports(ports: &[PortDetails], out: &mut Vec<u8>) -> Result<(), AllocErr
     out.extend_from_slice(b"\n")
 }
 
-/// Appends the line of what attributes lack.
+/// Appends the line of what attributes lack, with the text that
+/// `Display` writes: a formatter would take a block of its own.
 fn append_fault(fault: &AttributeVerificationError, out: &mut Vec<u8>) -> Result<(), AllocError>
     ensures ok { OnOk result (out.new.items ≡ out.old.items
         ++ (codes "refused " ++ verification_error_text fault.now ++ 10 ∷ [])) }
-    ensures err { OnErr result (out.new.items ≡ out.old.items) }
+    ensures err { OnErr result (take (vec_len out.old) out.new.items ≡ out.old.items) }
 {
-    let line = format!(in *out.allocator(); "refused {}\n", fault)?;
-    out.extend_from_slice(line.as_bytes())
+    match fault {
+        AttributeVerificationError::NonExistingKey(key) => {
+            out.extend_from_slice(b"refused AttributeVerificationError::NonExistingKey(\"")?;
+            out.extend_from_slice(key.as_bytes())?;
+            out.extend_from_slice(b"\")\n")
+        }
+        AttributeVerificationError::IncompatibleAttribute((key, value)) => {
+            out.extend_from_slice(
+                b"refused AttributeVerificationError::IncompatibleAttribute((\"",
+            )?;
+            out.extend_from_slice(key.as_bytes())?;
+            out.extend_from_slice(b"\", \"")?;
+            out.extend_from_slice(value.as_bytes())?;
+            out.extend_from_slice(b"\"))\n")
+        }
+    }
 }
 
-/// Appends the line of a reply to a command that has a line, perhaps a part of it where memory is refused.
+/// Appends the line of a reply to a command that has a
+/// line, perhaps a part of it where memory is refused.
 #[inline(always)]
 fn append_reply(reply: &LineReply, out: &mut Vec<u8>) -> Result<(), AllocError>
     ensures ok { OnOk result (out.new.items ≡ out.old.items ++ reply_line (reply_of reply.now)) }
@@ -128,7 +144,8 @@ fn append_reply(reply: &LineReply, out: &mut Vec<u8>) -> Result<(), AllocError>
     }
 }
 
-/// Appends the line of a reply to a command that has a line. Where memory is refused, the bytes are left as they were.
+/// Appends the line of a reply to a command that has a line.
+/// Where memory is refused, the bytes are left as they were.
 #[inline(always)]
 pub(super) fn write_line(reply: &LineReply, out: &mut Vec<u8>) -> Result<(), AllocError>
     ensures ok { OnOk result (out.new.items ≡ out.old.items ++ reply_line (reply_of reply.now)) }
@@ -179,7 +196,8 @@ fn append_line(reply: &Reply, out: &mut Vec<u8>) -> Result<(), AllocError>
     }
 }
 
-/// Appends the line of a reply with its newline. Where memory is refused, the bytes are left as they were.
+/// Appends the line of a reply with its newline. Where
+/// memory is refused, the bytes are left as they were.
 pub fn write_reply(reply: &Reply, out: &mut Vec<u8>) -> Result<(), AllocError>
     ensures ok { OnOk result (out.new.items ≡ out.old.items ++ reply_line reply.now) }
     ensures err { OnErr result (out.new.items ≡ out.old.items) }

@@ -16,8 +16,8 @@ use thiserror::Error;
 /// Why a script was not run to its end.
 #[derive(Debug, Drop, Error)]
 pub enum ScriptError {
-    /// The line of this number has no meaning at its place, or no newline. Lines are numbered from 1, and a script
-    /// without a line is bad at 1.
+    /// The line of this number has no meaning at its place, or no newline. Lines are numbered from
+    /// 1, and a script without a line is bad at 1.
     #[error("bad line {0}")]
     BadLine(usize),
     /// Memory was refused.
@@ -39,7 +39,8 @@ const BYTES_OF_LINE: usize = 16;
 /// How many bytes of lines there are for a byte of replies, or more.
 const BYTES_FOR_REPLY: usize = 2;
 
-/// Takes at once the room that the lines and their replies are likely to need, or is refused. More is taken bit by bit.
+/// Takes at once the room that the lines and their replies are
+/// likely to need, or is refused. More is taken bit by bit.
 fn make_room(state: &mut ServiceState, lines: &[u8], out: &mut Vec<u8>) -> Result<(), AllocError>
     ensures state { state.new ≡ state.old }
     ensures out { out.new.items ≡ out.old.items }
@@ -48,7 +49,7 @@ fn make_room(state: &mut ServiceState, lines: &[u8], out: &mut Vec<u8>) -> Resul
     out.reserve(lines.len() / BYTES_FOR_REPLY)
 }
 
-/// Runs the first line, and gives the lines after it. `None` where it is no command's line.
+/// Runs the first line, and gives the lines after it. `None` where it is not a command's line.
 #[inline(always)]
 fn run_line<'a>(
     alloc: Global,
@@ -93,13 +94,14 @@ fn run_lines(
 
 /// Runs a script, and appends its reply lines.
 ///
-/// The first line is `service PATTERN NUMBER NODES FIRST SECOND`, where the pattern is `publish-subscribe`, `event`,
-/// `request-response` or `blackboard` and the others are the number of the service (`u64`) and the capacities
-/// (`usize`) for nodes, for the ports that are recovered first (publishers, listeners, servers, readers) and for the
-/// other ports. Each later line is a command as [`read_line`](super::read_line) reads it. Every line ends with a newline.
+/// The first line is `service PATTERN NUMBER NODES FIRST SECOND`, where the pattern is
+/// `publish-subscribe`, `event`, `request-response` or `blackboard` and the others are the number
+/// of the service (`u64`) and the capacities (`usize`) for nodes, for the ports that are recovered
+/// first (publishers, listeners, servers, readers) and for the other ports. Each later line is a
+/// command as [`read_line`](super::read_line) reads it. Every line ends with a newline.
 ///
-/// At a bad line the replies to all commands before it have been appended. Where memory is refused, nothing has been
-/// appended, or the whole reply lines of some first commands.
+/// At a bad line the replies to all commands before it have been appended. Where memory is refused,
+/// nothing has been appended, or the whole reply lines of some first commands.
 pub fn run_script(alloc: Global, script: &[u8], out: &mut Vec<u8>) -> Result<(), ScriptError>
     ensures { (text : List ℕ) × (out.new.items ≡ out.old.items ++ text)
         × Scripted script.now result text }

@@ -194,8 +194,8 @@ pub(super) fn serve_line(
     }
 }
 
-/// The reply to a command on a service of this number, where earlier commands were answered so. All memory that it
-/// needs is taken before the service changes.
+/// The reply to a command on a service of this number, where earlier commands were answered so. All
+/// memory that it needs is taken before the service changes.
 pub(super) fn serve_command(
     alloc: Global,
     service: &mut DynamicConfig,

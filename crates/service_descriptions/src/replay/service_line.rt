@@ -31,7 +31,8 @@ enum Pattern {
 }
 
 impl Pattern {
-    /// The settings with these capacities, that of the ports which are recovered first before the other.
+    /// The settings with these capacities, that of the
+    /// ports which are recovered first before the other.
     fn settings(self, first: usize, second: usize) -> MessagingPatternSettings
         ensures { result ≡ settings_for self first second }
     {

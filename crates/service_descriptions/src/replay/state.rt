@@ -5,12 +5,10 @@ ghost use Rattle.iox2_dynamic.specs.Service.{HasNoPort};
 ghost use Rattle.iox2_static.specs.MessagingPattern.{kind_of};
 ghost use Rattle.service_descriptions.specs.Lines.{command_of};
 ghost use Rattle.service_descriptions.specs.Replies.{reply_of};
-ghost use Rattle.service_descriptions.specs.Script.{LineStep};
 ghost use Rattle.service_descriptions.specs.Steps.{ServiceStep, IsState, Did, new_state};
 
 use super::command::Command;
 use super::earlier::Earlier;
-use super::line::line_command;
 use super::line_command::LineCommand;
 use super::line_reply::LineReply;
 use super::reply::Reply;
@@ -21,8 +19,8 @@ use iox2_static::static_config::StaticConfig;
 use std::alloc::{AllocError, Global};
 use std::marker::Model;
 
-/// A service, its description or none, and for each earlier command the handle that it was answered with. No two of
-/// these handles are equal.
+/// A service, its description or none, and for each earlier command the handle that it was answered
+/// with. No two of these handles are equal.
 #[derive(Drop)]
 pub struct ServiceState {
     service: DynamicConfig,
@@ -43,9 +41,9 @@ impl Model for ServiceState {
 }
 
 impl ServiceState {
-    /// A service without nodes, ports and description, for at most `max_nodes` entries of nodes at a time, and for
-    /// 2^64 - 1 entries of each kind in all. Its handles carry the number. Takes all the memory of the service
-    /// itself, or is refused.
+    /// A service without nodes, ports and description, for at most `max_nodes` entries of nodes at
+    /// a time, and for 2^64 - 1 entries of each kind in all. Its handles carry the number. Takes
+    /// all the memory of the service itself, or is refused.
     pub fn new(
         alloc: Global,
         settings: &MessagingPatternSettings,
@@ -69,8 +67,8 @@ impl ServiceState {
         self.service.kind()
     }
 
-    /// Describes the service, in place of what described it before. The description is one of a service of this
-    /// [`kind`](ServiceState::kind).
+    /// Describes the service, in place of what described it before. The description is one of a
+    /// service of this [`kind`](ServiceState::kind).
     pub fn describe(&mut self, description: StaticConfig)
         requires { kind_of description.pattern ≡ self.old.service.pattern }
         ensures { self.new ≡ record self.old { description = Some description } }
@@ -78,7 +76,7 @@ impl ServiceState {
         self.description = Some(description);
     }
 
-    /// Takes the room for what is kept of so many more commands, or is refused.
+    /// Takes the room for what is kept of this many more commands, or is refused.
     pub(super) fn reserve(&mut self, commands: usize) -> Result<(), AllocError>
         ensures { self.new ≡ self.old }
     {
@@ -132,8 +130,9 @@ impl ServiceState {
 #[tactic(auto, using(iox2_dynamic::proofs::Keeping::locked_has_no_port))]
 /// Gives the commands to the service in turn, and appends a reply for each.
 ///
-/// Commands of one state are numbered from 0 over all calls. Where memory is refused, the state is after exactly as
-/// many of the commands as replies were appended, and fewer than all were: the rest may be given again.
+/// Commands of one state are numbered from 0 over all calls. Where memory is refused, the state is
+/// after exactly as many of the commands as replies were appended, and fewer than all were: the
+/// rest may be given again.
 pub fn replay(
     alloc: Global,
     state: &mut ServiceState,
@@ -148,7 +147,7 @@ pub fn replay(
     ensures no_port { IsTrue state.new.service.nodes.registry.locked
         → HasNoPort state.new.service.ports }
 {
-    // Tells the proof what is true of every state.
+    // For the proof: what is true of every state.
     let _service = &state.service;
     for command in commands {
         replies.reserve(1)?;
@@ -156,34 +155,4 @@ pub fn replay(
         replies.push_reserved(reply);
     }
     Ok(())
-}
-
-#[tactic(auto, using(iox2_dynamic::proofs::Keeping::locked_has_no_port))]
-/// Gives the service the command that a line without its newline spells, as [`read_line`](super::read_line) reads it,
-/// and appends its reply. Says whether the line spells one.
-///
-/// It is quicker than reading the line and replaying its command. Where the line spells none, or memory is refused,
-/// nothing has changed.
-pub fn replay_line(
-    alloc: Global,
-    state: &mut ServiceState,
-    line: &[u8],
-    replies: &mut Vec<Reply>,
-) -> Result<bool, AllocError>
-    ensures ok { IfOk result (λ spelled. LineStep state.old line.now replies.old.items spelled
-        state.new replies.new.items) }
-    ensures err { OnErr result ((state.new ≡ state.old) × (replies.new.items ≡ replies.old.items)) }
-    ensures state { IsState state.new }
-    ensures no_port { IsTrue state.new.service.nodes.registry.locked
-        → HasNoPort state.new.service.ports }
-{
-    // Tells the proof what is true of every state.
-    let _service = &state.service;
-    replies.reserve(1)?;
-    let Some(command) = line_command(alloc, line)? else {
-        return Ok(false);
-    };
-    let reply = state.serve_line(alloc, &command)?;
-    replies.push_reserved(reply.reply());
-    Ok(true)
 }

@@ -90,8 +90,9 @@ fn misspelling(bytes: &[u8]) -> Option<Cause>
     }
 }
 
-/// Why the line is bad with which what is left begins: first because it is none, then because its service has an internal
-/// name, then because of two spaces, and then for what else was found out.
+/// Why the line is bad with which what is left begins: first because
+/// it is not a line, then because its service has an internal name,
+/// then because of two spaces, and then for what else was found out.
 pub(crate) fn cause_of(bytes: &[u8], reason: Reason) -> Cause
     ensures { IsCause bytes.now reason result }
 {

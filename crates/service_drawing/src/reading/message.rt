@@ -10,7 +10,8 @@ use super::words::{after_word, next_line, number, split_word};
 use crate::description::Message;
 use iox2_config::types::{MessageTypeDetails, TypeDetail, TypeVariant};
 
-/// The first line without the prefix, the word and its newline, and what follows the newline, where that line begins so.
+/// The first line without the prefix, the word and its newline,
+/// and what follows the newline, where that line begins so.
 pub(super) fn line_after<'a>(
     bytes: &'a [u8],
     prefix: &str,
@@ -71,7 +72,7 @@ fn payload_in(text: &str) -> Option<TypeDetail>
     }
 }
 
-/// The same type with this alignment, which is refused where it is no power of two.
+/// The same type with this alignment, which is refused where it is not a power of two.
 fn aligned(detail: &TypeDetail, alignment: usize) -> Option<TypeDetail>
     ensures { IfSome result (λ other. other ≡ record detail.now { alignment = alignment }) }
 {

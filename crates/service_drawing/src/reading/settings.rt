@@ -56,7 +56,8 @@ fn find<S: Settings>(settings: &S, word: &str) -> Option<(usize, Value)>
     None
 }
 
-/// Sets the setting whose name and value the text spells, and marks it as set, or answers why it does not.
+/// Sets the setting whose name and value the text spells,
+/// and marks it as set, or answers why it does not.
 fn set<S: Settings>(settings: &mut S, given: &mut [bool; 32], text: &str) -> Result<(), Reason>
     ensures set { IfOk result (λ done. Sets S.names (S.values settings.old) given.old text.now
         (S.values settings.new) given.new) }

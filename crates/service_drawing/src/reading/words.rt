@@ -6,7 +6,8 @@ ghost use Rattle.std.specs.List.{before_first};
 use itoa::Buffer;
 use std::str;
 
-/// The first line without its newline, and what follows that. A line holds bytes from 32 to 126 alone.
+/// The first line without its newline, and what follows
+/// that. A line holds bytes from 32 to 126 alone.
 pub(super) fn next_line(bytes: &[u8]) -> Option<(&str, &[u8])>
     ensures spelled { IfSome result (λ found. bytes.now ≡ found.0.now ++ 10 ∷ found.1.now) }
     ensures shorter { IfSome result (λ found. length found.1.now < length bytes.now) }

@@ -11,7 +11,7 @@ use crate::span::Span;
 use iox2_config::types::TypeDetail;
 use std::alloc::AllocError;
 
-/// Draws the layout of a message, and tells the memory of a port that sends it.
+/// Draws the layout of a message, and states the memory of a port that sends it.
 pub(super) fn write_message(sheet: &mut Sheet, segment: Segment<'_>) -> Result<(), AllocError> {
     let title = segment.title;
     let message = segment.message;
@@ -43,7 +43,7 @@ pub(super) fn write_message(sheet: &mut Sheet, segment: Segment<'_>) -> Result<(
     Ok(())
 }
 
-/// Appends a sentence that tells where the parts of a message lie.
+/// Appends a sentence that says where the parts of a message lie.
 pub(super) fn write_summary(out: &mut String, segment: Segment<'_>) -> Result<(), AllocError> {
     let title = segment.title;
     let message = segment.message;

@@ -116,7 +116,8 @@ impl Sheet {
     }
 }
 
-/// Appends a text, in which the characters that have a meaning in a document are told by their names.
+/// Appends a text, in which the characters that have a
+/// meaning in a document are written by their names.
 pub(super) fn write_escaped(out: &mut String, text: &str) -> Result<(), AllocError> {
     for letter in text.chars() {
         write_letter(out, letter)?;

@@ -49,7 +49,8 @@ fn letter(part: Part) -> char {
     }
 }
 
-/// How many bytes a character of a bar stands for: the fewest, from one on, with which the bar fits.
+/// How many bytes a character of a bar stands for:
+/// the fewest, from one on, with which the bar fits.
 fn scale(size: usize) -> usize
     ensures positive { 0 < result }
     ensures fits { size ≤ result * WIDTH }
@@ -104,7 +105,8 @@ fn write_empty(out: &mut String, span: Span, what: &str) -> Result<(), AllocErro
     writeln!(out, "  {what}")
 }
 
-/// Appends a row for each part of a message, for the gaps between them and for the first elements of the payload.
+/// Appends a row for each part of a message, for the gaps
+/// between them and for the first elements of the payload.
 fn write_table(
     out: &mut String,
     message: &Message,
@@ -162,7 +164,7 @@ fn others(elements: usize) -> usize
     elements.saturating_sub(LISTED)
 }
 
-/// Appends a row for each of the first elements, and one that tells how many others there are.
+/// Appends a row for each of the first elements, and one that says how many others there are.
 fn write_elements(out: &mut String, layout: &MessageLayout) -> Result<(), AllocError>
     requires { IsWhole layout.now }
 {

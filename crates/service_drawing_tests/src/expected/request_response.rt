@@ -1,6 +1,7 @@
 //! Request-response services as text.
 
-/// Two messages, of which the opener's payload has too great an alignment in the first, and more elements than are listed.
+/// Two messages, of which the opener's payload has too great an alignment in the first, and more
+/// elements than are listed.
 pub(crate) const REQUEST_RESPONSE: (&str, &str) = (
     "request-response Calc
 set max_servers 3
@@ -88,7 +89,8 @@ required by an opener
 ",
 );
 
-/// A request without a layout, and a response that takes the most bytes that a message may, both without an opener.
+/// A request without a layout, and a response that takes the
+/// most bytes that a message may, both without an opener.
 pub(crate) const UNBOUNDED: (&str, &str) = (
     "request-response Unbounded
 request-header 8 8 u64

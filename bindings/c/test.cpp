@@ -1,2 +1,0 @@
-// The same caller, in C++.
-#include "test.c"

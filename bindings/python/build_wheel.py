@@ -1,0 +1,116 @@
+#!/usr/bin/env python3
+"""Builds the wheel of iox2sd, with the shared library in it, by Python's standard library alone.
+
+    bindings/python/build_wheel.py DIRECTORY
+
+prints the path of the wheel. The library is `bindings/out/libiox2sd.so.0`, or the file that
+IOX2SD_LIBRARY names. Python 3.11 or later is needed to build, not to install. `pip wheel` and `pip
+install` of this folder call `build_wheel` too, since pyproject.toml names this file.
+"""
+
+import base64
+import hashlib
+import os
+import re
+import subprocess
+import sys
+import tomllib
+import zipfile
+from pathlib import Path
+from typing import Any
+
+HERE = Path(__file__).resolve().parent
+PROJECT = HERE.parents[1]
+SHARED = "libiox2sd.so.0"
+
+Files = dict[str, bytes]
+
+
+def build_wheel(
+    wheel_directory: str,
+    config_settings: "dict[str, Any] | None" = None,
+    metadata_directory: "str | None" = None,
+) -> str:
+    """Writes the wheel into a directory, and answers its name (PEP 517)."""
+    library = Path(os.environ.get("IOX2SD_LIBRARY") or HERE.parent / "out" / SHARED).resolve()
+    project = tomllib.loads((HERE / "pyproject.toml").read_text())["project"]
+    version = library_version(library)
+    tag = f"py3-none-{platform_tag(library.read_bytes())}"
+    name = f"{project['name']}-{version}"
+    files = {
+        f"iox2sd/{path.name}": path.read_bytes()
+        for path in sorted((HERE / "iox2sd").iterdir())
+        if path.suffix == ".py" or path.name == "py.typed"
+    }
+    files[f"iox2sd/{SHARED}"] = library.read_bytes()
+    info = f"{name}.dist-info"
+    for licence in project["license-files"]:
+        files[f"{info}/licenses/{licence}"] = (PROJECT / licence).read_bytes()
+    files[f"{info}/WHEEL"] = (
+        f"Wheel-Version: 1.0\nGenerator: build_wheel.py\nRoot-Is-Purelib: false\nTag: {tag}\n"
+    ).encode()
+    files[f"{info}/METADATA"] = metadata(project, version).encode()
+    files[f"{info}/RECORD"] = record(files, f"{info}/RECORD")
+    wheel = f"{name}-{tag}.whl"
+    write(Path(wheel_directory) / wheel, files)
+    return wheel
+
+
+def library_version(library: Path) -> str:
+    """The version that the library reports, which is that of the package."""
+    environment = os.environ | {"IOX2SD_LIBRARY": str(library), "PYTHONPATH": str(HERE)}
+    command = [sys.executable, "-B", "-c", "import iox2sd; print(iox2sd.__version__)"]
+    asked = subprocess.run(command, env=environment, check=True, stdout=subprocess.PIPE, text=True)
+    version: str = asked.stdout.strip()
+    return version
+
+
+def platform_tag(library: bytes) -> str:
+    """The tag of the systems that have all symbols that the library wants of the C library."""
+    if library[:5] != b"\x7fELF\x02" or int.from_bytes(library[18:20], "little") != 62:
+        raise SystemExit("the library is not for x86-64 Linux")
+    wanted = re.findall(rb"\0GLIBC_(\d+)\.(\d+)(?:\.\d+)?(?=\0)", library)
+    major, minor = max((2, 5), *((int(major), int(minor)) for major, minor in wanted))
+    return f"manylinux_{major}_{minor}_x86_64"
+
+
+def metadata(project: dict[str, Any], version: str) -> str:
+    """The file METADATA, as the core metadata specification 2.4 has it."""
+    lines = [
+        "Metadata-Version: 2.4",
+        f"Name: {project['name']}",
+        f"Version: {version}",
+        f"Summary: {project['description']}",
+        f"License-Expression: {project['license']}",
+        *(f"License-File: {licence}" for licence in project["license-files"]),
+        *(f"Classifier: {classifier}" for classifier in project["classifiers"]),
+        f"Requires-Python: {project['requires-python']}",
+        "Description-Content-Type: text/markdown",
+    ]
+    return "\n".join(lines) + "\n\n" + Path(HERE, project["readme"]).read_text()
+
+
+def record(files: Files, own_name: str) -> bytes:
+    """The file RECORD: each file with its digest and size, and itself without."""
+    lines = []
+    for name, content in files.items():
+        digest = base64.urlsafe_b64encode(hashlib.sha256(content).digest()).rstrip(b"=").decode()
+        lines.append(f"{name},sha256={digest},{len(content)}\n")
+    return ("".join(lines) + f"{own_name},,\n").encode()
+
+
+def write(wheel: Path, files: Files) -> None:
+    """Writes the files of a wheel, at a fixed time, so that equal files make equal wheels."""
+    with zipfile.ZipFile(wheel, "w", zipfile.ZIP_DEFLATED) as archive:
+        for name, content in files.items():
+            entry = zipfile.ZipInfo(name)
+            entry.compress_type = zipfile.ZIP_DEFLATED
+            entry.external_attr = 0o100644 << 16
+            archive.writestr(entry, content)
+
+
+if __name__ == "__main__":
+    if len(sys.argv) != 2:
+        raise SystemExit("usage: build_wheel.py DIRECTORY")
+    Path(sys.argv[1]).mkdir(parents=True, exist_ok=True)
+    print(Path(sys.argv[1]) / build_wheel(sys.argv[1]))

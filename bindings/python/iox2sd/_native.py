@@ -1,0 +1,342 @@
+"""The exports of libiox2sd, declared as the headers `include/iox2sd*.h` do.
+
+ctypes cuts a number to the bits of its parameter without a word, so each number and each text
+passes `_arguments` before it comes here.
+"""
+
+import ctypes
+import os
+from ctypes import POINTER, c_bool, c_char_p, c_size_t, c_uint8, c_uint32, c_uint64, c_void_p
+from pathlib import Path
+from typing import Any
+
+ABI = 1
+"""The number that the library's `iox2sd_abi` is to answer."""
+
+DONE = 0
+DONE_LOCKED = 1
+BUFFER_TOO_SHORT = 2
+NO_SUCH_VALUE = 56
+
+
+def _load() -> ctypes.CDLL:
+    path = os.environ.get("IOX2SD_LIBRARY") or str(Path(__file__).with_name("libiox2sd.so.0"))
+    try:
+        library = ctypes.CDLL(path)
+    except OSError as error:
+        raise ImportError(
+            f"libiox2sd was not loaded: {error}. It stands in the wheel of this package; in a"
+            " source tree, IOX2SD_LIBRARY names the file."
+        ) from error
+    library.iox2sd_abi.restype = c_uint32
+    library.iox2sd_abi.argtypes = []
+    found = library.iox2sd_abi()
+    if found != ABI:
+        raise ImportError(f"{path} has the binary interface {found}, and this package needs {ABI}")
+    return library
+
+
+class Id(ctypes.Structure):
+    _fields_ = [
+        ("process", c_uint32),
+        ("seconds", c_uint32),
+        ("nanoseconds", c_uint32),
+        ("counter", c_uint32),
+    ]
+
+
+class Handle(ctypes.Structure):
+    _fields_ = [
+        ("service", c_uint64),
+        ("role", c_uint64),
+        ("slot", c_size_t),
+        ("ticket", c_uint64),
+    ]
+
+
+class Port(ctypes.Structure):
+    _fields_ = [
+        ("role", c_uint64),
+        ("port", Id),
+        ("node", Id),
+        ("number_of_samples", c_size_t),
+        ("buffer_size", c_size_t),
+        ("request_buffer_size", c_size_t),
+        ("number_of_responses", c_size_t),
+        ("number_of_requests", c_size_t),
+        ("response_buffer_size", c_size_t),
+        ("max_slice_len", c_size_t),
+        ("data_segment", c_uint32),
+        ("max_number_of_segments", c_uint8),
+    ]
+
+
+class Capacities(ctypes.Structure):
+    _fields_ = [("nodes", c_size_t), ("first", c_size_t), ("second", c_size_t)]
+
+
+class Service(ctypes.Structure):
+    _fields_ = [("full", c_bool), ("at", c_void_p)]
+
+
+class HandleAnswer(ctypes.Structure):
+    _fields_ = [("status", c_uint32), ("handle", Handle)]
+
+
+class CountAnswer(ctypes.Structure):
+    _fields_ = [("status", c_uint32), ("count", c_size_t)]
+
+
+class TextAnswer(ctypes.Structure):
+    _fields_ = [("status", c_uint32), ("length", c_size_t)]
+
+
+class NumberAnswer(ctypes.Structure):
+    _fields_ = [("status", c_uint32), ("number", c_uint64)]
+
+
+class RolesAnswer(ctypes.Structure):
+    _fields_ = [("status", c_uint32), ("first", c_uint64), ("second", c_uint64)]
+
+
+class FlagAnswer(ctypes.Structure):
+    _fields_ = [("status", c_uint32), ("yes", c_bool)]
+
+
+class IdAnswer(ctypes.Structure):
+    _fields_ = [("status", c_uint32), ("id", Id)]
+
+
+class PortAnswer(ctypes.Structure):
+    _fields_ = [("status", c_uint32), ("port", Port)]
+
+
+class DeathAnswer(ctypes.Structure):
+    _fields_ = [("status", c_uint32), ("first", c_size_t), ("second", c_size_t)]
+
+
+class ScriptAnswer(ctypes.Structure):
+    _fields_ = [("status", c_uint32), ("line", c_size_t), ("length", c_size_t)]
+
+
+class PlaceAnswer(ctypes.Structure):
+    _fields_ = [("status", c_uint32), ("at", c_size_t)]
+
+
+class Attribute(ctypes.Structure):
+    _fields_ = [
+        ("key", c_char_p),
+        ("key_length", c_size_t),
+        ("value", c_char_p),
+        ("value_length", c_size_t),
+    ]
+
+
+class Key(ctypes.Structure):
+    _fields_ = [("text", c_char_p), ("length", c_size_t)]
+
+
+class TypeDetail(ctypes.Structure):
+    _fields_ = [
+        ("name", c_char_p),
+        ("name_length", c_size_t),
+        ("variant", c_uint32),
+        ("size", c_size_t),
+        ("alignment", c_size_t),
+    ]
+
+
+class MessageDetails(ctypes.Structure):
+    _fields_ = [("header", TypeDetail), ("user_header", TypeDetail), ("payload", TypeDetail)]
+
+
+class LayoutAnswer(ctypes.Structure):
+    _fields_ = [("status", c_uint32), ("size", c_size_t), ("alignment", c_size_t)]
+
+
+class PlacesAnswer(ctypes.Structure):
+    _fields_ = [("status", c_uint32), ("user_header", c_size_t), ("payload", c_size_t)]
+
+
+class PartAnswer(ctypes.Structure):
+    _fields_ = [("status", c_uint32), ("side", c_uint32), ("part", c_uint32)]
+
+
+class OptionalDuration(ctypes.Structure):
+    _fields_ = [("seconds", c_uint64), ("nanoseconds", c_uint32), ("is_some", c_bool)]
+
+
+class OptionalEventId(ctypes.Structure):
+    _fields_ = [("number", c_size_t), ("is_some", c_bool)]
+
+
+class PublishSubscribeSettings(ctypes.Structure):
+    _fields_ = [
+        ("max_subscribers", c_size_t),
+        ("max_publishers", c_size_t),
+        ("max_nodes", c_size_t),
+        ("subscriber_max_buffer_size", c_size_t),
+        ("subscriber_max_borrowed_samples", c_size_t),
+        ("publisher_max_loaned_samples", c_size_t),
+        ("publisher_history_size", c_size_t),
+        ("subscriber_expired_connection_buffer", c_size_t),
+        ("backpressure_strategy", c_uint32),
+        ("publisher_allocation_strategy", c_uint32),
+        ("enable_safe_overflow", c_bool),
+    ]
+
+
+class EventSettings(ctypes.Structure):
+    _fields_ = [
+        ("max_listeners", c_size_t),
+        ("max_notifiers", c_size_t),
+        ("max_nodes", c_size_t),
+        ("event_id_max_value", c_size_t),
+        ("deadline", OptionalDuration),
+        ("notifier_created_event", OptionalEventId),
+        ("notifier_dropped_event", OptionalEventId),
+        ("notifier_dead_event", OptionalEventId),
+    ]
+
+
+class RequestResponseSettings(ctypes.Structure):
+    _fields_ = [
+        ("max_active_requests_per_client", c_size_t),
+        ("max_response_buffer_size", c_size_t),
+        ("max_servers", c_size_t),
+        ("max_clients", c_size_t),
+        ("max_nodes", c_size_t),
+        ("max_borrowed_responses_per_pending_response", c_size_t),
+        ("max_loaned_requests", c_size_t),
+        ("server_max_loaned_responses_per_request", c_size_t),
+        ("client_expired_connection_buffer", c_size_t),
+        ("server_expired_connection_buffer", c_size_t),
+        ("client_backpressure_strategy", c_uint32),
+        ("server_backpressure_strategy", c_uint32),
+        ("client_allocation_strategy", c_uint32),
+        ("server_allocation_strategy", c_uint32),
+        ("enable_safe_overflow_for_requests", c_bool),
+        ("enable_safe_overflow_for_responses", c_bool),
+        ("enable_fire_and_forget_requests", c_bool),
+    ]
+
+
+class BlackboardSettings(ctypes.Structure):
+    _fields_ = [("max_readers", c_size_t), ("max_nodes", c_size_t)]
+
+
+_library = _load()
+
+
+def _export(name: str, result: Any, *parameters: Any) -> Any:
+    try:
+        function = getattr(_library, "iox2sd_" + name)
+    except AttributeError as error:
+        raise ImportError(f"libiox2sd has no iox2sd_{name}") from error
+    function.restype = result
+    function.argtypes = parameters
+    return function
+
+
+_TEXT = (c_char_p, c_size_t)
+_OUT = (POINTER(c_uint8), c_size_t)
+_SERVICE = (POINTER(Service), c_size_t)
+_PAIRS = (POINTER(Attribute), c_size_t)
+_DETAILS = (POINTER(MessageDetails), c_size_t)
+
+abi = _export("abi", c_uint32)
+status_text = _export("status_text", TextAnswer, c_uint32, *_OUT)
+version = _export("version", TextAnswer, *_OUT)
+layer_version = _export("layer_version", TextAnswer, *_OUT)
+
+id_is_node = _export("id_is_node", c_bool, Id)
+id_owner = _export("id_owner", c_uint64, Id)
+id_is_before = _export("id_is_before", c_bool, Id, Id)
+id_text = _export("id_text", TextAnswer, Id, *_OUT)
+
+service_make_at = _export(
+    "service_make_at", c_uint32, *_SERVICE, c_uint32, c_uint64, Capacities, c_uint64
+)
+service_free_at = _export("service_free_at", c_uint32, *_SERVICE)
+register_at = _export("register_at", HandleAnswer, *_SERVICE, Id)
+deregister_at = _export("deregister_at", c_uint32, *_SERVICE, Handle)
+attach_at = _export("attach_at", HandleAnswer, *_SERVICE, POINTER(Port), c_size_t)
+release_at = _export("release_at", c_uint32, *_SERVICE, Handle)
+dead_at = _export("dead_at", DeathAnswer, *_SERVICE, Id, POINTER(Id), c_size_t)
+pattern_at = _export("pattern_at", NumberAnswer, *_SERVICE)
+service_number_at = _export("service_number_at", NumberAnswer, *_SERVICE)
+roles_at = _export("roles_at", RolesAnswer, *_SERVICE)
+has_role_at = _export("has_role_at", FlagAnswer, *_SERVICE, c_uint64)
+is_locked_at = _export("is_locked_at", FlagAnswer, *_SERVICE)
+number_of_nodes_at = _export("number_of_nodes_at", CountAnswer, *_SERVICE)
+max_nodes_at = _export("max_nodes_at", CountAnswer, *_SERVICE)
+has_room_for_node_at = _export("has_room_for_node_at", FlagAnswer, *_SERVICE)
+count_ports_at = _export("count_ports_at", CountAnswer, *_SERVICE, c_uint64)
+max_ports_at = _export("max_ports_at", CountAnswer, *_SERVICE, c_uint64)
+has_room_at = _export("has_room_at", FlagAnswer, *_SERVICE, c_uint64)
+find_node_at = _export("find_node_at", IdAnswer, *_SERVICE, Handle)
+find_port_at = _export("find_port_at", PortAnswer, *_SERVICE, Handle)
+nodes_at = _export("nodes_at", CountAnswer, *_SERVICE, POINTER(Id), c_size_t)
+ports_at = _export("ports_at", CountAnswer, *_SERVICE, c_uint64, POINTER(Port), c_size_t)
+ports_of_at = _export("ports_of_at", CountAnswer, *_SERVICE, Id, POINTER(Port), c_size_t)
+script_run = _export("script_run", ScriptAnswer, *_TEXT, *_OUT)
+
+service_name_check = _export("service_name_check", PlaceAnswer, *_TEXT)
+internal_service_name_check = _export("internal_service_name_check", PlaceAnswer, *_TEXT)
+has_internal_prefix = _export("has_internal_prefix", c_bool, *_TEXT)
+internal_service_name = _export("internal_service_name", TextAnswer, *_TEXT, *_OUT)
+attribute_key_check = _export("attribute_key_check", PlaceAnswer, *_TEXT)
+attribute_value_check = _export("attribute_value_check", PlaceAnswer, *_TEXT)
+path_check = _export("path_check", PlaceAnswer, *_TEXT)
+file_name_check = _export("file_name_check", PlaceAnswer, *_TEXT)
+file_path_check = _export("file_path_check", PlaceAnswer, *_TEXT)
+restricted_name_check = _export("restricted_name_check", PlaceAnswer, *_TEXT)
+path_join = _export("path_join", TextAnswer, *_TEXT, *_TEXT, *_OUT)
+file_path_join = _export("file_path_join", TextAnswer, *_TEXT, *_TEXT, *_OUT)
+hash_text = _export("hash_text", TextAnswer, c_uint32, *_TEXT, *_OUT)
+internal_hash_text = _export("internal_hash_text", TextAnswer, c_uint32, *_TEXT, *_OUT)
+
+attributes_check = _export("attributes_check", PlaceAnswer, *_PAIRS)
+attributes_sort = _export("attributes_sort", PlaceAnswer, *_PAIRS)
+attribute_values = _export("attribute_values", CountAnswer, *_PAIRS, *_TEXT)
+attribute_value = _export("attribute_value", TextAnswer, *_PAIRS, *_TEXT, c_size_t, *_OUT)
+attributes_verify = _export(
+    "attributes_verify", PlaceAnswer, *_PAIRS, *_PAIRS, POINTER(Key), c_size_t
+)
+
+message_layout_at = _export("message_layout_at", LayoutAnswer, *_DETAILS, c_size_t)
+message_places_at = _export("message_places_at", PlacesAnswer, *_DETAILS, c_size_t)
+message_compatible_at = _export("message_compatible_at", PartAnswer, *_DETAILS, *_DETAILS)
+publisher_chunks = _export("publisher_chunks", CountAnswer, *[c_size_t] * 5)
+client_chunks = _export("client_chunks", CountAnswer, *[c_size_t] * 3)
+server_chunks = _export("server_chunks", CountAnswer, *[c_size_t] * 5)
+
+publish_subscribe_defaults = _export("publish_subscribe_defaults", PublishSubscribeSettings)
+event_defaults = _export("event_defaults", EventSettings)
+request_response_defaults = _export("request_response_defaults", RequestResponseSettings)
+blackboard_defaults = _export("blackboard_defaults", BlackboardSettings)
+samples_of_at = _export(
+    "samples_of_at", CountAnswer, POINTER(PublishSubscribeSettings), c_size_t
+)
+requests_of_at = _export(
+    "requests_of_at", CountAnswer, POINTER(RequestResponseSettings), c_size_t
+)
+responses_of_at = _export(
+    "responses_of_at", CountAnswer, POINTER(RequestResponseSettings), c_size_t
+)
+default_text = _export("default_text", TextAnswer, c_uint32, *_OUT)
+service_directory = _export("service_directory", TextAnswer, *_TEXT, *_OUT)
+node_directory = _export("node_directory", TextAnswer, *_TEXT, *_OUT)
+
+
+def written(function: Any, *arguments: Any) -> "tuple[int, str]":
+    """The status of a call that writes a text, and the text; it is called again with the room
+    that it asks for.
+    """
+    capacity = 64
+    while True:
+        out = (c_uint8 * capacity)()
+        answer = function(*arguments, out, capacity)
+        if answer.status != BUFFER_TOO_SHORT:
+            return answer.status, ctypes.string_at(out, answer.length).decode()
+        capacity = answer.length

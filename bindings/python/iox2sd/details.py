@@ -1,0 +1,184 @@
+"""What ports report of themselves."""
+
+import enum
+from dataclasses import dataclass, fields
+from typing import ClassVar, Union
+
+from . import _native
+from ._arguments import U8, Checked, Size
+from .ids import (
+    Role,
+    UniqueClientId,
+    UniqueListenerId,
+    UniqueNodeId,
+    UniqueNotifierId,
+    UniquePortId,
+    UniquePublisherId,
+    UniqueReaderId,
+    UniqueServerId,
+    UniqueSubscriberId,
+    UniqueWriterId,
+)
+
+
+class DataSegmentType(enum.Enum):
+    """Whether a data segment may grow."""
+
+    DYNAMIC = 0
+    """It may be replaced by a larger one."""
+    STATIC = 1
+    """It keeps its size."""
+
+
+class Details(Checked):
+    """The base of all details: the id of the port, the id of its node, and what its role has."""
+
+    __slots__ = ()
+    role: ClassVar[Role]
+    node_id: UniqueNodeId
+
+    @property
+    def port_id(self) -> UniquePortId:
+        """The id of the port."""
+        id: UniquePortId = getattr(self, fields(self)[0].name)
+        return id
+
+    def _lent(self) -> _native.Port:
+        port = _native.Port(
+            role=self.role.value, port=self.port_id._lent(), node=self.node_id._lent()
+        )
+        for field in fields(self)[2:]:
+            value = getattr(self, field.name)
+            if isinstance(value, DataSegmentType):
+                port.data_segment = value.value
+            else:
+                setattr(port, field.name, value)
+        return port
+
+
+@dataclass(frozen=True, slots=True, kw_only=True)
+class PublisherDetails(Details):
+    """What a publisher reports."""
+
+    role = Role.PUBLISHER
+    publisher_id: UniquePublisherId
+    node_id: UniqueNodeId
+    number_of_samples: Size
+    """How many samples its data segment has."""
+    max_slice_len: Size
+    """How many values a sample has at most."""
+    data_segment_type: DataSegmentType
+    max_number_of_segments: U8
+
+
+@dataclass(frozen=True, slots=True, kw_only=True)
+class SubscriberDetails(Details):
+    """What a subscriber reports."""
+
+    role = Role.SUBSCRIBER
+    subscriber_id: UniqueSubscriberId
+    node_id: UniqueNodeId
+    buffer_size: Size
+    """How many samples its buffer has room for."""
+
+
+@dataclass(frozen=True, slots=True, kw_only=True)
+class NotifierDetails(Details):
+    """What a notifier reports."""
+
+    role = Role.NOTIFIER
+    notifier_id: UniqueNotifierId
+    node_id: UniqueNodeId
+
+
+@dataclass(frozen=True, slots=True, kw_only=True)
+class ListenerDetails(Details):
+    """What a listener reports."""
+
+    role = Role.LISTENER
+    listener_id: UniqueListenerId
+    node_id: UniqueNodeId
+
+
+@dataclass(frozen=True, slots=True, kw_only=True)
+class ClientDetails(Details):
+    """What a client reports."""
+
+    role = Role.CLIENT
+    client_id: UniqueClientId
+    node_id: UniqueNodeId
+    number_of_requests: Size
+    """How many requests its data segment has."""
+    response_buffer_size: Size
+    """How many responses to one request its buffer has room for."""
+    max_slice_len: Size
+    """How many values a request has at most."""
+    data_segment_type: DataSegmentType
+    max_number_of_segments: U8
+
+
+@dataclass(frozen=True, slots=True, kw_only=True)
+class ServerDetails(Details):
+    """What a server reports."""
+
+    role = Role.SERVER
+    server_id: UniqueServerId
+    node_id: UniqueNodeId
+    request_buffer_size: Size
+    """How many requests its buffer has room for."""
+    number_of_responses: Size
+    """How many responses its data segment has."""
+    max_slice_len: Size
+    """How many values a response has at most."""
+    data_segment_type: DataSegmentType
+    max_number_of_segments: U8
+
+
+@dataclass(frozen=True, slots=True, kw_only=True)
+class ReaderDetails(Details):
+    """What a reader reports."""
+
+    role = Role.READER
+    reader_id: UniqueReaderId
+    node_id: UniqueNodeId
+
+
+@dataclass(frozen=True, slots=True, kw_only=True)
+class WriterDetails(Details):
+    """What a writer reports."""
+
+    role = Role.WRITER
+    writer_id: UniqueWriterId
+    node_id: UniqueNodeId
+
+
+PortDetails = Union[
+    PublisherDetails,
+    SubscriberDetails,
+    NotifierDetails,
+    ListenerDetails,
+    ClientDetails,
+    ServerDetails,
+    ReaderDetails,
+    WriterDetails,
+]
+"""What a port of any role reports."""
+
+_KINDS = {kind.role: kind for kind in PortDetails.__args__}  # type: ignore[attr-defined]
+
+
+def details_of(port: _native.Port) -> PortDetails:
+    """The details of a port of the library."""
+    kind = _KINDS[Role(port.role)]
+    port_id, node_id, *others = fields(kind)
+    values = {
+        port_id.name: port_id.type._of(port.port),
+        node_id.name: UniqueNodeId._of(port.node),
+    }
+    for field in others:
+        if field.type is DataSegmentType:
+            values[field.name] = DataSegmentType(port.data_segment)
+        else:
+            values[field.name] = getattr(port, field.name)
+    details: PortDetails = kind(**values)
+    return details

@@ -1,0 +1,429 @@
+"""Services, and who is attached to them."""
+
+import enum
+import threading
+from collections.abc import Iterable, Iterator
+from contextlib import contextmanager
+from dataclasses import dataclass
+from types import TracebackType
+from typing import Any, NoReturn, cast
+
+from . import _native
+from ._arguments import U64, Checked, Size, instance, number
+from .details import (
+    ClientDetails,
+    ListenerDetails,
+    NotifierDetails,
+    PortDetails,
+    PublisherDetails,
+    ReaderDetails,
+    ServerDetails,
+    SubscriberDetails,
+    WriterDetails,
+    details_of,
+)
+from .errors import NoService, check
+from .ids import Role, UniqueNodeId, UniquePortId
+from .texts import MessagingPattern
+
+
+@dataclass(frozen=True, slots=True)
+class ContainerHandle(Checked):
+    """What registering and attaching give, and what deregistering and releasing take. A service
+    never gives the same one twice.
+    """
+
+    service_number: U64
+    role: Role
+    slot: Size
+    ticket: U64
+    """How many entries of its kind the service had been given before."""
+
+    def _lent(self) -> _native.Handle:
+        return _native.Handle(self.service_number, self.role.value, self.slot, self.ticket)
+
+    @classmethod
+    def _of(cls, handle: _native.Handle) -> "ContainerHandle":
+        return cls(handle.service, Role(handle.role), handle.slot, handle.ticket)
+
+
+@dataclass(frozen=True, slots=True)
+class Capacities(Checked):
+    """For how many nodes and ports at a time a service has room."""
+
+    nodes: Size
+    """Handles of nodes: a node that is registered twice counts twice."""
+    first: Size
+    """Publishers, listeners, servers or readers."""
+    second: Size
+    """Subscribers, notifiers, clients or writers."""
+
+
+class DeregisterNodeState(enum.Enum):
+    """What is left when a node has gone."""
+
+    HAS_OWNERS = _native.DONE
+    """The service goes on."""
+    NO_MORE_OWNERS = _native.DONE_LOCKED
+    """The service has no node any more and is locked: nothing joins it again."""
+
+
+@dataclass(frozen=True, slots=True)
+class DeadNode(Checked):
+    """What went with a dead node, and what is left."""
+
+    state: DeregisterNodeState
+    first: Size
+    """How many publishers, listeners, servers or readers went."""
+    second: Size
+    """How many subscribers, notifiers, clients or writers went."""
+
+
+class DynamicConfig:
+    """A service, to which nodes register and ports are attached.
+
+    It may be used by several threads: each call takes the service's lock, and is carried out whole
+    before or after any other. A call on a service that was closed, also while the call waited,
+    raises `NoService`. Use it in a `with` statement, or close it. It cannot be copied.
+    """
+
+    __slots__ = ("_lock", "_place", "__weakref__")
+    _lock: threading.RLock
+    _place: _native.Service
+
+    def __new__(cls, *_: object, **__: object) -> "DynamicConfig":
+        service = super().__new__(cls)
+        service._lock = threading.RLock()
+        service._place = _native.Service()
+        return service
+
+    def __init__(
+        self,
+        messaging_pattern: MessagingPattern,
+        service_number: int,
+        capacities: Capacities,
+        tickets: int = 2**64 - 1,
+    ) -> None:
+        """A service with nothing attached. `service_number` is in each of its handles. Each
+        registering takes one of `tickets` tickets, and each attaching one of as many for its kind
+        of ports; none comes back.
+
+        Raises `NoMemory`.
+        """
+        what = "DynamicConfig"
+        instance(messaging_pattern, MessagingPattern, f"{what}.messaging_pattern")
+        instance(capacities, Capacities, f"{what}.capacities")
+        status = self._call(
+            _native.service_make_at,
+            messaging_pattern.value,
+            number(service_number, U64, f"{what}.service_number"),
+            _native.Capacities(capacities.nodes, capacities.first, capacities.second),
+            number(tickets, U64, f"{what}.tickets"),
+        )
+        check(status, f"{what} with {capacities}")
+
+    @classmethod
+    def publish_subscribe(
+        cls, service_number: int, *, max_nodes: int, max_publishers: int, max_subscribers: int
+    ) -> "DynamicConfig":
+        """A publish-subscribe service. Raises `NoMemory`."""
+        room = Capacities(max_nodes, max_publishers, max_subscribers)
+        return cls(MessagingPattern.PUBLISH_SUBSCRIBE, service_number, room)
+
+    @classmethod
+    def event(
+        cls, service_number: int, *, max_nodes: int, max_listeners: int, max_notifiers: int
+    ) -> "DynamicConfig":
+        """An event service. Raises `NoMemory`."""
+        room = Capacities(max_nodes, max_listeners, max_notifiers)
+        return cls(MessagingPattern.EVENT, service_number, room)
+
+    @classmethod
+    def request_response(
+        cls, service_number: int, *, max_nodes: int, max_servers: int, max_clients: int
+    ) -> "DynamicConfig":
+        """A request-response service. Raises `NoMemory`."""
+        room = Capacities(max_nodes, max_servers, max_clients)
+        return cls(MessagingPattern.REQUEST_RESPONSE, service_number, room)
+
+    @classmethod
+    def blackboard(
+        cls, service_number: int, *, max_nodes: int, max_readers: int, max_writers: int
+    ) -> "DynamicConfig":
+        """A blackboard service. Raises `NoMemory`."""
+        room = Capacities(max_nodes, max_readers, max_writers)
+        return cls(MessagingPattern.BLACKBOARD, service_number, room)
+
+    # ---- Changes ----
+
+    def register_node_id(self, node_id: UniqueNodeId) -> ContainerHandle:
+        """Registers a node, which may have several handles.
+
+        Raises `NoService`, `IsLocked`, `OutOfSpace`.
+        """
+        instance(node_id, UniqueNodeId, "register_node_id")
+        answer = self._call(_native.register_at, node_id._lent())
+        check(answer.status, f"register node {node_id}")
+        return ContainerHandle._of(answer.handle)
+
+    def deregister_node_id(self, handle: ContainerHandle) -> DeregisterNodeState:
+        """Deregisters the node with a handle.
+
+        Raises `NoService`, `ForeignHandle`, also for a port's handle, and `PortsStillAttached`
+        where it is the only handle of its node and some port has that node.
+        """
+        instance(handle, ContainerHandle, "deregister_node_id")
+        status = self._call(_native.deregister_at, handle._lent())
+        check(status, f"deregister {handle}")
+        return DeregisterNodeState(status)
+
+    def attach(self, details: PortDetails) -> ContainerHandle:
+        """Attaches a port.
+
+        Raises `NoService`, `RoleNotInPattern`, `IsLocked`, `NodeNotRegistered`, `OutOfSpace`.
+        """
+        instance(details, PortDetails, "attach")
+        answer = self._call(_native.attach_at, details._lent(), 1)
+        check(answer.status, f"attach {details.role.name.lower()} {details.port_id}")
+        return ContainerHandle._of(answer.handle)
+
+    def release_port(self, handle: ContainerHandle) -> None:
+        """Releases the port with a handle.
+
+        Raises `NoService` and `ForeignHandle`, also for a node's handle.
+        """
+        instance(handle, ContainerHandle, "release_port")
+        check(self._call(_native.release_at, handle._lent()), f"release {handle}")
+
+    def remove_dead_node_id(
+        self, node_id: UniqueNodeId, keep: Iterable[UniquePortId] = ()
+    ) -> DeadNode:
+        """Removes the ports of a dead node, but for those whose id has the number of one in `keep`,
+        and reports how many went. Where no port is left, the node goes too, with all its handles.
+
+        Raises `NoService`.
+        """
+        instance(node_id, UniqueNodeId, "remove_dead_node_id")
+        kept = list(keep)
+        for port_id in kept:
+            instance(port_id, UniquePortId, "remove_dead_node_id.keep")
+        ids = (_native.Id * len(kept))(*(port_id._lent() for port_id in kept))
+        answer = self._call(_native.dead_at, node_id._lent(), ids, len(kept))
+        check(answer.status, f"remove dead node {node_id}")
+        return DeadNode(DeregisterNodeState(answer.status), answer.first, answer.second)
+
+    @contextmanager
+    def registered(self, node_id: UniqueNodeId) -> Iterator[ContainerHandle]:
+        """Registers a node for a `with` statement, and deregisters it at its end. Raises what
+        `register_node_id` does, and `deregister_node_id` at the end.
+        """
+        handle = self.register_node_id(node_id)
+        try:
+            yield handle
+        finally:
+            self.deregister_node_id(handle)
+
+    @contextmanager
+    def attached(self, details: PortDetails) -> Iterator[ContainerHandle]:
+        """Attaches a port for a `with` statement, and releases it at its end. Raises what `attach`
+        does, and `release_port` at the end.
+        """
+        handle = self.attach(details)
+        try:
+            yield handle
+        finally:
+            self.release_port(handle)
+
+    # ---- Questions. All raise `NoService`. ----
+
+    @property
+    def messaging_pattern(self) -> MessagingPattern:
+        """The messaging pattern."""
+        answer = self._call(_native.pattern_at)
+        check(answer.status, "messaging_pattern")
+        return MessagingPattern(answer.number)
+
+    @property
+    def service_number(self) -> int:
+        """The number that each handle of the service has."""
+        answer = self._call(_native.service_number_at)
+        check(answer.status, "service_number")
+        return int(answer.number)
+
+    @property
+    def port_roles(self) -> "tuple[Role, Role]":
+        """The roles of the pattern's two kinds of ports, that first which is recovered first."""
+        answer = self._call(_native.roles_at)
+        check(answer.status, "port_roles")
+        return Role(answer.first), Role(answer.second)
+
+    def has_role(self, role: Role) -> bool:
+        """Whether the pattern has ports of a role; False for `Role.NODE`."""
+        instance(role, Role, "has_role")
+        return self._flag("has_role", _native.has_role_at, role.value)
+
+    @property
+    def is_locked(self) -> bool:
+        """Whether the service is locked: it has no node and no port, and takes none any more."""
+        return self._flag("is_locked", _native.is_locked_at)
+
+    @property
+    def number_of_nodes(self) -> int:
+        """How many handles of nodes there are: a node that is registered twice counts twice."""
+        return self._count("number_of_nodes", _native.number_of_nodes_at)
+
+    @property
+    def max_nodes(self) -> int:
+        """How many handles of nodes there may be at a time."""
+        return self._count("max_nodes", _native.max_nodes_at)
+
+    @property
+    def has_room_for_node(self) -> bool:
+        """Whether a node could register: the service is not locked, and a place and a ticket are
+        left.
+        """
+        return self._flag("has_room_for_node", _native.has_room_for_node_at)
+
+    def count_ports(self, role: Role) -> int:
+        """How many ports of a role there are. Raises `RoleNotInPattern`."""
+        instance(role, Role, "count_ports")
+        return self._count(f"count ports, {role}", _native.count_ports_at, role.value)
+
+    def max_ports(self, role: Role) -> int:
+        """How many ports of a role there may be at a time. Raises `RoleNotInPattern`."""
+        instance(role, Role, "max_ports")
+        return self._count(f"max ports, {role}", _native.max_ports_at, role.value)
+
+    def has_room(self, role: Role) -> bool:
+        """Whether a port of a role could be attached, if its node is registered. Raises
+        `RoleNotInPattern`.
+        """
+        instance(role, Role, "has_room")
+        return self._flag(f"has room, {role}", _native.has_room_at, role.value)
+
+    def node(self, handle: ContainerHandle) -> UniqueNodeId:
+        """The node that was registered with a handle. Raises `ForeignHandle` where it is not there
+        any more or never was.
+        """
+        instance(handle, ContainerHandle, "node")
+        answer = self._call(_native.find_node_at, handle._lent())
+        check(answer.status, f"node of {handle}")
+        return UniqueNodeId._of(answer.id)
+
+    def port(self, handle: ContainerHandle) -> PortDetails:
+        """The port that was attached with a handle. Raises `ForeignHandle` where it is not there
+        any more or never was.
+        """
+        instance(handle, ContainerHandle, "port")
+        answer = self._call(_native.find_port_at, handle._lent())
+        check(answer.status, f"port of {handle}")
+        return details_of(answer.port)
+
+    # ---- Lists. Each is taken whole, and later changes do not change it. ----
+
+    def list_node_ids(self) -> "tuple[UniqueNodeId, ...]":
+        """The nodes by rising slot, one for each handle."""
+        nodes = self._listed("list_node_ids", _native.Id, _native.nodes_at)
+        return tuple(UniqueNodeId._of(id) for id in nodes)
+
+    def list_ports(self, role: Role) -> "tuple[PortDetails, ...]":
+        """The ports of a role by rising slot. Raises `RoleNotInPattern`."""
+        instance(role, Role, "list_ports")
+        what = f"list ports, {role}"
+        ports = self._listed(what, _native.Port, _native.ports_at, role.value)
+        return tuple(details_of(port) for port in ports)
+
+    def ports_of(self, node_id: UniqueNodeId) -> "tuple[PortDetails, ...]":
+        """The ports of a node: those of the first kind by rising slot, then those of the second.
+        Raises `TooLarge` for more than 2^64 - 1.
+        """
+        instance(node_id, UniqueNodeId, "ports_of")
+        what = f"ports of {node_id}"
+        ports = self._listed(what, _native.Port, _native.ports_of_at, node_id._lent())
+        return tuple(details_of(port) for port in ports)
+
+    def list_publishers(self) -> "tuple[PublisherDetails, ...]":
+        """The publishers by rising slot. Raises `RoleNotInPattern`; so do the next seven."""
+        return cast("tuple[PublisherDetails, ...]", self.list_ports(Role.PUBLISHER))
+
+    def list_subscribers(self) -> "tuple[SubscriberDetails, ...]":
+        """The subscribers by rising slot."""
+        return cast("tuple[SubscriberDetails, ...]", self.list_ports(Role.SUBSCRIBER))
+
+    def list_notifiers(self) -> "tuple[NotifierDetails, ...]":
+        """The notifiers by rising slot."""
+        return cast("tuple[NotifierDetails, ...]", self.list_ports(Role.NOTIFIER))
+
+    def list_listeners(self) -> "tuple[ListenerDetails, ...]":
+        """The listeners by rising slot."""
+        return cast("tuple[ListenerDetails, ...]", self.list_ports(Role.LISTENER))
+
+    def list_clients(self) -> "tuple[ClientDetails, ...]":
+        """The clients by rising slot."""
+        return cast("tuple[ClientDetails, ...]", self.list_ports(Role.CLIENT))
+
+    def list_servers(self) -> "tuple[ServerDetails, ...]":
+        """The servers by rising slot."""
+        return cast("tuple[ServerDetails, ...]", self.list_ports(Role.SERVER))
+
+    def list_readers(self) -> "tuple[ReaderDetails, ...]":
+        """The readers by rising slot."""
+        return cast("tuple[ReaderDetails, ...]", self.list_ports(Role.READER))
+
+    def list_writers(self) -> "tuple[WriterDetails, ...]":
+        """The writers by rising slot."""
+        return cast("tuple[WriterDetails, ...]", self.list_ports(Role.WRITER))
+
+    # ---- The end ----
+
+    @property
+    def closed(self) -> bool:
+        """Whether the service was closed."""
+        return bool(self._call(_native.service_number_at).status == NoService.status)
+
+    def close(self) -> None:
+        """Frees the service, after the calls that hold it. Closing it again does nothing."""
+        self._call(_native.service_free_at)
+
+    def __enter__(self) -> "DynamicConfig":
+        return self
+
+    def __exit__(
+        self,
+        _kind: "type[BaseException] | None",
+        _error: "BaseException | None",
+        _where: "TracebackType | None",
+    ) -> None:
+        self.close()
+
+    def __del__(self) -> None:
+        self.close()
+
+    def __reduce__(self) -> NoReturn:
+        raise TypeError("a DynamicConfig cannot be copied or pickled")
+
+    # ---- Calls of the library ----
+
+    def _call(self, function: Any, *arguments: Any) -> Any:
+        with self._lock:
+            return function(self._place, 1, *arguments)
+
+    def _flag(self, what: str, function: Any, *arguments: Any) -> bool:
+        answer = self._call(function, *arguments)
+        check(answer.status, what)
+        return bool(answer.yes)
+
+    def _count(self, what: str, function: Any, *arguments: Any) -> int:
+        answer = self._call(function, *arguments)
+        check(answer.status, what)
+        return int(answer.count)
+
+    def _listed(self, what: str, element: Any, function: Any, *arguments: Any) -> "list[Any]":
+        capacity = 16
+        while True:
+            out = (element * capacity)()
+            answer = self._call(function, *arguments, out, capacity)
+            if answer.status != _native.BUFFER_TOO_SHORT:
+                check(answer.status, what)
+                return list(out[: answer.count])
+            capacity = answer.count

@@ -1,0 +1,256 @@
+"""What a call raises. `Error` is the base of all.
+
+`WrongType` and `OutOfRange` are raised before the library is asked: a number would not reach it
+whole. All others are refusals of the library, one class a status of `include/iox2sd.h`, with the
+library's own text.
+"""
+
+from typing import ClassVar
+
+from . import _native
+
+
+class Error(Exception):
+    """A call was refused."""
+
+
+class WrongType(Error, TypeError):
+    """An argument is of another type. A `bool` is no integer, and `bytes` are no text."""
+
+
+class OutOfRange(Error, OverflowError):
+    """An integer is negative, or needs more bits than its parameter has."""
+
+
+class Refused(Error):
+    """The library refused a call. A status that has no class of its own is raised as this one."""
+
+    status: int
+    """The number of the status in `include/iox2sd.h`."""
+
+    def __init__(self, what: str, at: "int | None" = None, unit: str = "byte") -> None:
+        """`what` was refused, at the place `at`, counted from 0, where the status has one."""
+        super().__init__(what, at, unit)
+        self.what = what
+        self.at = at
+        self.unit = unit
+
+    def __str__(self) -> str:
+        place = "" if self.at is None else f", at {self.unit} {self.at}"
+        return f"{self.what}: {status_text(self.status)}{place}"
+
+
+def status_text(status: int) -> str:
+    """The library's text of a status, or its number where the library has none."""
+    found, text = _native.written(_native.status_text, status)
+    return text if found == _native.DONE else f"status {status}"
+
+
+class NoMemory(Refused, MemoryError):
+    """Memory was refused."""
+
+    status = 3
+
+
+class NoService(Refused):
+    """The service was closed."""
+
+    status = 4
+
+
+class HasService(Refused):
+    """The object holds a service already."""
+
+    status = 5
+
+
+class NoNode(Refused, ValueError):
+    """The id is that of no node: its process and its counter are 0."""
+
+    status = 8
+
+
+class IsLocked(Refused):
+    """The last node of the service has gone: nothing joins it any more."""
+
+    status = 9
+
+
+class OutOfSpace(Refused):
+    """No place or no ticket is left."""
+
+    status = 10
+
+
+class ForeignHandle(Refused, LookupError):
+    """No entry of the service has the handle: it was removed, or is another service's, or a port's
+    where a node's is meant, or the reverse.
+    """
+
+    status = 11
+
+
+class PortsStillAttached(Refused):
+    """Some port has the node, and the handle is the node's only one."""
+
+    status = 12
+
+
+class NodeNotRegistered(Refused, LookupError):
+    """The node of the port is not registered."""
+
+    status = 13
+
+
+class RoleNotInPattern(Refused, ValueError):
+    """The messaging pattern of the service has no ports of the role."""
+
+    status = 14
+
+
+class TooMany(Refused, ValueError):
+    """There are more pairs than a set has room for; `at` is the first one too many."""
+
+    status = 18
+
+
+class Empty(Refused, ValueError):
+    """The text is empty."""
+
+    status = 40
+
+
+class TooLong(Refused, ValueError):
+    """The text is too long; `at` is the greatest length in bytes where a text was checked."""
+
+    status = 41
+
+
+class IllegalByte(Refused, ValueError):
+    """A byte may not stand in the text; `at` is the place of the first one."""
+
+    status = 42
+
+
+class NoFileName(Refused, ValueError):
+    """The name, or what follows the last `/`, is `.`, `..` or empty."""
+
+    status = 43
+
+
+class ReservedPrefix(Refused, ValueError):
+    """The name begins as those of the system's own services do."""
+
+    status = 44
+
+
+class NotUtf8(Refused, ValueError):
+    """The text has no UTF-8: it holds half of a surrogate pair, at the character `at`."""
+
+    status = 45
+
+
+class IllegalHash(Refused):
+    """The hasher's text cannot be the name of a file. No hash text was ever seen to be so."""
+
+    status = 49
+
+
+class TooManyRequired(Refused, ValueError):
+    """More pairs and keys are required than a set has room for; `at` is the first one too many."""
+
+    status = 53
+
+
+class MissingPair(Refused):
+    """The set lacks a required pair, the one at `at`."""
+
+    status = 54
+
+
+class MissingKey(Refused):
+    """The set has no pair with a required key, the one at `at`."""
+
+    status = 55
+
+
+class BadAlignment(Refused, ValueError):
+    """An alignment is no power of two."""
+
+    status = 57
+
+
+class TooLarge(Refused, OverflowError):
+    """The answer would pass its range."""
+
+    status = 58
+
+
+class Incompatible(Refused):
+    """An opener's messages are not those of the service."""
+
+
+class OtherName(Incompatible):
+    """The types of a part have other names."""
+
+    status = 60
+
+
+class OtherVariant(Incompatible):
+    """The types of a part are of other variants."""
+
+    status = 61
+
+
+class OtherSize(Incompatible):
+    """The types of a part have other sizes."""
+
+    status = 62
+
+
+class OtherAlignment(Incompatible):
+    """The types of the headers have other alignments."""
+
+    status = 63
+
+
+class GreaterAlignment(Incompatible):
+    """The opener's type of a part has a greater alignment than the service's."""
+
+    status = 64
+
+
+class BadLine(Refused, ValueError):
+    """A line of a script has no meaning at its place, or no newline."""
+
+    status = 66
+
+    def __init__(self, what: str, line: int, replies: str) -> None:
+        """The line's number, from 1 on, and the reply lines to the commands before it."""
+        Exception.__init__(self, what, line, replies)
+        self.what = what
+        self.at = line
+        self.unit = "line"
+        self.line = line
+        self.replies = replies
+
+
+def _with_status(base: "type[Refused]") -> "dict[int, type[Refused]]":
+    found: "dict[int, type[Refused]]" = {}
+    for kind in base.__subclasses__():
+        if "status" in vars(kind):
+            found[kind.status] = kind
+        found.update(_with_status(kind))
+    return found
+
+
+_KINDS: "dict[int, type[Refused]]" = _with_status(Refused)
+
+
+def check(status: int, what: str, at: "int | None" = None, unit: str = "byte") -> None:
+    """Raises the error of a status, unless it says that the call was done."""
+    if status in (_native.DONE, _native.DONE_LOCKED):
+        return
+    error = _KINDS.get(status, Refused)(what, at, unit)
+    error.status = status
+    raise error

@@ -1,0 +1,148 @@
+"""Ids of nodes, ports and services, and who has which role."""
+
+import enum
+import functools
+from dataclasses import dataclass
+from typing import TypeVar, Union
+
+from . import _native
+from ._arguments import U32, Checked
+from .errors import NoNode
+
+_Id = TypeVar("_Id", bound="UniqueId")
+
+
+class Role(enum.Enum):
+    """What an entry of a service is."""
+
+    NODE = 0
+    PUBLISHER = 1
+    SUBSCRIBER = 2
+    NOTIFIER = 3
+    LISTENER = 4
+    CLIENT = 5
+    SERVER = 6
+    READER = 7
+    WRITER = 8
+
+
+@functools.total_ordering
+@dataclass(frozen=True, slots=True)
+class UniqueId(Checked):
+    """The id of a node, a port or a service, which its maker hands in: this layer has no clock.
+
+    Ids of one class are compared by `value`; ids of two classes are never equal. `str` is `value`
+    in lower-case hexadecimal digits without leading zeros.
+    """
+
+    process: U32
+    """The number of the process that made the id."""
+    seconds: U32
+    """When it was made."""
+    nanoseconds: U32
+    """When it was made, beside the seconds."""
+    counter: U32
+    """What keeps apart the ids that a process makes."""
+
+    @property
+    def value(self) -> int:
+        """process * 2^96 + seconds * 2^64 + nanoseconds * 2^32 + counter."""
+        return int(str(self), 16)
+
+    def __str__(self) -> str:
+        return _native.written(_native.id_text, self._lent())[1]
+
+    def __lt__(self, other: object) -> bool:
+        if not isinstance(other, UniqueId) or type(other) is not type(self):
+            return NotImplemented
+        return bool(_native.id_is_before(self._lent(), other._lent()))
+
+    def _lent(self) -> _native.Id:
+        return _native.Id(self.process, self.seconds, self.nanoseconds, self.counter)
+
+    @classmethod
+    def _of(cls: "type[_Id]", id: _native.Id) -> _Id:
+        return cls(id.process, id.seconds, id.nanoseconds, id.counter)
+
+
+class UniqueNodeId(UniqueId):
+    """The id of a node, whose process or counter is not 0. Raises `NoNode` where both are."""
+
+    __slots__ = ()
+
+    def __post_init__(self) -> None:
+        super().__post_init__()
+        if not _native.id_is_node(self._lent()):
+            raise NoNode(repr(self))
+
+    @property
+    def owner_id(self) -> int:
+        """process * 2^32 + counter. Nodes of one process with one counter share it."""
+        return int(_native.id_owner(self._lent()))
+
+
+class UniquePublisherId(UniqueId):
+    """The id of a publisher."""
+
+    __slots__ = ()
+
+
+class UniqueSubscriberId(UniqueId):
+    """The id of a subscriber."""
+
+    __slots__ = ()
+
+
+class UniqueNotifierId(UniqueId):
+    """The id of a notifier."""
+
+    __slots__ = ()
+
+
+class UniqueListenerId(UniqueId):
+    """The id of a listener."""
+
+    __slots__ = ()
+
+
+class UniqueClientId(UniqueId):
+    """The id of a client."""
+
+    __slots__ = ()
+
+
+class UniqueServerId(UniqueId):
+    """The id of a server."""
+
+    __slots__ = ()
+
+
+class UniqueReaderId(UniqueId):
+    """The id of a reader."""
+
+    __slots__ = ()
+
+
+class UniqueWriterId(UniqueId):
+    """The id of a writer."""
+
+    __slots__ = ()
+
+
+class UniqueServiceId(UniqueId):
+    """The id of a service."""
+
+    __slots__ = ()
+
+
+UniquePortId = Union[
+    UniquePublisherId,
+    UniqueSubscriberId,
+    UniqueNotifierId,
+    UniqueListenerId,
+    UniqueClientId,
+    UniqueServerId,
+    UniqueReaderId,
+    UniqueWriterId,
+]
+"""The id of a port of any role."""

@@ -1,0 +1,121 @@
+"""Types of messages: where their parts lie, who may read them, and how many chunks are needed."""
+
+import enum
+from dataclasses import dataclass
+from typing import Any
+
+from . import _native
+from ._arguments import Checked, Size, instance, number, shown, utf8
+from .errors import Incompatible, check
+
+
+class TypeVariant(enum.Enum):
+    """How many values of a type a message has."""
+
+    FIXED_SIZE = 0
+    """One."""
+    DYNAMIC = 1
+    """Any number, one after another."""
+
+
+@dataclass(frozen=True, slots=True)
+class TypeDetail(Checked):
+    """The type of one part of a message.
+
+    Raises `NotUtf8`, `TooLong` and `IllegalByte` of the name, which has at most 256 bytes, each
+    from 1 to 127; `BadAlignment`.
+    """
+
+    type_name: str
+    size: Size
+    """In bytes."""
+    alignment: Size
+    """A power of two, of which the place of each value is a multiple."""
+    variant: TypeVariant = TypeVariant.FIXED_SIZE
+
+    def __post_init__(self) -> None:
+        Checked.__post_init__(self)
+        lent = _native.MessageDetails(*[self._lent()] * 3)
+        check(_native.message_compatible_at(lent, 1, lent, 1).status, shown(self))
+
+    def _lent(self) -> _native.TypeDetail:
+        name = utf8(self.type_name, "TypeDetail.type_name")
+        return _native.TypeDetail(name, len(name), self.variant.value, self.size, self.alignment)
+
+
+@dataclass(frozen=True, slots=True)
+class Layout(Checked):
+    """The room for a message."""
+
+    size: Size
+    """In bytes, at most 2^63 - 1."""
+    alignment: Size
+    """The number of which the message's place is to be a multiple."""
+
+
+@dataclass(frozen=True, slots=True)
+class Places(Checked):
+    """The places of two parts of a message."""
+
+    user_header: Size
+    payload: Size
+
+
+@dataclass(frozen=True, slots=True)
+class MessageTypeDetails(Checked):
+    """The types of the parts of a message, which lie one after another."""
+
+    header: TypeDetail
+    user_header: TypeDetail
+    payload: TypeDetail
+
+    def sample_layout(self, number_of_elements: int) -> Layout:
+        """The room for a message whose payload has so many elements. All parts lie in it, apart and
+        aligned, for the service and for every compatible opener. Raises `TooLarge` past 2^63 - 1
+        bytes.
+        """
+        what = "MessageTypeDetails.sample_layout"
+        elements = number(number_of_elements, Size, what)
+        answer = _native.message_layout_at(self._lent(), 1, elements)
+        check(answer.status, what)
+        return Layout(answer.size, answer.alignment)
+
+    def places(self, header: int) -> Places:
+        """The places of user header and payload in a message whose header is at a place. They are
+        numbers: nothing is read there. Raises `TooLarge` where the payload's would pass 2^64 - 1.
+        """
+        what = "MessageTypeDetails.places"
+        answer = _native.message_places_at(self._lent(), 1, number(header, Size, what))
+        check(answer.status, what)
+        return Places(answer.user_header, answer.payload)
+
+    def check_compatible_to(self, service: "MessageTypeDetails") -> None:
+        """Raises where an opener with these details may not use the messages of a service with
+        those: headers are to be equal, and user headers and payloads too but for alignments, which
+        are to be at most those of the service.
+
+        Raises, of the first part that differs, `OtherName`, `OtherVariant`, `OtherSize`,
+        `OtherAlignment` of the header, `GreaterAlignment` of another part: all `Incompatible`.
+        """
+        instance(service, MessageTypeDetails, "MessageTypeDetails.check_compatible_to")
+        answer = _native.message_compatible_at(self._lent(), 1, service._lent(), 1)
+        part = ("header", "user header", "payload")[answer.part]
+        check(answer.status, f"the opener's {part}")
+
+    def is_compatible_to(self, service: "MessageTypeDetails") -> bool:
+        """Whether `check_compatible_to` raises nothing."""
+        try:
+            self.check_compatible_to(service)
+        except Incompatible:
+            return False
+        return True
+
+    def _lent(self) -> _native.MessageDetails:
+        parts = (self.header, self.user_header, self.payload)
+        return _native.MessageDetails(*(part._lent() for part in parts))
+
+
+def counted(what: str, answer: Any) -> int:
+    """The number of an answer."""
+    check(answer.status, what)
+    return int(answer.count)

@@ -1,0 +1,259 @@
+"""Settings of services, and the texts of the configuration.
+
+The defaults of all fields are those of the library: `EventSettings(max_notifiers=2)` is what an
+event service gets where nothing but that number is said.
+"""
+
+import enum
+from dataclasses import dataclass, fields
+from typing import Any, Optional
+
+from . import _native
+from ._arguments import U32, U64, Checked, Size, instance
+from .errors import OutOfRange, check
+from .messages import counted
+from .texts import Path
+
+
+class BackpressureStrategy(enum.Enum):
+    """What a sender does where a receiver's buffer is full and may not overflow."""
+
+    RETRY_UNTIL_DELIVERED = 0
+    """It tries again until the receiver has room."""
+    DISCARD_DATA = 1
+    """It leaves the receiver out."""
+
+
+class AllocationStrategy(enum.Enum):
+    """How the room for messages grows where their length is known at run time alone."""
+
+    BEST_FIT = 0
+    """By as much as the message needs."""
+    POWER_OF_TWO = 1
+    """To the next power of two."""
+    STATIC = 2
+    """It does not grow."""
+
+
+@dataclass(frozen=True, slots=True, order=True)
+class Duration(Checked):
+    """A span of time. Raises `OutOfRange` for a billion nanoseconds or more beside the seconds."""
+
+    seconds: U64
+    nanoseconds: U32 = 0
+
+    def __post_init__(self) -> None:
+        Checked.__post_init__(self)
+        if self.nanoseconds >= 1_000_000_000:
+            given = self.nanoseconds
+            raise OutOfRange(f"Duration.nanoseconds: expected 0 to 10^9 - 1, got {given}")
+
+
+@dataclass(frozen=True, slots=True, order=True)
+class EventId(Checked):
+    """The number of an event."""
+
+    value: Size
+
+
+_publish_subscribe = _native.publish_subscribe_defaults()
+_event = _native.event_defaults()
+_request_response = _native.request_response_defaults()
+_blackboard = _native.blackboard_defaults()
+
+
+def _plain(value: Any) -> Any:
+    return value.value if isinstance(value, enum.Enum) else value
+
+
+def _event_id(given: _native.OptionalEventId) -> "EventId | None":
+    return EventId(given.number) if given.is_some else None
+
+
+def _deadline(given: _native.OptionalDuration) -> "Duration | None":
+    return Duration(given.seconds, given.nanoseconds) if given.is_some else None
+
+
+@dataclass(frozen=True, slots=True, kw_only=True)
+class PublishSubscribeSettings(Checked):
+    """The settings of a publish-subscribe service."""
+
+    max_subscribers: Size = _publish_subscribe.max_subscribers
+    """How many may be attached at once; so are the next two."""
+    max_publishers: Size = _publish_subscribe.max_publishers
+    max_nodes: Size = _publish_subscribe.max_nodes
+    subscriber_max_buffer_size: Size = _publish_subscribe.subscriber_max_buffer_size
+    """How many samples a subscriber's buffer has room for."""
+    subscriber_max_borrowed_samples: Size = _publish_subscribe.subscriber_max_borrowed_samples
+    """How many samples a subscriber may hold at once."""
+    publisher_max_loaned_samples: Size = _publish_subscribe.publisher_max_loaned_samples
+    """How many a publisher may have taken and not yet sent."""
+    publisher_history_size: Size = _publish_subscribe.publisher_history_size
+    """How many a publisher keeps for subscribers that come later."""
+    subscriber_expired_connection_buffer: Size = (
+        _publish_subscribe.subscriber_expired_connection_buffer
+    )
+    """How many connections of publishers that are gone a subscriber keeps."""
+    backpressure_strategy: BackpressureStrategy = BackpressureStrategy(
+        _publish_subscribe.backpressure_strategy
+    )
+    publisher_allocation_strategy: AllocationStrategy = AllocationStrategy(
+        _publish_subscribe.publisher_allocation_strategy
+    )
+    enable_safe_overflow: bool = _publish_subscribe.enable_safe_overflow
+    """Whether a new sample takes the oldest one's place where a buffer is full."""
+
+    def required_amount_of_samples_per_data_segment(self) -> int:
+        """The greatest number of one publisher's samples that can be in use at once. Raises
+        `TooLarge` past 2^64 - 1.
+        """
+        answer = _native.samples_of_at(_lent(self, _native.PublishSubscribeSettings), 1)
+        return counted("samples of PublishSubscribeSettings", answer)
+
+
+@dataclass(frozen=True, slots=True, kw_only=True)
+class EventSettings(Checked):
+    """The settings of an event service."""
+
+    max_listeners: Size = _event.max_listeners
+    """How many may be attached at once; so are the next two."""
+    max_notifiers: Size = _event.max_notifiers
+    max_nodes: Size = _event.max_nodes
+    event_id_max_value: Size = _event.event_id_max_value
+    """The greatest number of an event."""
+    deadline: Optional[Duration] = _deadline(_event.deadline)
+    """The longest time between two events, if there is one."""
+    notifier_created_event: Optional[EventId] = _event_id(_event.notifier_created_event)
+    """The event that a new notifier sends, if any."""
+    notifier_dropped_event: Optional[EventId] = _event_id(_event.notifier_dropped_event)
+    """The event that a notifier sends when it goes, if any."""
+    notifier_dead_event: Optional[EventId] = _event_id(_event.notifier_dead_event)
+    """The event that is sent when a notifier's node has died, if any."""
+
+
+@dataclass(frozen=True, slots=True, kw_only=True)
+class RequestResponseSettings(Checked):
+    """The settings of a request-response service."""
+
+    max_active_requests_per_client: Size = _request_response.max_active_requests_per_client
+    """How many may be open at each server at once."""
+    max_response_buffer_size: Size = _request_response.max_response_buffer_size
+    """How many responses to one request a client's buffer has room for."""
+    max_servers: Size = _request_response.max_servers
+    """How many may be attached at once; so are the next two."""
+    max_clients: Size = _request_response.max_clients
+    max_nodes: Size = _request_response.max_nodes
+    max_borrowed_responses_per_pending_response: Size = (
+        _request_response.max_borrowed_responses_per_pending_response
+    )
+    """How many responses to one request a client may hold at once."""
+    max_loaned_requests: Size = _request_response.max_loaned_requests
+    """How many requests a client may have taken and not yet sent."""
+    server_max_loaned_responses_per_request: Size = (
+        _request_response.server_max_loaned_responses_per_request
+    )
+    """How many responses to one request a server may have taken and not yet sent."""
+    client_expired_connection_buffer: Size = _request_response.client_expired_connection_buffer
+    """How many connections of servers that are gone a client keeps."""
+    server_expired_connection_buffer: Size = _request_response.server_expired_connection_buffer
+    """How many connections of clients that are gone a server keeps."""
+    client_backpressure_strategy: BackpressureStrategy = BackpressureStrategy(
+        _request_response.client_backpressure_strategy
+    )
+    server_backpressure_strategy: BackpressureStrategy = BackpressureStrategy(
+        _request_response.server_backpressure_strategy
+    )
+    client_allocation_strategy: AllocationStrategy = AllocationStrategy(
+        _request_response.client_allocation_strategy
+    )
+    server_allocation_strategy: AllocationStrategy = AllocationStrategy(
+        _request_response.server_allocation_strategy
+    )
+    enable_safe_overflow_for_requests: bool = _request_response.enable_safe_overflow_for_requests
+    enable_safe_overflow_for_responses: bool = _request_response.enable_safe_overflow_for_responses
+    enable_fire_and_forget_requests: bool = _request_response.enable_fire_and_forget_requests
+    """Whether a client may send a request and take no response."""
+
+    def required_amount_of_chunks_per_client_data_segment(self) -> int:
+        """The greatest number of one client's requests that can be in use at once. Raises
+        `TooLarge` past 2^64 - 1.
+        """
+        answer = _native.requests_of_at(_lent(self, _native.RequestResponseSettings), 1)
+        return counted("requests of RequestResponseSettings", answer)
+
+    def required_amount_of_chunks_per_server_data_segment(self) -> int:
+        """The greatest number of one server's responses that can be in use at once. Raises
+        `TooLarge` past 2^64 - 1.
+        """
+        answer = _native.responses_of_at(_lent(self, _native.RequestResponseSettings), 1)
+        return counted("responses of RequestResponseSettings", answer)
+
+
+@dataclass(frozen=True, slots=True, kw_only=True)
+class BlackboardSettings(Checked):
+    """The settings of a blackboard service."""
+
+    max_readers: Size = _blackboard.max_readers
+    """How many may be attached at once; so is the next."""
+    max_nodes: Size = _blackboard.max_nodes
+
+
+def _lent(settings: Any, kind: Any) -> Any:
+    return kind(**{f.name: _plain(getattr(settings, f.name)) for f in fields(settings)})
+
+
+class DefaultText(enum.Enum):
+    """A text of the configuration."""
+
+    ROOT_PATH = 0
+    """The path below which everything else lies."""
+    PREFIX = 1
+    """What the name of each file begins with."""
+    SERVICE_DIRECTORY = 2
+    """Below the root path. The ends of the names of services' files:"""
+    DATA_SEGMENT_SUFFIX = 3
+    STATIC_CONFIG_STORAGE_SUFFIX = 4
+    DYNAMIC_CONFIG_STORAGE_SUFFIX = 5
+    CONNECTION_SUFFIX = 6
+    EVENT_CONNECTION_SUFFIX = 7
+    BLACKBOARD_MGMT_SUFFIX = 8
+    BLACKBOARD_DATA_SUFFIX = 9
+    NODE_DIRECTORY = 10
+    """Below the root path. The ends of the names of nodes' files:"""
+    MONITOR_SUFFIX = 11
+    NODE_STATIC_CONFIG_SUFFIX = 12
+    SERVICE_TAG_SUFFIX = 13
+    PORT_TAG_SUFFIX = 14
+    GLOBAL_MGMT_SUFFIX = 15
+    CONFIG_FILE_NAME = 16
+    """The name of a configuration file."""
+    CONFIG_FILE_PATH = 17
+    """The configuration file of a working directory."""
+    RELATIVE_CONFIG_PATH = 18
+    """The directory of this system's, below one for configurations."""
+    USER_CONFIG_FILE_PATH = 19
+    """The configuration file below a user's directory for configurations."""
+
+
+def default_text(which: DefaultText) -> str:
+    """A text of the configuration, where nothing else is said."""
+    instance(which, DefaultText, "default_text")
+    status, text = _native.written(_native.default_text, which.value)
+    check(status, str(which))
+    return text
+
+
+def service_directory(root: Path) -> Path:
+    """The directory of services below a root path. Raises `TooLong` past 255 bytes."""
+    return _directory(root, "service_directory", _native.service_directory)
+
+
+def node_directory(root: Path) -> Path:
+    """The directory of nodes below a root path. Raises `TooLong` past 255 bytes."""
+    return _directory(root, "node_directory", _native.node_directory)
+
+
+def _directory(root: Path, what: str, function: Any) -> Path:
+    instance(root, Path, what)
+    encoded = root.encode()
+    return Path._written(what, function, encoded, len(encoded))

@@ -1,0 +1,219 @@
+"""What a service is: its name, id, attributes, limits and message types."""
+
+from dataclasses import dataclass, field, fields
+from typing import Union
+
+from . import _native
+from ._arguments import Checked, Size, instance, number
+from .attributes import AttributeSet
+from .ids import UniqueServiceId
+from .messages import MessageTypeDetails, TypeDetail, counted
+from .settings import (
+    BlackboardSettings,
+    Duration,
+    EventId,
+    EventSettings,
+    PublishSubscribeSettings,
+    RequestResponseSettings,
+)
+from .texts import MessagingPattern, ServiceHash, ServiceName
+
+
+@dataclass(frozen=True, slots=True, kw_only=True)
+class PublishSubscribeStaticConfig(Checked):
+    """What a publish-subscribe service is. The fields are those of `PublishSubscribeSettings`."""
+
+    max_subscribers: Size
+    max_publishers: Size
+    max_nodes: Size
+    history_size: Size
+    subscriber_max_buffer_size: Size
+    subscriber_max_borrowed_samples: Size
+    enable_safe_overflow: bool
+    message_type_details: MessageTypeDetails
+
+    @classmethod
+    def new(
+        cls,
+        message_type_details: MessageTypeDetails,
+        settings: PublishSubscribeSettings = PublishSubscribeSettings(),
+    ) -> "PublishSubscribeStaticConfig":
+        """The description of a service with these settings."""
+        instance(settings, PublishSubscribeSettings, f"{cls.__name__}.new")
+        return cls(
+            max_subscribers=settings.max_subscribers,
+            max_publishers=settings.max_publishers,
+            max_nodes=settings.max_nodes,
+            history_size=settings.publisher_history_size,
+            subscriber_max_buffer_size=settings.subscriber_max_buffer_size,
+            subscriber_max_borrowed_samples=settings.subscriber_max_borrowed_samples,
+            enable_safe_overflow=settings.enable_safe_overflow,
+            message_type_details=message_type_details,
+        )
+
+    def required_amount_of_samples_per_data_segment(
+        self, publisher_max_loaned_samples: int
+    ) -> int:
+        """The greatest number of samples in use at once of a publisher that may have so many taken
+        and not yet sent. Raises `TooLarge` past 2^64 - 1.
+        """
+        what = "required_amount_of_samples_per_data_segment"
+        answer = _native.publisher_chunks(
+            self.max_subscribers,
+            self.subscriber_max_buffer_size,
+            self.subscriber_max_borrowed_samples,
+            self.history_size,
+            number(publisher_max_loaned_samples, Size, what),
+        )
+        return counted(what, answer)
+
+
+@dataclass(frozen=True, slots=True, kw_only=True)
+class EventStaticConfig(Checked):
+    """What an event service is. The fields are those of `EventSettings`."""
+
+    max_listeners: Size
+    max_notifiers: Size
+    max_nodes: Size
+    event_id_max_value: Size
+    deadline: Union[Duration, None]
+    notifier_created_event: Union[EventId, None]
+    notifier_dropped_event: Union[EventId, None]
+    notifier_dead_event: Union[EventId, None]
+
+    @classmethod
+    def new(cls, settings: EventSettings = EventSettings()) -> "EventStaticConfig":
+        """The description of a service with these settings."""
+        instance(settings, EventSettings, f"{cls.__name__}.new")
+        return cls(**{f.name: getattr(settings, f.name) for f in fields(cls)})
+
+
+@dataclass(frozen=True, slots=True, kw_only=True)
+class RequestResponseStaticConfig(Checked):
+    """What a request-response service is. The fields are those of `RequestResponseSettings`."""
+
+    max_active_requests_per_client: Size
+    max_response_buffer_size: Size
+    max_servers: Size
+    max_clients: Size
+    max_nodes: Size
+    max_borrowed_responses_per_pending_response: Size
+    max_loaned_requests: Size
+    enable_safe_overflow_for_requests: bool
+    enable_safe_overflow_for_responses: bool
+    enable_fire_and_forget_requests: bool
+    request_message_type_details: MessageTypeDetails
+    response_message_type_details: MessageTypeDetails
+
+    @classmethod
+    def new(
+        cls,
+        request_message_type_details: MessageTypeDetails,
+        response_message_type_details: MessageTypeDetails,
+        settings: RequestResponseSettings = RequestResponseSettings(),
+    ) -> "RequestResponseStaticConfig":
+        """The description of a service with these settings."""
+        instance(settings, RequestResponseSettings, f"{cls.__name__}.new")
+        taken = {f.name: getattr(settings, f.name) for f in fields(cls)[:-2]}
+        return cls(
+            **taken,
+            request_message_type_details=request_message_type_details,
+            response_message_type_details=response_message_type_details,
+        )
+
+    def required_amount_of_chunks_per_client_data_segment(
+        self, client_max_loaned_requests: int
+    ) -> int:
+        """The greatest number of requests in use at once of a client that may have so many taken
+        and not yet sent. Raises `TooLarge` past 2^64 - 1.
+        """
+        what = "required_amount_of_chunks_per_client_data_segment"
+        answer = _native.client_chunks(
+            self.max_servers,
+            self.max_active_requests_per_client,
+            number(client_max_loaned_requests, Size, what),
+        )
+        return counted(what, answer)
+
+    def required_amount_of_chunks_per_server_data_segment(
+        self, max_loaned_responses_per_request: int
+    ) -> int:
+        """The greatest number of responses in use at once of a server that may have so many taken
+        and not yet sent for each request. Raises `TooLarge` past 2^64 - 1.
+        """
+        what = "required_amount_of_chunks_per_server_data_segment"
+        answer = _native.server_chunks(
+            self.max_clients,
+            self.max_active_requests_per_client,
+            self.max_response_buffer_size,
+            self.max_borrowed_responses_per_pending_response,
+            number(max_loaned_responses_per_request, Size, what),
+        )
+        return counted(what, answer)
+
+
+@dataclass(frozen=True, slots=True, kw_only=True)
+class BlackboardStaticConfig(Checked):
+    """What a blackboard service is. The numbers are those of `BlackboardSettings`."""
+
+    max_readers: Size
+    max_nodes: Size
+    type_details: TypeDetail
+    """The type of the keys."""
+
+    @classmethod
+    def new(
+        cls, type_details: TypeDetail, settings: BlackboardSettings = BlackboardSettings()
+    ) -> "BlackboardStaticConfig":
+        """The description of a service with these settings."""
+        instance(settings, BlackboardSettings, f"{cls.__name__}.new")
+        return cls(
+            max_readers=settings.max_readers,
+            max_nodes=settings.max_nodes,
+            type_details=type_details,
+        )
+
+
+PatternStaticConfig = Union[
+    PublishSubscribeStaticConfig,
+    EventStaticConfig,
+    RequestResponseStaticConfig,
+    BlackboardStaticConfig,
+]
+"""What a service of any pattern is."""
+
+_PATTERNS = {
+    PublishSubscribeStaticConfig: MessagingPattern.PUBLISH_SUBSCRIBE,
+    EventStaticConfig: MessagingPattern.EVENT,
+    RequestResponseStaticConfig: MessagingPattern.REQUEST_RESPONSE,
+    BlackboardStaticConfig: MessagingPattern.BLACKBOARD,
+}
+
+
+@dataclass(frozen=True, slots=True)
+class StaticConfig(Checked):
+    """The description of a service, which does not change while the service lives."""
+
+    name: ServiceName
+    unique_service_id: UniqueServiceId
+    pattern_config: PatternStaticConfig
+    attributes: AttributeSet = AttributeSet()
+    service_hash: ServiceHash = field(init=False, default=None)  # type: ignore[assignment]
+    """The hash text of name and pattern, under which the service's files are found."""
+
+    def __post_init__(self) -> None:
+        instance(self.name, ServiceName, "StaticConfig.name")
+        instance(self.pattern_config, PatternStaticConfig, "StaticConfig.pattern_config")
+        service_hash = ServiceHash.new(self.name, self.messaging_pattern)
+        object.__setattr__(self, "service_hash", service_hash)
+        Checked.__post_init__(self)
+
+    @property
+    def messaging_pattern(self) -> MessagingPattern:
+        """The messaging pattern of the service."""
+        return _PATTERNS[type(self.pattern_config)]
+
+    def has_same_messaging_pattern(self, other: "StaticConfig") -> bool:
+        """Whether both services have one messaging pattern."""
+        instance(other, StaticConfig, "StaticConfig.has_same_messaging_pattern")
+        return self.messaging_pattern is other.messaging_pattern

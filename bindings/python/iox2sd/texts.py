@@ -1,0 +1,191 @@
+"""Names, keys, values, paths and hash texts. Each is a `str` that was found to be legal."""
+
+import enum
+from typing import Any, ClassVar, TypeVar
+
+from . import _native
+from ._arguments import instance, shown, utf8
+from .errors import IllegalByte, TooLong, check
+
+_Text = TypeVar("_Text", bound="Text")
+
+
+class MessagingPattern(enum.Enum):
+    """The pattern by which the ports of a service exchange messages."""
+
+    PUBLISH_SUBSCRIBE = 0
+    """Publishers send samples to subscribers."""
+    EVENT = 1
+    """Notifiers tell listeners of events."""
+    REQUEST_RESPONSE = 2
+    """Clients send requests, to which servers send responses."""
+    BLACKBOARD = 3
+    """A writer keeps values, which readers read."""
+
+
+class Text(str):
+    """The base of all texts. Raises `WrongType` for all but a `str`, and `NotUtf8` for halves of
+    surrogate pairs. Slices, sums and other parts of a text are plain `str` again.
+    """
+
+    __slots__ = ()
+    _check: ClassVar[Any]
+
+    def __new__(cls: "type[_Text]", text: str) -> _Text:
+        encoded = utf8(text, cls.__name__)
+        answer = cls._check(encoded, len(encoded))
+        has_place = answer.status in (TooLong.status, IllegalByte.status)
+        check(answer.status, f"{cls.__name__} {shown(text)}", answer.at if has_place else None)
+        return super().__new__(cls, text)
+
+    def __repr__(self) -> str:
+        return f"{type(self).__name__}({super().__repr__()})"
+
+    @classmethod
+    def _written(cls: "type[_Text]", what: str, function: Any, *arguments: Any) -> _Text:
+        """The text that the library writes."""
+        status, text = _native.written(function, *arguments)
+        check(status, what)
+        return cls(text)
+
+
+def _lent(text: Text) -> "tuple[bytes, int]":
+    encoded = text.encode()
+    return encoded, len(encoded)
+
+
+class ServiceName(Text):
+    """The name that a user gives to a service: 1 to 255 bytes, each from 1 to 127, not beginning
+    with `iox2://`.
+
+    Raises `ReservedPrefix`, `Empty`, `TooLong`, `IllegalByte`.
+    """
+
+    __slots__ = ()
+    _check = _native.service_name_check
+
+    @staticmethod
+    def has_iox2_prefix(name: str) -> bool:
+        """Whether a text begins as the names of the system's own services do."""
+        encoded = utf8(name, "has_iox2_prefix")
+        return bool(_native.has_internal_prefix(encoded, len(encoded)))
+
+
+class InternalServiceName(ServiceName):
+    """The name of a service, which may be one of the system's own.
+
+    Raises `Empty`, `TooLong`, `IllegalByte`.
+    """
+
+    __slots__ = ()
+    _check = _native.internal_service_name_check
+
+    @classmethod
+    def prefixed(cls, name: str) -> "InternalServiceName":
+        """The name of one of the system's own services: `iox2://` and the text.
+
+        Raises `TooLong` for more than 248 bytes, `IllegalByte`.
+        """
+        encoded = utf8(name, "InternalServiceName.prefixed")
+        what = f"InternalServiceName.prefixed {shown(name)}"
+        return cls._written(what, _native.internal_service_name, encoded, len(encoded))
+
+
+class AttributeKey(Text):
+    """The key of an attribute: 1 to 64 bytes, each from 1 to 127.
+
+    Raises `Empty`, `TooLong`, `IllegalByte`.
+    """
+
+    __slots__ = ()
+    _check = _native.attribute_key_check
+
+
+class AttributeValue(Text):
+    """The value of an attribute: 1 to 256 bytes, each from 1 to 127.
+
+    Raises `Empty`, `TooLong`, `IllegalByte`.
+    """
+
+    __slots__ = ()
+    _check = _native.attribute_value_check
+
+
+class Path(Text):
+    """A path: at most 255 bytes, each from 1 to 127. It may be empty.
+
+    Raises `TooLong`, `IllegalByte`.
+    """
+
+    __slots__ = ()
+    _check = _native.path_check
+
+    def add_path_entry(self, entry: "Path") -> "Path":
+        """A path with an entry behind it, with one `/` between them unless this path is empty or
+        ends in `/`. Raises `TooLong` past 255 bytes.
+        """
+        instance(entry, Path, "Path.add_path_entry")
+        what = f"{shown(self)} and {shown(entry)}"
+        return Path._written(what, _native.path_join, *_lent(self), *_lent(entry))
+
+
+class FileName(Text):
+    """The name of a file: 1 to 255 bytes, each from 1 to 127 and none a `/`, neither `.` nor `..`.
+
+    Raises `Empty`, `TooLong`, `IllegalByte`, `NoFileName`.
+    """
+
+    __slots__ = ()
+    _check = _native.file_name_check
+
+
+class FilePath(Text):
+    """The path of a file: 1 to 255 bytes, each from 1 to 127, of which those after the last `/` are
+    the name of a file.
+
+    Raises `Empty`, `TooLong`, `IllegalByte`, `NoFileName`.
+    """
+
+    __slots__ = ()
+    _check = _native.file_path_check
+
+    @classmethod
+    def from_path_and_file(cls, path: Path, file: FileName) -> "FilePath":
+        """The path of a file in a directory, joined as by `Path.add_path_entry`.
+
+        Raises `TooLong` past 255 bytes.
+        """
+        instance(path, Path, "FilePath.from_path_and_file")
+        instance(file, FileName, "FilePath.from_path_and_file")
+        what = f"{shown(path)} and {shown(file)}"
+        return cls._written(what, _native.file_path_join, *_lent(path), *_lent(file))
+
+
+class RestrictedFileName(Text):
+    """A restricted name of a file: 1 to 64 letters A to Z and a to z, digits, `-`, `.`, `:` and
+    `_`, and neither `.` nor `..`.
+
+    Raises `Empty`, `TooLong`, `IllegalByte`, `NoFileName`.
+    """
+
+    __slots__ = ()
+    _check = _native.restricted_name_check
+
+
+class ServiceHash(RestrictedFileName):
+    """The hash text of a service's name and pattern, under which its files are found."""
+
+    __slots__ = ()
+
+    @classmethod
+    def new(cls, service_name: ServiceName, messaging_pattern: MessagingPattern) -> "ServiceHash":
+        """The hash text by SHA-1, which has 27 bytes.
+
+        Raises `IllegalHash`, which was never seen, but which no proof excludes.
+        """
+        instance(service_name, ServiceName, "ServiceHash.new")
+        instance(messaging_pattern, MessagingPattern, "ServiceHash.new")
+        internal = isinstance(service_name, InternalServiceName)
+        function = _native.internal_hash_text if internal else _native.hash_text
+        what = f"hash text of {shown(service_name)}"
+        return cls._written(what, function, messaging_pattern.value, *_lent(service_name))

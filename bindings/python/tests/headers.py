@@ -1,0 +1,25 @@
+"""What stands in the headers."""
+
+import re
+
+from . import PROJECT
+
+FILES = sorted((PROJECT / "include").glob("iox2sd*.h"))
+
+TEXT = "".join(path.read_text() for path in FILES)
+
+CONSTANTS = {
+    name: int(number) for name, number in re.findall(r"^ +IOX2SD_(\w+) = (\d+)", TEXT, re.MULTILINE)
+}
+"""The members of all enums."""
+
+_ENUM = re.search(r"enum iox2sd_status \{(.*?)\};", TEXT, re.DOTALL)
+assert _ENUM is not None
+STATUSES = {
+    name: int(number) for name, number in re.findall(r"IOX2SD_(\w+) = (\d+)", _ENUM.group(1))
+}
+
+ABI = re.search(r"#define IOX2SD_ABI (\d+)", TEXT)
+
+EXPORTS = set(re.findall(r"^(?!static)[a-z]\w+ (?:\w+ )?\*?iox2sd_(\w+)\(", TEXT, re.MULTILINE))
+"""The functions that the library has, without the inline ones."""

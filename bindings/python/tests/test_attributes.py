@@ -1,0 +1,138 @@
+import pickle
+import unittest
+
+import iox2sd
+from iox2sd import (
+    Attribute,
+    AttributeKey,
+    AttributeSet,
+    AttributeSpecifier,
+    AttributeValue,
+    AttributeVerifier,
+)
+
+
+def pair(key: str, value: str) -> Attribute:
+    return Attribute(AttributeKey(key), AttributeValue(value))
+
+
+COLOUR = AttributeKey("colour")
+SIZE = AttributeKey("size")
+SET = AttributeSet([pair("size", "9"), pair("colour", "red"), pair("colour", "blue")])
+
+
+class Sets(unittest.TestCase):
+    def test_a_set_is_sorted(self):
+        sorted_pairs = [pair("colour", "blue"), pair("colour", "red"), pair("size", "9")]
+        self.assertEqual(list(SET), sorted_pairs)
+        self.assertEqual((len(SET), SET[0], SET[-1]), (3, sorted_pairs[0], sorted_pairs[2]))
+        self.assertEqual(SET[1:], tuple(sorted_pairs[1:]))
+        self.assertIn(pair("size", "9"), SET)
+        self.assertEqual(SET, AttributeSet(reversed(sorted_pairs)))
+        self.assertEqual(len({SET, AttributeSet(sorted_pairs)}), 1)
+        self.assertNotEqual(SET, sorted_pairs)
+        self.assertEqual(eval(repr(SET), vars(iox2sd)), SET)
+        self.assertEqual(pickle.loads(pickle.dumps(SET)), SET)
+        self.assertEqual(len(AttributeSet()), 0)
+
+    def test_pairs_may_repeat(self):
+        self.assertEqual(len(AttributeSet([pair("a", "b")] * 16)), 16)
+        longest = pair("k" * 64, "v" * 256)
+        self.assertEqual(AttributeSet([longest])[0], longest)
+
+    def test_seventeen_pairs(self):
+        with self.assertRaises(iox2sd.TooMany) as caught:
+            AttributeSet([pair("a", "b")] * 17)
+        self.assertEqual((caught.exception.at, caught.exception.unit), (16, "pair"))
+
+    def test_values_of_keys(self):
+        self.assertEqual(SET.number_of_key_values(COLOUR), 2)
+        self.assertEqual(SET.number_of_key_values(AttributeKey("other")), 0)
+        self.assertEqual(list(SET.iter_key_values(COLOUR)), ["blue", "red"])
+        self.assertEqual(list(SET.iter_key_values(AttributeKey("other"))), [])
+        self.assertEqual(SET.key_value(COLOUR, 1), "red")
+        self.assertIsInstance(SET.key_value(SIZE, 0), AttributeValue)
+        self.assertIsNone(SET.key_value(COLOUR, 2))
+        self.assertIsNone(SET.key_value(COLOUR, 2**64 - 1))
+
+    def test_wrong_arguments(self):
+        for wrong in ([("a", "b")], [None], ["ab"]):
+            with self.assertRaises(iox2sd.WrongType):
+                AttributeSet(wrong)
+        with self.assertRaises(iox2sd.WrongType):
+            Attribute("a", AttributeValue("b"))
+        with self.assertRaises(iox2sd.WrongType):
+            Attribute(AttributeKey("a"), AttributeKey("b"))
+        for call in (SET.number_of_key_values, lambda key: SET.key_value(key, 0)):
+            with self.assertRaises(iox2sd.WrongType):
+                call("colour")
+        with self.assertRaises(iox2sd.WrongType):
+            list(SET.iter_key_values("colour"))
+        for index in (True, "0", 0.0):
+            with self.assertRaises(iox2sd.WrongType):
+                SET.key_value(COLOUR, index)
+        for index in (-1, 2**64):
+            with self.assertRaises(iox2sd.OutOfRange):
+                SET.key_value(COLOUR, index)
+
+
+class Specifiers(unittest.TestCase):
+    def test_pairs_are_defined_one_after_another(self):
+        specifier = AttributeSpecifier()
+        for attribute in reversed(SET):
+            specifier = specifier.define(attribute.key, attribute.value)
+        self.assertEqual(specifier.attributes, SET)
+        for _ in range(13):
+            specifier = specifier.define(SIZE, AttributeValue("8"))
+        with self.assertRaises(iox2sd.TooMany):
+            specifier.define(SIZE, AttributeValue("8"))
+        with self.assertRaises(iox2sd.WrongType):
+            AttributeSpecifier([])
+
+
+class Verifiers(unittest.TestCase):
+    def test_what_a_set_has(self):
+        verifier = AttributeVerifier().require(COLOUR, AttributeValue("red")).require_key(SIZE)
+        verifier.verify_requirements(SET)
+        AttributeVerifier().verify_requirements(AttributeSet())
+        self.assertEqual(list(verifier.required_attributes), [pair("colour", "red")])
+        self.assertEqual(verifier.required_keys, (SIZE,))
+
+    def test_what_a_set_lacks(self):
+        verifier = AttributeVerifier().require(COLOUR, AttributeValue("red"))
+        verifier = verifier.require(COLOUR, AttributeValue("green")).require_key(SIZE)
+        with self.assertRaises(iox2sd.MissingPair) as pair_missing:
+            verifier.verify_requirements(SET)
+        self.assertEqual(pair_missing.exception.at, 0)
+        self.assertIn("green", str(pair_missing.exception))
+        verifier = AttributeVerifier().require_key(SIZE).require_key(AttributeKey("weight"))
+        with self.assertRaises(iox2sd.MissingKey) as key_missing:
+            verifier.verify_requirements(SET)
+        self.assertEqual(key_missing.exception.at, 1)
+        self.assertIn("weight", str(key_missing.exception))
+
+    def test_sixteen_requirements(self):
+        verifier = AttributeVerifier()
+        for _ in range(8):
+            verifier = verifier.require(SIZE, AttributeValue("9")).require_key(COLOUR)
+        verifier.verify_requirements(SET)
+        with self.assertRaises(iox2sd.TooManyRequired):
+            verifier.require(SIZE, AttributeValue("9"))
+        with self.assertRaises(iox2sd.TooManyRequired):
+            verifier.require_key(SIZE)
+
+    def test_wrong_arguments(self):
+        with self.assertRaises(iox2sd.WrongType):
+            AttributeVerifier().verify_requirements([])
+        with self.assertRaises(iox2sd.WrongType):
+            AttributeVerifier().require_key("size")
+        with self.assertRaises(iox2sd.WrongType):
+            AttributeVerifier().require("size", "9")
+        with self.assertRaises(iox2sd.WrongType):
+            AttributeVerifier([])
+        with self.assertRaises(iox2sd.WrongType):
+            AttributeVerifier(AttributeSet(), [SIZE])
+
+
+if __name__ == "__main__":
+    unittest.main()

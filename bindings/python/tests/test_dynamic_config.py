@@ -1,0 +1,485 @@
+import copy
+import gc
+import pickle
+import resource
+import unittest
+import weakref
+from pathlib import Path
+from typing import Any
+
+import iox2sd
+from iox2sd import (
+    Capacities,
+    ClientDetails,
+    ContainerHandle,
+    DataSegmentType,
+    DeadNode,
+    DeregisterNodeState,
+    DynamicConfig,
+    ListenerDetails,
+    MessagingPattern,
+    NotifierDetails,
+    PublisherDetails,
+    ReaderDetails,
+    Role,
+    ServerDetails,
+    SubscriberDetails,
+    UniqueNodeId,
+    WriterDetails,
+)
+
+MOST = 2**64 - 1
+NODE = UniqueNodeId(1, 2, 3, 4)
+OTHER = UniqueNodeId(5, 6, 7, 8)
+
+
+def publisher(counter: int, node: UniqueNodeId = NODE) -> PublisherDetails:
+    return PublisherDetails(
+        publisher_id=iox2sd.UniquePublisherId(9, 9, 9, counter),
+        node_id=node,
+        number_of_samples=11,
+        max_slice_len=MOST,
+        data_segment_type=DataSegmentType.DYNAMIC,
+        max_number_of_segments=255,
+    )
+
+
+def subscriber(counter: int, node: UniqueNodeId = NODE) -> SubscriberDetails:
+    return SubscriberDetails(
+        subscriber_id=iox2sd.UniqueSubscriberId(9, 9, 9, counter), node_id=node, buffer_size=13
+    )
+
+
+CLIENT = ClientDetails(
+    client_id=iox2sd.UniqueClientId(1, 1, 1, 1),
+    node_id=NODE,
+    number_of_requests=17,
+    response_buffer_size=19,
+    max_slice_len=23,
+    data_segment_type=DataSegmentType.STATIC,
+    max_number_of_segments=1,
+)
+SERVER = ServerDetails(
+    server_id=iox2sd.UniqueServerId(2, 2, 2, 2),
+    node_id=NODE,
+    request_buffer_size=29,
+    number_of_responses=31,
+    max_slice_len=37,
+    data_segment_type=DataSegmentType.DYNAMIC,
+    max_number_of_segments=2,
+)
+LISTENER = ListenerDetails(listener_id=iox2sd.UniqueListenerId(3, 3, 3, 3), node_id=NODE)
+NOTIFIER = NotifierDetails(notifier_id=iox2sd.UniqueNotifierId(4, 4, 4, 4), node_id=NODE)
+READER = ReaderDetails(reader_id=iox2sd.UniqueReaderId(5, 5, 5, 5), node_id=NODE)
+WRITER = WriterDetails(writer_id=iox2sd.UniqueWriterId(6, 6, 6, 6), node_id=NODE)
+
+PATTERNS = [
+    (MessagingPattern.PUBLISH_SUBSCRIBE, publisher(1), subscriber(2)),
+    (MessagingPattern.EVENT, LISTENER, NOTIFIER),
+    (MessagingPattern.REQUEST_RESPONSE, SERVER, CLIENT),
+    (MessagingPattern.BLACKBOARD, READER, WRITER),
+]
+
+LISTS = {
+    Role.PUBLISHER: DynamicConfig.list_publishers,
+    Role.SUBSCRIBER: DynamicConfig.list_subscribers,
+    Role.NOTIFIER: DynamicConfig.list_notifiers,
+    Role.LISTENER: DynamicConfig.list_listeners,
+    Role.CLIENT: DynamicConfig.list_clients,
+    Role.SERVER: DynamicConfig.list_servers,
+    Role.READER: DynamicConfig.list_readers,
+    Role.WRITER: DynamicConfig.list_writers,
+}
+
+
+def service(nodes: int = 2, publishers: int = 2, subscribers: int = 2) -> DynamicConfig:
+    return DynamicConfig.publish_subscribe(
+        7, max_nodes=nodes, max_publishers=publishers, max_subscribers=subscribers
+    )
+
+
+def calls(made: DynamicConfig, handle: ContainerHandle) -> "list[Any]":
+    """Each call on a service."""
+    return [
+        lambda: made.register_node_id(NODE),
+        lambda: made.deregister_node_id(handle),
+        lambda: made.attach(publisher(1)),
+        lambda: made.release_port(handle),
+        lambda: made.remove_dead_node_id(NODE),
+        lambda: made.registered(NODE).__enter__(),
+        lambda: made.attached(publisher(1)).__enter__(),
+        lambda: made.messaging_pattern,
+        lambda: made.service_number,
+        lambda: made.port_roles,
+        lambda: made.has_role(Role.PUBLISHER),
+        lambda: made.is_locked,
+        lambda: made.number_of_nodes,
+        lambda: made.max_nodes,
+        lambda: made.has_room_for_node,
+        lambda: made.count_ports(Role.PUBLISHER),
+        lambda: made.max_ports(Role.PUBLISHER),
+        lambda: made.has_room(Role.PUBLISHER),
+        lambda: made.node(handle),
+        lambda: made.port(handle),
+        lambda: made.list_node_ids(),
+        lambda: made.list_ports(Role.PUBLISHER),
+        lambda: made.ports_of(NODE),
+        *(lambda listed=listed: listed(made) for listed in LISTS.values()),
+    ]
+
+
+class Patterns(unittest.TestCase):
+    def test_each_pattern(self):
+        for pattern, first, second in PATTERNS:
+            with DynamicConfig(pattern, MOST, Capacities(1, 2, 3)) as made:
+                self.assertEqual((made.messaging_pattern, made.service_number), (pattern, MOST))
+                self.assertEqual(made.port_roles, (first.role, second.role))
+                made.register_node_id(NODE)
+                for details, room in ((first, 2), (second, 3)):
+                    self.assertTrue(made.has_role(details.role) and made.has_room(details.role))
+                    handle = made.attach(details)
+                    self.assertEqual(handle, ContainerHandle(MOST, details.role, 0, 0))
+                    self.assertEqual(made.port(handle), details)
+                    self.assertEqual(LISTS[details.role](made), (details,))
+                    self.assertEqual(made.list_ports(details.role), (details,))
+                    self.assertEqual(made.count_ports(details.role), 1)
+                    self.assertEqual(made.max_ports(details.role), room)
+                self.assertEqual(made.ports_of(NODE), (first, second))
+                self.other_roles(made, {first.role, second.role})
+
+    def other_roles(self, made: DynamicConfig, own: "set[Role]"):
+        for role in set(Role) - own:
+            self.assertFalse(made.has_role(role))
+            for call in (made.list_ports, made.count_ports, made.max_ports, made.has_room):
+                with self.assertRaises(iox2sd.RoleNotInPattern) as caught:
+                    call(role)
+                self.assertIn(role.name, str(caught.exception))
+        for role in set(LISTS) - own:
+            with self.assertRaises(iox2sd.RoleNotInPattern):
+                LISTS[role](made)
+        for _, *ports in PATTERNS:
+            for details in ports:
+                if details.role not in own:
+                    with self.assertRaises(iox2sd.RoleNotInPattern):
+                        made.attach(details)
+
+    def test_makers_of_each_pattern(self):
+        made = [
+            (service(1, 2, 3), Role.PUBLISHER, Role.SUBSCRIBER),
+            (
+                DynamicConfig.event(7, max_nodes=1, max_listeners=2, max_notifiers=3),
+                Role.LISTENER,
+                Role.NOTIFIER,
+            ),
+            (
+                DynamicConfig.request_response(7, max_nodes=1, max_servers=2, max_clients=3),
+                Role.SERVER,
+                Role.CLIENT,
+            ),
+            (
+                DynamicConfig.blackboard(7, max_nodes=1, max_readers=2, max_writers=3),
+                Role.READER,
+                Role.WRITER,
+            ),
+        ]
+        for config, first, second in made:
+            with config:
+                numbers = (config.max_nodes, config.max_ports(first), config.max_ports(second))
+                self.assertEqual((config.service_number, *numbers), (7, 1, 2, 3))
+
+
+class Nodes(unittest.TestCase):
+    def test_register_and_deregister(self):
+        with service() as made:
+            first, second = made.register_node_id(NODE), made.register_node_id(OTHER)
+            self.assertEqual(first, ContainerHandle(7, Role.NODE, 0, 0))
+            self.assertEqual(second, ContainerHandle(7, Role.NODE, 1, 1))
+            self.assertEqual((made.node(first), made.node(second)), (NODE, OTHER))
+            self.assertEqual(made.list_node_ids(), (NODE, OTHER))
+            self.assertEqual((made.number_of_nodes, made.max_nodes), (2, 2))
+            self.assertFalse(made.has_room_for_node or made.is_locked)
+            with self.assertRaises(iox2sd.OutOfSpace) as caught:
+                made.register_node_id(UniqueNodeId(9, 9, 9, 9))
+            self.assertIn("register node 9000000090000000900000009: ", str(caught.exception))
+            self.assertIs(made.deregister_node_id(first), DeregisterNodeState.HAS_OWNERS)
+            self.assertTrue(made.has_room_for_node)
+            self.assertEqual(made.register_node_id(NODE), ContainerHandle(7, Role.NODE, 0, 2))
+
+    def test_the_last_node_locks(self):
+        with service() as made:
+            handle = made.register_node_id(NODE)
+            self.assertIs(made.deregister_node_id(handle), DeregisterNodeState.NO_MORE_OWNERS)
+            self.assertTrue(made.is_locked)
+            with self.assertRaises(iox2sd.IsLocked):
+                made.register_node_id(NODE)
+            with self.assertRaises(iox2sd.IsLocked):
+                made.attach(publisher(1))
+
+    def test_foreign_handles(self):
+        with service() as made:
+            node = made.register_node_id(NODE)
+            port = made.attach(publisher(1))
+            foreign = [
+                ContainerHandle(8, Role.NODE, 0, 0),
+                ContainerHandle(7, Role.NODE, 1, 0),
+                ContainerHandle(7, Role.NODE, 0, 1),
+                ContainerHandle(MOST, Role.WRITER, MOST, MOST),
+            ]
+            for handle in foreign:
+                for call in (made.deregister_node_id, made.release_port, made.node, made.port):
+                    with self.assertRaises(iox2sd.ForeignHandle):
+                        call(handle)
+            for call, handle in (
+                (made.deregister_node_id, port),
+                (made.node, port),
+                (made.release_port, node),
+                (made.port, node),
+            ):
+                with self.assertRaises(iox2sd.ForeignHandle):
+                    call(handle)
+
+    def test_a_node_with_ports_stays(self):
+        with service() as made:
+            node = made.register_node_id(NODE)
+            made.attach(publisher(1))
+            with self.assertRaises(iox2sd.PortsStillAttached):
+                made.deregister_node_id(node)
+            second = made.register_node_id(NODE)
+            self.assertIs(made.deregister_node_id(node), DeregisterNodeState.HAS_OWNERS)
+            self.assertEqual(made.node(second), NODE)
+
+    def test_tickets(self):
+        config = DynamicConfig(MessagingPattern.EVENT, 7, Capacities(9, 9, 9), tickets=1)
+        with config as made:
+            made.register_node_id(NODE)
+            self.assertFalse(made.has_room_for_node)
+            with self.assertRaises(iox2sd.OutOfSpace):
+                made.register_node_id(OTHER)
+            made.release_port(made.attach(LISTENER))
+            self.assertTrue(made.has_room(Role.NOTIFIER) and not made.has_room(Role.LISTENER))
+            with self.assertRaises(iox2sd.OutOfSpace):
+                made.attach(LISTENER)
+
+    def test_with_statements(self):
+        with service() as made:
+            with made.registered(NODE) as node:
+                self.assertEqual(made.node(node), NODE)
+                with made.attached(publisher(1)) as port:
+                    self.assertEqual(made.port(port), publisher(1))
+                self.assertEqual(made.list_publishers(), ())
+            self.assertTrue(made.is_locked)
+
+
+class Ports(unittest.TestCase):
+    def test_attach_and_release(self):
+        with service() as made:
+            with self.assertRaises(iox2sd.NodeNotRegistered):
+                made.attach(publisher(1))
+            made.register_node_id(NODE)
+            handles = [made.attach(publisher(counter)) for counter in (1, 2)]
+            with self.assertRaises(iox2sd.OutOfSpace) as caught:
+                made.attach(publisher(3))
+            self.assertIn("attach publisher 9000000090000000900000003: ", str(caught.exception))
+            self.assertFalse(made.has_room(Role.PUBLISHER))
+            made.release_port(handles[0])
+            with self.assertRaises(iox2sd.ForeignHandle):
+                made.release_port(handles[0])
+            self.assertEqual(made.attach(publisher(3)), ContainerHandle(7, Role.PUBLISHER, 0, 2))
+            self.assertEqual(made.list_publishers(), (publisher(3), publisher(2)))
+
+    def test_lists_of_any_length(self):
+        with service(1, 100, 100) as made:
+            made.register_node_id(NODE)
+            for counter in range(100):
+                made.attach(publisher(counter))
+                made.attach(subscriber(counter))
+            publishers = tuple(publisher(counter) for counter in range(100))
+            subscribers = tuple(subscriber(counter) for counter in range(100))
+            self.assertEqual(made.list_publishers(), publishers)
+            self.assertEqual(made.ports_of(NODE), publishers + subscribers)
+
+    def test_ports_of_a_node(self):
+        with service() as made:
+            made.register_node_id(NODE)
+            made.register_node_id(OTHER)
+            made.attach(subscriber(1, OTHER))
+            made.attach(subscriber(2))
+            made.attach(publisher(3))
+            made.attach(publisher(4, OTHER))
+            self.assertEqual(made.ports_of(NODE), (publisher(3), subscriber(2)))
+            self.assertEqual(made.ports_of(OTHER), (publisher(4, OTHER), subscriber(1, OTHER)))
+            self.assertEqual(made.ports_of(UniqueNodeId(1, 2, 3, 5)), ())
+
+    def test_a_list_keeps_what_it_has(self):
+        with service() as made:
+            made.register_node_id(NODE)
+            handle = made.attach(publisher(1))
+            listed, nodes = made.list_publishers(), made.list_node_ids()
+            made.release_port(handle)
+        self.assertEqual((listed, nodes), ((publisher(1),), (NODE,)))
+
+    def test_details(self):
+        self.assertEqual((CLIENT.port_id, CLIENT.role), (CLIENT.client_id, Role.CLIENT))
+        self.assertEqual(pickle.loads(pickle.dumps(CLIENT)), CLIENT)
+        self.assertEqual(len({SERVER, copy.copy(SERVER)}), 1)
+
+
+class DeadNodes(unittest.TestCase):
+    def filled(self) -> DynamicConfig:
+        made = service(3, 3, 3)
+        for node in (NODE, OTHER, NODE):
+            made.register_node_id(node)
+        for details in (publisher(1), publisher(2), publisher(3, OTHER), subscriber(4)):
+            made.attach(details)
+        return made
+
+    def test_all_goes(self):
+        with self.filled() as made:
+            gone = made.remove_dead_node_id(NODE)
+            self.assertEqual(gone, DeadNode(DeregisterNodeState.HAS_OWNERS, 2, 1))
+            self.assertEqual(made.list_node_ids(), (OTHER,))
+            gone = made.remove_dead_node_id(OTHER)
+            self.assertEqual(gone, DeadNode(DeregisterNodeState.NO_MORE_OWNERS, 1, 0))
+
+    def test_some_ports_are_kept(self):
+        with self.filled() as made:
+            keep = (port.port_id for port in made.ports_of(NODE)[1:])
+            gone = made.remove_dead_node_id(NODE, keep)
+            self.assertEqual(gone, DeadNode(DeregisterNodeState.HAS_OWNERS, 1, 0))
+            self.assertEqual(made.ports_of(NODE), (publisher(2), subscriber(4)))
+            self.assertEqual(made.list_node_ids(), (NODE, OTHER, NODE))
+
+    def test_an_unknown_node(self):
+        with self.filled() as made:
+            gone = made.remove_dead_node_id(UniqueNodeId(1, 2, 3, 5))
+            self.assertEqual(gone, DeadNode(DeregisterNodeState.HAS_OWNERS, 0, 0))
+
+
+class Ends(unittest.TestCase):
+    def test_a_closed_service(self):
+        made = service()
+        handle = made.register_node_id(NODE)
+        self.assertFalse(made.closed)
+        made.close()
+        made.close()
+        self.assertTrue(made.closed)
+        for call in calls(made, handle):
+            with self.assertRaises(iox2sd.NoService):
+                call()
+
+    def test_a_service_is_not_made_twice(self):
+        with service() as made:
+            handle = made.register_node_id(NODE)
+            with self.assertRaises(iox2sd.HasService):
+                made.__init__(MessagingPattern.EVENT, 8, Capacities(1, 1, 1))
+            self.assertEqual(made.node(handle), NODE)
+
+    def test_a_service_is_not_copied(self):
+        with service() as made:
+            for call in (copy.copy, copy.deepcopy, pickle.dumps):
+                with self.assertRaises(TypeError):
+                    call(made)
+
+    def test_a_service_goes_with_its_object(self):
+        made = service()
+        gone = weakref.ref(made)
+        del made
+        gc.collect()
+        self.assertIsNone(gone())
+
+    def test_memory_goes_with_its_object(self):
+        def taken():
+            return int(Path("/proc/self/statm").read_text().split()[0]) * resource.getpagesize()
+
+        for _ in range(3):
+            service(100_000, 0, 0)
+        before = taken()
+        for _ in range(100):
+            service(100_000, 0, 0)
+        self.assertLess(taken() - before, 50 * 16 * 100_000)
+
+    def test_no_memory(self):
+        for room in ((MOST, 1, 1), (1, MOST, 1), (1, 1, MOST)):
+            with self.assertRaises(MemoryError) as caught:
+                service(*room)
+            self.assertIsInstance(caught.exception, iox2sd.NoMemory)
+
+
+class Arguments(unittest.TestCase):
+    def test_wrong_types(self):
+        with service() as made:
+            wrong: "list[Any]" = [None, 0, True, "x", publisher(1).publisher_id, made, 10**5000]
+            for value in wrong:
+                for call in (
+                    made.register_node_id,
+                    made.deregister_node_id,
+                    made.attach,
+                    made.release_port,
+                    made.remove_dead_node_id,
+                    made.has_role,
+                    made.count_ports,
+                    made.max_ports,
+                    made.has_room,
+                    made.node,
+                    made.port,
+                    made.list_ports,
+                    made.ports_of,
+                    lambda value: made.remove_dead_node_id(NODE, [value, NODE]),
+                ):
+                    with self.assertRaises(iox2sd.WrongType):
+                        call(value)
+
+    def test_makers(self):
+        room = Capacities(1, 1, 1)
+        wrong: "list[tuple[Any, ...]]" = [
+            (1, 7, room),
+            (MessagingPattern.EVENT, "7", room),
+            (MessagingPattern.EVENT, True, room),
+            (MessagingPattern.EVENT, 7, (1, 1, 1)),
+            (MessagingPattern.EVENT, 7, room, 1.0),
+        ]
+        for given in wrong:
+            with self.assertRaises(iox2sd.WrongType):
+                DynamicConfig(*given)
+        for number in (-1, 2**64):
+            for given in ((number, room), (7, room, number)):
+                with self.assertRaises(iox2sd.OutOfRange):
+                    DynamicConfig(MessagingPattern.EVENT, *given)
+            for place in range(3):
+                numbers = [1, 1, 1]
+                numbers[place] = number
+                with self.assertRaises(iox2sd.OutOfRange):
+                    Capacities(*numbers)
+
+    def test_handles_and_details(self):
+        for given in ((-1, Role.NODE, 0, 0), (0, Role.NODE, 2**64, 0), (0, Role.NODE, 0, 2**64)):
+            with self.assertRaises(iox2sd.OutOfRange):
+                ContainerHandle(*given)
+        with self.assertRaises(iox2sd.WrongType):
+            ContainerHandle(0, 0, 0, 0)
+        given_details: "dict[str, Any]" = dict(
+            publisher_id=iox2sd.UniquePublisherId(0, 0, 0, 0),
+            node_id=NODE,
+            number_of_samples=0,
+            max_slice_len=0,
+            data_segment_type=DataSegmentType.STATIC,
+            max_number_of_segments=1,
+        )
+        PublisherDetails(**given_details)
+        for name, value in (
+            ("publisher_id", CLIENT.client_id),
+            ("node_id", CLIENT.client_id),
+            ("number_of_samples", True),
+            ("data_segment_type", 1),
+            ("max_number_of_segments", "1"),
+        ):
+            with self.assertRaises(iox2sd.WrongType) as caught:
+                PublisherDetails(**{**given_details, name: value})
+            self.assertIn(f"PublisherDetails.{name}: ", str(caught.exception))
+        for name, number in (("max_number_of_segments", 256), ("max_slice_len", 2**64)):
+            with self.assertRaises(iox2sd.OutOfRange):
+                PublisherDetails(**{**given_details, name: number})
+
+
+if __name__ == "__main__":
+    unittest.main()

@@ -1,0 +1,83 @@
+import copy
+import pickle
+import unittest
+
+import iox2sd
+from iox2sd import UniqueNodeId, UniquePublisherId, UniqueServiceId, UniqueSubscriberId
+
+MOST = 2**32 - 1
+KINDS = [
+    UniqueNodeId,
+    UniquePublisherId,
+    UniqueSubscriberId,
+    iox2sd.UniqueNotifierId,
+    iox2sd.UniqueListenerId,
+    iox2sd.UniqueClientId,
+    iox2sd.UniqueServerId,
+    iox2sd.UniqueReaderId,
+    iox2sd.UniqueWriterId,
+    UniqueServiceId,
+]
+
+
+class Ids(unittest.TestCase):
+    def test_text_and_value(self):
+        for kind in KINDS:
+            id = kind(1, 2, 3, 0x1234ABCD)
+            self.assertEqual(str(id), "100000002000000031234abcd")
+            self.assertEqual(id.value, 1 << 96 | 2 << 64 | 3 << 32 | 0x1234ABCD)
+            self.assertEqual((id.process, id.seconds, id.nanoseconds), (1, 2, 3))
+            self.assertEqual(kind(MOST, MOST, MOST, MOST).value, 2**128 - 1)
+        self.assertEqual(str(UniqueServiceId(0, 0, 0, 0)), "0")
+
+    def test_order_and_equality(self):
+        ids = [
+            UniquePublisherId(0, 0, 0, 1),
+            UniquePublisherId(0, 0, 1, 0),
+            UniquePublisherId(0, 1, 0, 0),
+            UniquePublisherId(1, 0, 0, 0),
+        ]
+        self.assertEqual(sorted(reversed(ids)), ids)
+        self.assertTrue(ids[0] <= ids[0] < ids[1] <= ids[2] and ids[3] > ids[2] >= ids[2])
+        self.assertEqual(len({*ids, UniquePublisherId(1, 0, 0, 0)}), 4)
+        self.assertNotEqual(UniquePublisherId(1, 2, 3, 4), UniqueSubscriberId(1, 2, 3, 4))
+        with self.assertRaises(TypeError):
+            UniquePublisherId(1, 2, 3, 4) < UniqueSubscriberId(1, 2, 3, 4)
+
+    def test_copies(self):
+        for kind in KINDS:
+            id = kind(1, 2, 3, 4)
+            copies = [copy.copy(id), copy.deepcopy(id), pickle.loads(pickle.dumps(id))]
+            self.assertEqual(copies, [id] * 3)
+
+    def test_ids_of_nodes(self):
+        for id in (UniqueNodeId(1, 5, 6, 0), UniqueNodeId(0, 5, 6, 1), UniqueNodeId(3, 5, 6, 4)):
+            self.assertEqual(id.owner_id, id.process * 2**32 + id.counter)
+        with self.assertRaises(iox2sd.NoNode) as caught:
+            UniqueNodeId(0, 5, 6, 0)
+        self.assertIn("seconds=5", str(caught.exception))
+
+    def test_ids_do_not_change(self):
+        id = UniqueServiceId(1, 2, 3, 4)
+        with self.assertRaises(AttributeError):
+            id.process = 5
+        with self.assertRaises((AttributeError, TypeError)):
+            id.other = 5
+
+    def test_parts_are_integers_of_32_bits(self):
+        for kind in KINDS:
+            for place in range(4):
+                for wrong in (-1, 2**32, 2**64, 10**5000):
+                    parts = [1, 2, 3, 4]
+                    parts[place] = wrong
+                    with self.assertRaises(iox2sd.OutOfRange):
+                        kind(*parts)
+                for strange in (True, 1.0, "1", None, b"1"):
+                    given: "list[object]" = [1, 2, 3, 4]
+                    given[place] = strange
+                    with self.assertRaises(iox2sd.WrongType):
+                        kind(*given)
+
+
+if __name__ == "__main__":
+    unittest.main()

@@ -1,0 +1,106 @@
+import unittest
+
+import iox2sd
+from iox2sd import Layout, MessageTypeDetails, Places, TypeDetail, TypeVariant
+
+
+def details(
+    size: int = 8,
+    alignment: int = 8,
+    variant: TypeVariant = TypeVariant.FIXED_SIZE,
+    name: str = "Payload",
+) -> MessageTypeDetails:
+    return MessageTypeDetails(
+        TypeDetail("Header", 8, 8),
+        TypeDetail("UserHeader", 4, 4),
+        TypeDetail(name, size, alignment, variant),
+    )
+
+
+class Types(unittest.TestCase):
+    def test_names(self):
+        self.assertEqual(TypeDetail("", 0, 1).type_name, "")
+        self.assertEqual(len(TypeDetail("n" * 256, 0, 1).type_name), 256)
+        with self.assertRaises(iox2sd.TooLong):
+            TypeDetail("n" * 257, 0, 1)
+        for wrong in ("a\0", "é"):
+            with self.assertRaises(iox2sd.IllegalByte):
+                TypeDetail(wrong, 0, 1)
+        with self.assertRaises(iox2sd.NotUtf8):
+            TypeDetail("\ud800", 0, 1)
+
+    def test_alignments(self):
+        for alignment in (1, 2, 2**63):
+            self.assertEqual(TypeDetail("T", 2**64 - 1, alignment).alignment, alignment)
+        for alignment in (0, 3, 2**64 - 1):
+            with self.assertRaises(iox2sd.BadAlignment) as caught:
+                TypeDetail("T", 0, alignment)
+            self.assertIn(f"alignment={alignment}", str(caught.exception))
+
+    def test_wrong_arguments(self):
+        for given in ((b"T", 8, 8), ("T", True, 8), ("T", 8, 8.0), ("T", 8, 8, 0)):
+            with self.assertRaises(iox2sd.WrongType):
+                TypeDetail(*given)
+        for size, alignment in ((-1, 8), (2**64, 8), (8, -8), (8, 2**64)):
+            with self.assertRaises(iox2sd.OutOfRange):
+                TypeDetail("T", size, alignment)
+        with self.assertRaises(iox2sd.WrongType):
+            MessageTypeDetails(TypeDetail("T", 8, 8), TypeDetail("T", 8, 8), None)
+
+
+class Messages(unittest.TestCase):
+    def test_layout(self):
+        # 8 + 4 and at most 3 before it, 2 * 8 and at most 7 before it: 38, in eights
+        self.assertEqual(details().sample_layout(2), Layout(40, 8))
+        with self.assertRaises(iox2sd.TooLarge):
+            details(size=2**64 - 1).sample_layout(2**64 - 1)
+        for wrong in (True, 2.0, None):
+            with self.assertRaises(iox2sd.WrongType):
+                details().sample_layout(wrong)
+        for elements in (-1, 2**64):
+            with self.assertRaises(iox2sd.OutOfRange):
+                details().sample_layout(elements)
+
+    def test_places(self):
+        self.assertEqual(details().places(64), Places(72, 80))
+        with self.assertRaises(iox2sd.TooLarge):
+            details().places(2**64 - 1)
+        with self.assertRaises(iox2sd.OutOfRange):
+            details().places(-8)
+        with self.assertRaises(iox2sd.WrongType):
+            details().places("64")
+
+    def test_compatible(self):
+        self.assertTrue(details().is_compatible_to(details()))
+        self.assertTrue(details().is_compatible_to(details(alignment=16)))
+        self.assertTrue(details(name="").is_compatible_to(details(name="")))
+
+    def test_incompatible(self):
+        cases = [
+            (details(name="Other"), details(), iox2sd.OtherName, "payload"),
+            (details(variant=TypeVariant.DYNAMIC), details(), iox2sd.OtherVariant, "payload"),
+            (details(size=16), details(), iox2sd.OtherSize, "payload"),
+            (details(alignment=16), details(), iox2sd.GreaterAlignment, "payload"),
+            (self.header(16, 4), details(), iox2sd.OtherAlignment, "header"),
+            (self.header(8, 8), details(), iox2sd.GreaterAlignment, "user header"),
+        ]
+        for opener, service, error, part in cases:
+            with self.subTest(error=error):
+                self.assertFalse(opener.is_compatible_to(service))
+                with self.assertRaises(error) as caught:
+                    opener.check_compatible_to(service)
+                self.assertTrue(str(caught.exception).startswith(f"the opener's {part}: "))
+                self.assertIsInstance(caught.exception, iox2sd.Incompatible)
+        with self.assertRaises(iox2sd.WrongType):
+            details().is_compatible_to(None)
+
+    def header(self, alignment: int, user_alignment: int) -> MessageTypeDetails:
+        return MessageTypeDetails(
+            TypeDetail("Header", 8, alignment),
+            TypeDetail("UserHeader", 4, user_alignment),
+            details().payload,
+        )
+
+
+if __name__ == "__main__":
+    unittest.main()

@@ -1,0 +1,193 @@
+import unittest
+from typing import Any
+
+import iox2sd
+from iox2sd import (
+    AllocationStrategy,
+    BackpressureStrategy,
+    BlackboardSettings,
+    DefaultText,
+    Duration,
+    EventId,
+    EventSettings,
+    Path,
+    PublishSubscribeSettings,
+    RequestResponseSettings,
+)
+
+MOST = 2**64 - 1
+
+
+class Defaults(unittest.TestCase):
+    def test_publish_subscribe(self):
+        expected = PublishSubscribeSettings(
+            max_subscribers=8,
+            max_publishers=2,
+            max_nodes=20,
+            subscriber_max_buffer_size=2,
+            subscriber_max_borrowed_samples=2,
+            publisher_max_loaned_samples=2,
+            publisher_history_size=0,
+            subscriber_expired_connection_buffer=128,
+            backpressure_strategy=BackpressureStrategy.RETRY_UNTIL_DELIVERED,
+            publisher_allocation_strategy=AllocationStrategy.STATIC,
+            enable_safe_overflow=True,
+        )
+        self.assertEqual(PublishSubscribeSettings(), expected)
+
+    def test_event(self):
+        expected = EventSettings(
+            max_listeners=16,
+            max_notifiers=16,
+            max_nodes=36,
+            event_id_max_value=255,
+            deadline=None,
+            notifier_created_event=None,
+            notifier_dropped_event=None,
+            notifier_dead_event=None,
+        )
+        self.assertEqual(EventSettings(), expected)
+
+    def test_request_response(self):
+        expected = RequestResponseSettings(
+            max_active_requests_per_client=4,
+            max_response_buffer_size=2,
+            max_servers=2,
+            max_clients=8,
+            max_nodes=20,
+            max_borrowed_responses_per_pending_response=2,
+            max_loaned_requests=2,
+            server_max_loaned_responses_per_request=2,
+            client_expired_connection_buffer=128,
+            server_expired_connection_buffer=128,
+            client_backpressure_strategy=BackpressureStrategy.RETRY_UNTIL_DELIVERED,
+            server_backpressure_strategy=BackpressureStrategy.RETRY_UNTIL_DELIVERED,
+            client_allocation_strategy=AllocationStrategy.STATIC,
+            server_allocation_strategy=AllocationStrategy.STATIC,
+            enable_safe_overflow_for_requests=True,
+            enable_safe_overflow_for_responses=True,
+            enable_fire_and_forget_requests=True,
+        )
+        self.assertEqual(RequestResponseSettings(), expected)
+
+    def test_blackboard(self):
+        self.assertEqual(BlackboardSettings(), BlackboardSettings(max_readers=8, max_nodes=20))
+
+
+class Settings(unittest.TestCase):
+    def test_chunks_of_publish_subscribe(self):
+        given: "dict[str, Any]" = dict(
+            subscriber_max_buffer_size=5,
+            subscriber_max_borrowed_samples=7,
+            publisher_history_size=11,
+            publisher_max_loaned_samples=13,
+        )
+        settings = PublishSubscribeSettings(max_subscribers=3, **given)
+        self.assertEqual(
+            settings.required_amount_of_samples_per_data_segment(), 3 * (5 + 7) + 11 + 13
+        )
+        with self.assertRaises(iox2sd.TooLarge):
+            settings = PublishSubscribeSettings(max_subscribers=MOST, **given)
+            settings.required_amount_of_samples_per_data_segment()
+
+    def test_chunks_of_request_response(self):
+        given: "dict[str, Any]" = dict(
+            max_servers=3,
+            max_clients=17,
+            max_response_buffer_size=7,
+            max_borrowed_responses_per_pending_response=11,
+            max_loaned_requests=13,
+            server_max_loaned_responses_per_request=19,
+        )
+        settings = RequestResponseSettings(max_active_requests_per_client=5, **given)
+        requests = settings.required_amount_of_chunks_per_client_data_segment()
+        responses = settings.required_amount_of_chunks_per_server_data_segment()
+        self.assertEqual((requests, responses), (3 * 2 * 5 + 13, 17 * 2 * 5 * (7 + 11 + 19)))
+        settings = RequestResponseSettings(max_active_requests_per_client=MOST, **given)
+        with self.assertRaises(iox2sd.TooLarge):
+            settings.required_amount_of_chunks_per_client_data_segment()
+        with self.assertRaises(iox2sd.TooLarge):
+            settings.required_amount_of_chunks_per_server_data_segment()
+
+    def test_optional_settings(self):
+        longest = Duration(MOST, 999_999_999)
+        settings = EventSettings(deadline=longest, notifier_dead_event=EventId(3))
+        self.assertEqual(settings.deadline, longest)
+        self.assertEqual(settings.notifier_dead_event, EventId(3))
+        self.assertLess(Duration(1, 5), Duration(2))
+        for nanoseconds in (1_000_000_000, -1, 2**32):
+            with self.assertRaises(iox2sd.OutOfRange):
+                Duration(0, nanoseconds)
+
+    def test_wrong_arguments(self):
+        wrong: "list[tuple[Any, dict[str, Any]]]" = [
+            (PublishSubscribeSettings, {"max_nodes": True}),
+            (PublishSubscribeSettings, {"enable_safe_overflow": 1}),
+            (PublishSubscribeSettings, {"backpressure_strategy": 0}),
+            (PublishSubscribeSettings, {"backpressure_strategy": AllocationStrategy.STATIC}),
+            (EventSettings, {"deadline": 5}),
+            (EventSettings, {"notifier_created_event": 5}),
+            (EventSettings, {"notifier_created_event": True}),
+            (RequestResponseSettings, {"client_allocation_strategy": None}),
+            (RequestResponseSettings, {"max_clients": "8"}),
+            (BlackboardSettings, {"max_readers": 8.0}),
+            (EventId, {"value": False}),
+            (Duration, {"seconds": 0.5}),
+        ]
+        for kind, given in wrong:
+            with self.subTest(kind=kind, given=given), self.assertRaises(iox2sd.WrongType):
+                kind(**given)
+        for kind, name in ((BlackboardSettings, "max_nodes"), (EventSettings, "max_nodes")):
+            for number in (-1, 2**64):
+                with self.assertRaises(iox2sd.OutOfRange) as caught:
+                    kind(**{name: number})
+                self.assertEqual(
+                    str(caught.exception),
+                    f"{kind.__name__}.{name}: expected 0 to 2^64 - 1, got {number}",
+                )
+
+
+class Texts(unittest.TestCase):
+    def test_texts_of_the_configuration(self):
+        expected = [
+            "/tmp/iceoryx2/",
+            "iox2_",
+            "services",
+            ".data",
+            ".service",
+            ".dynamic",
+            ".connection",
+            ".event",
+            ".blackboard_mgmt",
+            ".blackboard_data",
+            "nodes",
+            ".node_monitor",
+            ".details",
+            ".service_tag",
+            ".port_tag",
+            ".global_mgmt",
+            "iceoryx2.toml",
+            "config/iceoryx2.toml",
+            "iceoryx2",
+            "iceoryx2/iceoryx2.toml",
+        ]
+        self.assertEqual([iox2sd.default_text(which) for which in DefaultText], expected)
+        for wrong in (0, "PREFIX", None):
+            with self.assertRaises(iox2sd.WrongType):
+                iox2sd.default_text(wrong)
+
+    def test_directories(self):
+        self.assertEqual(iox2sd.service_directory(Path("/a")), "/a/services")
+        self.assertEqual(iox2sd.node_directory(Path("/a/")), "/a/nodes")
+        self.assertEqual(iox2sd.node_directory(Path("")), "nodes")
+        for call, length in ((iox2sd.service_directory, 246), (iox2sd.node_directory, 249)):
+            self.assertEqual(len(call(Path("y" * length))), 255)
+            with self.assertRaises(iox2sd.TooLong):
+                call(Path("y" * (length + 1)))
+            for wrong in ("/a", b"/a", 0):
+                with self.assertRaises(iox2sd.WrongType):
+                    call(wrong)
+
+
+if __name__ == "__main__":
+    unittest.main()

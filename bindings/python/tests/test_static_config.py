@@ -1,0 +1,134 @@
+import pickle
+import unittest
+from typing import Any
+
+import iox2sd
+from iox2sd import (
+    AttributeSet,
+    BlackboardSettings,
+    BlackboardStaticConfig,
+    Duration,
+    EventSettings,
+    EventStaticConfig,
+    MessagingPattern,
+    PublishSubscribeSettings,
+    PublishSubscribeStaticConfig,
+    RequestResponseSettings,
+    RequestResponseStaticConfig,
+    ServiceHash,
+    ServiceName,
+    StaticConfig,
+    TypeDetail,
+    UniqueServiceId,
+)
+
+from .test_messages import details
+
+NAME = ServiceName("My/Service")
+ID = UniqueServiceId(1, 2, 3, 4)
+MOST = 2**64 - 1
+
+PATTERNS: "list[tuple[Any, MessagingPattern]]" = [
+    (PublishSubscribeStaticConfig.new(details()), MessagingPattern.PUBLISH_SUBSCRIBE),
+    (EventStaticConfig.new(), MessagingPattern.EVENT),
+    (RequestResponseStaticConfig.new(details(), details()), MessagingPattern.REQUEST_RESPONSE),
+    (BlackboardStaticConfig.new(TypeDetail("Key", 8, 8)), MessagingPattern.BLACKBOARD),
+]
+
+
+class StaticConfigs(unittest.TestCase):
+    def test_each_pattern(self):
+        for config, pattern in PATTERNS:
+            described = StaticConfig(NAME, ID, config)
+            self.assertIs(described.messaging_pattern, pattern)
+            self.assertEqual(described.service_hash, ServiceHash.new(NAME, pattern))
+            self.assertEqual(described.attributes, AttributeSet())
+            self.assertEqual((described.name, described.unique_service_id), (NAME, ID))
+            self.assertEqual(pickle.loads(pickle.dumps(described)), described)
+            for other, other_pattern in PATTERNS:
+                same = described.has_same_messaging_pattern(StaticConfig(NAME, ID, other))
+                self.assertEqual(same, pattern is other_pattern)
+
+    def test_settings_are_taken_over(self):
+        settings = PublishSubscribeSettings(
+            max_subscribers=3, max_publishers=5, max_nodes=7, publisher_history_size=11
+        )
+        config = PublishSubscribeStaticConfig.new(details(), settings)
+        numbers = (config.max_subscribers, config.max_publishers, config.max_nodes)
+        self.assertEqual((*numbers, config.history_size), (3, 5, 7, 11))
+        self.assertEqual(config.message_type_details, details())
+        event = EventStaticConfig.new(EventSettings(max_notifiers=3, deadline=Duration(5)))
+        self.assertEqual((event.max_notifiers, event.deadline), (3, Duration(5)))
+        calls = RequestResponseStaticConfig.new(
+            details(), details(size=16), RequestResponseSettings(max_clients=3)
+        )
+        self.assertEqual(calls.max_clients, 3)
+        self.assertEqual(calls.request_message_type_details, details())
+        self.assertEqual(calls.response_message_type_details, details(size=16))
+        keys = TypeDetail("Key", 8, 8)
+        board = BlackboardStaticConfig.new(keys, BlackboardSettings(max_readers=3, max_nodes=5))
+        self.assertEqual((board.max_readers, board.max_nodes, board.type_details), (3, 5, keys))
+
+    def test_chunks_of_publishers(self):
+        given: "dict[str, Any]" = dict(
+            subscriber_max_buffer_size=5,
+            subscriber_max_borrowed_samples=7,
+            publisher_history_size=11,
+        )
+        settings = PublishSubscribeSettings(max_subscribers=3, **given)
+        config = PublishSubscribeStaticConfig.new(details(), settings)
+        count = config.required_amount_of_samples_per_data_segment
+        self.assertEqual(count(13), 3 * (5 + 7) + 11 + 13)
+        for wrong, error in ((MOST, iox2sd.TooLarge), (-1, iox2sd.OutOfRange)):
+            with self.assertRaises(error):
+                count(wrong)
+        with self.assertRaises(iox2sd.WrongType):
+            count(True)
+
+    def test_chunks_of_clients_and_servers(self):
+        settings = RequestResponseSettings(
+            max_servers=3,
+            max_clients=17,
+            max_active_requests_per_client=5,
+            max_response_buffer_size=7,
+            max_borrowed_responses_per_pending_response=11,
+        )
+        config = RequestResponseStaticConfig.new(details(), details(), settings)
+        requests = config.required_amount_of_chunks_per_client_data_segment
+        responses = config.required_amount_of_chunks_per_server_data_segment
+        self.assertEqual(requests(13), 3 * 2 * 5 + 13)
+        self.assertEqual(responses(19), 17 * 2 * 5 * (7 + 11 + 19))
+        for count in (requests, responses):
+            for wrong, error in ((MOST, iox2sd.TooLarge), (2**64, iox2sd.OutOfRange)):
+                with self.assertRaises(error):
+                    count(wrong)
+            with self.assertRaises(iox2sd.WrongType):
+                count(None)
+
+    def test_wrong_arguments(self):
+        config = EventStaticConfig.new()
+        cases: "list[tuple[Any, Any, Any, Any]]" = [
+            ("My/Service", ID, config, AttributeSet()),
+            (NAME, 7, config, AttributeSet()),
+            (NAME, ID, EventSettings(), AttributeSet()),
+            (NAME, ID, config, []),
+        ]
+        for given in cases:
+            with self.assertRaises(iox2sd.WrongType):
+                StaticConfig(*given)
+        wrong: Any = BlackboardSettings()
+        for call in (
+            lambda: PublishSubscribeStaticConfig.new(details(), wrong),
+            lambda: PublishSubscribeStaticConfig.new(wrong),
+            lambda: EventStaticConfig.new(wrong),
+            lambda: RequestResponseStaticConfig.new(details(), wrong),
+            lambda: RequestResponseStaticConfig.new(details(), details(), wrong),
+            lambda: BlackboardStaticConfig.new(wrong),
+            lambda: StaticConfig(NAME, ID, config).has_same_messaging_pattern(wrong),
+        ):
+            with self.assertRaises(iox2sd.WrongType):
+                call()
+
+
+if __name__ == "__main__":
+    unittest.main()

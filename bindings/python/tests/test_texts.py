@@ -1,0 +1,171 @@
+import base64
+import copy
+import hashlib
+import pickle
+import unittest
+
+import iox2sd
+from iox2sd import (
+    AttributeKey,
+    AttributeValue,
+    FileName,
+    FilePath,
+    InternalServiceName,
+    MessagingPattern,
+    Path,
+    RestrictedFileName,
+    ServiceHash,
+    ServiceName,
+)
+
+ALL = [
+    ServiceName,
+    InternalServiceName,
+    AttributeKey,
+    AttributeValue,
+    Path,
+    FileName,
+    FilePath,
+    RestrictedFileName,
+    ServiceHash,
+]
+
+LONGEST = {
+    ServiceName: 255,
+    InternalServiceName: 255,
+    AttributeKey: 64,
+    AttributeValue: 256,
+    Path: 255,
+    FileName: 255,
+    FilePath: 255,
+    RestrictedFileName: 64,
+    ServiceHash: 64,
+}
+
+
+class Texts(unittest.TestCase):
+    def test_a_text_is_a_str(self):
+        for kind in ALL:
+            text = kind("abc.d")
+            self.assertEqual(text, "abc.d")
+            self.assertEqual(repr(text), f"{kind.__name__}('abc.d')")
+            self.assertEqual(f"{text}-{len(text)}", "abc.d-5")
+            self.assertEqual(hash(text), hash("abc.d"))
+            for made in (copy.copy(text), copy.deepcopy(text), pickle.loads(pickle.dumps(text))):
+                self.assertEqual((made, type(made)), (text, kind))
+            with self.assertRaises(AttributeError):
+                text.other = 1
+
+    def test_longest_texts(self):
+        for kind, length in LONGEST.items():
+            self.assertEqual(len(kind("a" * length)), length)
+            with self.assertRaises(iox2sd.TooLong) as caught:
+                kind("a" * (length + 1))
+            self.assertEqual(caught.exception.at, length)
+
+    def test_empty_texts(self):
+        self.assertEqual(Path(""), "")
+        for kind in ALL:
+            if kind is not Path:
+                with self.assertRaises(iox2sd.Empty) as caught:
+                    kind("")
+                self.assertIsNone(caught.exception.at)
+
+    def test_each_byte(self):
+        for kind in (ServiceName, InternalServiceName, AttributeKey, AttributeValue, Path):
+            self.assertEqual(kind("a\x01\x7f/ "), "a\x01\x7f/ ")
+        for kind in ALL:
+            for wrong, at in (("ab\0", 2), ("\0", 0), ("a\x80", 1), ("aé", 1), ("\U0001f980", 0)):
+                with self.subTest(kind=kind, wrong=wrong):
+                    with self.assertRaises(iox2sd.IllegalByte) as caught:
+                        kind(wrong)
+                    self.assertEqual(caught.exception.at, at)
+                    self.assertTrue(str(caught.exception).endswith(f", at byte {at}"))
+                    self.assertTrue(str(caught.exception).startswith(f"{kind.__name__} '"))
+        for kind in (RestrictedFileName, ServiceHash):
+            with self.assertRaises(iox2sd.IllegalByte):
+                kind("a b")
+
+    def test_halves_of_surrogate_pairs(self):
+        for kind in ALL:
+            with self.assertRaises(iox2sd.NotUtf8) as caught:
+                kind("ab\ud800")
+            self.assertEqual((caught.exception.at, caught.exception.unit), (2, "character"))
+            self.assertIn("at character 2", str(caught.exception))
+
+    def test_other_types(self):
+        for kind in ALL:
+            for wrong in (0, 5, None, b"abc", ["abc"], bytearray(b"abc"), True):
+                with self.assertRaises(iox2sd.WrongType):
+                    kind(wrong)
+
+    def test_names_of_services(self):
+        with self.assertRaises(iox2sd.ReservedPrefix):
+            ServiceName("iox2://x")
+        self.assertEqual(InternalServiceName("iox2://x"), "iox2://x")
+        self.assertEqual(InternalServiceName.prefixed("x"), "iox2://x")
+        self.assertEqual(len(InternalServiceName.prefixed("x" * 248)), 255)
+        self.assertEqual(type(InternalServiceName.prefixed("x")), InternalServiceName)
+        self.assertTrue(ServiceName.has_iox2_prefix("iox2://"))
+        self.assertFalse(ServiceName.has_iox2_prefix("iox2:/x"))
+        with self.assertRaises(iox2sd.TooLong):
+            InternalServiceName.prefixed("x" * 249)
+        with self.assertRaises(iox2sd.IllegalByte):
+            InternalServiceName.prefixed("x\0")
+        for wrong in (b"x", 7):
+            with self.assertRaises(iox2sd.WrongType):
+                InternalServiceName.prefixed(wrong)
+            with self.assertRaises(iox2sd.WrongType):
+                ServiceName.has_iox2_prefix(wrong)
+        with self.assertRaises(iox2sd.NotUtf8):
+            InternalServiceName.prefixed("\udfff")
+
+    def test_names_of_files(self):
+        for kind in (FileName, FilePath, RestrictedFileName, ServiceHash):
+            for wrong in (".", ".."):
+                with self.assertRaises(iox2sd.NoFileName):
+                    kind(wrong)
+        with self.assertRaises(iox2sd.IllegalByte) as caught:
+            FileName("a/b")
+        self.assertEqual(caught.exception.at, 1)
+        self.assertEqual(FilePath("a/b"), "a/b")
+        for wrong in ("a/", "a/.", "a/.."):
+            with self.assertRaises(iox2sd.NoFileName):
+                FilePath(wrong)
+
+    def test_joining(self):
+        cases = (("a", "b", "a/b"), ("a/", "b", "a/b"), ("", "b", "b"), ("/", "", "/"))
+        for path, entry, joined in cases:
+            made = Path(path).add_path_entry(Path(entry))
+            self.assertEqual((made, type(made)), (joined, Path))
+        made = FilePath.from_path_and_file(Path("/tmp"), FileName("a.b"))
+        self.assertEqual((made, type(made)), ("/tmp/a.b", FilePath))
+        self.assertEqual(len(Path("a" * 127).add_path_entry(Path("b" * 127))), 255)
+        with self.assertRaises(iox2sd.TooLong):
+            Path("a" * 128).add_path_entry(Path("b" * 127))
+        with self.assertRaises(iox2sd.TooLong):
+            FilePath.from_path_and_file(Path("a" * 128), FileName("b" * 127))
+        with self.assertRaises(iox2sd.WrongType):
+            Path("a").add_path_entry("b")
+        with self.assertRaises(iox2sd.WrongType):
+            FilePath.from_path_and_file("a", FileName("b"))
+        with self.assertRaises(iox2sd.WrongType):
+            FilePath.from_path_and_file(Path("a"), "b")
+
+    def test_hash_texts_are_those_of_sha1_in_base64(self):
+        names = [ServiceName("My/Service"), InternalServiceName("iox2://x"), ServiceName("a" * 255)]
+        for pattern in MessagingPattern:
+            for name in names:
+                digest = hashlib.sha1(f"{pattern.value}{name}".encode()).digest()
+                expected = base64.urlsafe_b64encode(digest).rstrip(b"=").decode()
+                made = ServiceHash.new(name, pattern)
+                self.assertEqual((made, type(made)), (expected, ServiceHash))
+        with self.assertRaises(iox2sd.WrongType):
+            ServiceHash.new("My/Service", MessagingPattern.EVENT)
+        for wrong in (1, "EVENT", iox2sd.Role.PUBLISHER):
+            with self.assertRaises(iox2sd.WrongType):
+                ServiceHash.new(names[0], wrong)
+
+
+if __name__ == "__main__":
+    unittest.main()

@@ -1,0 +1,114 @@
+import sys
+import threading
+import time
+import unittest
+from typing import Callable
+
+import iox2sd
+from iox2sd import DynamicConfig, UniqueNodeId
+
+from .test_dynamic_config import publisher
+
+THREADS = 16
+
+
+def node(number: int) -> UniqueNodeId:
+    return UniqueNodeId(number + 1, 0, 0, 1)
+
+
+def run(work: "list[Callable[[], None]]") -> "list[BaseException]":
+    """Carries out all work at once, each on a thread of its own, and answers what was raised."""
+    raised: "list[BaseException]" = []
+    start = threading.Barrier(len(work))
+
+    def carried_out(part: Callable[[], None]):
+        try:
+            start.wait()
+            part()
+        except BaseException as error:
+            raised.append(error)
+
+    threads = [threading.Thread(target=carried_out, args=(part,)) for part in work]
+    interval = sys.getswitchinterval()
+    sys.setswitchinterval(1e-6)
+    try:
+        for thread in threads:
+            thread.start()
+        for thread in threads:
+            thread.join()
+    finally:
+        sys.setswitchinterval(interval)
+    return raised
+
+
+class Threads(unittest.TestCase):
+    def test_sixteen_threads_share_a_service(self):
+        rounds = 100
+        made = DynamicConfig.publish_subscribe(
+            7, max_nodes=THREADS + 1, max_publishers=THREADS, max_subscribers=0
+        )
+        stays = made.register_node_id(node(THREADS))
+        tickets: "list[int]" = []
+
+        def join(number: int):
+            for _ in range(rounds):
+                with made.registered(node(number)) as handle:
+                    tickets.append(handle.ticket)
+                    with made.attached(publisher(number, node(number))):
+                        self.assertIn(node(number), made.list_node_ids())
+                        found = made.ports_of(node(number))
+                        self.assertEqual(found, (publisher(number, node(number)),))
+
+        raised = run([lambda number=number: join(number) for number in range(THREADS)])
+        self.assertEqual(raised, [])
+        self.assertEqual(sorted(tickets), list(range(1, THREADS * rounds + 1)))
+        self.assertEqual((made.list_node_ids(), made.list_publishers()), ((node(THREADS),), ()))
+        self.assertEqual(made.node(stays), node(THREADS))
+        made.close()
+
+    def test_closing_among_sixteen_threads(self):
+        for _ in range(20):
+            made = DynamicConfig.publish_subscribe(
+                7, max_nodes=THREADS, max_publishers=THREADS, max_subscribers=0
+            )
+            made.register_node_id(node(THREADS))
+
+            def join(number: int):
+                while True:
+                    made.register_node_id(node(number))
+                    made.attach(publisher(number, node(number)))
+                    made.list_publishers()
+                    made.remove_dead_node_id(node(number))
+
+            def close():
+                time.sleep(0.01)
+                made.close()
+
+            work = [lambda number=number: join(number) for number in range(THREADS - 1)]
+            raised = run([*work, close])
+            self.assertEqual({type(error) for error in raised}, {iox2sd.NoService})
+            self.assertEqual(len(raised), THREADS - 1)
+            self.assertTrue(made.closed)
+
+    def test_a_service_may_be_closed_by_many(self):
+        for _ in range(100):
+            made = DynamicConfig.event(7, max_nodes=9, max_listeners=9, max_notifiers=9)
+            self.assertEqual(run([made.close] * THREADS), [])
+            self.assertTrue(made.closed)
+
+    def test_sixteen_threads_have_a_service_each(self):
+        def keep(number: int):
+            for _ in range(100):
+                with DynamicConfig.publish_subscribe(
+                    number, max_nodes=1, max_publishers=1, max_subscribers=1
+                ) as made:
+                    handle = made.register_node_id(node(number))
+                    self.assertEqual((handle.service_number, handle.ticket), (number, 0))
+                    self.assertEqual(made.list_node_ids(), (node(number),))
+
+        work = [lambda number=number: keep(number) for number in range(THREADS)]
+        self.assertEqual(run(work), [])
+
+
+if __name__ == "__main__":
+    unittest.main()

@@ -1,0 +1,94 @@
+"""The wheel, built and installed into a fresh environment outside the repository."""
+
+import base64
+import csv
+import hashlib
+import io
+import os
+import subprocess
+import sys
+import tempfile
+import unittest
+import zipfile
+from pathlib import Path
+
+from . import PACKAGE
+
+USE = """
+import pathlib, sys, iox2sd
+assert pathlib.Path(iox2sd.__file__).is_relative_to(sys.prefix), iox2sd.__file__
+loaded = {line.split()[-1] for line in open("/proc/self/maps") if "libiox2sd" in line}
+print(*[pathlib.Path(path).is_relative_to(sys.prefix) for path in loaded])
+print(iox2sd.__version__, iox2sd.ServiceHash.new.__name__)
+"""
+
+
+@unittest.skipIf(sys.version_info < (3, 11), "Python 3.11 is needed to build the wheel")
+class Wheel(unittest.TestCase):
+    def setUp(self):
+        folder = tempfile.TemporaryDirectory()
+        self.addCleanup(folder.cleanup)
+        self.folder = Path(folder.name)
+        self.wheel = self.built("built")
+
+    def built(self, name):
+        command = [sys.executable, "-B", PACKAGE / "build_wheel.py", self.folder / name]
+        return Path(self.run_command(command, os.environ).strip())
+
+    def run_command(self, command, environment):
+        ended = subprocess.run(
+            command, capture_output=True, text=True, cwd=self.folder, env=environment
+        )
+        self.assertEqual(ended.returncode, 0, ended.stdout + ended.stderr)
+        return ended.stdout
+
+    def test_the_record_names_each_file(self):
+        with zipfile.ZipFile(self.wheel) as archive:
+            names = archive.namelist()
+            files = {name: archive.read(name) for name in names}
+        record = next(name for name in names if name.endswith(".dist-info/RECORD"))
+        rows = {row[0]: row[1:] for row in csv.reader(io.StringIO(files[record].decode()))}
+        self.assertEqual(list(rows), names)
+        self.assertEqual(rows.pop(record), ["", ""])
+        for name, (digest, size) in rows.items():
+            found = base64.urlsafe_b64encode(hashlib.sha256(files[name]).digest())
+            self.assertEqual(digest, f"sha256={found.rstrip(b'=').decode()}")
+            self.assertEqual(int(size), len(files[name]))
+        for name in ("iox2sd/libiox2sd.so.0", "iox2sd/py.typed", "iox2sd/__init__.py"):
+            self.assertIn(name, rows)
+
+    def test_equal_files_make_equal_wheels(self):
+        self.assertEqual(self.wheel.read_bytes(), self.built("again").read_bytes())
+
+    def test_an_installed_wheel_needs_nothing_else(self):
+        environment = {
+            name: value
+            for name, value in os.environ.items()
+            if not name.startswith(("IOX2SD_", "PYTHON", "PIP_"))
+        }
+        environment["PATH"] = ""  # neither a compiler nor any other program
+        python = self.folder / "venv" / "bin" / "python"
+        self.run_command([sys.executable, "-m", "venv", self.folder / "venv"], environment)
+        install = [python, "-m", "pip", "install", "--no-index", "--quiet", self.wheel]
+        self.run_command(install, environment)
+        self.assertEqual(
+            self.run_command([python, "-c", USE], environment).splitlines(), ["True", "0.1.0 new"]
+        )
+        for example in sorted((PACKAGE / "examples").glob("*.py")):
+            copied = self.folder / example.name
+            copied.write_bytes(example.read_bytes())
+            self.assertNotEqual(self.run_command([python, copied], environment), "")
+        pip = [python, "-m", "pip", "uninstall", "--yes", "--quiet", "iox2sd"]
+        self.run_command(pip, environment)
+        self.assertEqual(list((self.folder / "venv").rglob("*iox2sd*")), [])
+
+    def test_pip_builds_the_same_wheel(self):
+        environment = os.environ | {"PYTHONDONTWRITEBYTECODE": "1"}
+        pip = [sys.executable, "-m", "pip", "wheel", "--no-index", "--no-deps", "--quiet"]
+        self.run_command([*pip, "--wheel-dir", self.folder / "pip", PACKAGE], environment)
+        made = self.folder / "pip" / self.wheel.name
+        self.assertEqual(made.read_bytes(), self.wheel.read_bytes())
+
+
+if __name__ == "__main__":
+    unittest.main()

@@ -1,0 +1,84 @@
+//! The attributes of services: pairs of a key and a value that stay as they are as long as a
+//! service lives.
+//!
+//! ```
+//! use iox2sd::attribute::{AttributeSpecifier, AttributeVerifier};
+//!
+//! let specifier = AttributeSpecifier::new()
+//!     .define(&"site".try_into()?, &"north".try_into()?)?
+//!     .define(&"site".try_into()?, &"east".try_into()?)?
+//!     .define(&"robot".try_into()?, &"r2".try_into()?)?;
+//! for attribute in specifier.attributes().iter() {
+//!     println!("{} = {}", attribute.key(), attribute.value());
+//! }
+//!
+//! let verifier = AttributeVerifier::new()
+//!     .require(&"site".try_into()?, &"north".try_into()?)?
+//!     .require_key(&"robot".try_into()?)?;
+//! verifier.verify_requirements(specifier.attributes())?;
+//! # Ok::<(), Box<dyn std::error::Error>>(())
+//! ```
+
+mod set;
+mod specifier;
+mod verifier;
+
+pub use set::{AttributeDefinitionError, AttributeSet};
+pub use specifier::AttributeSpecifier;
+pub use verifier::{AttributeVerificationError, AttributeVerifier};
+
+use crate::semantic_string::kind::kind;
+use crate::semantic_string::SemanticString;
+
+kind! {
+    /// What the key of an attribute allows: every byte from 1 to 127, but not none at all.
+    AttributeKeyContent: check_attribute_key
+}
+
+kind! {
+    /// What the value of an attribute allows: every byte from 1 to 127, but not none at all.
+    AttributeValueContent: check_attribute_value
+}
+
+/// The key of an attribute.
+pub type AttributeKey = SemanticString<AttributeKeyContent>;
+
+/// The value of an attribute.
+pub type AttributeValue = SemanticString<AttributeValueContent>;
+
+/// A key with a value. Attributes are compared by their keys, and then by their values.
+///
+/// ```
+/// use iox2sd::attribute::Attribute;
+///
+/// let one = Attribute::new(&"site".try_into()?, &"east".try_into()?);
+/// let other = Attribute::new(&"site".try_into()?, &"north".try_into()?);
+/// assert_eq!(one.key(), other.key());
+/// assert!(one < other);
+/// # Ok::<(), iox2sd::semantic_string::SemanticStringError>(())
+/// ```
+#[derive(Clone, Copy, Debug, PartialEq, Eq, PartialOrd, Ord, Hash)]
+pub struct Attribute {
+    key: AttributeKey,
+    value: AttributeValue,
+}
+
+impl Attribute {
+    /// The attribute with this key and this value.
+    pub fn new(key: &AttributeKey, value: &AttributeValue) -> Self {
+        Attribute {
+            key: *key,
+            value: *value,
+        }
+    }
+
+    /// The key.
+    pub fn key(&self) -> &AttributeKey {
+        &self.key
+    }
+
+    /// The value.
+    pub fn value(&self) -> &AttributeValue {
+        &self.value
+    }
+}

@@ -1,0 +1,160 @@
+use super::{Attribute, AttributeKey, AttributeValue};
+use crate::callback_progression::visit;
+use crate::display::error_by_path;
+use crate::library;
+use crate::sys;
+use crate::CallbackProgression;
+use std::ops::Deref;
+use std::slice;
+
+/// Why an attribute or a key was not added.
+#[derive(Clone, Copy, Debug, PartialEq, Eq, Hash)]
+pub enum AttributeDefinitionError {
+    /// There are as many already as there may be.
+    ExceedsMaxSupportedAttributes,
+}
+
+error_by_path!(AttributeDefinitionError);
+
+/// The attributes of a service, at most [`AttributeSet::capacity`] of them, in the order of their
+/// keys and then of their values. A key may have several values, and a pair may stand there twice.
+///
+/// ```
+/// use iox2sd::attribute::{AttributeDefinitionError, AttributeSet};
+///
+/// let mut set = AttributeSet::new();
+/// set.add(&"site".try_into()?, &"north".try_into()?)?;
+/// set.add(&"site".try_into()?, &"east".try_into()?)?;
+/// let values: Vec<_> = set.key_values(&"site".try_into()?).collect();
+/// assert_eq!(values, ["east", "north"]);
+///
+/// while set.len() < AttributeSet::capacity() {
+///     set.add(&"robot".try_into()?, &"r2".try_into()?)?;
+/// }
+/// assert_eq!(
+///     set.add(&"robot".try_into()?, &"r3".try_into()?),
+///     Err(AttributeDefinitionError::ExceedsMaxSupportedAttributes)
+/// );
+/// # Ok::<(), Box<dyn std::error::Error>>(())
+/// ```
+#[derive(Clone, Debug, Default, PartialEq, Eq)]
+pub struct AttributeSet {
+    attributes: Vec<Attribute>,
+}
+
+impl AttributeSet {
+    /// The set without attributes.
+    pub fn new() -> Self {
+        Self::default()
+    }
+
+    /// Adds an attribute.
+    ///
+    /// Refused where there are [`AttributeSet::capacity`] already, and then the set stays as it
+    /// was.
+    ///
+    /// ```
+    /// use iox2sd::attribute::AttributeSet;
+    ///
+    /// let mut set = AttributeSet::new();
+    /// set.add(&"site".try_into()?, &"north".try_into()?)?;
+    /// assert_eq!(set[0].value(), "north");
+    /// # Ok::<(), Box<dyn std::error::Error>>(())
+    /// ```
+    pub fn add(
+        &mut self,
+        key: &AttributeKey,
+        value: &AttributeValue,
+    ) -> Result<(), AttributeDefinitionError> {
+        let mut attributes = self.attributes.clone();
+        attributes.push(Attribute::new(key, value));
+        self.attributes = library::sorted(&attributes).map_err(|status| match status {
+            sys::IOX2SD_TOO_MANY => AttributeDefinitionError::ExceedsMaxSupportedAttributes,
+            other => library::unexpected(other),
+        })?;
+        Ok(())
+    }
+
+    /// How many attributes there are.
+    pub fn number_of_attributes(&self) -> usize {
+        self.attributes.len()
+    }
+
+    /// How many attributes there may be.
+    ///
+    /// ```
+    /// use iox2sd::attribute::AttributeSet;
+    /// assert_eq!(AttributeSet::capacity(), 16);
+    /// ```
+    pub fn capacity() -> usize {
+        library::attribute_capacity(Attribute::new(
+            &AttributeKey::of_legal("a"),
+            &AttributeValue::of_legal("a"),
+        ))
+    }
+
+    /// How many values a key has.
+    pub fn number_of_key_values(&self, key: &AttributeKey) -> usize {
+        library::attribute_values(self, key).unwrap_or_else(|status| library::unexpected(status))
+    }
+
+    /// The value at this place, counted from 0, among the values that a key has, or `None` where
+    /// it has no more.
+    ///
+    /// ```
+    /// use iox2sd::attribute::AttributeSet;
+    ///
+    /// let site = "site".try_into()?;
+    /// let mut set = AttributeSet::new();
+    /// set.add(&site, &"north".try_into()?)?;
+    /// set.add(&site, &"east".try_into()?)?;
+    /// assert_eq!(set.number_of_key_values(&site), 2);
+    /// assert_eq!(set.key_value(&site, 0), Some(&"east".try_into()?));
+    /// assert_eq!(set.key_value(&site, 2), None);
+    /// # Ok::<(), Box<dyn std::error::Error>>(())
+    /// ```
+    pub fn key_value(&self, key: &AttributeKey, index: usize) -> Option<&AttributeValue> {
+        match library::attribute_value(self, key, index) {
+            Ok(text) => {
+                let is_it = |a: &&Attribute| a.key() == key && a.value().as_str() == text;
+                self.iter().find(is_it).map(Attribute::value)
+            }
+            Err(sys::IOX2SD_NO_SUCH_VALUE) => None,
+            Err(other) => library::unexpected(other),
+        }
+    }
+
+    /// Calls the callback on the values that a key has, up to and with the first answer
+    /// [`Stop`](CallbackProgression::Stop).
+    pub fn iter_key_values<F: FnMut(&AttributeValue) -> CallbackProgression>(
+        &self,
+        key: &AttributeKey,
+        callback: F,
+    ) {
+        visit(self.key_values(key), callback);
+    }
+
+    /// The values that a key has, in their order.
+    pub fn key_values(&self, key: &AttributeKey) -> impl Iterator<Item = &AttributeValue> {
+        let key = *key;
+        (0..self.number_of_key_values(&key)).filter_map(move |index| self.key_value(&key, index))
+    }
+}
+
+/// The attributes in their order.
+impl Deref for AttributeSet {
+    type Target = [Attribute];
+
+    fn deref(&self) -> &[Attribute] {
+        &self.attributes
+    }
+}
+
+impl<'a> IntoIterator for &'a AttributeSet {
+    type Item = &'a Attribute;
+    type IntoIter = slice::Iter<'a, Attribute>;
+
+    fn into_iter(self) -> Self::IntoIter {
+        self.iter()
+    }
+}

@@ -1,0 +1,159 @@
+use super::{AttributeDefinitionError, AttributeKey, AttributeSet, AttributeValue};
+use crate::library::{self, Missing};
+use crate::sys;
+use std::error::Error;
+use std::fmt;
+
+/// What a set of attributes lacks.
+#[derive(Clone, Debug, PartialEq, Eq)]
+#[allow(clippy::large_enum_variant)] // Texts are copied by value, and none is boxed.
+pub enum AttributeVerificationError {
+    /// No attribute has this key, the first of the required keys that lacks one. This is reported
+    /// only where no required pair is missing.
+    NonExistingKey(AttributeKey),
+    /// This pair is missing, the least of the required pairs that are. The key may have other
+    /// values, or none.
+    IncompatibleAttribute((AttributeKey, AttributeValue)),
+}
+
+/// The path of the variant with the key, or the key and the value, as they are between quotes.
+impl fmt::Display for AttributeVerificationError {
+    fn fmt(&self, f: &mut fmt::Formatter<'_>) -> fmt::Result {
+        f.write_str("AttributeVerificationError::")?;
+        match self {
+            Self::NonExistingKey(key) => write!(f, "NonExistingKey(\"{key}\")"),
+            Self::IncompatibleAttribute((key, value)) => {
+                write!(f, "IncompatibleAttribute((\"{key}\", \"{value}\"))")
+            }
+        }
+    }
+}
+
+impl Error for AttributeVerificationError {}
+
+/// The pairs and the keys that a set of attributes must have, at most
+/// [`AttributeSet::capacity`] together.
+///
+/// ```
+/// use iox2sd::attribute::{AttributeSet, AttributeVerifier};
+///
+/// let service = AttributeSet::new();
+/// assert_eq!(AttributeVerifier::new().verify_requirements(&service), Ok(()));
+/// ```
+#[derive(Clone, Debug, Default)]
+pub struct AttributeVerifier {
+    attributes: AttributeSet,
+    keys: Vec<AttributeKey>,
+}
+
+impl AttributeVerifier {
+    /// A verifier that requires nothing.
+    pub fn new() -> Self {
+        Self::default()
+    }
+
+    /// Requires a pair too. A key may be required with several values.
+    ///
+    /// Refused where pairs and keys are [`AttributeSet::capacity`] together, and then the verifier
+    /// is spent.
+    ///
+    /// ```
+    /// use iox2sd::attribute::{AttributeDefinitionError, AttributeSet, AttributeVerifier};
+    ///
+    /// let (site, north) = ("site".try_into()?, "north".try_into()?);
+    /// let mut verifier = AttributeVerifier::new();
+    /// for _ in 0..AttributeSet::capacity() {
+    ///     verifier = verifier.require(&site, &north)?;
+    /// }
+    /// assert_eq!(
+    ///     verifier.require(&site, &north).unwrap_err(),
+    ///     AttributeDefinitionError::ExceedsMaxSupportedAttributes
+    /// );
+    /// # Ok::<(), Box<dyn std::error::Error>>(())
+    /// ```
+    pub fn require(
+        mut self,
+        key: &AttributeKey,
+        value: &AttributeValue,
+    ) -> Result<Self, AttributeDefinitionError> {
+        self.attributes.add(key, value)?;
+        self.within_limits()
+    }
+
+    /// Requires a key too, with any value.
+    ///
+    /// Refused where pairs and keys are [`AttributeSet::capacity`] together, and then the verifier
+    /// is spent.
+    ///
+    /// ```
+    /// use iox2sd::attribute::AttributeVerifier;
+    ///
+    /// let verifier = AttributeVerifier::new().require_key(&"site".try_into()?)?;
+    /// assert_eq!(verifier.required_keys(), ["site"]);
+    /// # Ok::<(), Box<dyn std::error::Error>>(())
+    /// ```
+    pub fn require_key(mut self, key: &AttributeKey) -> Result<Self, AttributeDefinitionError> {
+        self.keys.push(*key);
+        self.within_limits()
+    }
+
+    /// The verifier, unless it requires too much.
+    fn within_limits(self) -> Result<Self, AttributeDefinitionError> {
+        match library::verify(&[], &self.attributes, &self.keys) {
+            Ok(_) => Ok(self),
+            Err(sys::IOX2SD_TOO_MANY_REQUIRED) => {
+                Err(AttributeDefinitionError::ExceedsMaxSupportedAttributes)
+            }
+            Err(other) => library::unexpected(other),
+        }
+    }
+
+    /// The pairs that are required.
+    pub fn required_attributes(&self) -> &AttributeSet {
+        &self.attributes
+    }
+
+    /// The keys that are required, in the order in which they were.
+    pub fn required_keys(&self) -> &[AttributeKey] {
+        &self.keys
+    }
+
+    /// Whether the attributes have each required pair, and for each required key some pair with
+    /// it. A pair that is required twice is met by one.
+    ///
+    /// Refused with the least required pair that is missing, or else with the first required key
+    /// that no pair has.
+    ///
+    /// ```
+    /// use iox2sd::attribute::{AttributeSpecifier, AttributeVerificationError, AttributeVerifier};
+    ///
+    /// let (site, north) = ("site".try_into()?, "north".try_into()?);
+    /// let service = AttributeSpecifier::new().define(&site, &north)?;
+    /// let verifier = AttributeVerifier::new().require_key(&"robot".try_into()?)?;
+    /// assert_eq!(
+    ///     verifier.verify_requirements(service.attributes()),
+    ///     Err(AttributeVerificationError::NonExistingKey("robot".try_into()?))
+    /// );
+    /// # Ok::<(), Box<dyn std::error::Error>>(())
+    /// ```
+    #[allow(clippy::result_large_err)] // Texts are copied by value, and none is boxed.
+    pub fn verify_requirements(
+        &self,
+        attributes: &AttributeSet,
+    ) -> Result<(), AttributeVerificationError> {
+        match library::verify(attributes, &self.attributes, &self.keys) {
+            Ok(None) => Ok(()),
+            Ok(Some(Missing::Pair(place))) => {
+                let pair = &self.attributes[place];
+                Err(AttributeVerificationError::IncompatibleAttribute((
+                    *pair.key(),
+                    *pair.value(),
+                )))
+            }
+            Ok(Some(Missing::Key(place))) => {
+                Err(AttributeVerificationError::NonExistingKey(self.keys[place]))
+            }
+            Err(other) => library::unexpected(other),
+        }
+    }
+}

@@ -1,0 +1,150 @@
+use super::default_text;
+use crate::paths::{FileName, Path};
+use crate::semantic_string::SemanticStringError;
+use crate::sys;
+use std::time::Duration;
+
+/// The settings that all services and nodes of one system share.
+#[derive(Clone, Debug, PartialEq, Eq)]
+pub struct Global {
+    root_path: Path,
+    /// What the name of each file begins with.
+    pub prefix: FileName,
+    /// The settings of services' files.
+    pub service: Service,
+    /// The settings of nodes' files.
+    pub node: Node,
+    /// For how long somebody who opens a thing waits until its creator has made it; half a second
+    /// by default.
+    pub creation_timeout: Duration,
+}
+
+impl Default for Global {
+    fn default() -> Self {
+        Global {
+            root_path: default_text(sys::IOX2SD_ROOT_PATH),
+            prefix: default_text(sys::IOX2SD_PREFIX),
+            service: Service::default(),
+            node: Node::default(),
+            creation_timeout: Duration::from_millis(500),
+        }
+    }
+}
+
+impl Global {
+    /// The path below which everything else lies.
+    pub fn root_path(&self) -> &Path {
+        &self.root_path
+    }
+
+    /// Sets the path below which everything else lies.
+    pub fn set_root_path(&mut self, value: &Path) {
+        self.root_path = *value;
+    }
+
+    /// The directory of services: the root path and `service.directory`, joined as by
+    /// [`Path::add_path_entry`].
+    ///
+    /// Refused with [`ExceedsMaximumLength`](SemanticStringError::ExceedsMaximumLength) where it
+    /// would be longer than a path may be.
+    ///
+    /// ```
+    /// use iox2sd::config::Config;
+    ///
+    /// let mut config = Config::default();
+    /// assert_eq!(config.global.service_dir()?, "/tmp/iceoryx2/services");
+    /// config.global.set_root_path(&"/run/robot".try_into()?);
+    /// assert_eq!(config.global.service_dir()?, "/run/robot/services");
+    /// # Ok::<(), iox2sd::semantic_string::SemanticStringError>(())
+    /// ```
+    pub fn service_dir(&self) -> Result<Path, SemanticStringError> {
+        self.below_root(&self.service.directory)
+    }
+
+    /// The directory of nodes: the root path and `node.directory`, joined and refused in the same
+    /// way.
+    pub fn node_dir(&self) -> Result<Path, SemanticStringError> {
+        self.below_root(&self.node.directory)
+    }
+
+    fn below_root(&self, directory: &Path) -> Result<Path, SemanticStringError> {
+        let mut path = self.root_path;
+        path.add_path_entry(directory)?;
+        Ok(path)
+    }
+}
+
+/// Where the files of services lie, and how their names end.
+#[derive(Clone, Debug, PartialEq, Eq)]
+pub struct Service {
+    /// The directory of services, below the root path.
+    pub directory: Path,
+    /// The end of the name of a port's data segment.
+    pub data_segment_suffix: FileName,
+    /// The end of the name of a service's static configuration.
+    pub static_config_storage_suffix: FileName,
+    /// The end of the name of a service's dynamic configuration.
+    pub dynamic_config_storage_suffix: FileName,
+    /// The end of the name of a connection between two ports.
+    pub connection_suffix: FileName,
+    /// The end of the name of a connection for events.
+    pub event_connection_suffix: FileName,
+    /// The end of the name of the segment by which a blackboard is managed.
+    pub blackboard_mgmt_suffix: FileName,
+    /// The end of the name of the segment with a blackboard's values.
+    pub blackboard_data_suffix: FileName,
+    /// Whether somebody who opens a service first removes what dead nodes left; so by default.
+    pub cleanup_dead_nodes_on_open: bool,
+}
+
+impl Default for Service {
+    fn default() -> Self {
+        Service {
+            directory: default_text(sys::IOX2SD_SERVICE_DIRECTORY),
+            data_segment_suffix: default_text(sys::IOX2SD_DATA_SEGMENT_SUFFIX),
+            static_config_storage_suffix: default_text(sys::IOX2SD_STATIC_CONFIG_STORAGE_SUFFIX),
+            dynamic_config_storage_suffix: default_text(sys::IOX2SD_DYNAMIC_CONFIG_STORAGE_SUFFIX),
+            connection_suffix: default_text(sys::IOX2SD_CONNECTION_SUFFIX),
+            event_connection_suffix: default_text(sys::IOX2SD_EVENT_CONNECTION_SUFFIX),
+            blackboard_mgmt_suffix: default_text(sys::IOX2SD_BLACKBOARD_MGMT_SUFFIX),
+            blackboard_data_suffix: default_text(sys::IOX2SD_BLACKBOARD_DATA_SUFFIX),
+            cleanup_dead_nodes_on_open: true,
+        }
+    }
+}
+
+/// Where the files of nodes lie, and how their names end.
+#[derive(Clone, Debug, PartialEq, Eq)]
+pub struct Node {
+    /// The directory of nodes, below the root path.
+    pub directory: Path,
+    /// The end of the name of the token by which others see that a node lives.
+    pub monitor_suffix: FileName,
+    /// The end of the name of a node's static configuration.
+    pub static_config_suffix: FileName,
+    /// The end of the name of the tag that a node leaves for each service that it uses.
+    pub service_tag_suffix: FileName,
+    /// The end of the name of the tag that a node leaves for each of its ports.
+    pub port_tag_suffix: FileName,
+    /// The end of the name of the segment with which nodes are managed.
+    pub global_mgmt_suffix: FileName,
+    /// Whether somebody who creates a node first removes what dead nodes left; so by default.
+    pub cleanup_dead_nodes_on_creation: bool,
+    /// Whether a node that goes removes what dead nodes left; so by default.
+    pub cleanup_dead_nodes_on_destruction: bool,
+}
+
+impl Default for Node {
+    fn default() -> Self {
+        Node {
+            directory: default_text(sys::IOX2SD_NODE_DIRECTORY),
+            monitor_suffix: default_text(sys::IOX2SD_MONITOR_SUFFIX),
+            static_config_suffix: default_text(sys::IOX2SD_NODE_STATIC_CONFIG_SUFFIX),
+            service_tag_suffix: default_text(sys::IOX2SD_SERVICE_TAG_SUFFIX),
+            port_tag_suffix: default_text(sys::IOX2SD_PORT_TAG_SUFFIX),
+            global_mgmt_suffix: default_text(sys::IOX2SD_GLOBAL_MGMT_SUFFIX),
+            cleanup_dead_nodes_on_creation: true,
+            cleanup_dead_nodes_on_destruction: true,
+        }
+    }
+}

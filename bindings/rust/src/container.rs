@@ -1,0 +1,131 @@
+//! What the entries of a service are, and the handles by which they are given back.
+
+use crate::display::{error_by_path, shown_by_name};
+use crate::library;
+use crate::sys;
+
+/// What an entry of a service is: a node, or a port of one kind.
+///
+/// ```
+/// use iox2sd::container::Role;
+/// assert_eq!(Role::Publisher.to_string(), "Publisher");
+/// ```
+#[derive(Clone, Copy, Debug, PartialEq, Eq, Hash)]
+#[repr(u64)]
+pub enum Role {
+    /// A node.
+    Node = sys::IOX2SD_NODE,
+    /// A port that sends samples.
+    Publisher = sys::IOX2SD_PUBLISHER,
+    /// A port that receives samples.
+    Subscriber = sys::IOX2SD_SUBSCRIBER,
+    /// A port that signals events.
+    Notifier = sys::IOX2SD_NOTIFIER,
+    /// A port that waits for events.
+    Listener = sys::IOX2SD_LISTENER,
+    /// A port that sends requests.
+    Client = sys::IOX2SD_CLIENT,
+    /// A port that answers requests.
+    Server = sys::IOX2SD_SERVER,
+    /// A port that reads a blackboard.
+    Reader = sys::IOX2SD_READER,
+    /// A port that writes to a blackboard.
+    Writer = sys::IOX2SD_WRITER,
+}
+
+impl Role {
+    const ALL: [Role; 9] = [
+        Role::Node,
+        Role::Publisher,
+        Role::Subscriber,
+        Role::Notifier,
+        Role::Listener,
+        Role::Client,
+        Role::Server,
+        Role::Reader,
+        Role::Writer,
+    ];
+
+    pub(crate) fn of(number: u64) -> Self {
+        library::choice(&Role::ALL, |role| role as u64, number)
+    }
+}
+
+shown_by_name!(Role);
+
+/// What registering a node and attaching a port give, and what gives them back. No handle of a
+/// service is ever given twice.
+///
+/// ```
+/// use iox2sd::container::{ContainerHandle, Role};
+///
+/// let handle = ContainerHandle::from_parts(7, Role::Node, 0, 3);
+/// assert_eq!((handle.service(), handle.role()), (7, Role::Node));
+/// assert_eq!((handle.slot(), handle.ticket()), (0, 3));
+/// ```
+#[derive(Clone, Copy, Debug, PartialEq, Eq)]
+pub struct ContainerHandle {
+    service: u64,
+    role: Role,
+    slot: usize,
+    ticket: u64,
+}
+
+impl ContainerHandle {
+    /// The handle with these parts. Whether a service has given it is a matter of the service.
+    pub fn from_parts(service: u64, role: Role, slot: usize, ticket: u64) -> Self {
+        ContainerHandle {
+            service,
+            role,
+            slot,
+            ticket,
+        }
+    }
+
+    /// The number of the service.
+    pub fn service(&self) -> u64 {
+        self.service
+    }
+
+    /// What has the handle.
+    pub fn role(&self) -> Role {
+        self.role
+    }
+
+    /// The place among the entries of its role.
+    pub fn slot(&self) -> usize {
+        self.slot
+    }
+
+    /// How many entries of its role the service had been given before.
+    pub fn ticket(&self) -> u64 {
+        self.ticket
+    }
+
+    pub(crate) fn of(handle: sys::iox2sd_handle) -> Self {
+        Self::from_parts(
+            handle.service,
+            Role::of(handle.role),
+            handle.slot,
+            handle.ticket,
+        )
+    }
+
+    pub(crate) fn parts(&self) -> sys::iox2sd_handle {
+        sys::iox2sd_handle {
+            service: self.service,
+            role: self.role as u64,
+            slot: self.slot,
+            ticket: self.ticket,
+        }
+    }
+}
+
+/// Why nothing was given back.
+#[derive(Clone, Copy, Debug, PartialEq, Eq, Hash)]
+pub enum ContainerRemoveError {
+    /// No entry of the service has this handle.
+    ContainerHandleNotOwnedByContainer,
+}
+
+error_by_path!(ContainerRemoveError);

@@ -1,0 +1,246 @@
+//! What ports tell of themselves.
+
+use crate::config::DataSegmentType;
+use crate::container::Role;
+use crate::identifiers::{
+    UniqueClientId, UniqueListenerId, UniqueNodeId, UniqueNotifierId, UniquePortId,
+    UniquePublisherId, UniqueReaderId, UniqueServerId, UniqueSubscriberId, UniqueWriterId,
+};
+use crate::sys;
+
+/// The details of one kind of ports, as the library has them.
+pub(super) trait Details {
+    const ROLE: Role;
+
+    fn of(port: &sys::iox2sd_port) -> Self;
+}
+
+fn number_of_segment_type(segment: DataSegmentType) -> u32 {
+    segment as u32
+}
+
+/// Defines the details of one kind of ports. The fields after the ids are given with the field of
+/// the library that has them, and with how they are read from it and written to it where that is
+/// not as they are.
+macro_rules! details {
+    (
+        $(#[$documentation:meta])*
+        $name:ident of $role:ident with $id:ident: $id_type:ident;
+        $(
+            $(#[$field_documentation:meta])*
+            $field:ident: $type:ty = $library_field:ident $(by $read:path, $write:path)?;
+        )*
+    ) => {
+        $(#[$documentation])*
+        #[derive(Clone, Copy, Debug, PartialEq, Eq)]
+        pub struct $name {
+            /// Its id.
+            pub $id: $id_type,
+            /// The id of the node that it belongs to.
+            pub node_id: UniqueNodeId,
+            $(
+                $(#[$field_documentation])*
+                pub $field: $type,
+            )*
+        }
+
+        impl Details for $name {
+            const ROLE: Role = Role::$role;
+
+            fn of(port: &sys::iox2sd_port) -> Self {
+                $name {
+                    $id: $id_type::of(port.port),
+                    node_id: UniqueNodeId::of(port.node),
+                    $($field: $($read)?(port.$library_field),)*
+                }
+            }
+        }
+
+        impl From<$name> for sys::iox2sd_port {
+            fn from(details: $name) -> Self {
+                sys::iox2sd_port {
+                    role: Role::$role as u64,
+                    port: details.$id.parts,
+                    node: details.node_id.parts,
+                    $($library_field: $($write)?(details.$field),)*
+                    ..Self::default()
+                }
+            }
+        }
+
+        impl From<$name> for PortDetails {
+            fn from(details: $name) -> Self {
+                PortDetails::$role(details)
+            }
+        }
+    };
+}
+
+details! {
+    /// A port that sends samples.
+    PublisherDetails of Publisher with publisher_id: UniquePublisherId;
+    /// The most samples that it has at a time.
+    number_of_samples: usize = number_of_samples;
+    /// The most elements of a sample.
+    max_slice_len: usize = max_slice_len;
+    /// Whether its data segment may grow.
+    data_segment_type: DataSegmentType = data_segment
+        by DataSegmentType::of, number_of_segment_type;
+    /// The most segments that it may have.
+    max_number_of_segments: u8 = max_number_of_segments;
+}
+
+details! {
+    /// A port that receives samples.
+    SubscriberDetails of Subscriber with subscriber_id: UniqueSubscriberId;
+    /// The most samples that wait for it.
+    buffer_size: usize = buffer_size;
+}
+
+details! {
+    /// A port that waits for events.
+    ListenerDetails of Listener with listener_id: UniqueListenerId;
+}
+
+details! {
+    /// A port that signals events.
+    NotifierDetails of Notifier with notifier_id: UniqueNotifierId;
+}
+
+details! {
+    /// A port that answers requests.
+    ServerDetails of Server with server_id: UniqueServerId;
+    /// The most requests that wait for it.
+    request_buffer_size: usize = request_buffer_size;
+    /// The most responses that it has at a time.
+    number_of_responses: usize = number_of_responses;
+    /// The most elements of a response.
+    max_slice_len: usize = max_slice_len;
+    /// Whether its data segment may grow.
+    data_segment_type: DataSegmentType = data_segment
+        by DataSegmentType::of, number_of_segment_type;
+    /// The most segments that it may have.
+    max_number_of_segments: u8 = max_number_of_segments;
+}
+
+details! {
+    /// A port that sends requests.
+    ClientDetails of Client with client_id: UniqueClientId;
+    /// The most requests that it has at a time.
+    number_of_requests: usize = number_of_requests;
+    /// The most responses that wait for it.
+    response_buffer_size: usize = response_buffer_size;
+    /// The most elements of a request.
+    max_slice_len: usize = max_slice_len;
+    /// Whether its data segment may grow.
+    data_segment_type: DataSegmentType = data_segment
+        by DataSegmentType::of, number_of_segment_type;
+    /// The most segments that it may have.
+    max_number_of_segments: u8 = max_number_of_segments;
+}
+
+details! {
+    /// A port that reads a blackboard.
+    ReaderDetails of Reader with reader_id: UniqueReaderId;
+}
+
+details! {
+    /// A port that writes to a blackboard.
+    WriterDetails of Writer with writer_id: UniqueWriterId;
+}
+
+/// What a port of any kind tells of itself.
+///
+/// ```
+/// use iox2sd::container::Role;
+/// use iox2sd::dynamic_config::{PortDetails, WriterDetails};
+/// use iox2sd::identifiers::{UniqueNodeId, UniquePortId, UniqueWriterId};
+///
+/// let node_id = UniqueNodeId::new(1, 0, 0, 1).expect("the id of a node");
+/// let writer_id = UniqueWriterId::new(1, 0, 0, 2);
+/// let port = PortDetails::from(WriterDetails { writer_id, node_id });
+/// assert_eq!(port.role(), Role::Writer);
+/// assert_eq!(port.node_id(), node_id);
+/// assert_eq!(port.port_id(), UniquePortId::Writer(writer_id));
+/// ```
+#[derive(Clone, Copy, Debug, PartialEq, Eq)]
+pub enum PortDetails {
+    /// A port that sends samples.
+    Publisher(PublisherDetails),
+    /// A port that receives samples.
+    Subscriber(SubscriberDetails),
+    /// A port that waits for events.
+    Listener(ListenerDetails),
+    /// A port that signals events.
+    Notifier(NotifierDetails),
+    /// A port that answers requests.
+    Server(ServerDetails),
+    /// A port that sends requests.
+    Client(ClientDetails),
+    /// A port that reads a blackboard.
+    Reader(ReaderDetails),
+    /// A port that writes to a blackboard.
+    Writer(WriterDetails),
+}
+
+impl PortDetails {
+    pub(super) fn of(port: &sys::iox2sd_port) -> Self {
+        match Role::of(port.role) {
+            Role::Publisher => PublisherDetails::of(port).into(),
+            Role::Subscriber => SubscriberDetails::of(port).into(),
+            Role::Listener => ListenerDetails::of(port).into(),
+            Role::Notifier => NotifierDetails::of(port).into(),
+            Role::Server => ServerDetails::of(port).into(),
+            Role::Client => ClientDetails::of(port).into(),
+            Role::Reader => ReaderDetails::of(port).into(),
+            Role::Writer => WriterDetails::of(port).into(),
+            Role::Node => unreachable!("a port is no node"),
+        }
+    }
+
+    pub(super) fn parts(self) -> sys::iox2sd_port {
+        match self {
+            PortDetails::Publisher(details) => details.into(),
+            PortDetails::Subscriber(details) => details.into(),
+            PortDetails::Listener(details) => details.into(),
+            PortDetails::Notifier(details) => details.into(),
+            PortDetails::Server(details) => details.into(),
+            PortDetails::Client(details) => details.into(),
+            PortDetails::Reader(details) => details.into(),
+            PortDetails::Writer(details) => details.into(),
+        }
+    }
+
+    /// What the port is.
+    pub fn role(&self) -> Role {
+        match self {
+            PortDetails::Publisher(_) => Role::Publisher,
+            PortDetails::Subscriber(_) => Role::Subscriber,
+            PortDetails::Listener(_) => Role::Listener,
+            PortDetails::Notifier(_) => Role::Notifier,
+            PortDetails::Server(_) => Role::Server,
+            PortDetails::Client(_) => Role::Client,
+            PortDetails::Reader(_) => Role::Reader,
+            PortDetails::Writer(_) => Role::Writer,
+        }
+    }
+
+    /// The id of the node that the port belongs to.
+    pub fn node_id(&self) -> UniqueNodeId {
+        UniqueNodeId::of(self.parts().node)
+    }
+
+    /// The id of the port.
+    pub fn port_id(&self) -> UniquePortId {
+        match self {
+            PortDetails::Publisher(details) => UniquePortId::Publisher(details.publisher_id),
+            PortDetails::Subscriber(details) => UniquePortId::Subscriber(details.subscriber_id),
+            PortDetails::Listener(details) => UniquePortId::Listener(details.listener_id),
+            PortDetails::Notifier(details) => UniquePortId::Notifier(details.notifier_id),
+            PortDetails::Server(details) => UniquePortId::Server(details.server_id),
+            PortDetails::Client(details) => UniquePortId::Client(details.client_id),
+            PortDetails::Reader(details) => UniquePortId::Reader(details.reader_id),
+            PortDetails::Writer(details) => UniquePortId::Writer(details.writer_id),
+        }
+    }
+}

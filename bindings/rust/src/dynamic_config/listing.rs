@@ -1,0 +1,62 @@
+//! Listings of the ports of one kind.
+
+use super::details::Details;
+use crate::library::Service;
+use std::vec;
+
+/// The ports of a kind that the pattern has, by rising slot.
+pub(super) fn ports<T: Details>(service: &Service) -> vec::IntoIter<T> {
+    let ports = service.ports(T::ROLE as u64).unwrap_or_default();
+    let ports: Vec<T> = ports.iter().map(T::of).collect();
+    ports.into_iter()
+}
+
+/// How many ports of a kind that the pattern has there are.
+pub(super) fn count<T: Details>(service: &Service) -> usize {
+    service.count_ports(T::ROLE as u64).unwrap_or_default()
+}
+
+/// Defines the questions about the two kinds of ports of one pattern.
+macro_rules! ports_of_pattern {
+    ($(
+        $details:ident: $number:ident $list:ident $all:ident, $kind:literal;
+    )*) => {
+        /// The ports of a service, as [`super::DynamicConfig`] lends them.
+        pub struct DynamicConfig {
+            pub(super) service: Service,
+        }
+
+        impl DynamicConfig {
+            $(
+                #[doc = concat!("How many ", $kind, " are attached.")]
+                pub fn $number(&self) -> usize {
+                    listing::count::<$details>(&self.service)
+                }
+
+                #[doc = concat!(
+                    "Calls the callback on the details of the ", $kind, " by rising slot, up to ",
+                    "and with the first answer [`Stop`](CallbackProgression::Stop)."
+                )]
+                pub fn $list<F: FnMut(&$details) -> CallbackProgression>(&self, mut callback: F) {
+                    visit(self.$all(), |details| callback(&details));
+                }
+
+                #[doc = concat!(
+                    "The details of the ", $kind, " that are attached now, by rising slot."
+                )]
+                pub fn $all(&self) -> vec::IntoIter<$details> {
+                    listing::ports(&self.service)
+                }
+            )*
+        }
+
+        impl fmt::Debug for DynamicConfig {
+            fn fmt(&self, f: &mut fmt::Formatter<'_>) -> fmt::Result {
+                f.debug_struct("DynamicConfig")
+                    $(.field(stringify!($all), &self.$all().as_slice()))*
+                    .finish()
+            }
+        }
+    };
+}
+pub(super) use ports_of_pattern;

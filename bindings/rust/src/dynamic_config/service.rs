@@ -1,0 +1,542 @@
+use super::{
+    blackboard, event, publish_subscribe, request_response, AllocError, AttachError,
+    DeregisterError, DeregisterNodeState, PortCleanupAction, PortDetails, RegisterNodeResult,
+};
+use crate::callback_progression::visit;
+use crate::container::{ContainerHandle, ContainerRemoveError, Role};
+use crate::identifiers::{UniqueNodeId, UniquePortId};
+use crate::library::{self, Service};
+use crate::messaging_pattern::MessagingPattern as Kind;
+use crate::sys;
+use crate::CallbackProgression;
+use std::fmt;
+use std::vec;
+
+/// For how many ports of each kind a service has room, by its pattern.
+#[derive(Clone, Copy, Debug, PartialEq, Eq)]
+pub enum MessagingPatternSettings {
+    /// A request-response service.
+    RequestResponse(request_response::DynamicConfigSettings),
+    /// A publish-subscribe service.
+    PublishSubscribe(publish_subscribe::DynamicConfigSettings),
+    /// An event service.
+    Event(event::DynamicConfigSettings),
+    /// A blackboard service.
+    Blackboard(blackboard::DynamicConfigSettings),
+}
+
+impl MessagingPatternSettings {
+    /// The pattern, with the room for its two kinds of ports.
+    fn parts(&self) -> (Kind, usize, usize) {
+        match self {
+            Self::RequestResponse(room) => (
+                Kind::RequestResponse,
+                room.number_of_servers,
+                room.number_of_clients,
+            ),
+            Self::PublishSubscribe(room) => (
+                Kind::PublishSubscribe,
+                room.number_of_publishers,
+                room.number_of_subscribers,
+            ),
+            Self::Event(room) => (
+                Kind::Event,
+                room.number_of_listeners,
+                room.number_of_notifiers,
+            ),
+            Self::Blackboard(room) => (
+                Kind::Blackboard,
+                room.number_of_readers,
+                room.number_of_writers,
+            ),
+        }
+    }
+}
+
+/// The service, as the questions about its pattern's ports want it.
+enum MessagingPattern {
+    RequestResponse(request_response::DynamicConfig),
+    PublishSubscribe(publish_subscribe::DynamicConfig),
+    Event(event::DynamicConfig),
+    Blackboard(blackboard::DynamicConfig),
+}
+
+/// Who is attached to a service: nodes, and ports that belong to them.
+///
+/// A port stands only on a registered node. When the last node has gone, the service is locked for
+/// good. No handle is ever given twice, and one that was given back is refused for good.
+///
+/// A service may be sent to another thread, but it is not shared without a lock:
+///
+/// ```compile_fail,E0277
+/// fn share<T: Sync>() {}
+/// share::<iox2sd::dynamic_config::DynamicConfig>();
+/// ```
+pub struct DynamicConfig {
+    messaging_pattern: MessagingPattern,
+}
+
+/// Making a service and changing it.
+impl DynamicConfig {
+    /// A service with this number and nothing attached, with all the tickets that there are.
+    ///
+    /// Refused where there is no memory for so many nodes and ports; no later call takes memory of
+    /// the library.
+    ///
+    /// ```
+    /// use iox2sd::dynamic_config::{blackboard, AllocError, DynamicConfig};
+    /// use iox2sd::dynamic_config::MessagingPatternSettings::Blackboard;
+    ///
+    /// let mut room = blackboard::DynamicConfigSettings {
+    ///     number_of_readers: 8,
+    ///     number_of_writers: 1,
+    /// };
+    /// assert_eq!(DynamicConfig::new(&Blackboard(room), 20, 7)?.max_nodes(), 20);
+    /// room.number_of_readers = usize::MAX;
+    /// assert_eq!(DynamicConfig::new(&Blackboard(room), 20, 7).unwrap_err(), AllocError);
+    /// # Ok::<(), AllocError>(())
+    /// ```
+    pub fn new(
+        settings: &MessagingPatternSettings,
+        max_nodes: usize,
+        service_number: u64,
+    ) -> Result<Self, AllocError> {
+        Self::with_tickets(settings, max_nodes, service_number, u64::MAX)
+    }
+
+    /// A service with this number and nothing attached, and with so many tickets for nodes and for
+    /// each kind of ports: each registering and each attaching takes one, and none comes back.
+    ///
+    /// Refused as [`DynamicConfig::new`] is.
+    ///
+    /// ```
+    /// use iox2sd::dynamic_config::{event, DynamicConfig, MessagingPatternSettings};
+    /// use iox2sd::identifiers::UniqueNodeId;
+    ///
+    /// let settings = MessagingPatternSettings::Event(event::DynamicConfigSettings {
+    ///     number_of_listeners: 1,
+    ///     number_of_notifiers: 1,
+    /// });
+    /// let mut service = DynamicConfig::with_tickets(&settings, 9, 7, 1)?;
+    /// let node = UniqueNodeId::new(1, 0, 0, 1).expect("the id of a node");
+    /// service.register_node_id(node)?;
+    /// assert!(!service.has_room_for_node());
+    /// # Ok::<(), Box<dyn std::error::Error>>(())
+    /// ```
+    pub fn with_tickets(
+        settings: &MessagingPatternSettings,
+        max_nodes: usize,
+        service_number: u64,
+        tickets: u64,
+    ) -> Result<Self, AllocError> {
+        let (kind, first, second) = settings.parts();
+        let capacities = sys::iox2sd_capacities {
+            nodes: max_nodes,
+            first,
+            second,
+        };
+        match Service::make(kind as u32, service_number, capacities, tickets) {
+            Ok(service) => Ok(Self::of(kind, service)),
+            Err(sys::IOX2SD_NO_MEMORY) => Err(AllocError),
+            Err(other) => library::unexpected(other),
+        }
+    }
+
+    fn of(kind: Kind, service: Service) -> Self {
+        let messaging_pattern = match kind {
+            Kind::RequestResponse => {
+                MessagingPattern::RequestResponse(request_response::DynamicConfig { service })
+            }
+            Kind::PublishSubscribe => {
+                MessagingPattern::PublishSubscribe(publish_subscribe::DynamicConfig { service })
+            }
+            Kind::Event => MessagingPattern::Event(event::DynamicConfig { service }),
+            Kind::Blackboard => MessagingPattern::Blackboard(blackboard::DynamicConfig { service }),
+        };
+        DynamicConfig { messaging_pattern }
+    }
+
+    fn service(&self) -> &Service {
+        match &self.messaging_pattern {
+            MessagingPattern::RequestResponse(ports) => &ports.service,
+            MessagingPattern::PublishSubscribe(ports) => &ports.service,
+            MessagingPattern::Event(ports) => &ports.service,
+            MessagingPattern::Blackboard(ports) => &ports.service,
+        }
+    }
+
+    fn service_mut(&mut self) -> &mut Service {
+        match &mut self.messaging_pattern {
+            MessagingPattern::RequestResponse(ports) => &mut ports.service,
+            MessagingPattern::PublishSubscribe(ports) => &mut ports.service,
+            MessagingPattern::Event(ports) => &mut ports.service,
+            MessagingPattern::Blackboard(ports) => &mut ports.service,
+        }
+    }
+
+    /// Registers a node, which may have several handles.
+    ///
+    /// Refused where the service is locked, and else where there are
+    /// [`max_nodes`](Self::max_nodes) handles of nodes or no ticket is left.
+    ///
+    /// ```
+    /// use iox2sd::dynamic_config::{
+    ///     event, DynamicConfig, MessagingPatternSettings, RegisterNodeResult,
+    /// };
+    /// use iox2sd::identifiers::UniqueNodeId;
+    ///
+    /// let settings = MessagingPatternSettings::Event(event::DynamicConfigSettings {
+    ///     number_of_listeners: 1,
+    ///     number_of_notifiers: 1,
+    /// });
+    /// let mut service = DynamicConfig::new(&settings, 1, 7)?;
+    /// let node = UniqueNodeId::new(1, 0, 0, 1).expect("the id of a node");
+    /// let handle = service.register_node_id(node)?;
+    /// assert_eq!(service.node(handle), Some(node));
+    /// assert_eq!(
+    ///     service.register_node_id(node),
+    ///     Err(RegisterNodeResult::ExceedsMaxNumberOfNodes)
+    /// );
+    /// # Ok::<(), Box<dyn std::error::Error>>(())
+    /// ```
+    pub fn register_node_id(
+        &mut self,
+        id: UniqueNodeId,
+    ) -> Result<ContainerHandle, RegisterNodeResult> {
+        let handle = self.service_mut().register(id.parts);
+        handle
+            .map(ContainerHandle::of)
+            .map_err(RegisterNodeResult::of)
+    }
+
+    /// Takes out the node with this handle. Where it was the last one, the service is locked for
+    /// good.
+    ///
+    /// Refused for each handle that is not that of a node here, and else where it is the only one
+    /// of its node and some port has that node.
+    ///
+    /// ```
+    /// use iox2sd::dynamic_config::{
+    ///     event, DeregisterError, DeregisterNodeState, DynamicConfig, MessagingPatternSettings,
+    /// };
+    /// use iox2sd::identifiers::UniqueNodeId;
+    ///
+    /// let settings = MessagingPatternSettings::Event(event::DynamicConfigSettings {
+    ///     number_of_listeners: 1,
+    ///     number_of_notifiers: 1,
+    /// });
+    /// let mut service = DynamicConfig::new(&settings, 1, 7)?;
+    /// let node = UniqueNodeId::new(1, 0, 0, 1).expect("the id of a node");
+    /// let handle = service.register_node_id(node)?;
+    /// assert_eq!(service.deregister_node_id(handle)?, DeregisterNodeState::NoMoreOwners);
+    /// assert_eq!(
+    ///     service.deregister_node_id(handle),
+    ///     Err(DeregisterError::ContainerHandleNotOwnedByContainer)
+    /// );
+    /// # Ok::<(), Box<dyn std::error::Error>>(())
+    /// ```
+    pub fn deregister_node_id(
+        &mut self,
+        handle: ContainerHandle,
+    ) -> Result<DeregisterNodeState, DeregisterError> {
+        let locked = self.service_mut().deregister(handle.parts());
+        locked
+            .map(DeregisterNodeState::of)
+            .map_err(DeregisterError::of)
+    }
+
+    /// Attaches a port.
+    ///
+    /// Refused where the pattern has no such ports, else where the service is locked, else where
+    /// the port's node is not registered, by its whole id, and else where there is no place or no
+    /// ticket for the port.
+    ///
+    /// ```
+    /// use iox2sd::dynamic_config::{
+    ///     publish_subscribe, AttachError, DynamicConfig, MessagingPatternSettings,
+    ///     SubscriberDetails,
+    /// };
+    /// use iox2sd::identifiers::{UniqueNodeId, UniqueSubscriberId};
+    ///
+    /// let room = publish_subscribe::DynamicConfigSettings {
+    ///     number_of_publishers: 1,
+    ///     number_of_subscribers: 1,
+    /// };
+    /// let settings = MessagingPatternSettings::PublishSubscribe(room);
+    /// let mut service = DynamicConfig::new(&settings, 1, 7)?;
+    /// let subscriber = SubscriberDetails {
+    ///     subscriber_id: UniqueSubscriberId::new(1, 0, 0, 2),
+    ///     node_id: UniqueNodeId::new(1, 0, 0, 1).expect("the id of a node"),
+    ///     buffer_size: 2,
+    /// };
+    /// assert_eq!(service.attach(subscriber), Err(AttachError::NodeNotRegistered));
+    /// service.register_node_id(subscriber.node_id)?;
+    /// let handle = service.attach(subscriber)?;
+    /// assert_eq!(service.port(handle), Some(subscriber.into()));
+    /// assert_eq!(service.attach(subscriber), Err(AttachError::OutOfSpace));
+    /// # Ok::<(), Box<dyn std::error::Error>>(())
+    /// ```
+    pub fn attach(
+        &mut self,
+        details: impl Into<PortDetails>,
+    ) -> Result<ContainerHandle, AttachError> {
+        let handle = self.service_mut().attach(&details.into().parts());
+        handle.map(ContainerHandle::of).map_err(AttachError::of)
+    }
+
+    /// Releases the port with this handle.
+    ///
+    /// Refused for each handle that is not that of a port here, a node's too.
+    ///
+    /// ```
+    /// use iox2sd::container::ContainerRemoveError;
+    /// use iox2sd::dynamic_config::{event, DynamicConfig, MessagingPatternSettings};
+    /// use iox2sd::identifiers::UniqueNodeId;
+    ///
+    /// let settings = MessagingPatternSettings::Event(event::DynamicConfigSettings {
+    ///     number_of_listeners: 1,
+    ///     number_of_notifiers: 1,
+    /// });
+    /// let mut service = DynamicConfig::new(&settings, 1, 7)?;
+    /// let node = UniqueNodeId::new(1, 0, 0, 1).expect("the id of a node");
+    /// let handle = service.register_node_id(node)?;
+    /// assert_eq!(
+    ///     service.release_port(handle),
+    ///     Err(ContainerRemoveError::ContainerHandleNotOwnedByContainer)
+    /// );
+    /// # Ok::<(), Box<dyn std::error::Error>>(())
+    /// ```
+    pub fn release_port(&mut self, handle: ContainerHandle) -> Result<(), ContainerRemoveError> {
+        let released = self.service_mut().release(handle.parts());
+        released.map_err(|status| match status {
+            sys::IOX2SD_FOREIGN_HANDLE => ContainerRemoveError::ContainerHandleNotOwnedByContainer,
+            other => library::unexpected(other),
+        })
+    }
+
+    /// Asks the callback once about each port of the dead node, in the order of
+    /// [`ports_of`](Self::ports_of), and removes those that it answers with
+    /// [`RemovePort`](PortCleanupAction::RemovePort). Where none of its ports is left, the node
+    /// goes too, with all its handles; where it was the last one, the service is locked for good.
+    /// Where one is left, no node goes.
+    ///
+    /// Nothing is changed before the callback has answered for all ports. Ports of the node that
+    /// share one id stay together where it answers [`SkipPort`](PortCleanupAction::SkipPort) for
+    /// one of them.
+    ///
+    /// ```
+    /// use iox2sd::dynamic_config::{
+    ///     event, DeregisterNodeState, DynamicConfig, MessagingPatternSettings,
+    ///     NotifierDetails, PortCleanupAction,
+    /// };
+    /// use iox2sd::identifiers::{UniqueNodeId, UniqueNotifierId};
+    ///
+    /// let room = event::DynamicConfigSettings {
+    ///     number_of_listeners: 1,
+    ///     number_of_notifiers: 1,
+    /// };
+    /// let mut service = DynamicConfig::new(&MessagingPatternSettings::Event(room), 1, 7)?;
+    /// let node_id = UniqueNodeId::new(1, 0, 0, 1).expect("the id of a node");
+    /// service.register_node_id(node_id)?;
+    /// let notifier_id = UniqueNotifierId::new(1, 0, 0, 2);
+    /// service.attach(NotifierDetails { notifier_id, node_id })?;
+    ///
+    /// let state = service.remove_dead_node_id(&node_id, |port| {
+    ///     println!("{port} is removed");
+    ///     PortCleanupAction::RemovePort
+    /// });
+    /// assert_eq!(state, DeregisterNodeState::NoMoreOwners);
+    /// assert_eq!(service.event().number_of_notifiers(), 0);
+    /// # Ok::<(), Box<dyn std::error::Error>>(())
+    /// ```
+    pub fn remove_dead_node_id<F: FnMut(UniquePortId) -> PortCleanupAction>(
+        &mut self,
+        dead: &UniqueNodeId,
+        mut callback: F,
+    ) -> DeregisterNodeState {
+        let mut kept = Vec::new();
+        for port in self.ports_of(dead) {
+            if callback(port.port_id()) == PortCleanupAction::SkipPort {
+                kept.push(port.port_id().parts());
+            }
+        }
+        match self.service_mut().dead(dead.parts, &kept) {
+            Ok(locked) => DeregisterNodeState::of(locked),
+            Err(other) => library::unexpected(other),
+        }
+    }
+}
+
+/// Questions about a service.
+impl DynamicConfig {
+    /// The pattern of the service.
+    pub fn kind(&self) -> Kind {
+        match self.messaging_pattern {
+            MessagingPattern::RequestResponse(_) => Kind::RequestResponse,
+            MessagingPattern::PublishSubscribe(_) => Kind::PublishSubscribe,
+            MessagingPattern::Event(_) => Kind::Event,
+            MessagingPattern::Blackboard(_) => Kind::Blackboard,
+        }
+    }
+
+    /// The number of the service, which each of its handles has.
+    pub fn service_number(&self) -> u64 {
+        self.service().number()
+    }
+
+    /// The roles of the pattern's two kinds of ports, in the order of [`ports_of`](Self::ports_of).
+    pub fn port_roles(&self) -> (Role, Role) {
+        let (first, second) = self.service().roles();
+        (Role::of(first), Role::of(second))
+    }
+
+    /// Whether the pattern has ports of the role; no for [`Role::Node`].
+    pub fn has_role(&self, role: Role) -> bool {
+        self.service().has_role(role as u64)
+    }
+
+    /// Whether the service is locked for good: it has no node and no port then, and takes none any
+    /// more.
+    pub fn is_locked(&self) -> bool {
+        self.service().is_locked()
+    }
+
+    /// How many handles of nodes there are: a node that is registered twice counts twice.
+    pub fn number_of_nodes(&self) -> usize {
+        self.service().number_of_nodes()
+    }
+
+    /// How many handles of nodes there may be at a time.
+    pub fn max_nodes(&self) -> usize {
+        self.service().max_nodes()
+    }
+
+    /// Whether [`register_node_id`](Self::register_node_id) would register a node.
+    pub fn has_room_for_node(&self) -> bool {
+        self.service().has_room_for_node()
+    }
+
+    /// How many ports of the role there are, or `None` where the pattern has no such ports.
+    pub fn count_ports(&self, role: Role) -> Option<usize> {
+        self.service().count_ports(role as u64)
+    }
+
+    /// How many ports of the role there may be at a time, or `None` where the pattern has no such
+    /// ports.
+    pub fn max_ports(&self, role: Role) -> Option<usize> {
+        self.service().max_ports(role as u64)
+    }
+
+    /// Whether [`attach`](Self::attach) would attach a port of the role, if its node is registered,
+    /// or `None` where the pattern has no such ports.
+    pub fn has_room(&self, role: Role) -> Option<bool> {
+        self.service().has_room(role as u64)
+    }
+
+    /// The node that was registered with this handle and is still there, or `None` for each other
+    /// handle.
+    pub fn node(&self, handle: ContainerHandle) -> Option<UniqueNodeId> {
+        self.service().node(handle.parts()).map(UniqueNodeId::of)
+    }
+
+    /// The port that was attached with this handle and is still there, or `None` for each other
+    /// handle, a node's too.
+    pub fn port(&self, handle: ContainerHandle) -> Option<PortDetails> {
+        let port = self.service().port(handle.parts())?;
+        Some(PortDetails::of(&port))
+    }
+
+    /// The ids of the nodes that are registered now, by rising slot, one for each handle.
+    pub fn nodes(&self) -> vec::IntoIter<UniqueNodeId> {
+        let nodes = self.service().nodes();
+        let nodes: Vec<_> = nodes.into_iter().map(UniqueNodeId::of).collect();
+        nodes.into_iter()
+    }
+
+    /// The ports of the role that are attached now, by rising slot, or `None` where the pattern has
+    /// no such ports.
+    pub fn ports(&self, role: Role) -> Option<vec::IntoIter<PortDetails>> {
+        let ports = self.service().ports(role as u64)?;
+        let ports: Vec<_> = ports.iter().map(PortDetails::of).collect();
+        Some(ports.into_iter())
+    }
+
+    /// The ports of the node, by its whole id: those of the pattern's first kind before those of
+    /// its second, each kind by rising slot.
+    pub fn ports_of(&self, node: &UniqueNodeId) -> vec::IntoIter<PortDetails> {
+        let ports = self.service().ports_of(node.parts);
+        let ports: Vec<_> = ports.iter().map(PortDetails::of).collect();
+        ports.into_iter()
+    }
+
+    /// Calls the callback on the nodes by rising slot, once for each handle, up to and with the
+    /// first answer [`Stop`](CallbackProgression::Stop).
+    pub fn list_node_ids<F: FnMut(&UniqueNodeId) -> CallbackProgression>(&self, mut callback: F) {
+        visit(self.nodes(), |node| callback(&node));
+    }
+
+    /// Calls the callback on the ports of the role by rising slot, up to and with the first answer
+    /// [`Stop`](CallbackProgression::Stop); `false`, and no call, where the pattern has no such
+    /// ports.
+    pub fn list_ports<F: FnMut(&PortDetails) -> CallbackProgression>(
+        &self,
+        role: Role,
+        mut callback: F,
+    ) -> bool {
+        let Some(ports) = self.ports(role) else {
+            return false;
+        };
+        visit(ports, |port| callback(&port));
+        true
+    }
+}
+
+/// Defines, for one pattern, whether a service has it and the questions about its ports.
+macro_rules! of_pattern {
+    ($kind:literal $variant:ident $module:ident $is:ident) => {
+        #[doc = concat!("Whether it is ", $kind, " service.")]
+        pub fn $is(&self) -> bool {
+            matches!(self.messaging_pattern, MessagingPattern::$variant(_))
+        }
+
+        #[doc = concat!("The ports of ", $kind, " service.")]
+        ///
+        /// # Panics
+        ///
+        #[doc = concat!("Where [`Self::", stringify!($is), "`] says no.")]
+        pub fn $module(&self) -> &$module::DynamicConfig {
+            match &self.messaging_pattern {
+                MessagingPattern::$variant(ports) => ports,
+                _ => panic!(
+                    concat!("the pattern is {}, not ", stringify!($variant)),
+                    self.kind()
+                ),
+            }
+        }
+    };
+}
+
+/// The ports of each pattern, by their types.
+impl DynamicConfig {
+    of_pattern!("a request-response" RequestResponse request_response is_request_response);
+    of_pattern!("a publish-subscribe" PublishSubscribe publish_subscribe is_publish_subscribe);
+    of_pattern!("an event" Event event is_event);
+    of_pattern!("a blackboard" Blackboard blackboard is_blackboard);
+}
+
+impl fmt::Debug for DynamicConfig {
+    fn fmt(&self, f: &mut fmt::Formatter<'_>) -> fmt::Result {
+        let (first, second) = self.port_roles();
+        let ports: Vec<_> = [first, second]
+            .into_iter()
+            .filter_map(|role| self.ports(role))
+            .flatten()
+            .collect();
+        f.debug_struct("DynamicConfig")
+            .field("kind", &self.kind())
+            .field("service_number", &self.service_number())
+            .field("nodes", &self.nodes().as_slice())
+            .field("ports", &ports)
+            .finish()
+    }
+}

@@ -1,0 +1,281 @@
+//! The ids of nodes, of ports and of services.
+//!
+//! An id has four parts: the number of the process that made it, the time when it did, and a
+//! counter. They are handed in: nothing here reads the process, the clock or a counter, and that
+//! ids are unique is up to those who make them.
+//!
+//! ```
+//! use iox2sd::identifiers::{UniqueNodeId, UniquePublisherId};
+//!
+//! let node = UniqueNodeId::new(1, 2, 3, 4).expect("process and counter are not both 0");
+//! assert_eq!(node.to_string(), "1000000020000000300000004");
+//! assert_eq!(node.pid().value(), 1);
+//! assert_eq!(UniqueNodeId::new(0, 2, 3, 0), None);
+//! assert!(UniquePublisherId::new(1, 2, 3, 4) < UniquePublisherId::new(1, 2, 4, 0));
+//! ```
+
+use crate::library;
+use crate::sys;
+use std::cmp::Ordering;
+use std::fmt;
+
+/// The number that the operating system gives a process.
+#[derive(Clone, Copy, Debug, PartialEq, Eq, Hash)]
+pub struct ProcessId {
+    value: u32,
+}
+
+impl ProcessId {
+    /// The process of this number.
+    pub fn new(value: u32) -> Self {
+        ProcessId { value }
+    }
+
+    /// Its number.
+    pub fn value(&self) -> u32 {
+        self.value
+    }
+}
+
+/// The number of the process.
+impl fmt::Display for ProcessId {
+    fn fmt(&self, f: &mut fmt::Formatter<'_>) -> fmt::Result {
+        fmt::Display::fmt(&self.value, f)
+    }
+}
+
+/// A time: whole seconds, and the nanoseconds beside them, which may be any number of their type.
+/// The default is 0 of both.
+#[derive(Clone, Copy, Debug, Default, PartialEq, Eq, Hash)]
+pub struct Time {
+    seconds: u64,
+    nanoseconds: u32,
+}
+
+impl Time {
+    /// The time of these seconds and nanoseconds.
+    pub fn new(seconds: u64, nanoseconds: u32) -> Self {
+        Time {
+            seconds,
+            nanoseconds,
+        }
+    }
+
+    /// The whole seconds.
+    pub fn seconds(&self) -> u64 {
+        self.seconds
+    }
+
+    /// The nanoseconds beside the seconds.
+    pub fn nanoseconds(&self) -> u32 {
+        self.nanoseconds
+    }
+}
+
+/// Defines what all ids have, but for how they are made.
+macro_rules! unique_id {
+    ($(#[$documentation:meta])* $name:ident) => {
+        $(#[$documentation])*
+        ///
+        /// Ids go by their [`value`](Self::value), whose lower-case hexadecimal digits are their
+        /// text.
+        #[derive(Clone, Copy, PartialEq, Eq, Hash)]
+        pub struct $name {
+            pub(crate) parts: sys::iox2sd_id,
+        }
+
+        impl $name {
+            pub(crate) fn of(parts: sys::iox2sd_id) -> Self {
+                $name { parts }
+            }
+
+            /// The id as one number: process, seconds, nanoseconds and counter, 32 bits each.
+            pub fn value(&self) -> u128 {
+                value(self.parts)
+            }
+
+            /// The process that made the id.
+            pub fn pid(&self) -> ProcessId {
+                ProcessId::new(self.parts.process)
+            }
+
+            /// When the id was made.
+            pub fn creation_time(&self) -> Time {
+                Time::new(u64::from(self.parts.seconds), self.parts.nanoseconds)
+            }
+        }
+
+        impl fmt::Display for $name {
+            fn fmt(&self, f: &mut fmt::Formatter<'_>) -> fmt::Result {
+                f.pad(&text(self.parts))
+            }
+        }
+
+        impl fmt::Debug for $name {
+            fn fmt(&self, f: &mut fmt::Formatter<'_>) -> fmt::Result {
+                write!(f, concat!(stringify!($name), "({})"), self)
+            }
+        }
+
+        impl PartialOrd for $name {
+            fn partial_cmp(&self, other: &Self) -> Option<Ordering> {
+                Some(self.cmp(other))
+            }
+        }
+
+        impl Ord for $name {
+            fn cmp(&self, other: &Self) -> Ordering {
+                order(self.parts, other.parts)
+            }
+        }
+    };
+}
+
+/// Defines the ids of ports and of services.
+macro_rules! unique_ids {
+    ($($(#[$documentation:meta])* $name:ident)*) => {
+        $(
+            unique_id! {
+                $(#[$documentation])*
+                $name
+            }
+
+            impl $name {
+                /// The id with these parts.
+                pub fn new(process: u32, seconds: u32, nanoseconds: u32, counter: u32) -> Self {
+                    Self::of(sys::iox2sd_id { process, seconds, nanoseconds, counter })
+                }
+            }
+        )*
+    };
+}
+
+unique_ids! {
+    /// The id of a publisher.
+    UniquePublisherId
+    /// The id of a subscriber.
+    UniqueSubscriberId
+    /// The id of a notifier.
+    UniqueNotifierId
+    /// The id of a listener.
+    UniqueListenerId
+    /// The id of a client.
+    UniqueClientId
+    /// The id of a server.
+    UniqueServerId
+    /// The id of a reader.
+    UniqueReaderId
+    /// The id of a writer.
+    UniqueWriterId
+    /// The id of a service.
+    UniqueServiceId
+}
+
+unique_id! {
+    /// The id of a node. Its process and its counter are not both 0.
+    UniqueNodeId
+}
+
+impl UniqueNodeId {
+    /// The id with these parts, or `None` where process and counter are both 0: that is the id of
+    /// no node.
+    ///
+    /// ```
+    /// use iox2sd::identifiers::UniqueNodeId;
+    ///
+    /// assert!(UniqueNodeId::new(1, 2, 3, 0).is_some());
+    /// assert!(UniqueNodeId::new(0, 2, 3, 4).is_some());
+    /// assert_eq!(UniqueNodeId::new(0, 2, 3, 0), None);
+    /// ```
+    pub fn new(process: u32, seconds: u32, nanoseconds: u32, counter: u32) -> Option<Self> {
+        let parts = sys::iox2sd_id {
+            process,
+            seconds,
+            nanoseconds,
+            counter,
+        };
+        library::id_is_node(parts).then(|| Self::of(parts))
+    }
+
+    /// Process and counter as one number, which is never 0. Nodes of one process with one counter
+    /// share it.
+    pub fn owner_id(&self) -> u64 {
+        library::id_owner(self.parts)
+    }
+}
+
+/// The id of a port of any kind.
+///
+/// ```
+/// use iox2sd::identifiers::{UniquePortId, UniqueReaderId, UniqueWriterId};
+///
+/// let reader = UniquePortId::Reader(UniqueReaderId::new(0, 0, 0, 10));
+/// let writer = UniquePortId::Writer(UniqueWriterId::new(0, 0, 0, 10));
+/// assert_ne!(reader, writer);
+/// assert_eq!(reader.value(), writer.value());
+/// assert_eq!(reader.to_string(), "a");
+/// ```
+#[derive(Clone, Copy, Debug, PartialEq, Eq, Hash)]
+pub enum UniquePortId {
+    /// The id of a publisher.
+    Publisher(UniquePublisherId),
+    /// The id of a subscriber.
+    Subscriber(UniqueSubscriberId),
+    /// The id of a notifier.
+    Notifier(UniqueNotifierId),
+    /// The id of a listener.
+    Listener(UniqueListenerId),
+    /// The id of a client.
+    Client(UniqueClientId),
+    /// The id of a server.
+    Server(UniqueServerId),
+    /// The id of a reader.
+    Reader(UniqueReaderId),
+    /// The id of a writer.
+    Writer(UniqueWriterId),
+}
+
+impl UniquePortId {
+    pub(crate) fn parts(&self) -> sys::iox2sd_id {
+        match self {
+            UniquePortId::Publisher(id) => id.parts,
+            UniquePortId::Subscriber(id) => id.parts,
+            UniquePortId::Notifier(id) => id.parts,
+            UniquePortId::Listener(id) => id.parts,
+            UniquePortId::Client(id) => id.parts,
+            UniquePortId::Server(id) => id.parts,
+            UniquePortId::Reader(id) => id.parts,
+            UniquePortId::Writer(id) => id.parts,
+        }
+    }
+
+    /// The id as one number, whatever its kind.
+    pub fn value(&self) -> u128 {
+        value(self.parts())
+    }
+}
+
+/// The text of the id, whatever its kind.
+impl fmt::Display for UniquePortId {
+    fn fmt(&self, f: &mut fmt::Formatter<'_>) -> fmt::Result {
+        f.pad(&text(self.parts()))
+    }
+}
+
+fn text(parts: sys::iox2sd_id) -> String {
+    library::id_text(parts).unwrap_or_else(|status| library::unexpected(status))
+}
+
+fn value(parts: sys::iox2sd_id) -> u128 {
+    u128::from_str_radix(&text(parts), 16).expect("the text of an id is a hexadecimal number")
+}
+
+fn order(one: sys::iox2sd_id, other: sys::iox2sd_id) -> Ordering {
+    if library::id_is_before(one, other) {
+        Ordering::Less
+    } else if library::id_is_before(other, one) {
+        Ordering::Greater
+    } else {
+        Ordering::Equal
+    }
+}

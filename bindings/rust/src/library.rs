@@ -1,0 +1,229 @@
+//! Safe calls of the library. All `unsafe` code of this crate stands here and below.
+//!
+//! A call answers `Err` with the status where the library reports a refusal.
+
+mod attributes;
+mod messages;
+mod service;
+
+pub(crate) use attributes::{
+    attribute_capacity, attribute_value, attribute_values, sorted, verify, Missing,
+};
+pub(crate) use messages::{check_type, check_type_name, compatible, layout, places};
+pub(crate) use service::Service;
+
+use crate::sys;
+
+/// `Ok` exactly for `IOX2SD_DONE`.
+fn done(status: u32) -> Result<(), u32> {
+    match status {
+        sys::IOX2SD_DONE => Ok(()),
+        refusal => Err(refusal),
+    }
+}
+
+/// Ends the program at a status that the header excludes for a call.
+pub(crate) fn unexpected(status: u32) -> ! {
+    let text = status_text(status).unwrap_or_default();
+    panic!("the library answered the status {status} ({text}), which the call excludes")
+}
+
+/// The choice with this number. Ends the program at a number that the header excludes.
+pub(crate) fn choice<T: Copy, N: PartialEq + std::fmt::Display>(
+    choices: &[T],
+    number: impl Fn(T) -> N,
+    wanted: N,
+) -> T {
+    match choices.iter().find(|choice| number(**choice) == wanted) {
+        Some(choice) => *choice,
+        None => panic!("the library answered the choice {wanted}, which its header excludes"),
+    }
+}
+
+/// Has a list written into a buffer that is made as long as the library says.
+fn list<T: Clone + Default>(
+    call: impl Fn(&mut [T]) -> sys::iox2sd_count_answer,
+) -> Result<Vec<T>, u32> {
+    let mut items = Vec::new();
+    loop {
+        let answer = call(&mut items);
+        match answer.status {
+            sys::IOX2SD_DONE => {
+                items.truncate(answer.count);
+                return Ok(items);
+            }
+            sys::IOX2SD_BUFFER_TOO_SHORT => items.resize(answer.count, T::default()),
+            refusal => return Err(refusal),
+        }
+    }
+}
+
+/// Has a text written.
+fn text(call: impl Fn(&mut [u8]) -> sys::iox2sd_text_answer) -> Result<String, u32> {
+    let bytes = list(|out| {
+        let answer = call(out);
+        sys::iox2sd_count_answer {
+            status: answer.status,
+            count: answer.length,
+        }
+    })?;
+    Ok(String::from_utf8(bytes).expect("the library writes texts"))
+}
+
+/// Defines calls that check a text.
+macro_rules! checks {
+    ($($name:ident: $export:ident)*) => {
+        $(
+            pub(crate) fn $name(text: &[u8]) -> sys::iox2sd_place_answer {
+                // SAFETY: pointer and length are those of one slice.
+                unsafe { sys::$export(text.as_ptr(), text.len()) }
+            }
+        )*
+    };
+}
+
+checks! {
+    check_service_name: iox2sd_service_name_check
+    check_internal_service_name: iox2sd_internal_service_name_check
+    check_attribute_key: iox2sd_attribute_key_check
+    check_attribute_value: iox2sd_attribute_value_check
+    check_path: iox2sd_path_check
+    check_file_name: iox2sd_file_name_check
+    check_file_path: iox2sd_file_path_check
+    check_restricted_name: iox2sd_restricted_name_check
+}
+
+/// Defines calls that write a text about plain values.
+macro_rules! texts {
+    ($($name:ident($($argument:ident: $type:ty)?): $export:ident)*) => {
+        $(
+            pub(crate) fn $name($($argument: $type)?) -> Result<String, u32> {
+                // SAFETY: pointer and length are those of one slice, which the call may write to.
+                text(|out| unsafe { sys::$export($($argument,)? out.as_mut_ptr(), out.len()) })
+            }
+        )*
+    };
+}
+
+texts! {
+    status_text(status: u32): iox2sd_status_text
+    version(): iox2sd_version
+    layer_version(): iox2sd_layer_version
+    id_text(id: sys::iox2sd_id): iox2sd_id_text
+    default_text(which: u32): iox2sd_default_text
+}
+
+/// Defines calls on values alone.
+macro_rules! values {
+    ($($name:ident($($argument:ident: $type:ty),*) -> $answer:ty: $export:ident)*) => {
+        $(
+            pub(crate) fn $name($($argument: $type),*) -> $answer {
+                // SAFETY: the call takes no pointer.
+                unsafe { sys::$export($($argument),*) }
+            }
+        )*
+    };
+}
+
+values! {
+    id_is_node(id: sys::iox2sd_id) -> bool: iox2sd_id_is_node
+    id_owner(id: sys::iox2sd_id) -> u64: iox2sd_id_owner
+    id_is_before(id: sys::iox2sd_id, other: sys::iox2sd_id) -> bool: iox2sd_id_is_before
+    publish_subscribe_defaults() -> sys::iox2sd_publish_subscribe_settings:
+        iox2sd_publish_subscribe_defaults
+    event_defaults() -> sys::iox2sd_event_settings: iox2sd_event_defaults
+    request_response_defaults() -> sys::iox2sd_request_response_settings:
+        iox2sd_request_response_defaults
+    blackboard_defaults() -> sys::iox2sd_blackboard_settings: iox2sd_blackboard_defaults
+    publisher_chunks(
+        max_subscribers: usize,
+        buffer_size: usize,
+        borrowed: usize,
+        history_size: usize,
+        loaned: usize
+    ) -> sys::iox2sd_count_answer: iox2sd_publisher_chunks
+    client_chunks(max_servers: usize, active: usize, loaned: usize) -> sys::iox2sd_count_answer:
+        iox2sd_client_chunks
+    server_chunks(
+        max_clients: usize,
+        active: usize,
+        buffer_size: usize,
+        borrowed: usize,
+        loaned: usize
+    ) -> sys::iox2sd_count_answer: iox2sd_server_chunks
+}
+
+/// A count of chunks, or `None` where it passes its range.
+pub(crate) fn chunks(answer: sys::iox2sd_count_answer) -> Option<usize> {
+    match answer.status {
+        sys::IOX2SD_DONE => Some(answer.count),
+        sys::IOX2SD_TOO_LARGE => None,
+        other => unexpected(other),
+    }
+}
+
+/// The greatest length of the texts that a check takes, which it reports of each longer one.
+pub(crate) fn greatest_length(check: impl Fn(&[u8]) -> sys::iox2sd_place_answer) -> usize {
+    let mut text = vec![b'a'];
+    loop {
+        let answer = check(&text);
+        match answer.status {
+            sys::IOX2SD_TOO_LONG => return answer.at,
+            sys::IOX2SD_DONE => text.resize(2 * text.len(), b'a'),
+            other => unexpected(other),
+        }
+    }
+}
+
+pub(crate) fn has_internal_prefix(text: &str) -> bool {
+    // SAFETY: pointer and length are those of one slice.
+    unsafe { sys::iox2sd_has_internal_prefix(text.as_ptr(), text.len()) }
+}
+
+pub(crate) fn internal_service_name(name: &str) -> Result<String, u32> {
+    // SAFETY: each pointer and length are those of one slice, and `out` overlaps no other.
+    text(|out| unsafe {
+        sys::iox2sd_internal_service_name(name.as_ptr(), name.len(), out.as_mut_ptr(), out.len())
+    })
+}
+
+pub(crate) fn hash_text(pattern: u32, name: &str) -> Result<String, u32> {
+    // SAFETY: as above.
+    text(|out| unsafe {
+        sys::iox2sd_internal_hash_text(
+            pattern,
+            name.as_ptr(),
+            name.len(),
+            out.as_mut_ptr(),
+            out.len(),
+        )
+    })
+}
+
+pub(crate) fn path_join(path: &str, entry: &str) -> Result<String, u32> {
+    // SAFETY: as above.
+    text(|out| unsafe {
+        sys::iox2sd_path_join(
+            path.as_ptr(),
+            path.len(),
+            entry.as_ptr(),
+            entry.len(),
+            out.as_mut_ptr(),
+            out.len(),
+        )
+    })
+}
+
+pub(crate) fn file_path_join(path: &str, file: &str) -> Result<String, u32> {
+    // SAFETY: as above.
+    text(|out| unsafe {
+        sys::iox2sd_file_path_join(
+            path.as_ptr(),
+            path.len(),
+            file.as_ptr(),
+            file.len(),
+            out.as_mut_ptr(),
+            out.len(),
+        )
+    })
+}

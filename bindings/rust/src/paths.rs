@@ -1,0 +1,109 @@
+//! Paths and names of files.
+
+use crate::library;
+use crate::semantic_string::kind::kind;
+use crate::semantic_string::{SemanticString, SemanticStringError};
+
+kind! {
+    /// What a path allows: every byte from 1 to 127, and none at all.
+    PathContent: check_path
+}
+
+kind! {
+    /// What the name of a file allows: any byte from 1 to 127 but `/`; not `.` and not `..`.
+    FileNameContent: check_file_name
+}
+
+kind! {
+    /// What the path of a file allows: any byte from 1 to 127, where the bytes after the last `/`
+    /// are the name of a file.
+    FilePathContent: check_file_path
+}
+
+kind! {
+    /// What a restricted name of a file allows: letters, digits, `-`, `.`, `:` and `_`; not `.` and
+    /// not `..`.
+    RestrictedFileNameContent: check_restricted_name
+}
+
+/// A path, which may be empty.
+///
+/// ```
+/// use iox2sd::paths::Path;
+///
+/// assert!(Path::new(b"").is_ok());
+/// assert!(Path::new(b"/tmp/iceoryx2/").is_ok());
+/// ```
+pub type Path = SemanticString<PathContent>;
+
+/// The name of a file.
+///
+/// ```
+/// use iox2sd::paths::FileName;
+///
+/// assert!(FileName::new(b"iceoryx2.toml").is_ok());
+/// assert!(FileName::new(b"config/iceoryx2.toml").is_err());
+/// ```
+pub type FileName = SemanticString<FileNameContent>;
+
+/// The path of a file.
+///
+/// ```
+/// use iox2sd::paths::FilePath;
+///
+/// assert!(FilePath::new(b"config/iceoryx2.toml").is_ok());
+/// assert!(FilePath::new(b"config/..").is_err());
+/// ```
+pub type FilePath = SemanticString<FilePathContent>;
+
+/// A name of a file as hash texts are.
+///
+/// ```
+/// use iox2sd::paths::RestrictedFileName;
+///
+/// assert!(RestrictedFileName::new(b"a-Z_0.9:x").is_ok());
+/// assert!(RestrictedFileName::new(b"a b").is_err());
+/// ```
+pub type RestrictedFileName = SemanticString<RestrictedFileNameContent>;
+
+impl Path {
+    /// Joins an entry to the path, with one `/` between them unless the path is empty or ends in
+    /// `/`.
+    ///
+    /// Refused with [`ExceedsMaximumLength`](SemanticStringError::ExceedsMaximumLength) where that
+    /// would be longer than a path may be, and then the path stays as it was.
+    ///
+    /// ```
+    /// use iox2sd::paths::Path;
+    ///
+    /// let mut path = Path::new(b"/tmp/iceoryx2/")?;
+    /// path.add_path_entry(&Path::new(b"services")?)?;
+    /// assert_eq!(path, "/tmp/iceoryx2/services");
+    /// # Ok::<(), iox2sd::semantic_string::SemanticStringError>(())
+    /// ```
+    pub fn add_path_entry(&mut self, entry: &Path) -> Result<(), SemanticStringError> {
+        let joined = library::path_join(self.as_str(), entry.as_str());
+        *self = Self::of_legal(&joined.map_err(SemanticStringError::of)?);
+        Ok(())
+    }
+}
+
+impl FilePath {
+    /// The path of a file in a directory, joined as by [`Path::add_path_entry`].
+    ///
+    /// Refused with [`ExceedsMaximumLength`](SemanticStringError::ExceedsMaximumLength) where it
+    /// would be longer than a path may be.
+    ///
+    /// ```
+    /// use iox2sd::paths::{FileName, FilePath, Path};
+    ///
+    /// let path = Path::new(b"config")?;
+    /// let file = FileName::new(b"iceoryx2.toml")?;
+    /// assert_eq!(FilePath::from_path_and_file(&path, &file)?, "config/iceoryx2.toml");
+    /// # Ok::<(), iox2sd::semantic_string::SemanticStringError>(())
+    /// ```
+    pub fn from_path_and_file(path: &Path, file: &FileName) -> Result<Self, SemanticStringError> {
+        let joined = library::file_path_join(path.as_str(), file.as_str());
+        Ok(Self::of_legal(&joined.map_err(SemanticStringError::of)?))
+    }
+}

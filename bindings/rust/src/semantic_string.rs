@@ -1,0 +1,219 @@
+//! Texts with a meaning, which allows some contents alone.
+//!
+//! Their kinds are [`AttributeKey`](crate::attribute::AttributeKey),
+//! [`AttributeValue`](crate::attribute::AttributeValue), and those of [`paths`](crate::paths).
+
+use crate::display::error_by_path;
+use crate::library;
+use crate::sys;
+use crate::text::{shown_as_text, Text};
+use std::cmp::Ordering;
+use std::hash::{Hash, Hasher};
+use std::marker::PhantomData;
+
+/// Why a text is no semantic string.
+#[derive(Clone, Copy, Debug, PartialEq, Eq, Hash)]
+pub enum SemanticStringError {
+    /// The text is empty, or has a byte or a form, that its kind does not allow.
+    InvalidContent,
+    /// The text has more bytes than its kind allows. This is reported before an illegal byte.
+    ExceedsMaximumLength,
+}
+
+error_by_path!(SemanticStringError);
+
+impl SemanticStringError {
+    /// The error that a check or a joining of texts is refused with.
+    pub(crate) fn of(status: u32) -> Self {
+        match status {
+            sys::IOX2SD_EMPTY | sys::IOX2SD_ILLEGAL_BYTE | sys::IOX2SD_NO_FILE_NAME => {
+                SemanticStringError::InvalidContent
+            }
+            sys::IOX2SD_TOO_LONG => SemanticStringError::ExceedsMaximumLength,
+            other => library::unexpected(other),
+        }
+    }
+}
+
+/// Why a text of a type's name was not made.
+#[derive(Clone, Copy, Debug, PartialEq, Eq, Hash)]
+pub enum StringModificationError {
+    /// The text has too many bytes. This is reported before an illegal byte.
+    InsertWouldExceedCapacity,
+    /// The text has a byte that is not from 1 to 127.
+    InvalidCharacter,
+}
+
+error_by_path!(StringModificationError);
+
+/// A kind of semantic strings. The kinds are those of this crate.
+pub trait Content: kind::Kind {}
+
+impl<K: kind::Kind> Content for K {}
+
+pub(crate) mod kind {
+    use crate::sys;
+
+    /// A kind of semantic strings, by the check of the library.
+    pub trait Kind {
+        #[doc(hidden)]
+        fn check(text: &[u8]) -> Result<(), u32>;
+
+        #[doc(hidden)]
+        fn capacity() -> usize;
+    }
+
+    /// Defines a kind by the check that the library makes.
+    macro_rules! kind {
+        ($(#[$documentation:meta])* $name:ident: $check:ident) => {
+            $(#[$documentation])*
+            #[derive(Clone, Copy, Debug)]
+            pub enum $name {}
+
+            impl $crate::semantic_string::kind::Kind for $name {
+                fn check(text: &[u8]) -> Result<(), u32> {
+                    $crate::semantic_string::kind::legal($crate::library::$check(text).status)
+                }
+
+                fn capacity() -> usize {
+                    $crate::library::greatest_length($crate::library::$check)
+                }
+            }
+        };
+    }
+    pub(crate) use kind;
+
+    pub(crate) fn legal(status: u32) -> Result<(), u32> {
+        match status {
+            sys::IOX2SD_DONE => Ok(()),
+            refusal => Err(refusal),
+        }
+    }
+}
+
+/// A text that the kind `C` allows, copied by value. Texts are compared by their bytes.
+///
+/// ```
+/// use iox2sd::attribute::AttributeKey;
+/// use iox2sd::semantic_string::SemanticStringError;
+///
+/// let key = AttributeKey::new(b"site")?;
+/// assert_eq!(key, "site");
+/// assert_eq!("site".try_into(), Ok(key));
+/// assert_eq!(AttributeKey::new(b""), Err(SemanticStringError::InvalidContent));
+/// # Ok::<(), SemanticStringError>(())
+/// ```
+pub struct SemanticString<C: Content> {
+    text: Text,
+    kind: PhantomData<fn() -> C>,
+}
+
+impl<C: Content> SemanticString<C> {
+    /// The semantic string of these bytes.
+    ///
+    /// Refused are, in this order, no byte at all where the kind does not allow that
+    /// ([`InvalidContent`](SemanticStringError::InvalidContent)), more bytes than
+    /// [`capacity`](Self::capacity)
+    /// ([`ExceedsMaximumLength`](SemanticStringError::ExceedsMaximumLength)), and another content
+    /// that is not allowed: a byte that is not from 1 to 127, or what the kind forbids
+    /// ([`InvalidContent`](SemanticStringError::InvalidContent)).
+    ///
+    /// ```
+    /// use iox2sd::attribute::AttributeValue;
+    /// use iox2sd::semantic_string::SemanticStringError;
+    ///
+    /// assert_eq!(AttributeValue::new(b"north")?, "north");
+    /// let long = [b'a'; 300];
+    /// assert_eq!(AttributeValue::new(&long), Err(SemanticStringError::ExceedsMaximumLength));
+    /// # Ok::<(), SemanticStringError>(())
+    /// ```
+    pub fn new(bytes: &[u8]) -> Result<Self, SemanticStringError> {
+        C::check(bytes).map_err(SemanticStringError::of)?;
+        // The library takes bytes up to 127 alone, which are UTF-8.
+        let text = std::str::from_utf8(bytes).map_err(|_| SemanticStringError::InvalidContent)?;
+        Ok(Self::of_legal(text))
+    }
+
+    /// The semantic string of a text that the library made or took.
+    pub(crate) fn of_legal(text: &str) -> Self {
+        SemanticString {
+            text: Text::copy_of(text),
+            kind: PhantomData,
+        }
+    }
+
+    /// The text.
+    pub fn as_str(&self) -> &str {
+        self.text.as_str()
+    }
+
+    /// The bytes of the text.
+    pub fn as_bytes(&self) -> &[u8] {
+        self.as_str().as_bytes()
+    }
+
+    /// The number of bytes.
+    pub fn len(&self) -> usize {
+        self.as_bytes().len()
+    }
+
+    /// Whether there is no byte.
+    pub fn is_empty(&self) -> bool {
+        self.as_bytes().is_empty()
+    }
+
+    /// The greatest number of bytes of this kind.
+    ///
+    /// ```
+    /// use iox2sd::attribute::AttributeKey;
+    /// assert_eq!(AttributeKey::capacity(), 64);
+    /// ```
+    pub fn capacity() -> usize {
+        C::capacity()
+    }
+}
+
+impl<C: Content> Clone for SemanticString<C> {
+    fn clone(&self) -> Self {
+        *self
+    }
+}
+
+impl<C: Content> Copy for SemanticString<C> {}
+
+impl<C: Content> PartialEq for SemanticString<C> {
+    fn eq(&self, other: &Self) -> bool {
+        self.text == other.text
+    }
+}
+
+impl<C: Content> Eq for SemanticString<C> {}
+
+impl<C: Content> PartialOrd for SemanticString<C> {
+    fn partial_cmp(&self, other: &Self) -> Option<Ordering> {
+        Some(self.cmp(other))
+    }
+}
+
+impl<C: Content> Ord for SemanticString<C> {
+    fn cmp(&self, other: &Self) -> Ordering {
+        self.text.cmp(&other.text)
+    }
+}
+
+impl<C: Content> Hash for SemanticString<C> {
+    fn hash<H: Hasher>(&self, state: &mut H) {
+        self.text.hash(state);
+    }
+}
+
+impl<C: Content> TryFrom<&str> for SemanticString<C> {
+    type Error = SemanticStringError;
+
+    /// As [`SemanticString::new`] of the text's bytes.
+    fn try_from(text: &str) -> Result<Self, SemanticStringError> {
+        Self::new(text.as_bytes())
+    }
+}
+
+shown_as_text!({C: Content} SemanticString<C>);

@@ -1,0 +1,64 @@
+//! The hash texts of services.
+
+use crate::display::error_by_path;
+use crate::library;
+use crate::messaging_pattern::MessagingPattern;
+use crate::paths::RestrictedFileName;
+use crate::service_name::ServiceName;
+use crate::sys;
+use crate::text::shown_as_text;
+
+/// Why a service has no hash text.
+#[derive(Clone, Copy, Debug, PartialEq, Eq, Hash)]
+pub enum ServiceHashError {
+    /// The text cannot be the name of a file. No text of the library's hasher, SHA-1, was ever seen
+    /// to be so, but no proof excludes it.
+    IllegalText,
+}
+
+error_by_path!(ServiceHashError);
+
+/// The hash text of a service, under which its files are found: the name of a file. Hash texts are
+/// compared by their bytes.
+///
+/// ```
+/// use iox2sd::messaging_pattern::MessagingPattern;
+/// use iox2sd::service_hash::ServiceHash;
+///
+/// let name = "lidar/front".try_into()?;
+/// let hash = ServiceHash::new(&name, MessagingPattern::PublishSubscribe)?;
+/// assert_eq!(hash.as_str().len(), 27);
+/// assert_ne!(hash, ServiceHash::new(&name, MessagingPattern::Event)?);
+/// # Ok::<(), Box<dyn std::error::Error>>(())
+/// ```
+#[derive(Clone, Copy, PartialEq, Eq, PartialOrd, Ord, Hash)]
+pub struct ServiceHash {
+    text: RestrictedFileName,
+}
+
+impl ServiceHash {
+    /// The hash text of a service's pattern and name, by SHA-1.
+    ///
+    /// Refused with [`ServiceHashError::IllegalText`], which no call was ever seen to be.
+    pub fn new(name: &ServiceName, pattern: MessagingPattern) -> Result<Self, ServiceHashError> {
+        match library::hash_text(pattern as u32, name) {
+            Ok(text) => Ok(ServiceHash {
+                text: RestrictedFileName::of_legal(&text),
+            }),
+            Err(sys::IOX2SD_ILLEGAL_HASH) => Err(ServiceHashError::IllegalText),
+            Err(other) => library::unexpected(other),
+        }
+    }
+
+    /// The greatest number of bytes of a hash text.
+    pub fn max_number_of_characters() -> usize {
+        RestrictedFileName::capacity()
+    }
+
+    /// The text.
+    pub fn as_str(&self) -> &str {
+        self.text.as_str()
+    }
+}
+
+shown_as_text!(ServiceHash);

@@ -1,0 +1,96 @@
+//! What is fixed of an event service.
+
+use crate::config::{Config, EventId};
+use crate::identifiers::Time;
+use std::time::Duration;
+
+/// How long listeners wait for a notification before one counts as missed.
+#[derive(Clone, Copy, Debug, PartialEq, Eq, Hash)]
+pub struct Deadline {
+    /// When the deadline was set.
+    pub creation_time: Time,
+    /// The longest time between two notifications.
+    pub value: Duration,
+}
+
+/// What is fixed of an event service.
+#[derive(Clone, Copy, Debug, PartialEq, Eq, Hash)]
+pub struct StaticConfig {
+    /// How many notifiers there may be at once.
+    pub max_notifiers: usize,
+    /// How many listeners there may be at once.
+    pub max_listeners: usize,
+    /// How many nodes may have the service open at once.
+    pub max_nodes: usize,
+    /// The greatest number that an event may have.
+    pub event_id_max_value: usize,
+    /// The deadline, if there is one.
+    pub deadline: Option<Deadline>,
+    /// The number of the event that reports a new notifier, if there is one.
+    pub notifier_created_event: Option<usize>,
+    /// The number of the event that reports that a notifier went, if there is one.
+    pub notifier_dropped_event: Option<usize>,
+    /// The number of the event that reports a notifier whose node died, if there is one.
+    pub notifier_dead_event: Option<usize>,
+}
+
+impl StaticConfig {
+    /// The event defaults of a configuration. A deadline is made with the default time.
+    pub fn new(config: &Config) -> Self {
+        let defaults = &config.defaults.event;
+        let deadline = |value| Deadline {
+            creation_time: Time::default(),
+            value,
+        };
+        StaticConfig {
+            max_notifiers: defaults.max_notifiers,
+            max_listeners: defaults.max_listeners,
+            max_nodes: defaults.max_nodes,
+            event_id_max_value: defaults.event_id_max_value,
+            deadline: defaults.deadline.map(deadline),
+            notifier_created_event: defaults.notifier_created_event,
+            notifier_dropped_event: defaults.notifier_dropped_event,
+            notifier_dead_event: defaults.notifier_dead_event,
+        }
+    }
+
+    /// The longest time between two notifications, if there is such a limit.
+    pub fn deadline(&self) -> Option<Duration> {
+        self.deadline.map(|deadline| deadline.value)
+    }
+
+    /// How many nodes may have the service open at once.
+    pub fn max_nodes(&self) -> usize {
+        self.max_nodes
+    }
+
+    /// How many notifiers there may be at once.
+    pub fn max_notifiers(&self) -> usize {
+        self.max_notifiers
+    }
+
+    /// How many listeners there may be at once.
+    pub fn max_listeners(&self) -> usize {
+        self.max_listeners
+    }
+
+    /// The greatest number that an event may have.
+    pub fn event_id_max_value(&self) -> usize {
+        self.event_id_max_value
+    }
+
+    /// The event that reports a new notifier, if there is one.
+    pub fn notifier_created_event(&self) -> Option<EventId> {
+        self.notifier_created_event.map(EventId::new)
+    }
+
+    /// The event that reports that a notifier went, if there is one.
+    pub fn notifier_dropped_event(&self) -> Option<EventId> {
+        self.notifier_dropped_event.map(EventId::new)
+    }
+
+    /// The event that reports a notifier whose node died, if there is one.
+    pub fn notifier_dead_event(&self) -> Option<EventId> {
+        self.notifier_dead_event.map(EventId::new)
+    }
+}

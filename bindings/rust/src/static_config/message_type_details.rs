@@ -1,0 +1,439 @@
+//! The types of the parts of messages, where these lie, and how much room a message needs.
+//!
+//! ```
+//! use iox2sd::static_config::message_type_details::{MessageTypeDetails, TypeVariant};
+//!
+//! #[repr(C)]
+//! struct Point {
+//!     x: f64,
+//!     y: f64,
+//! }
+//!
+//! let details = MessageTypeDetails::from::<u64, u32, Point>(TypeVariant::Dynamic)?;
+//! let layout = details.sample_layout(100)?;
+//! assert!(layout.size() >= 8 + 4 + 100 * std::mem::size_of::<Point>());
+//! assert_eq!(layout.align(), 8);
+//! assert_eq!(details.user_header_ptr_from_header(4096)?, 4104);
+//! assert_eq!(details.payload_ptr_from_header(4096)?, 4112);
+//! # Ok::<(), Box<dyn std::error::Error>>(())
+//! ```
+
+use crate::display::{error_by_path, shown_by_name};
+use crate::library;
+use crate::semantic_string::StringModificationError;
+use crate::sys;
+use crate::text::{shown_as_text, Text};
+use std::alloc::Layout;
+use std::any::type_name;
+use std::error::Error;
+use std::fmt;
+use std::mem::{align_of, size_of};
+
+/// How many values of a type a message has.
+#[derive(Clone, Copy, Debug, Default, PartialEq, Eq, Hash)]
+#[repr(u32)]
+pub enum TypeVariant {
+    /// One.
+    #[default]
+    FixedSize = sys::IOX2SD_FIXED_SIZE,
+    /// A number that is known only at run time, one after another.
+    Dynamic = sys::IOX2SD_DYNAMIC,
+}
+
+shown_by_name!(TypeVariant);
+
+/// The name of a type. The default is the empty one.
+///
+/// ```
+/// use iox2sd::semantic_string::StringModificationError;
+/// use iox2sd::static_config::message_type_details::TypeName;
+///
+/// assert_eq!(TypeName::try_from("u64")?, "u64");
+/// assert_eq!(TypeName::try_from("Größe"), Err(StringModificationError::InvalidCharacter));
+/// # Ok::<(), StringModificationError>(())
+/// ```
+#[derive(Clone, Copy, PartialEq, Eq, PartialOrd, Ord, Hash)]
+pub struct TypeName {
+    text: Text,
+}
+
+impl TypeName {
+    /// The text of the name.
+    pub fn as_str(&self) -> &str {
+        self.text.as_str()
+    }
+}
+
+impl Default for TypeName {
+    fn default() -> Self {
+        TypeName { text: Text::EMPTY }
+    }
+}
+
+impl TryFrom<&str> for TypeName {
+    type Error = StringModificationError;
+
+    /// The name of a type, which may be empty.
+    ///
+    /// Refused are more than 256 bytes
+    /// ([`InsertWouldExceedCapacity`](StringModificationError::InsertWouldExceedCapacity)), and
+    /// then a byte that is not from 1 to 127
+    /// ([`InvalidCharacter`](StringModificationError::InvalidCharacter)).
+    fn try_from(name: &str) -> Result<Self, StringModificationError> {
+        match library::check_type_name(name) {
+            sys::IOX2SD_DONE => Ok(TypeName {
+                text: Text::copy_of(name),
+            }),
+            sys::IOX2SD_TOO_LONG => Err(StringModificationError::InsertWouldExceedCapacity),
+            sys::IOX2SD_ILLEGAL_BYTE => Err(StringModificationError::InvalidCharacter),
+            other => library::unexpected(other),
+        }
+    }
+}
+
+shown_as_text!(TypeName);
+
+/// Why there are no details of a type.
+#[derive(Clone, Copy, Debug, PartialEq, Eq, Hash)]
+pub enum TypeDetailError {
+    /// The text is no name of a type.
+    Name(StringModificationError),
+    /// The alignment is no power of two. This is reported after what is wrong with the name.
+    AlignmentNotPowerOfTwo,
+}
+
+error_by_path!(TypeDetailError);
+
+/// What a service knows of a type: its name, how many of its values a message has, their size in
+/// bytes, and the number of which their places are multiples.
+///
+/// The alignment is a power of two, but for the default details, which stand where none were given:
+/// their alignment and size are 0, and their name is empty.
+#[derive(Clone, Copy, Debug, Default, PartialEq, Eq, Hash)]
+pub struct TypeDetail {
+    variant: TypeVariant,
+    type_name: TypeName,
+    size: usize,
+    alignment: usize,
+}
+
+impl TypeDetail {
+    /// The details of the type `T`: what [`type_name`], [`size_of`] and [`align_of`] say.
+    ///
+    /// Refused with [`TypeDetailError::Name`] where the name of `T` is no name of a type here: it
+    /// is too long, or not plain ASCII. [`TypeDetail::from_parts`] takes a name of the caller's.
+    ///
+    /// ```
+    /// use iox2sd::static_config::message_type_details::{TypeDetail, TypeVariant};
+    ///
+    /// let detail = TypeDetail::new::<u32>(TypeVariant::FixedSize)?;
+    /// assert_eq!((detail.type_name().as_str(), detail.size()), ("u32", 4));
+    /// # Ok::<(), iox2sd::static_config::message_type_details::TypeDetailError>(())
+    /// ```
+    pub fn new<T>(variant: TypeVariant) -> Result<Self, TypeDetailError> {
+        Self::from_parts(variant, type_name::<T>(), size_of::<T>(), align_of::<T>())
+    }
+
+    /// The details with these parts.
+    ///
+    /// Refused are a name that is none, and then an alignment that is no power of two.
+    ///
+    /// ```
+    /// use iox2sd::static_config::message_type_details::{
+    ///     TypeDetail, TypeDetailError, TypeVariant,
+    /// };
+    ///
+    /// let point = TypeDetail::from_parts(TypeVariant::Dynamic, "Point3", 12, 4)?;
+    /// assert_eq!(point.alignment(), 4);
+    /// assert_eq!(
+    ///     TypeDetail::from_parts(TypeVariant::Dynamic, "Point3", 12, 3),
+    ///     Err(TypeDetailError::AlignmentNotPowerOfTwo)
+    /// );
+    /// # Ok::<(), TypeDetailError>(())
+    /// ```
+    pub fn from_parts(
+        variant: TypeVariant,
+        type_name: &str,
+        size: usize,
+        alignment: usize,
+    ) -> Result<Self, TypeDetailError> {
+        let detail = TypeDetail {
+            variant,
+            type_name: TypeName::try_from(type_name).map_err(TypeDetailError::Name)?,
+            size,
+            alignment,
+        };
+        match library::check_type(&detail) {
+            sys::IOX2SD_DONE => Ok(detail),
+            sys::IOX2SD_BAD_ALIGNMENT => Err(TypeDetailError::AlignmentNotPowerOfTwo),
+            other => library::unexpected(other),
+        }
+    }
+
+    /// How many values of the type a message has.
+    pub fn variant(&self) -> TypeVariant {
+        self.variant
+    }
+
+    /// The name of the type.
+    pub fn type_name(&self) -> &TypeName {
+        &self.type_name
+    }
+
+    /// How many bytes a value takes.
+    pub fn size(&self) -> usize {
+        self.size
+    }
+
+    /// The number of which the place of each value is a multiple: a power of two, or 0 in the
+    /// default details.
+    pub fn alignment(&self) -> usize {
+        self.alignment
+    }
+}
+
+/// The types of the parts of a message, which lie one after another.
+#[derive(Clone, Copy, Debug, Default, PartialEq, Eq, Hash)]
+pub struct MessageTypeDetails {
+    /// The type of the header, which belongs to the system.
+    pub header: TypeDetail,
+    /// The type of the user header.
+    pub user_header: TypeDetail,
+    /// The type of the elements of the payload.
+    pub payload: TypeDetail,
+}
+
+/// Why a message has no layout or no places.
+#[derive(Clone, Copy, Debug, PartialEq, Eq, Hash)]
+pub enum LayoutError {
+    /// The details of a part were not given: they are the default ones.
+    DetailsNotGiven,
+    /// A message would need more than 2^63 - 1 bytes, or the place of its payload would pass
+    /// 2^64 - 1.
+    TooLarge,
+}
+
+error_by_path!(LayoutError);
+
+impl LayoutError {
+    fn of(status: u32) -> Self {
+        match status {
+            sys::IOX2SD_BAD_ALIGNMENT => LayoutError::DetailsNotGiven,
+            sys::IOX2SD_TOO_LARGE => LayoutError::TooLarge,
+            other => library::unexpected(other),
+        }
+    }
+}
+
+impl MessageTypeDetails {
+    /// The details of a message with one `Header`, one `UserHeader` and so many `Payload` as the
+    /// variant says.
+    ///
+    /// Refused as [`TypeDetail::new`] is, of the first part that is.
+    ///
+    /// ```
+    /// use iox2sd::static_config::message_type_details::{MessageTypeDetails, TypeVariant};
+    ///
+    /// let details = MessageTypeDetails::from::<u64, (), [u8; 4]>(TypeVariant::FixedSize)?;
+    /// assert_eq!(details.header.alignment(), 8);
+    /// assert_eq!(details.user_header.size(), 0);
+    /// assert_eq!(details.payload.type_name(), &"[u8; 4]");
+    /// # Ok::<(), iox2sd::static_config::message_type_details::TypeDetailError>(())
+    /// ```
+    pub fn from<Header, UserHeader, Payload>(
+        payload_variant: TypeVariant,
+    ) -> Result<Self, TypeDetailError> {
+        Ok(MessageTypeDetails {
+            header: TypeDetail::new::<Header>(TypeVariant::FixedSize)?,
+            user_header: TypeDetail::new::<UserHeader>(TypeVariant::FixedSize)?,
+            payload: TypeDetail::new::<Payload>(payload_variant)?,
+        })
+    }
+
+    /// Whether the details of all parts were given.
+    pub fn has_alignments(&self) -> bool {
+        library::layout(self, 0) != Err(sys::IOX2SD_BAD_ALIGNMENT)
+    }
+
+    /// Whether a message with its header at the place `header` has a place for its payload.
+    pub fn has_places(&self, header: usize) -> bool {
+        library::places(self, header).is_ok()
+    }
+
+    /// The place of the user header in a message with its header at the place `header`. Places are
+    /// numbers: nothing is read there.
+    ///
+    /// Refused where the details of a part were not given, and where the place of the payload would
+    /// pass 2^64 - 1.
+    ///
+    /// ```
+    /// use iox2sd::static_config::message_type_details::{
+    ///     LayoutError, MessageTypeDetails, TypeVariant,
+    /// };
+    ///
+    /// let details = MessageTypeDetails::from::<u8, u32, u64>(TypeVariant::FixedSize)?;
+    /// assert_eq!(details.user_header_ptr_from_header(8), Ok(12));
+    /// assert_eq!(details.payload_ptr_from_header(8), Ok(16));
+    /// assert_eq!(details.payload_ptr_from_header(usize::MAX), Err(LayoutError::TooLarge));
+    /// # Ok::<(), iox2sd::static_config::message_type_details::TypeDetailError>(())
+    /// ```
+    pub fn user_header_ptr_from_header(&self, header: usize) -> Result<usize, LayoutError> {
+        let (user_header, _) = library::places(self, header).map_err(LayoutError::of)?;
+        Ok(user_header)
+    }
+
+    /// The place of the payload in a message with its header at the place `header`. Refused in the
+    /// same way.
+    pub fn payload_ptr_from_header(&self, header: usize) -> Result<usize, LayoutError> {
+        let (_, payload) = library::places(self, header).map_err(LayoutError::of)?;
+        Ok(payload)
+    }
+
+    /// The room for a message whose payload has so many elements.
+    ///
+    /// Wherever the header lies at a multiple of its alignment, all parts lie in the room, apart
+    /// and aligned, for the service and for every compatible opener; so they do in rooms that lie
+    /// end to end. The room need not be the least.
+    ///
+    /// Refused where the details of a part were not given, and where it would pass 2^63 - 1 bytes.
+    ///
+    /// ```
+    /// use iox2sd::static_config::message_type_details::{
+    ///     LayoutError, MessageTypeDetails, TypeVariant,
+    /// };
+    ///
+    /// let details = MessageTypeDetails::from::<i64, i64, i64>(TypeVariant::Dynamic)?;
+    /// assert_eq!(details.sample_layout(2)?.size(), 48);
+    /// assert_eq!(details.sample_layout(usize::MAX), Err(LayoutError::TooLarge));
+    /// let none = MessageTypeDetails::default();
+    /// assert_eq!(none.sample_layout(2), Err(LayoutError::DetailsNotGiven));
+    /// # Ok::<(), Box<dyn std::error::Error>>(())
+    /// ```
+    pub fn sample_layout(&self, number_of_elements: usize) -> Result<Layout, LayoutError> {
+        let (size, alignment) =
+            library::layout(self, number_of_elements).map_err(LayoutError::of)?;
+        Layout::from_size_align(size, alignment).map_err(|_| LayoutError::TooLarge)
+    }
+
+    /// Whether an opener with these details may use the messages of a service with the details
+    /// `rhs`: [`check_compatible_to`](Self::check_compatible_to) refuses nothing.
+    pub fn is_compatible_to(&self, rhs: &Self) -> bool {
+        self.check_compatible_to(rhs).is_ok()
+    }
+
+    /// Whether an opener with these details may use the messages of a service with the details
+    /// `rhs`: the headers are equal, and user headers and payloads are equal but for their
+    /// alignments, which are at most those of the service.
+    ///
+    /// Refused with the first part that keeps the opener out, and why. Details that were not given
+    /// keep everybody out, and that is reported first.
+    ///
+    /// ```
+    /// use iox2sd::static_config::message_type_details::{
+    ///     IncompatibilityCause, MessagePart, MessageTypeDetails, TypeVariant,
+    /// };
+    ///
+    /// let opener = MessageTypeDetails::from::<u64, (), i8>(TypeVariant::FixedSize)?;
+    /// let service = MessageTypeDetails::from::<u64, (), u8>(TypeVariant::FixedSize)?;
+    /// let refused = opener.check_compatible_to(&service).unwrap_err();
+    /// assert_eq!(refused.part, MessagePart::Payload);
+    /// assert_eq!(refused.cause, IncompatibilityCause::OtherName);
+    /// assert_eq!(refused.to_string(), "the payload has another type name");
+    /// # Ok::<(), iox2sd::static_config::message_type_details::TypeDetailError>(())
+    /// ```
+    pub fn check_compatible_to(&self, rhs: &Self) -> Result<(), Incompatibility> {
+        let answer = library::compatible(self, rhs);
+        let cause = match answer.status {
+            sys::IOX2SD_DONE => return Ok(()),
+            sys::IOX2SD_BAD_ALIGNMENT => IncompatibilityCause::DetailsNotGiven,
+            sys::IOX2SD_OTHER_NAME => IncompatibilityCause::OtherName,
+            sys::IOX2SD_OTHER_VARIANT => IncompatibilityCause::OtherVariant,
+            sys::IOX2SD_OTHER_SIZE => IncompatibilityCause::OtherSize,
+            sys::IOX2SD_OTHER_ALIGNMENT => IncompatibilityCause::OtherAlignment,
+            sys::IOX2SD_GREATER_ALIGNMENT => IncompatibilityCause::GreaterAlignment,
+            other => library::unexpected(other),
+        };
+        Err(Incompatibility {
+            part: MessagePart::of(answer.part),
+            cause,
+        })
+    }
+}
+
+/// A part of a message.
+#[derive(Clone, Copy, Debug, PartialEq, Eq, Hash)]
+#[repr(u32)]
+pub enum MessagePart {
+    /// The header, which belongs to the system.
+    Header = sys::IOX2SD_HEADER,
+    /// The user header.
+    UserHeader = sys::IOX2SD_USER_HEADER,
+    /// The payload.
+    Payload = sys::IOX2SD_PAYLOAD,
+}
+
+impl MessagePart {
+    fn of(number: u32) -> Self {
+        let all = [Self::Header, Self::UserHeader, Self::Payload];
+        library::choice(&all, |part| part as u32, number)
+    }
+}
+
+/// The part in words.
+impl fmt::Display for MessagePart {
+    fn fmt(&self, f: &mut fmt::Formatter<'_>) -> fmt::Result {
+        f.pad(match self {
+            MessagePart::Header => "header",
+            MessagePart::UserHeader => "user header",
+            MessagePart::Payload => "payload",
+        })
+    }
+}
+
+/// What of a part keeps an opener out.
+#[derive(Clone, Copy, Debug, PartialEq, Eq, Hash)]
+pub enum IncompatibilityCause {
+    /// Its details were not given, by the opener or by the service.
+    DetailsNotGiven,
+    /// The names of the types differ.
+    OtherName,
+    /// The numbers of values differ: one, and any number.
+    OtherVariant,
+    /// The sizes differ.
+    OtherSize,
+    /// The alignments of the headers differ.
+    OtherAlignment,
+    /// The opener's alignment is greater than the service's.
+    GreaterAlignment,
+}
+
+/// What the part has, in words.
+impl fmt::Display for IncompatibilityCause {
+    fn fmt(&self, f: &mut fmt::Formatter<'_>) -> fmt::Result {
+        f.pad(match self {
+            IncompatibilityCause::DetailsNotGiven => "no details",
+            IncompatibilityCause::OtherName => "another type name",
+            IncompatibilityCause::OtherVariant => "another variant",
+            IncompatibilityCause::OtherSize => "another size",
+            IncompatibilityCause::OtherAlignment => "another alignment",
+            IncompatibilityCause::GreaterAlignment => "a greater alignment than the service's",
+        })
+    }
+}
+
+/// Why an opener may not use the messages of a service.
+#[derive(Clone, Copy, Debug, PartialEq, Eq, Hash)]
+pub struct Incompatibility {
+    /// The first part that keeps it out.
+    pub part: MessagePart,
+    /// What of the part does.
+    pub cause: IncompatibilityCause,
+}
+
+impl fmt::Display for Incompatibility {
+    fn fmt(&self, f: &mut fmt::Formatter<'_>) -> fmt::Result {
+        write!(f, "the {} has {}", self.part, self.cause)
+    }
+}
+
+impl Error for Incompatibility {}

@@ -1,0 +1,82 @@
+//! The pattern of a service, with what is fixed by it.
+
+use super::{blackboard, event, publish_subscribe, request_response};
+use crate::messaging_pattern::MessagingPattern as Kind;
+use std::fmt;
+
+/// The pattern of a service, with what is fixed by it.
+///
+/// ```
+/// use iox2sd::config::Config;
+/// use iox2sd::static_config::messaging_pattern::MessagingPattern;
+/// use iox2sd::static_config::{blackboard, event};
+///
+/// let mut config = Config::default();
+/// let one = MessagingPattern::Event(event::StaticConfig::new(&config));
+/// config.defaults.event.max_nodes -= 1;
+/// let other = MessagingPattern::Event(event::StaticConfig::new(&config));
+/// assert_ne!(one, other);
+/// assert!(one.is_same_pattern(&other));
+/// let board = MessagingPattern::Blackboard(blackboard::StaticConfig::new(&config));
+/// assert!(!one.is_same_pattern(&board));
+/// ```
+#[derive(Clone, Copy, Debug, PartialEq, Eq, Hash)]
+#[allow(clippy::large_enum_variant)] // Texts are copied by value, and none is boxed.
+pub enum MessagingPattern {
+    /// Clients send requests, and servers answer them.
+    RequestResponse(request_response::StaticConfig),
+    /// Publishers send samples to all subscribers.
+    PublishSubscribe(publish_subscribe::StaticConfig),
+    /// Notifiers wake listeners.
+    Event(event::StaticConfig),
+    /// A writer keeps values that readers look up by key.
+    Blackboard(blackboard::StaticConfig),
+}
+
+/// The name of the variant.
+impl fmt::Display for MessagingPattern {
+    fn fmt(&self, f: &mut fmt::Formatter<'_>) -> fmt::Result {
+        fmt::Display::fmt(&self.kind(), f)
+    }
+}
+
+impl MessagingPattern {
+    /// The pattern alone.
+    pub fn kind(&self) -> Kind {
+        match self {
+            MessagingPattern::RequestResponse(_) => Kind::RequestResponse,
+            MessagingPattern::PublishSubscribe(_) => Kind::PublishSubscribe,
+            MessagingPattern::Event(_) => Kind::Event,
+            MessagingPattern::Blackboard(_) => Kind::Blackboard,
+        }
+    }
+
+    /// Whether both are one pattern, whatever is fixed by it.
+    pub fn is_same_pattern(&self, rhs: &MessagingPattern) -> bool {
+        self.kind() == rhs.kind()
+    }
+
+    /// What is fixed of a request-response service.
+    ///
+    /// # Panics
+    ///
+    /// Where the pattern is another, as [`kind`](Self::kind) says.
+    pub fn request_response(&self) -> &request_response::StaticConfig {
+        match self {
+            MessagingPattern::RequestResponse(config) => config,
+            other => panic!("the pattern is {other}, not RequestResponse"),
+        }
+    }
+
+    /// What is fixed of a publish-subscribe service.
+    ///
+    /// # Panics
+    ///
+    /// Where the pattern is another, as [`kind`](Self::kind) says.
+    pub fn publish_subscribe(&self) -> &publish_subscribe::StaticConfig {
+        match self {
+            MessagingPattern::PublishSubscribe(config) => config,
+            other => panic!("the pattern is {other}, not PublishSubscribe"),
+        }
+    }
+}

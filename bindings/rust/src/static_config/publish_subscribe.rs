@@ -1,0 +1,107 @@
+//! What is fixed of a publish-subscribe service.
+
+use super::message_type_details::MessageTypeDetails;
+use crate::config::Config;
+use crate::library;
+
+/// What is fixed of a publish-subscribe service.
+#[derive(Clone, Copy, Debug, PartialEq, Eq, Hash)]
+pub struct StaticConfig {
+    /// How many subscribers there may be at once.
+    pub max_subscribers: usize,
+    /// How many publishers there may be at once.
+    pub max_publishers: usize,
+    /// How many nodes may have the service open at once.
+    pub max_nodes: usize,
+    /// How many of the last samples a publisher keeps for subscribers that come later.
+    pub history_size: usize,
+    /// How many samples a subscriber's buffer has room for.
+    pub subscriber_max_buffer_size: usize,
+    /// How many samples a subscriber may hold at once.
+    pub subscriber_max_borrowed_samples: usize,
+    /// Whether a new sample takes the oldest one's place where a buffer is full.
+    pub enable_safe_overflow: bool,
+    /// The types of a message's parts.
+    pub message_type_details: MessageTypeDetails,
+}
+
+impl StaticConfig {
+    /// The publish-subscribe defaults of a configuration, with the default type details.
+    pub fn new(config: &Config) -> Self {
+        let defaults = &config.defaults.publish_subscribe;
+        StaticConfig {
+            max_subscribers: defaults.max_subscribers,
+            max_publishers: defaults.max_publishers,
+            max_nodes: defaults.max_nodes,
+            history_size: defaults.publisher_history_size,
+            subscriber_max_buffer_size: defaults.subscriber_max_buffer_size,
+            subscriber_max_borrowed_samples: defaults.subscriber_max_borrowed_samples,
+            enable_safe_overflow: defaults.enable_safe_overflow,
+            message_type_details: MessageTypeDetails::default(),
+        }
+    }
+
+    /// The greatest number of one publisher's samples that can be in use at once, where it may
+    /// have taken so many and not yet sent; `None` exactly where that passes 2^64 - 1.
+    ///
+    /// ```
+    /// use iox2sd::config::Config;
+    /// use iox2sd::static_config::publish_subscribe::StaticConfig;
+    ///
+    /// let service = StaticConfig::new(&Config::default());
+    /// assert_eq!(service.required_amount_of_samples_per_data_segment(2), Some(34));
+    /// assert_eq!(service.required_amount_of_samples_per_data_segment(usize::MAX), None);
+    /// ```
+    pub fn required_amount_of_samples_per_data_segment(
+        &self,
+        publisher_max_loaned_data: usize,
+    ) -> Option<usize> {
+        library::chunks(library::publisher_chunks(
+            self.max_subscribers,
+            self.subscriber_max_buffer_size,
+            self.subscriber_max_borrowed_samples,
+            self.history_size,
+            publisher_max_loaned_data,
+        ))
+    }
+
+    /// How many nodes may have the service open at once.
+    pub fn max_nodes(&self) -> usize {
+        self.max_nodes
+    }
+
+    /// How many publishers there may be at once.
+    pub fn max_publishers(&self) -> usize {
+        self.max_publishers
+    }
+
+    /// How many subscribers there may be at once.
+    pub fn max_subscribers(&self) -> usize {
+        self.max_subscribers
+    }
+
+    /// How many of the last samples a publisher keeps for subscribers that come later.
+    pub fn history_size(&self) -> usize {
+        self.history_size
+    }
+
+    /// How many samples a subscriber's buffer has room for.
+    pub fn subscriber_max_buffer_size(&self) -> usize {
+        self.subscriber_max_buffer_size
+    }
+
+    /// How many samples a subscriber may hold at once.
+    pub fn subscriber_max_borrowed_samples(&self) -> usize {
+        self.subscriber_max_borrowed_samples
+    }
+
+    /// Whether a new sample takes the oldest one's place where a buffer is full.
+    pub fn has_safe_overflow(&self) -> bool {
+        self.enable_safe_overflow
+    }
+
+    /// The types of a message's parts.
+    pub fn message_type_details(&self) -> &MessageTypeDetails {
+        &self.message_type_details
+    }
+}

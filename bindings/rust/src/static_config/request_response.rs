@@ -1,0 +1,160 @@
+//! What is fixed of a request-response service.
+
+use super::message_type_details::MessageTypeDetails;
+use crate::config::Config;
+use crate::library;
+
+/// What is fixed of a request-response service.
+#[derive(Clone, Copy, Debug, PartialEq, Eq, Hash)]
+pub struct StaticConfig {
+    /// Whether a new request takes the oldest one's place where a server's buffer is full.
+    pub enable_safe_overflow_for_requests: bool,
+    /// Whether a new response takes the oldest one's place where a client's buffer is full.
+    pub enable_safe_overflow_for_responses: bool,
+    /// Whether a client may send a request and take no response.
+    pub enable_fire_and_forget_requests: bool,
+    /// How many requests of one client may be open at each server at once.
+    pub max_active_requests_per_client: usize,
+    /// How many requests a client may have taken and not yet sent.
+    pub max_loaned_requests: usize,
+    /// How many responses to one request a client's buffer has room for.
+    pub max_response_buffer_size: usize,
+    /// How many servers there may be at once.
+    pub max_servers: usize,
+    /// How many clients there may be at once.
+    pub max_clients: usize,
+    /// How many nodes may have the service open at once.
+    pub max_nodes: usize,
+    /// How many responses to one request a client may hold at once.
+    pub max_borrowed_responses_per_pending_response: usize,
+    /// The types of a request's parts.
+    pub request_message_type_details: MessageTypeDetails,
+    /// The types of a response's parts.
+    pub response_message_type_details: MessageTypeDetails,
+}
+
+impl StaticConfig {
+    /// The request-response defaults of a configuration, with the default type details.
+    pub fn new(config: &Config) -> Self {
+        let defaults = &config.defaults.request_response;
+        StaticConfig {
+            enable_safe_overflow_for_requests: defaults.enable_safe_overflow_for_requests,
+            enable_safe_overflow_for_responses: defaults.enable_safe_overflow_for_responses,
+            enable_fire_and_forget_requests: defaults.enable_fire_and_forget_requests,
+            max_active_requests_per_client: defaults.max_active_requests_per_client,
+            max_loaned_requests: defaults.max_loaned_requests,
+            max_response_buffer_size: defaults.max_response_buffer_size,
+            max_servers: defaults.max_servers,
+            max_clients: defaults.max_clients,
+            max_nodes: defaults.max_nodes,
+            max_borrowed_responses_per_pending_response: defaults
+                .max_borrowed_responses_per_pending_response,
+            request_message_type_details: MessageTypeDetails::default(),
+            response_message_type_details: MessageTypeDetails::default(),
+        }
+    }
+
+    /// The greatest number of one client's requests that can be in use at once, where it may have
+    /// taken so many and not yet sent; `None` exactly where that passes 2^64 - 1.
+    ///
+    /// ```
+    /// use iox2sd::config::Config;
+    /// use iox2sd::static_config::request_response::StaticConfig;
+    ///
+    /// let service = StaticConfig::new(&Config::default());
+    /// assert_eq!(service.required_amount_of_chunks_per_client_data_segment(2), Some(18));
+    /// ```
+    pub fn required_amount_of_chunks_per_client_data_segment(
+        &self,
+        client_max_loaned_data: usize,
+    ) -> Option<usize> {
+        library::chunks(library::client_chunks(
+            self.max_servers,
+            self.max_active_requests_per_client,
+            client_max_loaned_data,
+        ))
+    }
+
+    /// The greatest number of one server's responses that can be in use at once, where it may have
+    /// taken so many to one request and not yet sent; `None` exactly where that passes 2^64 - 1.
+    ///
+    /// ```
+    /// use iox2sd::config::Config;
+    /// use iox2sd::static_config::request_response::StaticConfig;
+    ///
+    /// let service = StaticConfig::new(&Config::default());
+    /// assert_eq!(service.required_amount_of_chunks_per_server_data_segment(2), Some(384));
+    /// ```
+    pub fn required_amount_of_chunks_per_server_data_segment(
+        &self,
+        max_loaned_responses_per_request: usize,
+    ) -> Option<usize> {
+        library::chunks(library::server_chunks(
+            self.max_clients,
+            self.max_active_requests_per_client,
+            self.max_response_buffer_size,
+            self.max_borrowed_responses_per_pending_response,
+            max_loaned_responses_per_request,
+        ))
+    }
+
+    /// The types of a request's parts.
+    pub fn request_message_type_details(&self) -> &MessageTypeDetails {
+        &self.request_message_type_details
+    }
+
+    /// The types of a response's parts.
+    pub fn response_message_type_details(&self) -> &MessageTypeDetails {
+        &self.response_message_type_details
+    }
+
+    /// Whether a new request takes the oldest one's place where a server's buffer is full.
+    pub fn has_safe_overflow_for_requests(&self) -> bool {
+        self.enable_safe_overflow_for_requests
+    }
+
+    /// Whether a new response takes the oldest one's place where a client's buffer is full.
+    pub fn has_safe_overflow_for_responses(&self) -> bool {
+        self.enable_safe_overflow_for_responses
+    }
+
+    /// Whether a client may send a request and take no response.
+    pub fn does_support_fire_and_forget_requests(&self) -> bool {
+        self.enable_fire_and_forget_requests
+    }
+
+    /// How many responses to one request a client may hold at once.
+    pub fn max_borrowed_responses_per_pending_response(&self) -> usize {
+        self.max_borrowed_responses_per_pending_response
+    }
+
+    /// How many requests of one client may be open at each server at once.
+    pub fn max_active_requests_per_client(&self) -> usize {
+        self.max_active_requests_per_client
+    }
+
+    /// How many responses to one request a client's buffer has room for.
+    pub fn max_response_buffer_size(&self) -> usize {
+        self.max_response_buffer_size
+    }
+
+    /// How many requests a client may have taken and not yet sent.
+    pub fn max_loaned_requests(&self) -> usize {
+        self.max_loaned_requests
+    }
+
+    /// How many servers there may be at once.
+    pub fn max_servers(&self) -> usize {
+        self.max_servers
+    }
+
+    /// How many clients there may be at once.
+    pub fn max_clients(&self) -> usize {
+        self.max_clients
+    }
+
+    /// How many nodes may have the service open at once.
+    pub fn max_nodes(&self) -> usize {
+        self.max_nodes
+    }
+}

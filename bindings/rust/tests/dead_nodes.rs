@@ -1,0 +1,114 @@
+//! What becomes of the ports of a dead node.
+#![forbid(unsafe_code)]
+
+mod common;
+
+use common::{node, ports_of_kind, service, KINDS};
+use iox2sd::dynamic_config::{DeregisterNodeState, DynamicConfig, PortCleanupAction, PortDetails};
+use iox2sd::messaging_pattern::MessagingPattern;
+use std::panic::{catch_unwind, AssertUnwindSafe};
+
+/// A service where the nodes 1 and 2 are registered twice, and have two ports of each kind.
+fn busy(kind: MessagingPattern) -> DynamicConfig {
+    let mut service = service(kind, 4, [4, 4]);
+    for counter in [1, 2, 1, 2] {
+        service.register_node_id(node(counter)).unwrap();
+    }
+    for counter in 1..=4 {
+        for port in ports_of_kind(kind, node(1 + counter % 2), counter) {
+            service.attach(port).unwrap();
+        }
+    }
+    service
+}
+
+fn ports_of(service: &DynamicConfig, counter: u32) -> Vec<PortDetails> {
+    service.ports_of(&node(counter)).collect()
+}
+
+#[test]
+fn ports_of_a_node_are_those_of_the_first_kind_and_then_of_the_second() {
+    for (kind, first, second) in KINDS {
+        let service = busy(kind);
+        let ports = ports_of(&service, 1);
+        assert_eq!(ports.len(), 4);
+        assert!(ports.iter().all(|port| port.node_id() == node(1)));
+        let roles: Vec<_> = ports.iter().map(PortDetails::role).collect();
+        assert_eq!(roles, [first, first, second, second]);
+        let counters: Vec<_> = ports.iter().map(|p| p.port_id().value() as u32).collect();
+        assert_eq!(counters, [2, 4, 2, 4]);
+        assert!(ports_of(&service, 3).is_empty());
+    }
+}
+
+#[test]
+fn a_dead_node_goes_with_its_ports() {
+    for (kind, ..) in KINDS {
+        let mut service = busy(kind);
+        let others = ports_of(&service, 2);
+        let mut asked = Vec::new();
+        let expected: Vec<_> = service
+            .ports_of(&node(1))
+            .map(|port| port.port_id())
+            .collect();
+        let state = service.remove_dead_node_id(&node(1), |port| {
+            asked.push(port);
+            PortCleanupAction::RemovePort
+        });
+        assert_eq!(asked, expected);
+        assert_eq!(state, DeregisterNodeState::HasOwners);
+        assert_eq!(service.nodes().collect::<Vec<_>>(), [node(2), node(2)]);
+        assert!(ports_of(&service, 1).is_empty());
+        assert_eq!(ports_of(&service, 2), others);
+
+        let state = service.remove_dead_node_id(&node(2), |_| PortCleanupAction::RemovePort);
+        assert_eq!(state, DeregisterNodeState::NoMoreOwners);
+        assert!(service.is_locked());
+        assert_eq!(service.number_of_nodes(), 0);
+    }
+}
+
+#[test]
+fn a_port_that_stays_keeps_its_node() {
+    for (kind, ..) in KINDS {
+        let mut service = busy(kind);
+        let [kept, ..] = ports_of(&service, 1)[..] else {
+            panic!("there are ports");
+        };
+        let state = service.remove_dead_node_id(&node(1), |port| {
+            if port == kept.port_id() {
+                PortCleanupAction::SkipPort
+            } else {
+                PortCleanupAction::RemovePort
+            }
+        });
+        assert_eq!(state, DeregisterNodeState::HasOwners);
+        assert_eq!(ports_of(&service, 1), [kept]);
+        assert_eq!(service.number_of_nodes(), 4);
+        assert_eq!(ports_of(&service, 2).len(), 4);
+    }
+}
+
+#[test]
+fn nobody_is_asked_about_a_node_without_ports() {
+    let mut service = busy(MessagingPattern::Event);
+    let state = service.remove_dead_node_id(&node(3), |_| panic!("nobody is asked about"));
+    assert_eq!(state, DeregisterNodeState::HasOwners);
+    assert_eq!(service.number_of_nodes(), 4);
+}
+
+#[test]
+fn a_callback_that_panics_leaves_the_service_as_it_was() {
+    let mut service = busy(MessagingPattern::Event);
+    let before = (ports_of(&service, 1), service.number_of_nodes());
+    let mut asked = 0;
+    let panicked = catch_unwind(AssertUnwindSafe(|| {
+        service.remove_dead_node_id(&node(1), |_| {
+            asked += 1;
+            assert!(asked < 3, "it panics at the third port");
+            PortCleanupAction::RemovePort
+        })
+    }));
+    assert!(panicked.is_err());
+    assert_eq!((ports_of(&service, 1), service.number_of_nodes()), before);
+}

@@ -1,0 +1,184 @@
+//! The declarations of `src/sys.rs` are those of the headers: numbers, structs and functions.
+#![forbid(unsafe_code)]
+
+use std::collections::BTreeMap;
+use std::fs;
+use std::path::Path;
+
+/// What stands after each name, with the types of C.
+type Declarations = BTreeMap<String, String>;
+
+fn read(path: &str) -> String {
+    fs::read_to_string(Path::new(env!("CARGO_MANIFEST_DIR")).join(path)).unwrap()
+}
+
+/// One space between words, and none beside punctuation.
+fn squeezed(text: &str) -> String {
+    let mut out = text.split_whitespace().collect::<Vec<_>>().join(" ");
+    for mark in ["(", ")", "{", "}", ",", ";", "*", ":", "="] {
+        for form in [format!("{mark} "), format!(" {mark}")] {
+            while out.contains(&form) {
+                out = out.replace(&form, mark);
+            }
+        }
+    }
+    out
+}
+
+/// The text without comments and without lines of the preprocessor.
+fn without_comments(header: &str) -> String {
+    let mut text = String::new();
+    for (i, part) in header.split("/*").enumerate() {
+        text += if i == 0 {
+            part
+        } else {
+            part.split_once("*/").unwrap().1
+        };
+    }
+    text.lines()
+        .filter(|line| !line.trim_start().starts_with('#') && !line.trim_start().starts_with("//"))
+        .collect::<Vec<_>>()
+        .join(" ")
+}
+
+/// The parts of a list with their names first: `name: type`.
+fn parts(list: &str, separator: char) -> String {
+    let part = |part: &str| {
+        let end = part.rfind([' ', '*']).unwrap() + 1;
+        format!("{}: {}", &part[end..], part[..end].trim_end())
+    };
+    let parts: Vec<_> = list
+        .split(separator)
+        .filter(|part| !part.is_empty() && *part != "void")
+        .map(part)
+        .collect();
+    parts.join(", ")
+}
+
+/// The struct or the function that a declaration of C declares. A struct may name several fields
+/// after one type.
+fn declared(declaration: &str) -> Option<(String, String)> {
+    let declaration = declaration.trim();
+    if let Some(rest) = declaration.strip_prefix("typedef struct ") {
+        let (name, fields) = rest.split_once('{')?;
+        return Some((name.to_string(), parts(fields.split_once('}')?.0, ';')));
+    }
+    let (head, arguments) = declaration.strip_suffix(')')?.split_once('(')?;
+    let (answer, name) = head.rsplit_once(' ')?;
+    let is_ours = name.starts_with("iox2sd_") && !answer.contains("inline");
+    is_ours.then(|| {
+        (
+            name.to_string(),
+            format!("({}) -> {answer}", parts(arguments, ',')),
+        )
+    })
+}
+
+/// The declarations of a header, in the order of its `;` outside of braces.
+fn of_header(header: &str) -> Declarations {
+    let text = squeezed(&without_comments(header)).replace("extern \"C\"{", "");
+    let mut found = Declarations::new();
+    let (mut depth, mut current) = (0, String::new());
+    for letter in text.chars() {
+        match letter {
+            '{' => depth += 1,
+            '}' => depth -= 1,
+            _ => {}
+        }
+        if letter == ';' && depth == 0 {
+            found.extend(declared(&current));
+            current.clear();
+        } else if letter == '}' && depth == 0 && current.contains("static inline") {
+            current.clear();
+        } else {
+            current.push(letter);
+        }
+        if letter == '}' && depth == 0 && current.contains("enum") {
+            let numbers = current.split_once('{').unwrap().1.trim_end_matches('}');
+            let number = |entry: &str| {
+                let (name, number) = entry.split_once('=')?;
+                Some((name.to_string(), number.to_string()))
+            };
+            found.extend(numbers.split(',').filter_map(number));
+        }
+    }
+    found
+}
+
+/// A type of Rust as C spells it.
+fn in_c(rust: &str) -> String {
+    if let Some(target) = rust.strip_prefix("*const ") {
+        return format!("const {}*", in_c(target));
+    }
+    if let Some(target) = rust.strip_prefix("*mut ") {
+        return format!("{}*", in_c(target));
+    }
+    let name = match rust {
+        "u8" => "uint8_t",
+        "u32" => "uint32_t",
+        "u64" => "uint64_t",
+        "usize" => "size_t",
+        "c_void" => "void",
+        other => other,
+    };
+    name.to_string()
+}
+
+/// The parts of a list of Rust: `name: type`, as C spells the types.
+fn rust_parts(list: &str) -> String {
+    let part = |part: &str| {
+        let (name, kind) = part.split_once(':').unwrap();
+        format!("{}: {}", name.trim_start_matches("pub "), in_c(kind))
+    };
+    let parts: Vec<_> = list
+        .split(',')
+        .filter(|part| !part.is_empty())
+        .map(part)
+        .collect();
+    parts.join(", ")
+}
+
+/// The declarations of `src/sys.rs`.
+fn of_sys(sys: &str) -> Declarations {
+    let text = squeezed(&without_comments(sys).replace("-> ", "->"));
+    let mut found = Declarations::new();
+    for piece in text.split("pub const ").skip(1) {
+        let (name, rest) = piece.split_once(':').unwrap();
+        let number = rest.split_once('=').unwrap().1.split(';').next().unwrap();
+        found.insert(name.to_string(), number.to_string());
+    }
+    for piece in text.split("pub struct ").skip(1) {
+        let (name, rest) = piece.split_once('{').unwrap();
+        found.insert(
+            name.to_string(),
+            rust_parts(rest.split_once('}').unwrap().0),
+        );
+    }
+    for piece in text.split("pub fn ").skip(1) {
+        let (name, rest) = piece.split_once('(').unwrap();
+        let (arguments, rest) = rest.split_once(')').unwrap();
+        let answer = rest
+            .trim()
+            .trim_start_matches("->")
+            .split(';')
+            .next()
+            .unwrap();
+        let signature = format!("({}) -> {}", rust_parts(arguments), in_c(answer.trim()));
+        found.insert(name.to_string(), signature);
+    }
+    found
+}
+
+#[test]
+fn each_declaration_is_that_of_the_headers() {
+    let mut headers = of_header(&read("../../include/iox2sd.h"));
+    headers.extend(of_header(&read("../../include/iox2sd_values.h")));
+    let sys = of_sys(&read("src/sys.rs"));
+    for prefix in ["IOX2SD_", "iox2sd_"] {
+        let count = sys.keys().filter(|name| name.starts_with(prefix)).count();
+        assert!(count > 60, "{prefix}: {count}");
+    }
+    for (name, declaration) in &sys {
+        assert_eq!(Some(declaration), headers.get(name), "{name}");
+    }
+}

@@ -1,0 +1,256 @@
+//! The types of messages: worked sizes and places, and who is compatible with whom.
+#![forbid(unsafe_code)]
+
+use iox2sd::semantic_string::StringModificationError;
+use iox2sd::static_config::message_type_details::{
+    IncompatibilityCause, LayoutError, MessagePart, MessageTypeDetails, TypeDetail,
+    TypeDetailError, TypeName, TypeVariant,
+};
+use std::alloc::Layout;
+use std::mem::{align_of, offset_of, size_of};
+
+fn detail(name: &str, size: usize, alignment: usize) -> TypeDetail {
+    TypeDetail::from_parts(TypeVariant::FixedSize, name, size, alignment).unwrap()
+}
+
+#[test]
+fn a_type_is_described_by_what_the_compiler_says() {
+    #[repr(C)]
+    #[allow(dead_code)]
+    struct Mixed {
+        first: i32,
+        second: bool,
+        third: i64,
+    }
+
+    let details = MessageTypeDetails::from::<i32, i64, Mixed>(TypeVariant::Dynamic).unwrap();
+    assert_eq!(details.header, detail("i32", 4, 4));
+    assert_eq!(details.user_header, detail("i64", 8, 8));
+    assert_eq!(details.payload.variant(), TypeVariant::Dynamic);
+    assert_eq!(details.payload.size(), size_of::<Mixed>());
+    assert_eq!(details.payload.alignment(), align_of::<Mixed>());
+    let name = details.payload.type_name().as_str();
+    assert!(
+        name.starts_with("messages::") && name.ends_with("::Mixed"),
+        "{name}"
+    );
+    assert_eq!(details.header.variant(), TypeVariant::FixedSize);
+}
+
+#[test]
+fn names_of_types_have_up_to_256_bytes() {
+    use StringModificationError::{InsertWouldExceedCapacity, InvalidCharacter};
+    let (greatest, long) = ("a".repeat(256), "a".repeat(257));
+    assert_eq!(
+        TypeName::try_from(greatest.as_str()).unwrap(),
+        greatest.as_str()
+    );
+    assert_eq!(TypeName::try_from("").unwrap(), TypeName::default());
+    assert_eq!(
+        TypeName::try_from(long.as_str()),
+        Err(InsertWouldExceedCapacity)
+    );
+    assert_eq!(TypeName::try_from("a\0"), Err(InvalidCharacter));
+    assert_eq!(TypeName::try_from("Größe"), Err(InvalidCharacter));
+    assert_eq!(
+        InvalidCharacter.to_string(),
+        "StringModificationError::InvalidCharacter"
+    );
+    assert_eq!(
+        InsertWouldExceedCapacity.to_string(),
+        "StringModificationError::InsertWouldExceedCapacity"
+    );
+}
+
+#[test]
+fn parts_of_a_type_are_refused_by_their_cause() {
+    for alignment in [0, 3, 6, usize::MAX] {
+        assert_eq!(
+            TypeDetail::from_parts(TypeVariant::FixedSize, "T", 8, alignment),
+            Err(TypeDetailError::AlignmentNotPowerOfTwo),
+            "{alignment}"
+        );
+    }
+    for alignment in [1, 2, 4096, 1 << 63] {
+        assert_eq!(detail("T", 8, alignment).alignment(), alignment);
+    }
+    let error = TypeDetail::from_parts(TypeVariant::FixedSize, "\0", 8, 3).unwrap_err();
+    assert_eq!(
+        error,
+        TypeDetailError::Name(StringModificationError::InvalidCharacter)
+    );
+    assert_eq!(error.to_string(), "TypeDetailError::Name(InvalidCharacter)");
+    assert_eq!(
+        TypeDetailError::AlignmentNotPowerOfTwo.to_string(),
+        "TypeDetailError::AlignmentNotPowerOfTwo"
+    );
+
+    struct Größe;
+    assert_eq!(TypeDetail::new::<Größe>(TypeVariant::FixedSize), Err(error));
+}
+
+#[test]
+fn a_message_has_room_for_its_parts() {
+    #[repr(C)]
+    #[allow(dead_code)]
+    struct Demo {
+        first: bool,
+        second: i16,
+        third: i64,
+    }
+
+    fn size<H, U, P>(elements: usize) -> Layout {
+        let details = MessageTypeDetails::from::<H, U, P>(TypeVariant::Dynamic).unwrap();
+        details.sample_layout(elements).unwrap()
+    }
+
+    assert_eq!(
+        size::<i64, i64, i64>(0),
+        Layout::from_size_align(32, 8).unwrap()
+    );
+    assert_eq!(size::<i64, i64, i64>(2).size(), 48);
+    assert_eq!(size::<i64, i64, bool>(3).size(), 32);
+    assert_eq!(size::<i64, i32, bool>(11).size(), 32);
+    assert_eq!(size::<i64, i64, Demo>(2).size(), 64);
+    assert_eq!(
+        size::<u8, (), u8>(5),
+        Layout::from_size_align(6, 1).unwrap()
+    );
+}
+
+#[test]
+fn places_are_those_of_a_struct() {
+    #[repr(C)]
+    struct Message {
+        header: i32,
+        user_header: bool,
+        payload: i64,
+    }
+
+    let details = MessageTypeDetails::from::<i32, bool, i64>(TypeVariant::Dynamic).unwrap();
+    let message = Message {
+        header: 1,
+        user_header: true,
+        payload: 3,
+    };
+    let start = &message.header as *const i32 as usize;
+    let user_header = &message.user_header as *const bool as usize;
+    let payload = &message.payload as *const i64 as usize;
+    assert_eq!(details.user_header_ptr_from_header(start), Ok(user_header));
+    assert_eq!(details.payload_ptr_from_header(start), Ok(payload));
+    assert_eq!(
+        details.payload_ptr_from_header(0),
+        Ok(offset_of!(Message, payload))
+    );
+    assert!(details.has_places(start));
+}
+
+#[test]
+fn layouts_and_places_are_refused_by_their_cause() {
+    let none = MessageTypeDetails::default();
+    let part = MessageTypeDetails {
+        header: detail("H", 8, 8),
+        ..none
+    };
+    for details in [none, part] {
+        assert!(!details.has_alignments());
+        assert!(!details.has_places(0));
+        assert_eq!(details.sample_layout(1), Err(LayoutError::DetailsNotGiven));
+        let places = details.user_header_ptr_from_header(0);
+        assert_eq!(places, Err(LayoutError::DetailsNotGiven));
+    }
+    let bytes = MessageTypeDetails::from::<u8, (), u8>(TypeVariant::Dynamic).unwrap();
+    assert!(bytes.has_alignments());
+    let greatest = isize::MAX as usize;
+    assert_eq!(bytes.sample_layout(greatest - 1).unwrap().size(), greatest);
+    assert_eq!(bytes.sample_layout(greatest), Err(LayoutError::TooLarge));
+    assert_eq!(
+        bytes.payload_ptr_from_header(usize::MAX - 1),
+        Ok(usize::MAX)
+    );
+    assert_eq!(
+        bytes.payload_ptr_from_header(usize::MAX),
+        Err(LayoutError::TooLarge)
+    );
+    assert!(!bytes.has_places(usize::MAX));
+    assert_eq!(LayoutError::TooLarge.to_string(), "LayoutError::TooLarge");
+    assert_eq!(
+        LayoutError::DetailsNotGiven.to_string(),
+        "LayoutError::DetailsNotGiven"
+    );
+}
+
+#[test]
+fn an_opener_is_kept_out_by_the_first_part_that_does_not_suit() {
+    use IncompatibilityCause::*;
+    let service = MessageTypeDetails {
+        header: detail("H", 8, 8),
+        user_header: detail("U", 8, 8),
+        payload: detail("P", 8, 8),
+    };
+    let many = TypeDetail::from_parts(TypeVariant::Dynamic, "U", 8, 8).unwrap();
+    let (header, user_header, payload) = (
+        |header| MessageTypeDetails { header, ..service },
+        |user_header| MessageTypeDetails {
+            user_header,
+            ..service
+        },
+        |payload| MessageTypeDetails { payload, ..service },
+    );
+    for (opener, part, cause, text) in [
+        (
+            header(detail("h", 8, 8)),
+            MessagePart::Header,
+            OtherName,
+            "the header has another type name",
+        ),
+        (
+            header(detail("H", 8, 4)),
+            MessagePart::Header,
+            OtherAlignment,
+            "the header has another alignment",
+        ),
+        (
+            user_header(many),
+            MessagePart::UserHeader,
+            OtherVariant,
+            "the user header has another variant",
+        ),
+        (
+            payload(detail("P", 16, 8)),
+            MessagePart::Payload,
+            OtherSize,
+            "the payload has another size",
+        ),
+        (
+            payload(detail("P", 8, 16)),
+            MessagePart::Payload,
+            GreaterAlignment,
+            "the payload has a greater alignment than the service's",
+        ),
+        (
+            user_header(TypeDetail::default()),
+            MessagePart::UserHeader,
+            DetailsNotGiven,
+            "the user header has no details",
+        ),
+    ] {
+        let refused = opener.check_compatible_to(&service).unwrap_err();
+        assert_eq!((refused.part, refused.cause), (part, cause));
+        assert_eq!(refused.to_string(), text);
+        assert!(!opener.is_compatible_to(&service));
+    }
+}
+
+#[test]
+fn an_opener_may_be_aligned_less_than_the_service() {
+    let opener = MessageTypeDetails::from::<i64, i64, i64>(TypeVariant::FixedSize).unwrap();
+    let service = MessageTypeDetails {
+        user_header: detail("i64", 8, 16),
+        payload: detail("i64", 8, 16),
+        ..opener
+    };
+    assert!(opener.is_compatible_to(&opener));
+    assert!(opener.is_compatible_to(&service));
+    assert!(!service.is_compatible_to(&opener));
+}

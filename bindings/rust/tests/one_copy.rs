@@ -1,0 +1,139 @@
+//! Each rule is asked of the library: the sources have no second copy of one.
+#![forbid(unsafe_code)]
+
+use std::collections::BTreeSet;
+use std::fs;
+use std::path::{Path, PathBuf};
+
+/// The files of the sources.
+fn sources(folder: &Path) -> Vec<PathBuf> {
+    let mut files = Vec::new();
+    for entry in fs::read_dir(folder).unwrap() {
+        let path = entry.unwrap().path();
+        if path.is_dir() {
+            files.extend(sources(&path));
+        } else {
+            files.push(path);
+        }
+    }
+    files
+}
+
+/// The lines of code of all sources but the declarations, without comments and pages, each with its
+/// file.
+fn code() -> Vec<(String, String)> {
+    let folder = Path::new(env!("CARGO_MANIFEST_DIR")).join("src");
+    let mut lines = Vec::new();
+    for file in sources(&folder) {
+        let name = file.strip_prefix(&folder).unwrap().display().to_string();
+        if name == "sys.rs" {
+            continue;
+        }
+        for line in fs::read_to_string(&file).unwrap().lines() {
+            let code = line.trim();
+            if !code.starts_with("//") && !code.contains("include_str!") {
+                lines.push((name.clone(), code.to_string()));
+            }
+        }
+    }
+    assert!(lines.len() > 2000);
+    lines
+}
+
+/// The places of a piece of text in the code.
+fn places(piece: &str) -> Vec<String> {
+    let has = |(_, code): &&(String, String)| code.contains(piece);
+    let place = |(file, code): &(String, String)| format!("{file}: {code}");
+    code().iter().filter(has).map(place).collect()
+}
+
+#[test]
+fn no_limit_stands_in_the_code() {
+    let mut numbers = BTreeSet::new();
+    for (_, line) in code() {
+        let words = line.split(|letter: char| !letter.is_alphanumeric() && letter != '_');
+        let is_number = |word: &&str| word.starts_with(|letter: char| letter.is_ascii_digit());
+        numbers.extend(words.filter(is_number).map(str::to_string));
+    }
+    // The size of an array of roles, the room of a short text, the radix of an id's text, and the
+    // milliseconds of a timeout, besides 0, 1 and 2.
+    let expected = ["0", "1", "16", "2", "256", "500", "9"].map(str::to_string);
+    assert_eq!(numbers, BTreeSet::from(expected));
+    assert_eq!(places("256"), ["text.rs: const ROOM: usize = 256;"]);
+    assert_eq!(places("16)").len(), 1, "{:?}", places("16)"));
+    for limit in ["isize::MAX", "checked_", "wrapping_", "saturating_"] {
+        assert_eq!(places(limit), Vec::<String>::new(), "{limit}");
+    }
+}
+
+#[test]
+fn no_text_of_the_layer_stands_in_the_code() {
+    for text in [
+        "iox2:",
+        "\"iox2_",
+        "iceoryx2",
+        "services\"",
+        "toml",
+        "/tmp",
+        "\".",
+        "'/'",
+        "\"/",
+        "/\"",
+        "starts_with",
+        "is_ascii",
+    ] {
+        assert_eq!(places(text), Vec::<String>::new(), "{text}");
+    }
+}
+
+#[test]
+fn no_rule_stands_in_the_code() {
+    for rule in [
+        ".sort",
+        "sha1",
+        "Sha1",
+        "base64",
+        "is_power_of_two",
+        "next_multiple_of",
+        " % ",
+        "<<",
+        ">>",
+        ":x",
+        "dedup",
+        "binary_search",
+    ] {
+        let found = places(rule);
+        let found: Vec<_> = found
+            .iter()
+            .filter(|place| !place.contains("Option<"))
+            .collect();
+        assert_eq!(found, Vec::<&String>::new(), "{rule}");
+    }
+}
+
+#[test]
+fn unsafe_code_stands_in_one_module() {
+    let outside = |place: &String| !place.starts_with("library");
+    let found = places("unsafe")
+        .into_iter()
+        .filter(outside)
+        .collect::<Vec<_>>();
+    assert_eq!(
+        found,
+        [
+            "lib.rs: #![deny(unsafe_code, unsafe_op_in_unsafe_fn)]",
+            "lib.rs: clippy::undocumented_unsafe_blocks",
+            "lib.rs: #[allow(unsafe_code)]",
+        ]
+    );
+}
+
+#[test]
+fn the_text_interface_is_not_linked() {
+    assert_eq!(places("iox2_ffi"), Vec::<String>::new());
+    let manifest = Path::new(env!("CARGO_MANIFEST_DIR"));
+    for file in ["Cargo.toml", "build.rs"] {
+        let text = fs::read_to_string(manifest.join(file)).unwrap();
+        assert!(!text.contains("iox2_ffi"), "{file}");
+    }
+}

@@ -1,3 +1,0 @@
-pub mod Heap
-pub mod Steps
-pub mod There

@@ -1,0 +1,308 @@
+//! What is fixed of a service, as plain values.
+ghost use Rattle.std.specs.Prelude.{◌≡◌};
+ghost use Rattle.iox2_config.specs.Hashing.{pattern_number};
+ghost use Rattle.iox2sd_values.specs.Descriptions.{number_of, told_description};
+ghost use Rattle.iox2sd_values.specs.Descriptions.{ComparesPatterns, ComparesDescriptions};
+ghost use Rattle.iox2sd_values.specs.Descriptions.{publish_subscribe_config, event_config};
+ghost use Rattle.iox2sd_values.specs.Descriptions.{request_response_config, blackboard_config};
+
+use super::answers::{FlagAnswer, flag, zero_padded};
+use super::names::pattern_of;
+use super::settings::{OptionalDuration, OptionalEventId, duration_of, event_id_of};
+use super::status::Status;
+use iox2_config::hash::PatternKind;
+use iox2_ids::identifiers::UniqueServiceId;
+use iox2_static::static_config::StaticConfig;
+use iox2_static::static_config::messaging_pattern::MessagingPattern;
+
+/// The id of a service.
+#[repr(C)]
+#[derive(Clone, Copy)]
+pub struct Id {
+    /// The process that made it.
+    pub process: u32,
+    /// When it was made: whole seconds.
+    pub seconds: u32,
+    /// When it was made: the nanoseconds beside the seconds.
+    pub nanoseconds: u32,
+    /// The number that tells it from others.
+    pub counter: u32,
+}
+
+impl Id {
+    /// The service's id of these parts.
+    pub(super) fn of_service(self) -> UniqueServiceId
+        ensures { result ≡ number_of self }
+    {
+        UniqueServiceId::new(self.process, self.seconds, self.nanoseconds, self.counter)
+    }
+}
+
+/// What is fixed of a publish-subscribe service, beside the types of its messages.
+#[repr(C)]
+#[derive(Clone, Copy)]
+pub struct PublishSubscribeConfig {
+    /// How many subscribers may be attached at once.
+    pub max_subscribers: usize,
+    /// How many publishers may be attached at once.
+    pub max_publishers: usize,
+    /// How many nodes may use the service at once.
+    pub max_nodes: usize,
+    /// How many of the last samples a publisher keeps for subscribers that come later.
+    pub history_size: usize,
+    /// How many samples a subscriber's buffer has room for.
+    pub subscriber_max_buffer_size: usize,
+    /// How many samples a subscriber may hold at once.
+    pub subscriber_max_borrowed_samples: usize,
+    /// Whether a new sample takes the oldest one's place where a buffer is full.
+    pub enable_safe_overflow: bool,
+}
+
+/// What is fixed of an event service.
+#[repr(C)]
+#[derive(Clone, Copy)]
+pub struct EventConfig {
+    /// How many notifiers may be attached at once.
+    pub max_notifiers: usize,
+    /// How many listeners may be attached at once.
+    pub max_listeners: usize,
+    /// How many nodes may use the service at once.
+    pub max_nodes: usize,
+    /// The greatest number of an event.
+    pub event_id_max_value: usize,
+    /// The longest time that may pass between two events, if there is such a limit.
+    pub deadline: OptionalDuration,
+    /// The number of the event that tells of a new notifier, if any does.
+    pub notifier_created_event: OptionalEventId,
+    /// The number of the event that tells of a notifier that went, if any does.
+    pub notifier_dropped_event: OptionalEventId,
+    /// The number of the event that tells of a notifier whose node died, if any does.
+    pub notifier_dead_event: OptionalEventId,
+}
+
+/// What is fixed of a request-response service, beside the types of its messages.
+#[repr(C)]
+#[derive(Clone, Copy)]
+pub struct RequestResponseConfig {
+    /// How many requests of one client may be open at each server at once.
+    pub max_active_requests_per_client: usize,
+    /// How many requests a client may have under way, taken and not yet sent.
+    pub max_loaned_requests: usize,
+    /// How many responses to one request a client's buffer has room for.
+    pub max_response_buffer_size: usize,
+    /// How many servers may be attached at once.
+    pub max_servers: usize,
+    /// How many clients may be attached at once.
+    pub max_clients: usize,
+    /// How many nodes may use the service at once.
+    pub max_nodes: usize,
+    /// How many responses to one request a client may hold at once.
+    pub max_borrowed_responses_per_pending_response: usize,
+    /// Whether a new request takes the oldest one's place where a server's buffer is full.
+    pub enable_safe_overflow_for_requests: bool,
+    /// Whether a new response takes the oldest one's place where a client's buffer is full.
+    pub enable_safe_overflow_for_responses: bool,
+    /// Whether a client may send a request and take no response.
+    pub enable_fire_and_forget_requests: bool,
+}
+
+/// What is fixed of a blackboard service, beside the type of its keys.
+#[repr(C)]
+#[derive(Clone, Copy)]
+pub struct BlackboardConfig {
+    /// How many readers may be attached at once.
+    pub max_readers: usize,
+    /// How many writers may be attached at once.
+    pub max_writers: usize,
+    /// How many nodes may use the service at once.
+    pub max_nodes: usize,
+}
+
+/// What is fixed of a service, beside its attributes and the types of its messages.
+#[repr(C)]
+#[derive(Clone, Copy)]
+pub struct ServiceDescription {
+    /// The bytes of the service's name, and then zeros.
+    pub name: [u8; 256],
+    /// How many bytes the name has, from 1 to 255.
+    pub name_length: usize,
+    /// The id of the service.
+    pub id: Id,
+    /// The bytes of the hash text, and then zeros.
+    pub hash: [u8; 64],
+    /// How many bytes the hash text has, from 1 to 64.
+    pub hash_length: usize,
+    /// The number of the pattern.
+    pub pattern: u32,
+    /// What is fixed of a publish-subscribe service; all 0 for another pattern. So are the next three for theirs.
+    pub publish_subscribe: PublishSubscribeConfig,
+    /// What is fixed of an event service.
+    pub event: EventConfig,
+    /// What is fixed of a request-response service.
+    pub request_response: RequestResponseConfig,
+    /// What is fixed of a blackboard service.
+    pub blackboard: BlackboardConfig,
+}
+
+/// The number of a pattern.
+fn kind_number(kind: PatternKind) -> u32
+    ensures { result ≡ pattern_number kind }
+{
+    match kind {
+        PatternKind::PublishSubscribe => 0,
+        PatternKind::Event => 1,
+        PatternKind::RequestResponse => 2,
+        PatternKind::Blackboard => 3,
+    }
+}
+
+/// What is fixed of a publish-subscribe service, or zeros.
+fn publish_subscribe_config(pattern: &MessagingPattern) -> PublishSubscribeConfig
+    ensures { result ≡ publish_subscribe_config pattern.now }
+{
+    match pattern {
+        MessagingPattern::PublishSubscribe(config) => PublishSubscribeConfig {
+            max_subscribers: config.max_subscribers,
+            max_publishers: config.max_publishers,
+            max_nodes: config.max_nodes,
+            history_size: config.history_size,
+            subscriber_max_buffer_size: config.subscriber_max_buffer_size,
+            subscriber_max_borrowed_samples: config.subscriber_max_borrowed_samples,
+            enable_safe_overflow: config.enable_safe_overflow,
+        },
+        _ => PublishSubscribeConfig {
+            max_subscribers: 0,
+            max_publishers: 0,
+            max_nodes: 0,
+            history_size: 0,
+            subscriber_max_buffer_size: 0,
+            subscriber_max_borrowed_samples: 0,
+            enable_safe_overflow: false,
+        },
+    }
+}
+
+/// What is fixed of an event service, or zeros.
+fn event_config(pattern: &MessagingPattern) -> EventConfig
+    ensures { result ≡ event_config pattern.now }
+{
+    match pattern {
+        MessagingPattern::Event(config) => EventConfig {
+            max_notifiers: config.max_notifiers,
+            max_listeners: config.max_listeners,
+            max_nodes: config.max_nodes,
+            event_id_max_value: config.event_id_max_value,
+            deadline: duration_of(config.deadline()),
+            notifier_created_event: event_id_of(config.notifier_created_event),
+            notifier_dropped_event: event_id_of(config.notifier_dropped_event),
+            notifier_dead_event: event_id_of(config.notifier_dead_event),
+        },
+        _ => EventConfig {
+            max_notifiers: 0,
+            max_listeners: 0,
+            max_nodes: 0,
+            event_id_max_value: 0,
+            deadline: duration_of(None),
+            notifier_created_event: event_id_of(None),
+            notifier_dropped_event: event_id_of(None),
+            notifier_dead_event: event_id_of(None),
+        },
+    }
+}
+
+/// What is fixed of a request-response service, or zeros.
+fn request_response_config(pattern: &MessagingPattern) -> RequestResponseConfig
+    ensures { result ≡ request_response_config pattern.now }
+{
+    match pattern {
+        MessagingPattern::RequestResponse(config) => RequestResponseConfig {
+            max_active_requests_per_client: config.max_active_requests_per_client,
+            max_loaned_requests: config.max_loaned_requests,
+            max_response_buffer_size: config.max_response_buffer_size,
+            max_servers: config.max_servers,
+            max_clients: config.max_clients,
+            max_nodes: config.max_nodes,
+            max_borrowed_responses_per_pending_response: config.max_borrowed_responses_per_pending_response,
+            enable_safe_overflow_for_requests: config.enable_safe_overflow_for_requests,
+            enable_safe_overflow_for_responses: config.enable_safe_overflow_for_responses,
+            enable_fire_and_forget_requests: config.enable_fire_and_forget_requests,
+        },
+        _ => RequestResponseConfig {
+            max_active_requests_per_client: 0,
+            max_loaned_requests: 0,
+            max_response_buffer_size: 0,
+            max_servers: 0,
+            max_clients: 0,
+            max_nodes: 0,
+            max_borrowed_responses_per_pending_response: 0,
+            enable_safe_overflow_for_requests: false,
+            enable_safe_overflow_for_responses: false,
+            enable_fire_and_forget_requests: false,
+        },
+    }
+}
+
+/// What is fixed of a blackboard service, or zeros.
+fn blackboard_config(pattern: &MessagingPattern) -> BlackboardConfig
+    ensures { result ≡ blackboard_config pattern.now }
+{
+    match pattern {
+        MessagingPattern::Blackboard(config) => BlackboardConfig {
+            max_readers: config.max_readers,
+            max_writers: config.max_writers,
+            max_nodes: config.max_nodes,
+        },
+        _ => BlackboardConfig {
+            max_readers: 0,
+            max_writers: 0,
+            max_nodes: 0,
+        },
+    }
+}
+
+/// The description of the service that has this id.
+pub(super) fn told_description(described: &StaticConfig, id: Id) -> ServiceDescription
+    ensures { result ≡ told_description described.now id }
+{
+    let name = described.name().as_str().as_bytes();
+    let hash = described.service_hash().as_str().as_bytes();
+    let pattern = described.messaging_pattern();
+    ServiceDescription {
+        name: zero_padded(name),
+        name_length: name.len(),
+        id,
+        hash: zero_padded(hash),
+        hash_length: hash.len(),
+        pattern: kind_number(pattern.kind()),
+        publish_subscribe: publish_subscribe_config(pattern),
+        event: event_config(pattern),
+        request_response: request_response_config(pattern),
+        blackboard: blackboard_config(pattern),
+    }
+}
+
+/// Whether two numbers are those of one pattern.
+fn compare_patterns(left: u32, right: u32) -> FlagAnswer
+    ensures { ComparesPatterns left right result }
+{
+    match (pattern_of(left), pattern_of(right)) {
+        (Some(left), Some(right)) => flag(Status::Done, left == right),
+        _ => flag(Status::UnknownPattern, false),
+    }
+}
+
+/// Whether two services have one pattern, whatever is fixed beside it.
+///
+/// Refused are, in this order, NULL (`Null`), and a number that is not that of a pattern (`UnknownPattern`).
+#[unsafe(no_mangle)]
+pub extern "C" fn iox2sd_has_same_messaging_pattern_at(
+    left: &[ServiceDescription],
+    right: &[ServiceDescription],
+) -> FlagAnswer
+    ensures { ComparesDescriptions left.now right.now result }
+{
+    match (left, right) {
+        ([left, ..], [right, ..]) => compare_patterns(left.pattern, right.pattern),
+        _ => flag(Status::Null, false),
+    }
+}
