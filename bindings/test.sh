@@ -148,8 +148,40 @@ first_of() {
         -o "$work/caller" && run "$1 $3 prints the same as the others" first "$3" "$work/caller"
 }
 
+# A package of its own that depends on the crate.
+first_of_rust() {
+    mkdir "$work/package"
+    cat > "$work/package/Cargo.toml" << END
+[package]
+name = "first"
+edition = "2021"
+[dependencies]
+iox2sd = { path = "$PWD/rust" }
+[[bin]]
+name = "first"
+path = "$PWD/../examples/first.rs"
+END
+    CARGO_TARGET_DIR=$work/rust cargo run --quiet --offline --jobs 1 \
+        --manifest-path "$work/package/Cargo.toml"
+}
+
+first_of_python() {
+    PYTHONDONTWRITEBYTECODE=1 PYTHONPATH=python IOX2SD_LIBRARY=$PWD/out/libiox2sd.so.0 \
+        python3 ../examples/first.py
+}
+
 first_of gcc -std=c99 ../examples/first.c
 first_of g++ -std=c++17 ../examples/first.cpp
+if ! grep -qs '^name = "iox2sd"' rust/Cargo.toml; then
+    echo "not found: the crate iox2sd"
+elif has cargo; then
+    run "first.rs prints the same as the others" first rust first_of_rust
+fi
+if ! [ -d python/iox2sd ]; then
+    echo "not found: the package iox2sd of Python"
+elif has python3; then
+    run "first.py prints the same as the others" first python first_of_python
+fi
 
 # ---- What an installation gives ----
 

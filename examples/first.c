@@ -1,5 +1,5 @@
 /* A first program: a service is described, verified against two openers, joined by a node with a
- * port, listed, and recovered from the node's death. It stands here in several languages, and
+ * port, listed, and recovered from the node's death. It stands here in four languages, and
  * prints the same lines in each. */
 #include "iox2sd.h"
 #include "iox2sd_values.h"
@@ -31,9 +31,8 @@ static void print_text(const char *what, iox2sd_text_answer answer, const uint8_
     printf("%s: %.*s\n", what, (int)answer.length, (const char *)out);
 }
 
-static void print_status(const char *what, uint32_t status) {
-    uint8_t out[128];
-    print_text(what, iox2sd_status_text(status, out, sizeof out), out);
+static void print_answer(const char *what, bool yes) {
+    printf("%s: %s\n", what, yes ? "welcome" : "refused");
 }
 
 static void print_id(const char *what, iox2sd_id id) {
@@ -75,14 +74,18 @@ static void verify(const iox2sd_attribute *attributes, size_t number_of_attribut
         type_of("Header", 8, 8), type_of("UserHeader", 4, 4), type_of("Payload", 8, 8)};
     iox2sd_message_details opener = service;
     const iox2sd_layout_answer room = iox2sd_message_layout(&service, 2);
-    for (size_t i = 1; i <= 2; i++) {
-        print_status(i == 1 ? "requires color = red, unit" : "requires color = red, unit, rate",
-                     iox2sd_attributes_verify(attributes, number_of_attributes, &required, 1,
-                                              keys, i).status);
-    }
-    print_status("with its types", iox2sd_message_compatible(&opener, &service).status);
+    iox2sd_place_answer verified =
+        iox2sd_attributes_verify(attributes, number_of_attributes, &required, 1, keys, 1);
+    print_answer("an opener of color = red, unit", verified.status == IOX2SD_DONE);
+    verified = iox2sd_attributes_verify(attributes, number_of_attributes, &required, 1, keys, 2);
+    if (verified.status != IOX2SD_MISSING_KEY) exit(EXIT_FAILURE);
+    printf("an opener of color = red, unit, rate: there is no %.*s\n",
+           (int)keys[verified.at].length, (const char *)keys[verified.at].text);
+    print_answer("an opener with these types",
+                 iox2sd_message_compatible(&opener, &service).status == IOX2SD_DONE);
     opener.payload.alignment = 16;
-    print_status("with a wider payload", iox2sd_message_compatible(&opener, &service).status);
+    print_answer("an opener with a wider payload",
+                 iox2sd_message_compatible(&opener, &service).status == IOX2SD_DONE);
     printf("a message: %zu bytes at a multiple of %zu\n", room.size, room.alignment);
 }
 
@@ -105,8 +108,8 @@ static void live(iox2sd_service *service) {
     for (size_t i = 0; i < found.count; i++) print_id("there is the publisher", ports[i].port);
     death = iox2sd_dead(service, node, NULL, 0);
     printf("died with %zu publishers, %zu subscribers\n", death.first, death.second);
-    print_status("the death", death.status);
-    print_status("a late node", iox2sd_register(service, node).status);
+    printf("the service is %s\n", death.status == IOX2SD_DONE_LOCKED ? "locked" : "open");
+    print_answer("a late node", iox2sd_register(service, node).status == IOX2SD_DONE);
 }
 
 int main(void) {

@@ -1,5 +1,5 @@
 // A first program: a service is described, verified against two openers, joined by a node with a
-// port, listed, and recovered from the node's death. It stands here in several languages, and
+// port, listed, and recovered from the node's death. It stands here in four languages, and
 // prints the same lines in each.
 #include <iostream>
 #include <string_view>
@@ -10,8 +10,8 @@ using namespace iox2sd;
 
 namespace {
 
-void print_status(std::string_view what, Status status) {
-    std::cout << what << ": " << text(status).view() << '\n';
+void print_answer(std::string_view what, bool yes) {
+    std::cout << what << ": " << (yes ? "welcome" : "refused") << '\n';
 }
 
 void print_handle(std::string_view what, const ContainerHandle& handle) {
@@ -42,14 +42,15 @@ void verify(const StaticConfig& description, AttributeVerifier verifier) {
     const MessageTypeDetails& service = description.publish_subscribe()->message_type_details;
     MessageTypeDetails opener = service;
     const Layout room = service.sample_layout(2).value();
-    print_status("requires color = red, unit",
-                 verifier.verify_requirements(description.attributes()).status());
+    print_answer("an opener of color = red, unit",
+                 verifier.verify_requirements(description.attributes()).has_value());
     if (!verifier.require_key(rate)) return;
-    print_status("requires color = red, unit, rate",
-                 verifier.verify_requirements(description.attributes()).status());
-    print_status("with its types", opener.is_compatible_to(service).status());
+    const auto verified = verifier.verify_requirements(description.attributes());
+    std::cout << "an opener of color = red, unit, rate: there is no " << verified.error().key.view()
+              << '\n';
+    print_answer("an opener with these types", opener.is_compatible_to(service).has_value());
     opener.payload = type("Payload", 8, 16);
-    print_status("with a wider payload", opener.is_compatible_to(service).status());
+    print_answer("an opener with a wider payload", opener.is_compatible_to(service).has_value());
     std::cout << "a message: " << room.size << " bytes at a multiple of " << room.alignment << '\n';
 }
 
@@ -68,9 +69,9 @@ void live(Service& service) {
     }
     const Removal death = service.remove_dead_node_id(node).value();
     std::cout << "died with " << death.first << " publishers, " << death.second << " subscribers\n";
-    print_status("the death", death.state == DeregisterNodeState::NoMoreOwners ? Status::DoneLocked
-                                                                               : Status::Done);
-    print_status("a late node", service.register_node_id(node).status());
+    std::cout << "the service is "
+              << (death.state == DeregisterNodeState::NoMoreOwners ? "locked" : "open") << '\n';
+    print_answer("a late node", service.register_node_id(node).has_value());
 }
 
 }  // namespace

@@ -1,8 +1,8 @@
 """What a call raises. `Error` is the base of all.
 
-`WrongType` and `OutOfRange` are raised before the library is asked: a number would not reach it
-whole. All others are refusals of the library, one class a status of `include/iox2sd.h`, with the
-library's own text.
+`WrongType`, `OutOfRange` and `NotUtf8` are raised before the library is asked: what was given has
+no whole form that it takes. All others are its refusals, one class a status of `include/iox2sd.h`.
+The text of a status is the library's own.
 """
 
 from typing import ClassVar
