@@ -941,11 +941,11 @@ struct MessageTypeDetails {
         return detail::result(answer.status, Layout{answer.size, answer.alignment});
     }
 
-    /// The places of user header and payload in a message whose header is at the place `header`.
+    /// The places of user header and payload in a message that begins at the place `start`.
     /// Refusal: `TooLarge` where the payload's place would pass 2^64 - 1.
-    Result<MessagePlaces> places(std::size_t header) const noexcept {
+    Result<MessagePlaces> places(std::size_t start) const noexcept {
         const iox2sd_message_details details = as_c();
-        const iox2sd_places_answer answer = iox2sd_message_places(&details, header);
+        const iox2sd_places_answer answer = iox2sd_message_places(&details, start);
         return detail::result(answer.status, MessagePlaces{answer.user_header, answer.payload});
     }
 
