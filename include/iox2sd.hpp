@@ -1983,7 +1983,7 @@ public:
     }
 
     /// The ports of a node, with exactly this id, those of the first role first, by rising slot.
-    /// Refusal: `NoMemory`.
+    /// Refusals: `TooLarge` for more than 2^64 - 1 ports; `NoMemory`.
     Result<List<PortDetails>> ports_of(const UniqueNodeId& node) const noexcept {
         return listed<iox2sd_port>(
             [this, &node](iox2sd_port* out, std::size_t capacity) {
