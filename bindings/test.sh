@@ -235,7 +235,8 @@ if has cargo; then
 fi
 if has python3; then
     has cc || echo "so the declarations of Python were not compared with the headers"
-    run "python3 -m unittest" env PYTHONDONTWRITEBYTECODE=1 python3 -m unittest discover --start-directory python
+    run "python3 -m unittest" env PYTHONDONTWRITEBYTECODE=1 python3 -m unittest discover \
+        --start-directory python/tests --top-level-directory python
     if has mypy; then run "mypy" env -C python mypy --cache-dir "$work/mypy"; fi
 fi
 echo "$passed passed, $failed failed"

@@ -12,18 +12,21 @@
  *   a buffer for a text is not given so.
  * - What is written overlaps no other argument of the call. No call writes past the number of elements that it was given,
  *   keeps a pointer, or calls back.
- * - No call starts a thread, takes a lock, or reads a file, the clock or the environment. There is no global state: calls
- *   may run on several threads at once, where they share no service and no array. A service stays on the thread that
- *   made it.
+ * - No call starts a thread, takes a lock, or reads a file, the clock or the environment. There is no
+ *   global state: calls may run on several threads at once, where they share no service and no array.
+ *   A service may be moved to another thread, ordered by a lock or a thread's start or join, and is
+ *   used by one thread at a time, by the functions that only ask too.
  * - iox2sd_service_make alone takes memory, by malloc; iox2sd_service_free alone gives it back. Nothing is kept for a call.
  *
  * What is proved, and what not
  *
- * Each function of the library is proved to answer what the layer's own definitions say, to touch nothing outside its
- * arguments, and to return. The proof takes this header's rules for granted: that a pointer points to as many elements as
- * it is said to, that no other thread touches them during the call, and that the bytes of a service are zeros or what the
- * last call left there. No proof says that a caller frees a service, on which thread it uses one, or what it does with a
- * pointer; nor that the declarations below are those of the library, nor that its inline functions pass the numbers that
+ * Each function of the library is proved to answer what the layer's own definitions say, to touch
+ * nothing outside its arguments, and to return; and what a service holds is proved to be such as may
+ * be sent to another thread. The proof takes this header's rules for granted: that a pointer points to
+ * as many elements as it is said to, that no other thread touches them during the call, and that the
+ * bytes of a service are zeros or what the last call left there. No proof says that a caller frees a
+ * service, that it uses one on one thread at a time, or what it does with a pointer; nor that the
+ * declarations below are those of the library, nor that its inline functions pass the numbers that
  * they say. That NULL with the number 0 is an empty array is tested, not proved.
  */
 #ifndef IOX2SD_H

@@ -1,12 +1,15 @@
-/* Times of single calls, in nanoseconds: figures as this machine gives them, no test. */
+/* Times of single calls from C, in nanoseconds: figures as this machine gives them, no test. Each is the
+ * least of many short rounds, beside the time that it is to take at most. */
 #define _POSIX_C_SOURCE 199309L
-#include "iox2_ffi.h"
+#include "iox2sd_script.h"
+#include "iox2sd_values.h"
 
 #include <stdio.h>
+#include <stdlib.h>
 #include <string.h>
 #include <time.h>
 
-enum { CALLS = 2000000, ROUNDS = 5 };
+enum { CALLS = 50000, FEWER_CALLS = CALLS / 50, ROUNDS = 200, PAIRS = 16, REQUIRED = 4 };
 
 static double now(void) {
     struct timespec t;
@@ -16,41 +19,133 @@ static double now(void) {
 
 static volatile size_t sink;
 
-/* Prints the least of some rounds. */
-#define TIME(name, calls, call)                                 \
-    do {                                                        \
-        double least = 1e18;                                    \
-        for (int round = 0; round < ROUNDS; round++) {          \
-            double start = now();                               \
-            for (size_t i = 0; i < (calls); i++) { call; }      \
-            double each = (now() - start) / (calls);            \
-            if (each < least) least = each;                     \
-        }                                                       \
-        printf("%-32s %8.1f ns\n", name, least);                \
+/* Prints a row of the table: `each` calls of these are made at a time, `times` times a round. */
+#define TIME(name, goal, times, each, calls)                                                      \
+    do {                                                                                          \
+        double least = 1e18;                                                                      \
+        for (int round = 0; round < ROUNDS; round++) {                                            \
+            double start = now();                                                                 \
+            for (size_t i = 0; i < (times); i++) { calls; }                                       \
+            double taken = (now() - start) / (times) / (each);                                    \
+            if (taken < least) least = taken;                                                     \
+        }                                                                                         \
+        printf("| %-46s | %8.1f | %4s |\n", name, least, goal);                                   \
     } while (0)
 
-static iox2_type_detail part(const char *name, size_t size, size_t alignment) {
-    iox2_type_detail detail = {(const uint8_t *)name, strlen(name), IOX2_FIXED_SIZE, size, alignment};
+/* The call has to be done. */
+static size_t done(uint32_t status) {
+    if (status != IOX2SD_DONE) {
+        printf("status %u\n", (unsigned)status);
+        exit(1);
+    }
+    return status;
+}
+
+static iox2sd_id id(uint32_t counter) {
+    iox2sd_id made = {1, 2, 3, counter};
+    return made;
+}
+
+static iox2sd_port port(uint64_t role, uint32_t counter, iox2sd_id node) {
+    iox2sd_port made = {0};
+    made.role = role;
+    made.port = id(counter);
+    made.node = node;
+    return made;
+}
+
+/* A handle that the call has to give. */
+static iox2sd_handle given(iox2sd_handle_answer answer) {
+    done(answer.status);
+    return answer.handle;
+}
+
+/* A service of the default size with so many nodes and subscribers, each of the first node. */
+static void fill(iox2sd_service *service, size_t nodes, size_t subscribers) {
+    iox2sd_publish_subscribe_settings room = iox2sd_publish_subscribe_defaults();
+    iox2sd_capacities most = {room.max_nodes, room.max_publishers, room.max_subscribers};
+    done(iox2sd_service_make(service, IOX2SD_PUBLISH_SUBSCRIBE, 7, most, UINT64_MAX));
+    for (uint32_t i = 0; i < nodes; i++) given(iox2sd_register(service, id(1 + i)));
+    for (uint32_t i = 0; i < subscribers; i++) {
+        iox2sd_port its = port(IOX2SD_SUBSCRIBER, i, id(1));
+        given(iox2sd_attach(service, &its));
+    }
+}
+
+static void services(void) {
+    iox2sd_service service = IOX2SD_SERVICE_NONE;
+    iox2sd_port out[8], its = port(IOX2SD_PUBLISHER, 50, id(1));
+    TIME("make and free", "", FEWER_CALLS, 2,
+         fill(&service, 0, 0);
+         sink += done(iox2sd_service_free(&service)));
+    fill(&service, 1, 0);
+    TIME("register, deregister; 1 node stands", "20", CALLS, 2,
+         sink += done(iox2sd_deregister(&service, given(iox2sd_register(&service, id(99))))));
+    done(iox2sd_service_free(&service));
+    fill(&service, 19, 8);
+    TIME("register, deregister; 19 nodes and 8 ports", "20", CALLS, 2,
+         sink += done(iox2sd_deregister(&service, given(iox2sd_register(&service, id(99))))));
+    TIME("attach, release; 19 nodes and 8 ports", "", CALLS, 2,
+         sink += done(iox2sd_release(&service, given(iox2sd_attach(&service, &its)))));
+    TIME("list of 8 ports of a role", "60", CALLS, 1,
+         sink += done(iox2sd_ports(&service, IOX2SD_SUBSCRIBER, out, 8).status));
+    TIME("list of 8 ports of a node", "", CALLS, 1,
+         sink += done(iox2sd_ports_of(&service, id(1), out, 8).status));
+    done(iox2sd_service_free(&service));
+}
+
+static iox2sd_type_detail part(const char *name, size_t size, size_t alignment) {
+    iox2sd_type_detail detail = {(const uint8_t *)name, strlen(name), IOX2SD_FIXED_SIZE, size,
+                                 alignment};
     return detail;
 }
 
-int main(void) {
-    static const char script[] = "service event 7 1 2 2\nregister 1.0.0.1\n";
-    iox2_message_details details = {part("Header", 8, 8), part("UserHeader", 4, 4), part("Payload", 8, 8)};
-    iox2_service service = IOX2_SERVICE_NONE;
+static void values(void) {
+    iox2sd_message_details details = {part("Header", 8, 8), part("UserHeader", 4, 4),
+                                      part("Payload", 8, 8)};
     uint8_t out[64];
+    char keys[PAIRS][16], texts[PAIRS][16];
+    iox2sd_attribute pairs[PAIRS], required[REQUIRED / 2];
+    iox2sd_key asked[REQUIRED / 2];
+    for (int i = 0; i < PAIRS; i++) {
+        sprintf(keys[i], "camera.key.%02d", i);
+        sprintf(texts[i], "value %02d", i);
+        pairs[i].key = (const uint8_t *)keys[i];
+        pairs[i].key_length = strlen(keys[i]);
+        pairs[i].value = (const uint8_t *)texts[i];
+        pairs[i].value_length = strlen(texts[i]);
+    }
+    for (int i = 0; i < REQUIRED / 2; i++) {
+        required[i] = pairs[PAIRS - 1 - i];
+        asked[i].text = pairs[i].key;
+        asked[i].length = pairs[i].key_length;
+    }
+    TIME("layout of a message", "20", CALLS, 1,
+         sink += iox2sd_message_layout(&details, i & 1023).size);
+    TIME("places in a message", "20", CALLS, 1,
+         sink += iox2sd_message_places(&details, i * 8).payload);
+    TIME("compatible messages", "", FEWER_CALLS, 1,
+         sink += done(iox2sd_message_compatible(&details, &details).status));
+    TIME("hash text", "", FEWER_CALLS, 1,
+         sink += done(iox2sd_hash_text(IOX2SD_EVENT, (const uint8_t *)"My/Service", 10, out,
+                                       sizeof out).status));
+    TIME("2 pairs and 2 keys required of 16 pairs", "400", FEWER_CALLS, 1,
+         sink += done(iox2sd_attributes_verify(pairs, PAIRS, required, REQUIRED / 2, asked,
+                                               REQUIRED / 2).status));
+}
 
-    TIME("layout", CALLS, sink += iox2_message_layout(&details, i & 1023).size);
-    TIME("places", CALLS, sink += iox2_message_places(&details, i * 8).payload);
-    TIME("compatible", CALLS / 10, sink += iox2_message_compatible(&details, &details));
-    TIME("hash text", CALLS / 10, sink += iox2_hash_text(IOX2_EVENT, (const uint8_t *)"My/Service", 10, out, 64).length);
-    TIME("script of one command", CALLS / 10,
-         sink += iox2_script_run((const uint8_t *)script, sizeof script - 1, out, 64).length);
-    TIME("make and free", CALLS / 10,
-         sink += iox2_service_make(&service, IOX2_EVENT, 7, 1, 2, 2) + iox2_service_free(&service));
-    iox2_service_make(&service, IOX2_EVENT, 7, 1, 2, 2);
-    TIME("command", CALLS / 10, sink += iox2_service_command(&service, (const uint8_t *)"deregister 7", 12));
-    TIME("reply", CALLS / 10, sink += iox2_service_reply(&service, out, 64).length);
-    iox2_service_free(&service);
+static void scripts(void) {
+    static const char script[] = "service event 7 1 2 2\nregister 1.0.0.1\n";
+    uint8_t out[64];
+    TIME("script of one command", "", FEWER_CALLS, 1,
+         sink += done(iox2sd_script_run((const uint8_t *)script, sizeof script - 1, out,
+                                        sizeof out).status));
+}
+
+int main(void) {
+    printf("| %-46s | %8s | %4s |\n|---|---|---|\n", "Call", "ns", "Goal");
+    services();
+    values();
+    scripts();
     return 0;
 }

@@ -37,6 +37,7 @@ from .dynamic_config import (
 )
 from .errors import (
     BadAlignment,
+    BadDuration,
     BadLine,
     Empty,
     Error,
@@ -95,6 +96,7 @@ from .settings import (
     Duration,
     EventId,
     EventSettings,
+    GlobalSettings,
     PublishSubscribeSettings,
     RequestResponseSettings,
     default_text,
@@ -138,6 +140,7 @@ __all__ = [
     "AttributeVerifier",
     "BackpressureStrategy",
     "BadAlignment",
+    "BadDuration",
     "BadLine",
     "BlackboardSettings",
     "BlackboardStaticConfig",
@@ -159,6 +162,7 @@ __all__ = [
     "FileName",
     "FilePath",
     "ForeignHandle",
+    "GlobalSettings",
     "GreaterAlignment",
     "HasService",
     "IllegalByte",

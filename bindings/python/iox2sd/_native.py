@@ -166,8 +166,25 @@ class OptionalDuration(ctypes.Structure):
     _fields_ = [("seconds", c_uint64), ("nanoseconds", c_uint32), ("is_some", c_bool)]
 
 
+class Duration(ctypes.Structure):
+    _fields_ = [("seconds", c_uint64), ("nanoseconds", c_uint32)]
+
+
 class OptionalEventId(ctypes.Structure):
     _fields_ = [("number", c_size_t), ("is_some", c_bool)]
+
+
+class GlobalSettings(ctypes.Structure):
+    _fields_ = [
+        ("creation_timeout", Duration),
+        ("cleanup_dead_nodes_on_open", c_bool),
+        ("cleanup_dead_nodes_on_creation", c_bool),
+        ("cleanup_dead_nodes_on_destruction", c_bool),
+    ]
+
+
+class FieldAnswer(ctypes.Structure):
+    _fields_ = [("status", c_uint32), ("field", c_uint32)]
 
 
 class PublishSubscribeSettings(ctypes.Structure):
@@ -311,6 +328,10 @@ publisher_chunks = _export("publisher_chunks", CountAnswer, *[c_size_t] * 5)
 client_chunks = _export("client_chunks", CountAnswer, *[c_size_t] * 3)
 server_chunks = _export("server_chunks", CountAnswer, *[c_size_t] * 5)
 
+global_defaults = _export("global_defaults", GlobalSettings)
+global_settings_check_at = _export(
+    "global_settings_check_at", FieldAnswer, POINTER(GlobalSettings), c_size_t
+)
 publish_subscribe_defaults = _export("publish_subscribe_defaults", PublishSubscribeSettings)
 event_defaults = _export("event_defaults", EventSettings)
 request_response_defaults = _export("request_response_defaults", RequestResponseSettings)

@@ -1,8 +1,8 @@
 """What a call raises. `Error` is the base of all.
 
-`WrongType` and `OutOfRange` are raised before the library is asked: a number would not reach it
-whole. All others are refusals of the library, one class a status of `include/iox2sd.h`, with the
-library's own text.
+`WrongType`, `OutOfRange` and `NotUtf8` are raised before the library is asked: what was given has
+no whole form that it takes. All others are its refusals, one class a status of `include/iox2sd.h`.
+The text of a status is the library's own.
 """
 
 from typing import ClassVar
@@ -218,6 +218,12 @@ class GreaterAlignment(Incompatible):
     """The opener's type of a part has a greater alignment than the service's."""
 
     status = 64
+
+
+class BadDuration(Refused, ValueError):
+    """The nanoseconds beside the seconds are a billion or more."""
+
+    status = 68
 
 
 class BadLine(Refused, ValueError):

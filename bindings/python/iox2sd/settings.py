@@ -9,8 +9,8 @@ from dataclasses import dataclass, fields
 from typing import Any, Optional
 
 from . import _native
-from ._arguments import U32, U64, Checked, Size, instance
-from .errors import OutOfRange, check
+from ._arguments import U32, U64, Checked, Size, instance, shown
+from .errors import check
 from .messages import counted
 from .texts import Path
 
@@ -35,18 +35,25 @@ class AllocationStrategy(enum.Enum):
     """It does not grow."""
 
 
+_global = _native.global_defaults()
+_publish_subscribe = _native.publish_subscribe_defaults()
+_event = _native.event_defaults()
+_request_response = _native.request_response_defaults()
+_blackboard = _native.blackboard_defaults()
+
+
 @dataclass(frozen=True, slots=True, order=True)
 class Duration(Checked):
-    """A span of time. Raises `OutOfRange` for a billion nanoseconds or more beside the seconds."""
+    """A span of time. Raises `BadDuration` for a billion nanoseconds or more beside the seconds."""
 
     seconds: U64
     nanoseconds: U32 = 0
 
     def __post_init__(self) -> None:
         Checked.__post_init__(self)
-        if self.nanoseconds >= 1_000_000_000:
-            given = self.nanoseconds
-            raise OutOfRange(f"Duration.nanoseconds: expected 0 to 10^9 - 1, got {given}")
+        lent = _native.Duration(self.seconds, self.nanoseconds)
+        answer = _native.global_settings_check_at(_native.GlobalSettings(lent), 1)
+        check(answer.status, shown(self))
 
 
 @dataclass(frozen=True, slots=True, order=True)
@@ -54,12 +61,6 @@ class EventId(Checked):
     """The number of an event."""
 
     value: Size
-
-
-_publish_subscribe = _native.publish_subscribe_defaults()
-_event = _native.event_defaults()
-_request_response = _native.request_response_defaults()
-_blackboard = _native.blackboard_defaults()
 
 
 def _plain(value: Any) -> Any:
@@ -72,6 +73,22 @@ def _event_id(given: _native.OptionalEventId) -> "EventId | None":
 
 def _deadline(given: _native.OptionalDuration) -> "Duration | None":
     return Duration(given.seconds, given.nanoseconds) if given.is_some else None
+
+
+@dataclass(frozen=True, slots=True, kw_only=True)
+class GlobalSettings(Checked):
+    """The settings that all services and nodes of one system share."""
+
+    creation_timeout: Duration = Duration(
+        _global.creation_timeout.seconds, _global.creation_timeout.nanoseconds
+    )
+    """How long an opener waits until the creator is ready."""
+    cleanup_dead_nodes_on_open: bool = _global.cleanup_dead_nodes_on_open
+    """Whether what dead nodes left is removed first when a service is opened."""
+    cleanup_dead_nodes_on_creation: bool = _global.cleanup_dead_nodes_on_creation
+    """The same when a node is created."""
+    cleanup_dead_nodes_on_destruction: bool = _global.cleanup_dead_nodes_on_destruction
+    """The same when a node goes."""
 
 
 @dataclass(frozen=True, slots=True, kw_only=True)

@@ -34,8 +34,17 @@ NO_CLASS = {
     "NO_SUCH_VALUE": "it is answered as None",
     "UNKNOWN_VARIANT": "variants are members of an enum",
     "UNKNOWN_TEXT": "texts of the configuration are members of an enum",
+    "UNKNOWN_STRATEGY": "strategies are members of an enum",
 }
 """The statuses that no call of the package meets."""
+
+NOT_CALLED = {
+    r"(publish_subscribe|event|request_response)_settings_check_at": "their fields are valid",
+    r"describe_\w+_at": "StaticConfig is made of values that are valid",
+    r"has_same_messaging_pattern_at": "patterns are members of an enum",
+    r"(samples|requests|responses)_of_config_at": "chunks are counted from numbers",
+}
+"""The exports that the package has no use for."""
 
 
 def structs() -> "list[type[ctypes.Structure]]":
@@ -125,7 +134,9 @@ class Declarations(unittest.TestCase):
             for name, function in vars(_native).items()
             if isinstance(function, ctypes._CFuncPtr)
         }
-        self.assertEqual(declared, headers.EXPORTS)
+        self.assertLessEqual(declared, headers.EXPORTS)
+        for name in headers.EXPORTS - declared:
+            self.assertTrue(any(re.fullmatch(pattern, name) for pattern in NOT_CALLED), name)
 
     def test_the_interface_is_that_of_the_header(self):
         assert headers.ABI is not None

@@ -10,6 +10,7 @@ from iox2sd import (
     Duration,
     EventId,
     EventSettings,
+    GlobalSettings,
     Path,
     PublishSubscribeSettings,
     RequestResponseSettings,
@@ -70,6 +71,15 @@ class Defaults(unittest.TestCase):
         )
         self.assertEqual(RequestResponseSettings(), expected)
 
+    def test_global(self):
+        expected = GlobalSettings(
+            creation_timeout=Duration(0, 500_000_000),
+            cleanup_dead_nodes_on_open=True,
+            cleanup_dead_nodes_on_creation=True,
+            cleanup_dead_nodes_on_destruction=True,
+        )
+        self.assertEqual(GlobalSettings(), expected)
+
     def test_blackboard(self):
         self.assertEqual(BlackboardSettings(), BlackboardSettings(max_readers=8, max_nodes=20))
 
@@ -115,7 +125,10 @@ class Settings(unittest.TestCase):
         self.assertEqual(settings.deadline, longest)
         self.assertEqual(settings.notifier_dead_event, EventId(3))
         self.assertLess(Duration(1, 5), Duration(2))
-        for nanoseconds in (1_000_000_000, -1, 2**32):
+        with self.assertRaises(iox2sd.BadDuration) as caught:
+            Duration(5, 1_000_000_000)
+        self.assertIn("Duration(seconds=5, nanoseconds=1000000000): ", str(caught.exception))
+        for nanoseconds in (-1, 2**32):
             with self.assertRaises(iox2sd.OutOfRange):
                 Duration(0, nanoseconds)
 
@@ -133,6 +146,8 @@ class Settings(unittest.TestCase):
             (BlackboardSettings, {"max_readers": 8.0}),
             (EventId, {"value": False}),
             (Duration, {"seconds": 0.5}),
+            (GlobalSettings, {"creation_timeout": 5}),
+            (GlobalSettings, {"cleanup_dead_nodes_on_open": 1}),
         ]
         for kind, given in wrong:
             with self.subTest(kind=kind, given=given), self.assertRaises(iox2sd.WrongType):

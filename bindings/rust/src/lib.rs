@@ -50,6 +50,7 @@ pub mod identifiers;
 pub mod messaging_pattern;
 pub mod paths;
 pub mod prelude;
+pub mod script;
 pub mod semantic_string;
 pub mod service_hash;
 pub mod service_name;

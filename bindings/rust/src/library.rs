@@ -40,7 +40,7 @@ pub(crate) fn choice<T: Copy, N: PartialEq + std::fmt::Display>(
     }
 }
 
-/// Has a list written into a buffer that is made as long as the library says.
+/// Has a list written into a buffer that is just as long as the library says.
 fn list<T: Clone + Default>(
     call: impl Fn(&mut [T]) -> sys::iox2sd_count_answer,
 ) -> Result<Vec<T>, u32> {
@@ -48,10 +48,7 @@ fn list<T: Clone + Default>(
     loop {
         let answer = call(&mut items);
         match answer.status {
-            sys::IOX2SD_DONE => {
-                items.truncate(answer.count);
-                return Ok(items);
-            }
+            sys::IOX2SD_DONE => return Ok(items),
             sys::IOX2SD_BUFFER_TOO_SHORT => items.resize(answer.count, T::default()),
             refusal => return Err(refusal),
         }
@@ -129,6 +126,7 @@ values! {
     id_is_node(id: sys::iox2sd_id) -> bool: iox2sd_id_is_node
     id_owner(id: sys::iox2sd_id) -> u64: iox2sd_id_owner
     id_is_before(id: sys::iox2sd_id, other: sys::iox2sd_id) -> bool: iox2sd_id_is_before
+    global_defaults() -> sys::iox2sd_global_settings: iox2sd_global_defaults
     publish_subscribe_defaults() -> sys::iox2sd_publish_subscribe_settings:
         iox2sd_publish_subscribe_defaults
     event_defaults() -> sys::iox2sd_event_settings: iox2sd_event_defaults
@@ -226,4 +224,31 @@ pub(crate) fn file_path_join(path: &str, file: &str) -> Result<String, u32> {
             out.len(),
         )
     })
+}
+
+/// How a script ended, with the reply lines that were written.
+pub(crate) struct Run {
+    pub(crate) status: u32,
+    pub(crate) line: usize,
+    pub(crate) replies: String,
+}
+
+pub(crate) fn script_run(script: &str) -> Run {
+    let mut out = Vec::new();
+    loop {
+        // SAFETY: each pointer and length are those of one slice, and `out` overlaps no other.
+        let answer = unsafe {
+            sys::iox2sd_script_run(script.as_ptr(), script.len(), out.as_mut_ptr(), out.len())
+        };
+        if answer.status == sys::IOX2SD_BUFFER_TOO_SHORT {
+            out.resize(answer.length, 0);
+            continue;
+        }
+        out.truncate(answer.length);
+        return Run {
+            status: answer.status,
+            line: answer.line,
+            replies: String::from_utf8(out).expect("the library writes texts"),
+        };
+    }
 }

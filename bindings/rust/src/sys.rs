@@ -1,4 +1,4 @@
-//! The declarations of `iox2sd.h` and `iox2sd_values.h` that this crate uses, under their names
+//! The declarations of the headers that this crate uses, under their names
 //! there. `tests/declarations.rs` compares them with the headers.
 #![allow(non_camel_case_types)]
 
@@ -32,6 +32,7 @@ pub const IOX2SD_OTHER_VARIANT: u32 = 61;
 pub const IOX2SD_OTHER_SIZE: u32 = 62;
 pub const IOX2SD_OTHER_ALIGNMENT: u32 = 63;
 pub const IOX2SD_GREATER_ALIGNMENT: u32 = 64;
+pub const IOX2SD_BAD_LINE: u32 = 66;
 
 pub const IOX2SD_PUBLISH_SUBSCRIBE: u32 = 0;
 pub const IOX2SD_EVENT: u32 = 1;
@@ -251,6 +252,27 @@ pub struct iox2sd_part_answer {
 }
 
 #[repr(C)]
+pub struct iox2sd_script_answer {
+    pub status: u32,
+    pub line: usize,
+    pub length: usize,
+}
+
+#[repr(C)]
+pub struct iox2sd_duration {
+    pub seconds: u64,
+    pub nanoseconds: u32,
+}
+
+#[repr(C)]
+pub struct iox2sd_global_settings {
+    pub creation_timeout: iox2sd_duration,
+    pub cleanup_dead_nodes_on_open: bool,
+    pub cleanup_dead_nodes_on_creation: bool,
+    pub cleanup_dead_nodes_on_destruction: bool,
+}
+
+#[repr(C)]
 pub struct iox2sd_optional_duration {
     pub seconds: u64,
     pub nanoseconds: u32,
@@ -422,6 +444,20 @@ extern "C" {
         out: *mut iox2sd_port,
         capacity: usize,
     ) -> iox2sd_count_answer;
+    pub fn iox2sd_ports_of_at(
+        places: *mut iox2sd_service,
+        count: usize,
+        node: iox2sd_id,
+        out: *mut iox2sd_port,
+        capacity: usize,
+    ) -> iox2sd_count_answer;
+
+    pub fn iox2sd_script_run(
+        script: *const u8,
+        length: usize,
+        out: *mut u8,
+        capacity: usize,
+    ) -> iox2sd_script_answer;
 
     pub fn iox2sd_service_name_check(text: *const u8, length: usize) -> iox2sd_place_answer;
     pub fn iox2sd_internal_service_name_check(
@@ -533,6 +569,7 @@ extern "C" {
         loaned_responses: usize,
     ) -> iox2sd_count_answer;
 
+    pub fn iox2sd_global_defaults() -> iox2sd_global_settings;
     pub fn iox2sd_publish_subscribe_defaults() -> iox2sd_publish_subscribe_settings;
     pub fn iox2sd_event_defaults() -> iox2sd_event_settings;
     pub fn iox2sd_request_response_defaults() -> iox2sd_request_response_settings;

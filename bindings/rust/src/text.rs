@@ -21,7 +21,7 @@ impl Text {
         length: 0,
     };
 
-    /// A copy of a text that the library took.
+    /// A copy of a text that the library took. Panics where there is no room for it.
     pub(crate) fn copy_of(text: &str) -> Self {
         let mut bytes = [0; ROOM];
         bytes[..text.len()].copy_from_slice(text.as_bytes());

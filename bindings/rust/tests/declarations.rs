@@ -171,8 +171,10 @@ fn of_sys(sys: &str) -> Declarations {
 
 #[test]
 fn each_declaration_is_that_of_the_headers() {
-    let mut headers = of_header(&read("../../include/iox2sd.h"));
-    headers.extend(of_header(&read("../../include/iox2sd_values.h")));
+    let headers: Declarations = ["iox2sd.h", "iox2sd_values.h", "iox2sd_script.h"]
+        .iter()
+        .flat_map(|name| of_header(&read(&format!("../../include/{name}"))))
+        .collect();
     let sys = of_sys(&read("src/sys.rs"));
     for prefix in ["IOX2SD_", "iox2sd_"] {
         let count = sys.keys().filter(|name| name.starts_with(prefix)).count();
@@ -181,4 +183,22 @@ fn each_declaration_is_that_of_the_headers() {
     for (name, declaration) in &sys {
         assert_eq!(Some(declaration), headers.get(name), "{name}");
     }
+}
+
+/// The words of a text, without the marks of comments.
+fn words(text: &str) -> String {
+    let is_word = |word: &&str| !["*", "//"].contains(word);
+    text.split_whitespace()
+        .filter(is_word)
+        .collect::<Vec<_>>()
+        .join(" ")
+}
+
+#[test]
+fn a_service_is_sent_because_the_header_says_so() {
+    let sentence = "A service may be moved to another thread, ordered by a lock or a thread's \
+                    start or join, and is used by one thread at a time, by the functions that \
+                    only ask too.";
+    assert!(words(&read("../../include/iox2sd.h")).contains(sentence));
+    assert!(words(&read("src/library/service.rs")).contains(sentence));
 }

@@ -55,9 +55,9 @@ fn no_limit_stands_in_the_code() {
         let is_number = |word: &&str| word.starts_with(|letter: char| letter.is_ascii_digit());
         numbers.extend(words.filter(is_number).map(str::to_string));
     }
-    // The size of an array of roles, the room of a short text, the radix of an id's text, and the
-    // milliseconds of a timeout, besides 0, 1 and 2.
-    let expected = ["0", "1", "16", "2", "256", "500", "9"].map(str::to_string);
+    // The size of an array of roles, the room of a short text and the radix of an id's text,
+    // besides 0, 1 and 2.
+    let expected = ["0", "1", "16", "2", "256", "9"].map(str::to_string);
     assert_eq!(numbers, BTreeSet::from(expected));
     assert_eq!(places("256"), ["text.rs: const ROOM: usize = 256;"]);
     assert_eq!(places("16)").len(), 1, "{:?}", places("16)"));

@@ -53,6 +53,8 @@ code status.OtherAlignment = 63
 code status.GreaterAlignment = 64
 code status.UnknownText = 65
 code status.BadLine = 66
+code status.UnknownStrategy = 67
+code status.BadDuration = 68
 
 -- the status of a number
 abbrev pub ReadsStatus : ℕ → Option Status → Type 0
@@ -109,3 +111,5 @@ status_text status.OtherAlignment = codes "the types of the headers have other a
 status_text status.GreaterAlignment = codes "the opener's type has a greater alignment than the service's"
 status_text status.UnknownText = codes "unknown text of the configuration"
 status_text status.BadLine = codes "a line of the script is not valid"
+status_text status.UnknownStrategy = codes "unknown strategy"
+status_text status.BadDuration = codes "the nanoseconds of a duration are a second or more"

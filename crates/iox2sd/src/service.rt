@@ -55,3 +55,11 @@ impl Service {
         self.slot.put(Loose::of(service));
     }
 }
+
+/// Is called of types alone whose values may be sent to another thread.
+fn is_send<T: Send>() {}
+
+/// A service may be sent to another thread.
+pub fn service_is_send() {
+    is_send::<Service>();
+}

@@ -101,6 +101,10 @@ pub enum Status {
     UnknownText = 65,
     /// A line of a script is not a command.
     BadLine = 66,
+    /// The number is not that of a strategy.
+    UnknownStrategy = 67,
+    /// The nanoseconds beside the seconds are 1,000,000,000 or more.
+    BadDuration = 68,
 }
 
 impl Status {
@@ -165,6 +169,8 @@ impl Status {
                 "the opener's type has a greater alignment than the service's",
             Status::UnknownText => "unknown text of the configuration",
             Status::BadLine => "a line of the script is not valid",
+            Status::UnknownStrategy => "unknown strategy",
+            Status::BadDuration => "the nanoseconds of a duration are a second or more",
         }
     }
 }
@@ -222,6 +228,8 @@ pub(super) fn status_of(number: u32) -> Option<Status>
         64 => Some(Status::GreaterAlignment),
         65 => Some(Status::UnknownText),
         66 => Some(Status::BadLine),
+        67 => Some(Status::UnknownStrategy),
+        68 => Some(Status::BadDuration),
         _ => None,
     }
 }

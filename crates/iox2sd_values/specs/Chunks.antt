@@ -77,14 +77,16 @@ CountsResponses (s ∷ others) answer = Counts (server_limits
 abbrev pub CountsSamplesOfConfig : List PublishSubscribeConfig → ℕ → CountAnswer → Type 0
 CountsSamplesOfConfig [] loans answer = answer ≡ count_answer status.Null 0
 CountsSamplesOfConfig (c ∷ others) loans answer = Counts (sample_limits
-    (publish_subscribe c.max_subscribers c.subscriber_max_buffer_size c.subscriber_max_borrowed_samples c.history_size)
+    (publish_subscribe c.max_subscribers c.subscriber_max_buffer_size
+    c.subscriber_max_borrowed_samples c.history_size)
     loans) answer
 
 -- the requests of one client
 abbrev pub CountsRequestsOfConfig : List RequestResponseConfig → ℕ → CountAnswer → Type 0
 CountsRequestsOfConfig [] loans answer = answer ≡ count_answer status.Null 0
 CountsRequestsOfConfig (c ∷ others) loans answer =
-    Counts (client_limits (request_response c.max_servers 0 c.max_active_requests_per_client 0 0) loans) answer
+    Counts (client_limits
+    (request_response c.max_servers 0 c.max_active_requests_per_client 0 0) loans) answer
 
 -- the responses of one server
 abbrev pub CountsResponsesOfConfig : List RequestResponseConfig → ℕ → CountAnswer → Type 0

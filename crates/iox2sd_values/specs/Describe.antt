@@ -32,18 +32,20 @@ refusal_answer (refusal.Cause s) = no_field s
 refusal_answer (refusal.Invalid f) = field_answer f
 
 -- the layer's description of a service without attributes, by SHA-1, which refuses no input
-abbrev pub DescribesBySha1 : List ℕ → ℕ → MessagingPattern → Result Description ServiceHashError → Type 0
+abbrev pub DescribesBySha1 : List ℕ → ℕ → MessagingPattern
+    → Result Description ServiceHashError → Type 0
 DescribesBySha1 name id p made = Describes sha1_text (λ input. ⊥) name id p made
 
--- the description of a service whose settings are read so and are those of a pattern: the settings are looked at first,
--- and then the hash text
+-- the description of a service whose settings are read so and are those of a pattern: the settings
+-- are looked at first, and then the hash text
 abbrev pub MakesBy : {A : Type 0} → (Result A Field → Type 0) → (A → MessagingPattern) → List ℕ → ℕ
     → Result Description Refusal → Type 0
 MakesBy {A} Reads pattern_of name id (Ok d) =
     (settings : A) × Reads (Ok settings) × DescribesBySha1 name id (pattern_of settings) (Ok d)
 MakesBy Reads pattern_of name id (Err (refusal.Invalid f)) = Reads (Err f)
 MakesBy {A} Reads pattern_of name id (Err (refusal.Cause status.IllegalHash)) =
-    (settings : A) × Reads (Ok settings) × DescribesBySha1 name id (pattern_of settings) (Err IllegalText)
+    (settings : A) × Reads (Ok settings)
+    × DescribesBySha1 name id (pattern_of settings) (Err IllegalText)
 MakesBy Reads pattern_of name id (Err (refusal.Cause _)) = ⊥
 
 -- the same where there is a name
@@ -53,66 +55,83 @@ MakesNamed Makes (Ok name) made = Makes name made
 MakesNamed Makes (Err cause) made = made ≡ Err (refusal.Cause cause)
 
 -- of a publish-subscribe service
-abbrev pub MakesPublishSubscribe : Result (List ℕ) Status → PublishSubscribeSettings → ℕ → Result Description Refusal → Type 0
+abbrev pub MakesPublishSubscribe : Result (List ℕ) Status → PublishSubscribeSettings → ℕ
+    → Result Description Refusal → Type 0
 MakesPublishSubscribe name s id made = MakesNamed (λ n m. MakesBy (ReadsPublishSubscribe s)
     (λ settings. pattern.PublishSubscribe (publish_subscribe_of settings)) n id m) name made
 
 -- of an event service
-abbrev pub MakesEvent : Result (List ℕ) Status → EventSettings → ℕ → Result Description Refusal → Type 0
+abbrev pub MakesEvent : Result (List ℕ) Status → EventSettings → ℕ
+    → Result Description Refusal → Type 0
 MakesEvent name s id made = MakesNamed (λ n m. MakesBy (ReadsEvent s)
     (λ settings. pattern.Event (event_of settings)) n id m) name made
 
 -- of a request-response service
-abbrev pub MakesRequestResponse : Result (List ℕ) Status → RequestResponseSettings → ℕ → Result Description Refusal → Type 0
+abbrev pub MakesRequestResponse : Result (List ℕ) Status → RequestResponseSettings → ℕ
+    → Result Description Refusal → Type 0
 MakesRequestResponse name s id made = MakesNamed (λ n m. MakesBy (ReadsRequestResponse s)
     (λ settings. pattern.RequestResponse (request_response_of settings)) n id m) name made
 
 -- of a blackboard service
-abbrev pub MakesBlackboard : Result (List ℕ) Status → BlackboardSettings → ℕ → Result Description Refusal → Type 0
+abbrev pub MakesBlackboard : Result (List ℕ) Status → BlackboardSettings → ℕ
+    → Result Description Refusal → Type 0
 MakesBlackboard name s id made = MakesNamed (λ n m. MakesBy (ReadsBlackboard s)
     (λ settings. pattern.Blackboard (blackboard_of settings)) n id m) name made
 
 -- the first place holds what was made, or is as it was
-abbrev pub Fills : List ServiceDescription → Result Description Refusal → Id → FieldAnswer → List ServiceDescription → Type 0
+abbrev pub Fills : List ServiceDescription → Result Description Refusal → Id → FieldAnswer
+    → List ServiceDescription → Type 0
 Fills [] made id answer new = (answer ≡ no_field status.Null) × (new ≡ [])
-Fills (place ∷ rest) (Ok d) id answer new = (answer ≡ no_field status.Done) × (new ≡ told_description d id ∷ rest)
-Fills (place ∷ rest) (Err r) id answer new = (answer ≡ refusal_answer r) × (new ≡ place ∷ rest)
+Fills (place ∷ rest) (Ok d) id answer new =
+    (answer ≡ no_field status.Done) × (new ≡ told_description d id ∷ rest)
+Fills (place ∷ rest) (Err r) id answer new =
+    (answer ≡ refusal_answer r) × (new ≡ place ∷ rest)
 
 -- the same, where there are settings
-abbrev pub FillsBy : {S : Type 0} → (Result (List ℕ) Status → S → ℕ → Result Description Refusal → Type 0) → List S
-    → Result (List ℕ) Status → Id → List ServiceDescription → FieldAnswer → List ServiceDescription → Type 0
+abbrev pub FillsBy : {S : Type 0}
+    → (Result (List ℕ) Status → S → ℕ → Result Description Refusal → Type 0) → List S
+    → Result (List ℕ) Status → Id → List ServiceDescription → FieldAnswer
+    → List ServiceDescription → Type 0
 FillsBy Makes [] name id old answer new = (answer ≡ no_field status.Null) × (new ≡ old)
 FillsBy Makes (s ∷ others) name id old answer new =
-    (made : Result Description Refusal) × Makes name s (number_of id) made × Fills old made id answer new
+    (made : Result Description Refusal) × Makes name s (number_of id) made
+    × Fills old made id answer new
 
 -- of a publish-subscribe service
-abbrev pub FillsPublishSubscribe : List PublishSubscribeSettings → Result (List ℕ) Status → Id → List ServiceDescription → FieldAnswer
-    → List ServiceDescription → Type 0
-FillsPublishSubscribe settings name id old answer new = FillsBy MakesPublishSubscribe settings name id old answer new
+abbrev pub FillsPublishSubscribe : List PublishSubscribeSettings → Result (List ℕ) Status → Id
+    → List ServiceDescription → FieldAnswer → List ServiceDescription → Type 0
+FillsPublishSubscribe settings name id old answer new =
+    FillsBy MakesPublishSubscribe settings name id old answer new
 
 -- of an event service
-abbrev pub FillsEvent : List EventSettings → Result (List ℕ) Status → Id → List ServiceDescription → FieldAnswer
-    → List ServiceDescription → Type 0
+abbrev pub FillsEvent : List EventSettings → Result (List ℕ) Status → Id
+    → List ServiceDescription → FieldAnswer → List ServiceDescription → Type 0
 FillsEvent settings name id old answer new = FillsBy MakesEvent settings name id old answer new
 
 -- of a request-response service
-abbrev pub FillsRequestResponse : List RequestResponseSettings → Result (List ℕ) Status → Id → List ServiceDescription → FieldAnswer
-    → List ServiceDescription → Type 0
-FillsRequestResponse settings name id old answer new = FillsBy MakesRequestResponse settings name id old answer new
+abbrev pub FillsRequestResponse : List RequestResponseSettings → Result (List ℕ) Status → Id
+    → List ServiceDescription → FieldAnswer → List ServiceDescription → Type 0
+FillsRequestResponse settings name id old answer new =
+    FillsBy MakesRequestResponse settings name id old answer new
 
 -- of a blackboard service
-abbrev pub FillsBlackboard : List BlackboardSettings → Result (List ℕ) Status → Id → List ServiceDescription → FieldAnswer
-    → List ServiceDescription → Type 0
-FillsBlackboard settings name id old answer new = FillsBy MakesBlackboard settings name id old answer new
+abbrev pub FillsBlackboard : List BlackboardSettings → Result (List ℕ) Status → Id
+    → List ServiceDescription → FieldAnswer → List ServiceDescription → Type 0
+FillsBlackboard settings name id old answer new =
+    FillsBy MakesBlackboard settings name id old answer new
 
 -- the same, where the name is read as one that a user gives
-abbrev pub WithUserName : (Result (List ℕ) Status → Id → List ServiceDescription → FieldAnswer → List ServiceDescription → Type 0)
+abbrev pub WithUserName :
+    (Result (List ℕ) Status → Id → List ServiceDescription → FieldAnswer
+    → List ServiceDescription → Type 0)
     → List ℕ → Id → List ServiceDescription → FieldAnswer → List ServiceDescription → Type 0
 WithUserName Rest bytes id old answer new =
     (name : Result (List ℕ) Status) × ReadsName bytes name × Rest name id old answer new
 
 -- where it is read as one that may be one of the system's own
-abbrev pub WithInternalName : (Result (List ℕ) Status → Id → List ServiceDescription → FieldAnswer → List ServiceDescription → Type 0)
+abbrev pub WithInternalName :
+    (Result (List ℕ) Status → Id → List ServiceDescription → FieldAnswer
+    → List ServiceDescription → Type 0)
     → List ℕ → Id → List ServiceDescription → FieldAnswer → List ServiceDescription → Type 0
 WithInternalName Rest bytes id old answer new =
     (name : Result (List ℕ) Status) × ReadsInternalName bytes name × Rest name id old answer new

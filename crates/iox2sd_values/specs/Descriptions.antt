@@ -119,16 +119,21 @@ told_description d id = record {
 
 -- whether two patterns are one, where both are known
 abbrev pub ComparesKinds : Option PatternKind → Option PatternKind → FlagAnswer → Type 0
-ComparesKinds (Some left) (Some right) answer = (answer.status ≡ code status.Done) × (IsTrue answer.yes ↔ (left ≡ right))
+ComparesKinds (Some left) (Some right) answer =
+    (answer.status ≡ code status.Done) × (IsTrue answer.yes ↔ (left ≡ right))
 ComparesKinds (Some left) None answer = answer ≡ flag_answer status.UnknownPattern false
 ComparesKinds None right answer = answer ≡ flag_answer status.UnknownPattern false
 
 -- whether two numbers are those of one pattern
 abbrev pub ComparesPatterns : ℕ → ℕ → FlagAnswer → Type 0
-ComparesPatterns left right answer = (l r : Option PatternKind) × ReadsPattern left l × ReadsPattern right r × ComparesKinds l r answer
+ComparesPatterns left right answer =
+    (l r : Option PatternKind) × ReadsPattern left l × ReadsPattern right r
+    × ComparesKinds l r answer
 
 -- the same of two descriptions, where both are given
-abbrev pub ComparesDescriptions : List ServiceDescription → List ServiceDescription → FlagAnswer → Type 0
+abbrev pub ComparesDescriptions : List ServiceDescription → List ServiceDescription → FlagAnswer
+    → Type 0
 ComparesDescriptions [] rights answer = answer ≡ flag_answer status.Null false
 ComparesDescriptions (left ∷ lefts) [] answer = answer ≡ flag_answer status.Null false
-ComparesDescriptions (left ∷ lefts) (right ∷ rights) answer = ComparesPatterns left.pattern right.pattern answer
+ComparesDescriptions (left ∷ lefts) (right ∷ rights) answer =
+    ComparesPatterns left.pattern right.pattern answer

@@ -69,21 +69,24 @@ IsAllocation number = (strategy : AllocationStrategy) × ReadsAllocation number 
 -- the span of time, where the nanoseconds are below a second
 abbrev pub ReadsDuration : PlainDuration → Option Duration → Type 0
 ReadsDuration given (Some d) =
-    (given.nanoseconds < 1_000_000_000) × (as_nanos d ≡ given.seconds * 1_000_000_000 + given.nanoseconds)
+    (given.nanoseconds < 1_000_000_000)
+    × (as_nanos d ≡ given.seconds * 1_000_000_000 + given.nanoseconds)
 ReadsDuration given None = 1_000_000_000 ≤ given.nanoseconds
 
 -- the span of time beside the flag
 abbrev pub span_of : OptionalDuration → PlainDuration
 span_of given = record { seconds = given.seconds; nanoseconds = given.nanoseconds }
 
--- the deadline, if there is one: where the flag says that there is none, the numbers are not looked at
+-- the deadline, if there is one: where the flag says that there is none, its numbers are ignored
 abbrev pub ReadsDeadline : OptionalDuration → Result (Option Duration) Field → Type 0
 ReadsDeadline given (Ok None) = given.is_some ≡ false
-ReadsDeadline given (Ok (Some d)) = (given.is_some ≡ true) × ReadsDuration (span_of given) (Some d)
-ReadsDeadline given (Err field.Deadline) = (given.is_some ≡ true) × ReadsDuration (span_of given) None
+ReadsDeadline given (Ok (Some d)) =
+    (given.is_some ≡ true) × ReadsDuration (span_of given) (Some d)
+ReadsDeadline given (Err field.Deadline) =
+    (given.is_some ≡ true) × ReadsDuration (span_of given) None
 ReadsDeadline given (Err _) = ⊥
 
--- the number of an event, if there is one: where the flag says that there is none, the number is not looked at
+-- the number of an event, if there is one: where the flag says that there is none, it is ignored
 abbrev pub ReadsEventId : OptionalEventId → Option ℕ → Type 0
 ReadsEventId given (Some number) = (given.is_some ≡ true) × (number ≡ given.number)
 ReadsEventId given None = given.is_some ≡ false
@@ -91,7 +94,8 @@ ReadsEventId given None = given.is_some ≡ false
 -- the settings of a publish-subscribe service
 abbrev pub ReadsPublishSubscribe : PublishSubscribeSettings → Result PublishSubscribe Field → Type 0
 ReadsPublishSubscribe s (Ok made) = told_publish_subscribe made ≡ s
-ReadsPublishSubscribe s (Err field.BackpressureStrategy) = ReadsBackpressure s.backpressure_strategy None
+ReadsPublishSubscribe s (Err field.BackpressureStrategy) =
+    ReadsBackpressure s.backpressure_strategy None
 ReadsPublishSubscribe s (Err field.PublisherAllocationStrategy) =
     IsBackpressure s.backpressure_strategy × ReadsAllocation s.publisher_allocation_strategy None
 ReadsPublishSubscribe s (Err _) = ⊥
@@ -115,9 +119,11 @@ ReadsEvent s (Err f) = ReadsDeadline s.deadline (Err f)
 -- the settings of a request-response service: strategies are looked at in the order of the fields
 abbrev pub ReadsRequestResponse : RequestResponseSettings → Result RequestResonse Field → Type 0
 ReadsRequestResponse s (Ok made) = told_request_response made ≡ s
-ReadsRequestResponse s (Err field.ClientBackpressureStrategy) = ReadsBackpressure s.client_backpressure_strategy None
+ReadsRequestResponse s (Err field.ClientBackpressureStrategy) =
+    ReadsBackpressure s.client_backpressure_strategy None
 ReadsRequestResponse s (Err field.ServerBackpressureStrategy) =
-    IsBackpressure s.client_backpressure_strategy × ReadsBackpressure s.server_backpressure_strategy None
+    IsBackpressure s.client_backpressure_strategy
+    × ReadsBackpressure s.server_backpressure_strategy None
 ReadsRequestResponse s (Err field.ClientAllocationStrategy) =
     IsBackpressure s.client_backpressure_strategy × IsBackpressure s.server_backpressure_strategy
     × ReadsAllocation s.client_allocation_strategy None
@@ -145,7 +151,8 @@ checked (Err f) = field_answer f
 -- the answer tells what reading the settings gives, where there are some
 abbrev pub ChecksBy : {S A : Type 0} → (S → Result A Field → Type 0) → List S → FieldAnswer → Type 0
 ChecksBy Reads [] answer = answer ≡ no_field status.Null
-ChecksBy {S} {A} Reads (s ∷ others) answer = (read : Result A Field) × Reads s read × (answer ≡ checked read)
+ChecksBy {S} {A} Reads (s ∷ others) answer =
+    (read : Result A Field) × Reads s read × (answer ≡ checked read)
 
 -- of settings of a publish-subscribe service
 abbrev pub ChecksPublishSubscribe : List PublishSubscribeSettings → FieldAnswer → Type 0

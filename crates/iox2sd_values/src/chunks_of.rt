@@ -1,4 +1,5 @@
-//! How many chunks the data segment of a port needs, in a service with these settings or of this description.
+//! How many chunks the data segment of a port needs, in a service with these settings or of this
+//! description.
 ghost use Rattle.iox2sd_values.specs.Chunks.{CountsSamples, CountsRequests, CountsResponses};
 ghost use Rattle.iox2sd_values.specs.Chunks.{CountsSamplesOfConfig, CountsRequestsOfConfig};
 ghost use Rattle.iox2sd_values.specs.Chunks.{CountsResponsesOfConfig};
@@ -64,8 +65,8 @@ pub extern "C" fn iox2sd_responses_of_at(settings: &[RequestResponseSettings]) -
     }
 }
 
-/// The greatest number of one publisher's samples that can be in use at once, in a service of which this is fixed, where
-/// the publisher loans up to `loaned_samples` of them to be written.
+/// The greatest number of one publisher's samples that can be in use at once, in a service of which
+/// this is fixed, where the publisher loans up to `loaned_samples` of them to be written.
 ///
 /// Refused are, in this order, NULL (`Null`), and a number that would pass 2^64 - 1 (`TooLarge`).
 #[unsafe(no_mangle)]
@@ -87,8 +88,9 @@ pub extern "C" fn iox2sd_samples_of_config_at(
     }
 }
 
-/// The greatest number of one client's requests that can be in use at once, in a service of which this is fixed, where
-/// the client loans up to `loaned_requests` of them to be written. Refused as that of samples is.
+/// The greatest number of one client's requests that can be in use at once, in a service of which
+/// this is fixed, where the client loans up to `loaned_requests` of them to be written. Refused as
+/// that of samples is.
 #[unsafe(no_mangle)]
 pub extern "C" fn iox2sd_requests_of_config_at(
     config: &[RequestResponseConfig],
@@ -106,8 +108,9 @@ pub extern "C" fn iox2sd_requests_of_config_at(
     }
 }
 
-/// The greatest number of one server's responses that can be in use at once, in a service of which this is fixed, where
-/// the server loans up to `loaned_responses` of them to be written for each request. Refused as that of samples is.
+/// The greatest number of one server's responses that can be in use at once, in a service of which
+/// this is fixed, where the server loans up to `loaned_responses` of them to be written for each
+/// request. Refused as that of samples is.
 #[unsafe(no_mangle)]
 pub extern "C" fn iox2sd_responses_of_config_at(
     config: &[RequestResponseConfig],

@@ -97,7 +97,8 @@ fn make_publish_subscribe(
     }
 }
 
-/// Fills the first place with the description of a publish-subscribe service, where there are settings.
+/// Fills the first place with the description of a publish-subscribe service, where there are
+/// settings.
 fn fill_publish_subscribe(
     name: Result<ServiceName, Status>,
     settings: &[PublishSubscribeSettings],
@@ -118,9 +119,10 @@ fn fill_publish_subscribe(
 
 /// Describes a publish-subscribe service that has a user's name.
 ///
-/// Refused are, in this order, NULL (`Null`); a name that is no UTF-8 (`NotUtf8`); one that `iox2sd_service_name_check`
-/// refuses (`BadServiceName`); settings that `iox2sd_publish_subscribe_settings_check_at` refuses, for the same cause and
-/// field; and a hash text that cannot be the name of a file (`IllegalHash`).
+/// Refused are, in this order, NULL (`Null`); a name that is no UTF-8 (`NotUtf8`); one that
+/// `iox2sd_service_name_check` refuses (`BadServiceName`); settings that
+/// `iox2sd_publish_subscribe_settings_check_at` refuses, for the same cause and field; and a hash
+/// text that cannot be the name of a file (`IllegalHash`). Then the place is as it was.
 #[unsafe(no_mangle)]
 pub extern "C" fn iox2sd_describe_publish_subscribe_at(
     settings: &[PublishSubscribeSettings],
@@ -141,7 +143,8 @@ pub extern "C" fn iox2sd_describe_internal_publish_subscribe_at(
     id: Id,
     out: &mut [ServiceDescription],
 ) -> FieldAnswer
-    ensures { WithInternalName (FillsPublishSubscribe settings.now) name.now id out.old result out.new }
+    ensures { WithInternalName (FillsPublishSubscribe settings.now) name.now id
+        out.old result out.new }
 {
     fill_publish_subscribe(internal_service_name(name), settings, id, out)
 }
@@ -224,7 +227,8 @@ fn make_request_response(
     }
 }
 
-/// Fills the first place with the description of a request-response service, where there are settings.
+/// Fills the first place with the description of a request-response service, where there are
+/// settings.
 fn fill_request_response(
     name: Result<ServiceName, Status>,
     settings: &[RequestResponseSettings],
@@ -265,7 +269,8 @@ pub extern "C" fn iox2sd_describe_internal_request_response_at(
     id: Id,
     out: &mut [ServiceDescription],
 ) -> FieldAnswer
-    ensures { WithInternalName (FillsRequestResponse settings.now) name.now id out.old result out.new }
+    ensures { WithInternalName (FillsRequestResponse settings.now) name.now id
+        out.old result out.new }
 {
     fill_request_response(internal_service_name(name), settings, id, out)
 }

@@ -134,7 +134,8 @@ pub struct ServiceDescription {
     pub hash_length: usize,
     /// The number of the pattern.
     pub pattern: u32,
-    /// What is fixed of a publish-subscribe service; all 0 for another pattern. So are the next three for theirs.
+    /// What is fixed of a publish-subscribe service; all 0 for another pattern, as the next three are
+    /// for others than theirs.
     pub publish_subscribe: PublishSubscribeConfig,
     /// What is fixed of an event service.
     pub event: EventConfig,
@@ -293,7 +294,8 @@ fn compare_patterns(left: u32, right: u32) -> FlagAnswer
 
 /// Whether two services have one pattern, whatever is fixed beside it.
 ///
-/// Refused are, in this order, NULL (`Null`), and a number that is not that of a pattern (`UnknownPattern`).
+/// Refused are, in this order, NULL (`Null`), and a number that is not that of a pattern
+/// (`UnknownPattern`).
 #[unsafe(no_mangle)]
 pub extern "C" fn iox2sd_has_same_messaging_pattern_at(
     left: &[ServiceDescription],

@@ -45,10 +45,11 @@ pub(super) enum Field {
 pub struct FieldAnswer {
     /// The number of a [`Status`].
     pub status: u32,
-    /// The field of which the status speaks; 0 where it speaks of none. 0: `backpressure_strategy`. 1:
-    /// `publisher_allocation_strategy`. 2: `deadline`. 3: `client_backpressure_strategy`. 4:
-    /// `server_backpressure_strategy`. 5: `client_allocation_strategy`. 6: `server_allocation_strategy`. 7:
-    /// `creation_timeout`.
+    /// The field of which the status speaks; 0 where it speaks of none.
+    ///
+    /// 0: `backpressure_strategy`. 1: `publisher_allocation_strategy`. 2: `deadline`.
+    /// 3: `client_backpressure_strategy`. 4: `server_backpressure_strategy`.
+    /// 5: `client_allocation_strategy`. 6: `server_allocation_strategy`. 7: `creation_timeout`.
     pub field: u32,
 }
 
@@ -272,8 +273,8 @@ fn read_global(settings: &GlobalSettings) -> Result<Duration, Field>
 
 /// Whether the settings of a publish-subscribe service are valid.
 ///
-/// Refused are, in this order, NULL (`Null`), and the first number that is not that of a strategy, with its field
-/// (`UnknownStrategy`).
+/// Refused are, in this order, NULL (`Null`), and the first number that is not that of a strategy,
+/// with its field (`UnknownStrategy`).
 #[unsafe(no_mangle)]
 pub extern "C" fn iox2sd_publish_subscribe_settings_check_at(
     settings: &[PublishSubscribeSettings],
@@ -291,7 +292,8 @@ pub extern "C" fn iox2sd_publish_subscribe_settings_check_at(
 
 /// Whether the settings of an event service are valid.
 ///
-/// Refused are, in this order, NULL (`Null`), and a deadline whose nanoseconds are a second or more (`BadDuration`).
+/// Refused are, in this order, NULL (`Null`), and a deadline whose nanoseconds are a second or more
+/// (`BadDuration`).
 #[unsafe(no_mangle)]
 pub extern "C" fn iox2sd_event_settings_check_at(settings: &[EventSettings]) -> FieldAnswer
     ensures { ChecksEvent settings.now result }
@@ -305,7 +307,8 @@ pub extern "C" fn iox2sd_event_settings_check_at(settings: &[EventSettings]) -> 
     }
 }
 
-/// Whether the settings of a request-response service are valid. Refused as those of a publish-subscribe service are.
+/// Whether the settings of a request-response service are valid. Refused as those of a
+/// publish-subscribe service are.
 #[unsafe(no_mangle)]
 pub extern "C" fn iox2sd_request_response_settings_check_at(
     settings: &[RequestResponseSettings],
@@ -323,8 +326,8 @@ pub extern "C" fn iox2sd_request_response_settings_check_at(
 
 /// Whether the settings of a system are valid.
 ///
-/// Refused are, in this order, NULL (`Null`), and a creation timeout whose nanoseconds are a second or more
-/// (`BadDuration`).
+/// Refused are, in this order, NULL (`Null`), and a creation timeout whose nanoseconds are a second
+/// or more (`BadDuration`).
 #[unsafe(no_mangle)]
 pub extern "C" fn iox2sd_global_settings_check_at(settings: &[GlobalSettings]) -> FieldAnswer
     ensures { ChecksGlobal settings.now result }

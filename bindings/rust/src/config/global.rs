@@ -1,4 +1,5 @@
 use super::default_text;
+use crate::library;
 use crate::paths::{FileName, Path};
 use crate::semantic_string::SemanticStringError;
 use crate::sys;
@@ -21,12 +22,13 @@ pub struct Global {
 
 impl Default for Global {
     fn default() -> Self {
+        let timeout = library::global_defaults().creation_timeout;
         Global {
             root_path: default_text(sys::IOX2SD_ROOT_PATH),
             prefix: default_text(sys::IOX2SD_PREFIX),
             service: Service::default(),
             node: Node::default(),
-            creation_timeout: Duration::from_millis(500),
+            creation_timeout: Duration::new(timeout.seconds, timeout.nanoseconds),
         }
     }
 }
@@ -63,6 +65,12 @@ impl Global {
 
     /// The directory of nodes: the root path and `node.directory`, joined and refused in the same
     /// way.
+    ///
+    /// ```
+    /// use iox2sd::config::Config;
+    /// assert_eq!(Config::default().global.node_dir()?, "/tmp/iceoryx2/nodes");
+    /// # Ok::<(), iox2sd::semantic_string::SemanticStringError>(())
+    /// ```
     pub fn node_dir(&self) -> Result<Path, SemanticStringError> {
         self.below_root(&self.node.directory)
     }
@@ -108,7 +116,7 @@ impl Default for Service {
             event_connection_suffix: default_text(sys::IOX2SD_EVENT_CONNECTION_SUFFIX),
             blackboard_mgmt_suffix: default_text(sys::IOX2SD_BLACKBOARD_MGMT_SUFFIX),
             blackboard_data_suffix: default_text(sys::IOX2SD_BLACKBOARD_DATA_SUFFIX),
-            cleanup_dead_nodes_on_open: true,
+            cleanup_dead_nodes_on_open: library::global_defaults().cleanup_dead_nodes_on_open,
         }
     }
 }
@@ -136,6 +144,7 @@ pub struct Node {
 
 impl Default for Node {
     fn default() -> Self {
+        let settings = library::global_defaults();
         Node {
             directory: default_text(sys::IOX2SD_NODE_DIRECTORY),
             monitor_suffix: default_text(sys::IOX2SD_MONITOR_SUFFIX),
@@ -143,8 +152,8 @@ impl Default for Node {
             service_tag_suffix: default_text(sys::IOX2SD_SERVICE_TAG_SUFFIX),
             port_tag_suffix: default_text(sys::IOX2SD_PORT_TAG_SUFFIX),
             global_mgmt_suffix: default_text(sys::IOX2SD_GLOBAL_MGMT_SUFFIX),
-            cleanup_dead_nodes_on_creation: true,
-            cleanup_dead_nodes_on_destruction: true,
+            cleanup_dead_nodes_on_creation: settings.cleanup_dead_nodes_on_creation,
+            cleanup_dead_nodes_on_destruction: settings.cleanup_dead_nodes_on_destruction,
         }
     }
 }

@@ -10,8 +10,9 @@ pub(crate) struct Service {
     place: UnsafeCell<sys::iox2sd_service>,
 }
 
-// SAFETY: `iox2sd.h` says that a service may be sent to another thread. It is not shared: the cell
-// makes this type not `Sync`.
+// SAFETY: `iox2sd.h` says: "A service may be moved to another thread, ordered by a lock or a thread's
+// start or join, and is used by one thread at a time, by the functions that only ask too." Values of
+// Rust move in such an order alone, and the cell makes this type not `Sync`.
 unsafe impl Send for Service {}
 
 /// Calls an export on the place of a service.
@@ -153,17 +154,11 @@ impl Service {
             Err(other) => unexpected(other),
         }
     }
-}
 
-impl Service {
-    /// The ports of the node with exactly this id: those of the first role before those of the
-    /// second, each by rising slot.
+    /// The ports of the node with exactly this id.
     pub(crate) fn ports_of(&self, node: sys::iox2sd_id) -> Vec<sys::iox2sd_port> {
-        let (first, second) = self.roles();
-        let ports = [first, second]
-            .into_iter()
-            .filter_map(|role| self.ports(role));
-        ports.flatten().filter(|port| port.node == node).collect()
+        list(|out| call!(self, iox2sd_ports_of_at, node, out.as_mut_ptr(), out.len()))
+            .unwrap_or_else(|status| unexpected(status))
     }
 }
 

@@ -1,0 +1,350 @@
+//! Random calls on a service answer what the same calls as a script do.
+#![forbid(unsafe_code)]
+
+mod common;
+
+use common::{service, KINDS};
+use iox2sd::config::DataSegmentType;
+use iox2sd::container::{ContainerHandle, Role};
+use iox2sd::dynamic_config::{
+    AttachError, ClientDetails, DeregisterError, DeregisterNodeState, DynamicConfig,
+    ListenerDetails, NotifierDetails, PortCleanupAction, PortDetails, PublisherDetails,
+    ReaderDetails, RegisterNodeResult, ServerDetails, SubscriberDetails, WriterDetails,
+};
+use iox2sd::identifiers::{
+    UniqueClientId, UniqueListenerId, UniqueNodeId, UniqueNotifierId, UniquePublisherId,
+    UniqueReaderId, UniqueServerId, UniqueSubscriberId, UniqueWriterId,
+};
+use iox2sd::messaging_pattern::MessagingPattern;
+use iox2sd::script::{self, ScriptError};
+use std::fmt::Display;
+
+/// Numbers that look random, by xorshift.
+struct Random(u64);
+
+impl Random {
+    fn below(&mut self, bound: usize) -> usize {
+        self.0 ^= self.0 << 13;
+        self.0 ^= self.0 >> 7;
+        self.0 ^= self.0 << 17;
+        (self.0 % bound as u64) as usize
+    }
+
+    fn id(&mut self) -> [u32; 4] {
+        // A few nodes, two of which share process and counter.
+        [[1, 1, 0, 1], [1, 2, 0, 1], [0, 0, 0, 2], [3, 0, 9, 0]][self.below(4)]
+    }
+}
+
+/// A port without samples and buffers, as a script has them.
+fn port(role: Role, id: [u32; 4], node_id: UniqueNodeId) -> PortDetails {
+    let [process, seconds, nanoseconds, counter] = id;
+    /// The details of one kind of ports, with what the kind has besides the ids.
+    macro_rules! details {
+        ($details:ident, $id:ident: $id_type:ident $(, $field:ident: $value:expr)*) => {
+            $details {
+                $id: $id_type::new(process, seconds, nanoseconds, counter),
+                node_id,
+                $($field: $value,)*
+            }
+            .into()
+        };
+    }
+    let data_segment_type = DataSegmentType::Static;
+    match role {
+        Role::Publisher => details!(
+            PublisherDetails,
+            publisher_id: UniquePublisherId,
+            number_of_samples: 0,
+            max_slice_len: 0,
+            data_segment_type: data_segment_type,
+            max_number_of_segments: 1
+        ),
+        Role::Subscriber => details!(
+            SubscriberDetails,
+            subscriber_id: UniqueSubscriberId,
+            buffer_size: 0
+        ),
+        Role::Listener => details!(ListenerDetails, listener_id: UniqueListenerId),
+        Role::Notifier => details!(NotifierDetails, notifier_id: UniqueNotifierId),
+        Role::Server => details!(
+            ServerDetails,
+            server_id: UniqueServerId,
+            request_buffer_size: 0,
+            number_of_responses: 0,
+            max_slice_len: 0,
+            data_segment_type: data_segment_type,
+            max_number_of_segments: 1
+        ),
+        Role::Client => details!(
+            ClientDetails,
+            client_id: UniqueClientId,
+            number_of_requests: 0,
+            response_buffer_size: 0,
+            max_slice_len: 0,
+            data_segment_type: data_segment_type,
+            max_number_of_segments: 1
+        ),
+        Role::Reader => details!(ReaderDetails, reader_id: UniqueReaderId),
+        Role::Writer => details!(WriterDetails, writer_id: UniqueWriterId),
+        Role::Node => unreachable!("a port is no node"),
+    }
+}
+
+fn node([process, seconds, nanoseconds, counter]: [u32; 4]) -> UniqueNodeId {
+    UniqueNodeId::new(process, seconds, nanoseconds, counter).unwrap()
+}
+
+fn dotted(id: [u32; 4]) -> String {
+    id.map(|part| part.to_string()).join(".")
+}
+
+fn listed(ids: impl Iterator<Item = impl Display>) -> String {
+    ids.fold("list".to_string(), |line, id| format!("{line} {id}"))
+}
+
+fn state(state: DeregisterNodeState) -> String {
+    match state {
+        DeregisterNodeState::HasOwners => "has-owners".to_string(),
+        DeregisterNodeState::NoMoreOwners => "no-owners".to_string(),
+    }
+}
+
+/// A service, the handles that its commands gave, and its run as a script and as replies.
+struct Walk {
+    service: DynamicConfig,
+    handles: Vec<Option<ContainerHandle>>,
+    script: String,
+    replies: String,
+}
+
+impl Walk {
+    /// Notes a command, and its reply in the words of a script.
+    fn note(&mut self, line: &str, reply: Result<ContainerHandle, String>) {
+        let text = match &reply {
+            Ok(handle) => format!("handle {} {}", handle.slot(), handle.ticket()),
+            Err(text) => text.clone(),
+        };
+        self.script += &format!("{line}\n");
+        self.replies += &format!("{text}\n");
+        self.handles.push(reply.ok());
+    }
+
+    fn register(&mut self, random: &mut Random) {
+        let id = random.id();
+        let reply = self.service.register_node_id(node(id)).map_err(|error| {
+            let text = match error {
+                RegisterNodeResult::MarkedForDestruction => "locked",
+                RegisterNodeResult::ExceedsMaxNumberOfNodes => "full",
+            };
+            text.to_string()
+        });
+        self.note(&format!("register {}", dotted(id)), reply);
+    }
+
+    /// An earlier command with what it gave: mostly one that gave a handle of a node, or of a port.
+    fn earlier(&self, of_node: bool, random: &mut Random) -> (usize, Option<ContainerHandle>) {
+        let gave = |number: &usize| {
+            let handle: Option<ContainerHandle> = self.handles[*number];
+            handle.is_some_and(|handle| (handle.role() == Role::Node) == of_node)
+        };
+        let suitable: Vec<_> = (0..self.handles.len()).filter(gave).collect();
+        let number = match suitable.len() {
+            0 => random.below(self.handles.len() + 1),
+            _ if random.below(8) == 0 => random.below(self.handles.len() + 1),
+            length => suitable[random.below(length)],
+        };
+        (number, self.handles.get(number).copied().flatten())
+    }
+
+    fn deregister(&mut self, random: &mut Random) {
+        let (number, handle) = self.earlier(true, random);
+        let text = match handle.map(|handle| self.service.deregister_node_id(handle)) {
+            None => "no-handle".to_string(),
+            Some(Ok(left)) => state(left),
+            Some(Err(DeregisterError::PortsStillAttached)) => "ports-attached".to_string(),
+            Some(Err(DeregisterError::ContainerHandleNotOwnedByContainer)) => {
+                "not-owned".to_string()
+            }
+        };
+        self.note(&format!("deregister {number}"), Err(text));
+    }
+
+    fn release(&mut self, random: &mut Random) {
+        let (number, handle) = self.earlier(false, random);
+        let text = match handle.map(|handle| self.service.release_port(handle)) {
+            None => "no-handle",
+            Some(Ok(())) => "released",
+            Some(Err(_)) => "not-owned",
+        };
+        self.note(&format!("release {number}"), Err(text.to_string()));
+    }
+
+    fn role(&self, random: &mut Random) -> Role {
+        let (first, second) = self.service.port_roles();
+        let (_, other, another) = KINDS[random.below(4)];
+        [first, second, first, second, other, another][random.below(6)]
+    }
+
+    fn add(&mut self, random: &mut Random) {
+        let (role, owner) = (self.role(random), random.id());
+        let id = [7, 0, 0, random.below(5) as u32];
+        let reply = self
+            .service
+            .attach(port(role, id, node(owner)))
+            .map_err(|error| {
+                let text = match error {
+                    AttachError::RoleNotInPattern => "wrong-pattern",
+                    AttachError::ServiceIsLocked => "locked",
+                    AttachError::NodeNotRegistered => "not-registered",
+                    AttachError::OutOfSpace => "full",
+                };
+                text.to_string()
+            });
+        let name = role.to_string().to_lowercase();
+        self.note(
+            &format!("add {name} {} {}", dotted(id), dotted(owner)),
+            reply,
+        );
+    }
+
+    fn ask(&mut self, random: &mut Random) {
+        let role = self.role(random);
+        let name = role.to_string().to_lowercase();
+        let (line, reply) = match random.below(3) {
+            0 => ("nodes".to_string(), Some(listed(self.service.nodes()))),
+            1 => {
+                let ports = self.service.ports(role);
+                let reply = ports.map(|ports| listed(ports.map(|port| port.port_id())));
+                (format!("list {name}"), reply)
+            }
+            _ => {
+                let count = self.service.count_ports(role);
+                (
+                    format!("count {name}"),
+                    count.map(|count| format!("count {count}")),
+                )
+            }
+        };
+        self.note(&line, Err(reply.unwrap_or("wrong-pattern".to_string())));
+    }
+
+    fn dead(&mut self, random: &mut Random) {
+        let id = random.id();
+        let kept: Vec<_> = (0..random.below(4))
+            .map(|_| [7, 0, 0, random.below(5) as u32])
+            .collect();
+        let numbers: Vec<_> = kept
+            .iter()
+            .map(|id| (7 << 96) + u128::from(id[3]))
+            .collect();
+        let left = self.service.remove_dead_node_id(&node(id), |port| {
+            if numbers.contains(&port.value()) {
+                PortCleanupAction::SkipPort
+            } else {
+                PortCleanupAction::RemovePort
+            }
+        });
+        let skip = kept
+            .iter()
+            .map(|id| format!(" {}", dotted(*id)))
+            .collect::<String>();
+        let skip = if kept.is_empty() {
+            skip
+        } else {
+            format!(" skip{skip}")
+        };
+        self.note(&format!("dead {}{skip}", dotted(id)), Err(state(left)));
+    }
+}
+
+fn walk(kind: MessagingPattern, random: &mut Random, steps: usize) -> Walk {
+    let (nodes, ports) = (random.below(6), [random.below(5), random.below(5)]);
+    let name = match kind {
+        MessagingPattern::PublishSubscribe => "publish-subscribe",
+        MessagingPattern::Event => "event",
+        MessagingPattern::RequestResponse => "request-response",
+        MessagingPattern::Blackboard => "blackboard",
+    };
+    let mut walk = Walk {
+        service: service(kind, nodes, ports),
+        handles: Vec::new(),
+        script: format!("service {name} 7 {nodes} {} {}\n", ports[0], ports[1]),
+        replies: String::new(),
+    };
+    for _ in 0..steps {
+        match random.below(16) {
+            0..=2 => walk.register(random),
+            3 => walk.deregister(random),
+            4..=8 => walk.add(random),
+            9..=10 => walk.release(random),
+            11..=14 => walk.ask(random),
+            _ => walk.dead(random),
+        }
+    }
+    walk
+}
+
+#[test]
+fn random_calls_are_those_of_a_script() {
+    let mut random = Random(0x9E37_79B9_7F4A_7C15);
+    let mut seen = String::new();
+    for (kind, ..) in KINDS {
+        for _ in 0..100 {
+            let steps = 1 + random.below(60);
+            let walk = walk(kind, &mut random, steps);
+            assert_eq!(
+                script::run(&walk.script),
+                Ok(walk.replies.clone()),
+                "{}",
+                walk.script
+            );
+            seen += &walk.replies;
+        }
+    }
+    for reply in [
+        "handle ",
+        "locked",
+        "full",
+        "not-registered",
+        "wrong-pattern",
+        "has-owners",
+        "no-owners",
+        "ports-attached",
+        "released",
+        "not-owned",
+        "no-handle",
+        "count ",
+        "list ",
+    ] {
+        assert!(
+            seen.lines().filter(|line| line.starts_with(reply)).count() > 20,
+            "{reply}"
+        );
+    }
+}
+
+#[test]
+fn a_script_ends_at_its_first_bad_line() {
+    for (script, line) in [
+        ("", 1),
+        ("service event 7 1 2 2", 1),
+        ("register 1.0.0.1\n", 1),
+        ("service event 7 1 2 2\nregister 1.0.0.1\n\nnodes\n", 3),
+        (
+            "service event 7 1 2 2\nregister 1.0.0.1\nregister 0.0.0.0\n",
+            3,
+        ),
+    ] {
+        let error = script::run(script).unwrap_err();
+        let replies = if line == 3 { "handle 0 0\n" } else { "" }.to_string();
+        assert_eq!(error, ScriptError::BadLine { line, replies });
+        assert_eq!(error.to_string(), format!("bad line {line}"));
+    }
+    let long = "service event 7 1 2 2\n".to_string() + &"register 1.0.0.1\n".repeat(500);
+    let replies = script::run(&long).unwrap();
+    assert_eq!(replies, "handle 0 0\n".to_string() + &"full\n".repeat(499));
+    let huge = "service event 7 18446744073709551615 2 2\n";
+    assert_eq!(script::run(huge), Err(ScriptError::NoMemory));
+    assert_eq!(ScriptError::NoMemory.to_string(), "no memory");
+}
