@@ -172,16 +172,8 @@ first_of_python() {
 
 first_of gcc -std=c99 ../examples/first.c
 first_of g++ -std=c++17 ../examples/first.cpp
-if ! grep -qs '^name = "iox2sd"' rust/Cargo.toml; then
-    echo "not found: the crate iox2sd"
-elif has cargo; then
-    run "first.rs prints the same as the others" first rust first_of_rust
-fi
-if ! [ -d python/iox2sd ]; then
-    echo "not found: the package iox2sd of Python"
-elif has python3; then
-    run "first.py prints the same as the others" first python first_of_python
-fi
+if has cargo; then run "first.rs prints the same as the others" first rust first_of_rust; fi
+if has python3; then run "first.py prints the same as the others" first python first_of_python; fi
 
 # ---- What an installation gives ----
 

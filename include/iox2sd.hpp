@@ -12,8 +12,8 @@
 ///   ports to keep and `run_script` take memory; where it is refused, they answer
 ///   `Status::NoMemory`. No other call takes any: texts and sets have their room in place.
 /// - Calls may run on several threads at once where they share no `Service`. One thread at a time
-///   uses a service, for calls that are `const` too. That it may be handed to another thread is
-///   tested, not proved.
+///   uses a service, for calls that are `const` too. It may be handed from thread to thread;
+///   docs/C.md has what is proved of that.
 ///
 /// What is proved is what the library answers, under the rules of the C headers. This header is
 /// tested, not proved.
@@ -98,6 +98,8 @@ enum class Status : std::uint32_t {
     GreaterAlignment = IOX2SD_GREATER_ALIGNMENT,
     UnknownText = IOX2SD_UNKNOWN_TEXT,
     BadLine = IOX2SD_BAD_LINE,
+    UnknownStrategy = IOX2SD_UNKNOWN_STRATEGY,
+    BadDuration = IOX2SD_BAD_DURATION,
 };
 
 namespace detail {
@@ -939,11 +941,11 @@ struct MessageTypeDetails {
         return detail::result(answer.status, Layout{answer.size, answer.alignment});
     }
 
-    /// The places of user header and payload in a message whose header is at the place `header`.
+    /// The places of user header and payload in a message that begins at the place `start`.
     /// Refusal: `TooLarge` where the payload's place would pass 2^64 - 1.
-    Result<MessagePlaces> places(std::size_t header) const noexcept {
+    Result<MessagePlaces> places(std::size_t start) const noexcept {
         const iox2sd_message_details details = as_c();
-        const iox2sd_places_answer answer = iox2sd_message_places(&details, header);
+        const iox2sd_places_answer answer = iox2sd_message_places(&details, start);
         return detail::result(answer.status, MessagePlaces{answer.user_header, answer.payload});
     }
 
@@ -994,7 +996,38 @@ struct EventId {
     auto fields() const noexcept { return std::tie(value); }
 };
 
+/// The fields of settings that may be invalid.
+enum class SettingsField : std::uint32_t {
+    BackpressureStrategy = IOX2SD_BACKPRESSURE_STRATEGY,
+    PublisherAllocationStrategy = IOX2SD_PUBLISHER_ALLOCATION_STRATEGY,
+    Deadline = IOX2SD_DEADLINE,
+    ClientBackpressureStrategy = IOX2SD_CLIENT_BACKPRESSURE_STRATEGY,
+    ServerBackpressureStrategy = IOX2SD_SERVER_BACKPRESSURE_STRATEGY,
+    ClientAllocationStrategy = IOX2SD_CLIENT_ALLOCATION_STRATEGY,
+    ServerAllocationStrategy = IOX2SD_SERVER_ALLOCATION_STRATEGY,
+    CreationTimeout = IOX2SD_CREATION_TIMEOUT,
+};
+
+/// The first field of settings that is invalid: `UnknownStrategy`, or `BadDuration` of nanoseconds
+/// of 1,000,000,000 or more.
+struct SettingsError {
+    Status status;
+    SettingsField field;
+
+    auto fields() const noexcept { return std::tie(status, field); }
+};
+
 namespace detail {
+
+inline Result<void, SettingsError> valid(const iox2sd_field_answer& answer) noexcept {
+    if (answer.status == IOX2SD_DONE) return {};
+    return SettingsError{Status{answer.status}, SettingsField{answer.field}};
+}
+
+template <class Strategy>
+std::uint32_t number(Strategy strategy) noexcept {
+    return static_cast<std::uint32_t>(strategy);
+}
 
 inline std::optional<EventId> from_c(const iox2sd_optional_event_id& c) noexcept {
     if (!c.is_some) return std::nullopt;
@@ -1006,7 +1039,50 @@ inline std::optional<Duration> from_c(const iox2sd_optional_duration& c) noexcep
     return Duration{c.seconds, c.nanoseconds};
 }
 
+inline iox2sd_optional_event_id as_c(const std::optional<EventId>& event) noexcept {
+    if (!event) return {};
+    return {event->value, true};
+}
+
+inline iox2sd_optional_duration as_c(const std::optional<Duration>& duration) noexcept {
+    if (!duration) return {};
+    return {duration->seconds, duration->nanoseconds, true};
+}
+
 }  // namespace detail
+
+/// The settings that all services and nodes of one system share, beside its texts.
+struct GlobalSettings {
+    Duration creation_timeout;  ///< How long an opener waits until the creator is ready.
+    /// Whether what dead nodes left is removed first when a service is opened; when a node is
+    /// created; when a node goes.
+    bool cleanup_dead_nodes_on_open;
+    bool cleanup_dead_nodes_on_creation;
+    bool cleanup_dead_nodes_on_destruction;
+
+    auto fields() const noexcept {
+        return std::tie(creation_timeout, cleanup_dead_nodes_on_open,
+                        cleanup_dead_nodes_on_creation, cleanup_dead_nodes_on_destruction);
+    }
+
+    /// Those that a system has where nothing else is said.
+    static GlobalSettings defaults() noexcept {
+        const iox2sd_global_settings c = iox2sd_global_defaults();
+        return {{c.creation_timeout.seconds, c.creation_timeout.nanoseconds},
+                c.cleanup_dead_nodes_on_open,
+                c.cleanup_dead_nodes_on_creation,
+                c.cleanup_dead_nodes_on_destruction};
+    }
+
+    /// Whether all fields are valid.
+    Result<void, SettingsError> check() const noexcept {
+        const iox2sd_global_settings c{{creation_timeout.seconds, creation_timeout.nanoseconds},
+                                       cleanup_dead_nodes_on_open,
+                                       cleanup_dead_nodes_on_creation,
+                                       cleanup_dead_nodes_on_destruction};
+        return detail::valid(iox2sd_global_settings_check(&c));
+    }
+};
 
 /// The settings of a publish-subscribe service.
 struct PublishSubscribeSettings {
@@ -1044,6 +1120,22 @@ struct PublishSubscribeSettings {
                 AllocationStrategy{c.publisher_allocation_strategy},
                 c.enable_safe_overflow};
     }
+
+    /// Whether all fields are valid.
+    Result<void, SettingsError> check() const noexcept {
+        const iox2sd_publish_subscribe_settings c{max_subscribers,
+                                                  max_publishers,
+                                                  max_nodes,
+                                                  subscriber_max_buffer_size,
+                                                  subscriber_max_borrowed_samples,
+                                                  publisher_max_loaned_samples,
+                                                  publisher_history_size,
+                                                  subscriber_expired_connection_buffer,
+                                                  detail::number(backpressure_strategy),
+                                                  detail::number(publisher_allocation_strategy),
+                                                  enable_safe_overflow};
+        return detail::valid(iox2sd_publish_subscribe_settings_check(&c));
+    }
 };
 
 /// The settings of an event service.
@@ -1073,6 +1165,19 @@ struct EventSettings {
                 detail::from_c(c.notifier_created_event),
                 detail::from_c(c.notifier_dropped_event),
                 detail::from_c(c.notifier_dead_event)};
+    }
+
+    /// Whether all fields are valid.
+    Result<void, SettingsError> check() const noexcept {
+        const iox2sd_event_settings c{max_listeners,
+                                      max_notifiers,
+                                      max_nodes,
+                                      event_id_max_value,
+                                      detail::as_c(deadline),
+                                      detail::as_c(notifier_created_event),
+                                      detail::as_c(notifier_dropped_event),
+                                      detail::as_c(notifier_dead_event)};
+        return detail::valid(iox2sd_event_settings_check(&c));
     }
 };
 
@@ -1127,6 +1232,28 @@ struct RequestResponseSettings {
                 c.enable_safe_overflow_for_requests,
                 c.enable_safe_overflow_for_responses,
                 c.enable_fire_and_forget_requests};
+    }
+
+    /// Whether all fields are valid.
+    Result<void, SettingsError> check() const noexcept {
+        const iox2sd_request_response_settings c{max_active_requests_per_client,
+                                                 max_response_buffer_size,
+                                                 max_servers,
+                                                 max_clients,
+                                                 max_nodes,
+                                                 max_borrowed_responses_per_pending_response,
+                                                 max_loaned_requests,
+                                                 server_max_loaned_responses_per_request,
+                                                 client_expired_connection_buffer,
+                                                 server_expired_connection_buffer,
+                                                 detail::number(client_backpressure_strategy),
+                                                 detail::number(server_backpressure_strategy),
+                                                 detail::number(client_allocation_strategy),
+                                                 detail::number(server_allocation_strategy),
+                                                 enable_safe_overflow_for_requests,
+                                                 enable_safe_overflow_for_responses,
+                                                 enable_fire_and_forget_requests};
+        return detail::valid(iox2sd_request_response_settings_check(&c));
     }
 };
 
@@ -1856,7 +1983,7 @@ public:
     }
 
     /// The ports of a node, with exactly this id, those of the first role first, by rising slot.
-    /// Refusal: `NoMemory`.
+    /// Refusals: `TooLarge` for more than 2^64 - 1 ports; `NoMemory`.
     Result<List<PortDetails>> ports_of(const UniqueNodeId& node) const noexcept {
         return listed<iox2sd_port>(
             [this, &node](iox2sd_port* out, std::size_t capacity) {

@@ -405,6 +405,48 @@ void settings() {
     CHECK(node_dir(path(string(250, 'x'))).status() == Status::TooLong);
 }
 
+void validity() {
+    const GlobalSettings g = GlobalSettings::defaults();
+    CHECK(g == GlobalSettings{{0, 500000000}, true, true, true} && g.check());
+    GlobalSettings late = g;
+    late.creation_timeout = {1, 999999999};
+    CHECK(late.check() && ordered(g, late));
+    late.creation_timeout = {1, 1000000000};
+    CHECK(late.check().error() ==
+          SettingsError{Status::BadDuration, SettingsField::CreationTimeout});
+
+    PublishSubscribeSettings p = PublishSubscribeSettings::defaults();
+    CHECK(p.check());
+    p.publisher_allocation_strategy = AllocationStrategy{3};
+    CHECK(p.check().error() ==
+          SettingsError{Status::UnknownStrategy, SettingsField::PublisherAllocationStrategy});
+    p.backpressure_strategy = BackpressureStrategy{2};
+    CHECK(p.check().error() ==
+          SettingsError{Status::UnknownStrategy, SettingsField::BackpressureStrategy});
+    CHECK(p.check().status() == Status::UnknownStrategy);
+
+    EventSettings e = EventSettings::defaults();
+    e.notifier_created_event = e.notifier_dropped_event = e.notifier_dead_event = EventId{SIZE_MAX};
+    e.deadline = Duration{UINT64_MAX, 999999999};
+    CHECK(e.check());
+    e.deadline = Duration{0, 1000000000};
+    CHECK(e.check().error() == SettingsError{Status::BadDuration, SettingsField::Deadline});
+
+    RequestResponseSettings r = RequestResponseSettings::defaults();
+    CHECK(r.check());
+    const auto refused = [&r](SettingsField field) {
+        return r.check().error() == SettingsError{Status::UnknownStrategy, field};
+    };
+    r.server_allocation_strategy = AllocationStrategy{3};
+    CHECK(refused(SettingsField::ServerAllocationStrategy));
+    r.client_allocation_strategy = AllocationStrategy{3};
+    CHECK(refused(SettingsField::ClientAllocationStrategy));
+    r.server_backpressure_strategy = BackpressureStrategy{2};
+    CHECK(refused(SettingsField::ServerBackpressureStrategy));
+    r.client_backpressure_strategy = BackpressureStrategy{2};
+    CHECK(refused(SettingsField::ClientBackpressureStrategy));
+}
+
 void chunks() {
     PublishSubscribeSettings p = PublishSubscribeSettings::defaults();
     p.max_subscribers = 3;
@@ -487,6 +529,7 @@ int main() {
     types();
     layouts();
     settings();
+    validity();
     chunks();
     descriptions();
     return end_of_checks();
