@@ -83,7 +83,9 @@ void statuses() {
                               Status::OtherAlignment,
                               Status::GreaterAlignment,
                               Status::UnknownText,
-                              Status::BadLine};
+                              Status::BadLine,
+                              Status::UnknownStrategy,
+                              Status::BadDuration};
     std::set<string> texts;
     for (Status status : all) {
         CHECK(text(status) != text(Status::UnknownStatus));
