@@ -68,7 +68,9 @@ static bool same_port(const iox2sd_port *a, const iox2sd_port *b) {
 }
 
 /* Whether a number is that of a status. */
-static bool is_status(uint32_t number) { return number <= 18 || number == 20 || number == 21 || (40 <= number && number <= 66); }
+static bool is_status(uint32_t number) {
+    return number <= 18 || number == 20 || number == 21 || (40 <= number && number <= 68);
+}
 
 static void statuses(void) {
     enum { MOST = 80 };
