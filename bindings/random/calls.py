@@ -7,9 +7,13 @@ import dataclasses
 import enum
 import sys
 from collections.abc import Callable, Iterator
+from typing import Any, TypeVar
 
 import iox2sd
 from iox2sd.errors import status_text
+
+_Given = TypeVar("_Given")
+_Answer = Callable[["Line"], "list[str]"]
 
 DONE = 0
 BAD_KEY, BAD_VALUE = 16, 17
@@ -51,14 +55,14 @@ class Line:
         except UnicodeDecodeError:
             return None
 
-    def choice(self, kind: type) -> "enum.Enum | None":
+    def choice(self, kind: "Callable[[int], _Given]") -> "_Given | None":
         """The member of an enumeration that has a number, or None."""
         try:
             return kind(self.number())
         except ValueError:
             return None
 
-    def id(self, kind: type) -> iox2sd.UniqueServiceId:
+    def id(self, kind: "Callable[..., _Given]") -> _Given:
         return kind(*self.numbers(4))
 
     def node(self) -> iox2sd.UniqueNodeId:
@@ -70,7 +74,7 @@ class Line:
         return iox2sd.ContainerHandle(number, role, *self.numbers(2))
 
 
-def given(value: object) -> object:
+def given(value: "_Given | None") -> _Given:
     """What a line gives, where this language has it."""
     if value is None:
         raise NotExpressed
@@ -115,7 +119,7 @@ def why(error: iox2sd.Refused) -> "list[object]":
 # ---- Texts ----
 
 
-def checked(kind: type) -> "Callable[[Line], list[str]]":
+def checked(kind: "Callable[[str], str]") -> _Answer:
     def answer(line: Line) -> "list[str]":
         text = given(line.text())
         try:
@@ -126,7 +130,7 @@ def checked(kind: type) -> "Callable[[Line], list[str]]":
     return answer
 
 
-def made(kind: type, text: "str | None", status: int) -> object:
+def made(kind: "Callable[[str], _Given]", text: "str | None", status: int) -> _Given:
     """A text that is refused by a status of its own."""
     text = given(text)
     try:
@@ -156,7 +160,7 @@ def file_join(line: Line) -> "list[str]":
     return done(digits(iox2sd.FilePath.from_path_and_file(path, file)))
 
 
-def hashed(kind: type) -> "Callable[[Line], list[str]]":
+def hashed(kind: "Callable[[str], iox2sd.ServiceName]") -> _Answer:
     def answer(line: Line) -> "list[str]":
         pattern = given(line.choice(iox2sd.MessagingPattern))
         name = made(kind, line.text(), BAD_SERVICE_NAME)
@@ -169,7 +173,7 @@ def default_text(line: Line) -> "list[str]":
     return done(digits(iox2sd.default_text(given(line.choice(iox2sd.DefaultText)))))
 
 
-def below(directory: "Callable[[iox2sd.Path], iox2sd.Path]") -> "Callable[[Line], list[str]]":
+def below(directory: "Callable[[iox2sd.Path], iox2sd.Path]") -> _Answer:
     def answer(line: Line) -> "list[str]":
         return done(digits(directory(made(iox2sd.Path, line.text(), BAD_PATH))))
 
@@ -343,7 +347,7 @@ SETTINGS = [
 ]
 
 
-def fields_of(settings: object) -> "list[str]":
+def fields_of(settings: Any) -> "list[str]":
     return done(*(getattr(settings, field.name) for field in dataclasses.fields(settings)))
 
 
@@ -375,7 +379,7 @@ def ids(line: Line) -> "list[str]":
 
 # ---- One service, kept from line to line ----
 
-KINDS = {
+KINDS: "dict[iox2sd.Role, tuple[Any, Any]]" = {
     iox2sd.Role.PUBLISHER: (iox2sd.PublisherDetails, iox2sd.UniquePublisherId),
     iox2sd.Role.SUBSCRIBER: (iox2sd.SubscriberDetails, iox2sd.UniqueSubscriberId),
     iox2sd.Role.NOTIFIER: (iox2sd.NotifierDetails, iox2sd.UniqueNotifierId),
@@ -385,6 +389,7 @@ KINDS = {
     iox2sd.Role.READER: (iox2sd.ReaderDetails, iox2sd.UniqueReaderId),
     iox2sd.Role.WRITER: (iox2sd.WriterDetails, iox2sd.UniqueWriterId),
 }
+SEGMENT = "data_segment_type"
 NUMBERS = [
     "number_of_samples",
     "buffer_size",
@@ -393,7 +398,7 @@ NUMBERS = [
     "number_of_requests",
     "response_buffer_size",
     "max_slice_len",
-    "data_segment_type",
+    SEGMENT,
     "max_number_of_segments",
 ]
 
@@ -431,17 +436,15 @@ def release(line: Line) -> "list[str]":
 def attach(line: Line) -> "list[str]":
     role = line.choice(iox2sd.Role)
     port_id, node_id = line.numbers(4), line.numbers(4)
-    numbers = dict(zip(NUMBERS, line.numbers(len(NUMBERS))))
-    if role not in KINDS:
+    numbers: "dict[str, Any]" = {name: line.number() for name in NUMBERS[:-2]}
+    segment, numbers[NUMBERS[-1]] = line.choice(iox2sd.DataSegmentType), line.number()
+    if role is None or role not in KINDS:
         raise NotExpressed
     kind, id_kind = KINDS[role]
     names = {field.name for field in dataclasses.fields(kind)}
     values = {name: number for name, number in numbers.items() if name in names}
-    if "data_segment_type" in values:
-        try:
-            values["data_segment_type"] = iox2sd.DataSegmentType(values["data_segment_type"])
-        except ValueError:
-            raise NotExpressed from None
+    if SEGMENT in names:
+        values[SEGMENT] = given(segment)
     values[f"{role.name.lower()}_id"] = id_kind(*port_id)
     return handle(service.attach(kind(node_id=iox2sd.UniqueNodeId(*node_id), **values)))
 
@@ -453,7 +456,7 @@ def dead(line: Line) -> "list[str]":
     return [status_text(gone.state.value), shown(gone.first), shown(gone.second)]
 
 
-def of_role(question: "Callable[[iox2sd.Role], object]") -> "Callable[[Line], list[str]]":
+def of_role(question: "Callable[[iox2sd.Role], object]") -> _Answer:
     return lambda line: done(question(given(line.choice(iox2sd.Role))))
 
 
@@ -481,7 +484,7 @@ def ports_of(line: Line) -> "list[str]":
 
 # ---- Calls by name ----
 
-CALLS: "dict[str, Callable[[Line], list[str]]]" = {
+CALLS: "dict[str, _Answer]" = {
     "service_name": checked(iox2sd.ServiceName),
     "internal_name": checked(iox2sd.InternalServiceName),
     "prefixed": prefixed,
