@@ -1,6 +1,7 @@
 #!/usr/bin/env bash
 # Runs the callers' tests in C, C++, Rust and Python, those of C and C++ under sanitizers and
-# valgrind too, then the examples, and what an installation gives, as far as their tools are found.
+# valgrind too, then the examples, random calls in all four languages, and what an installation
+# gives, as far as their tools are found.
 # bindings/build.sh comes first. The last line is 'N passed, N failed'.
 set -uo pipefail
 cd "$(dirname "$0")"
@@ -174,6 +175,13 @@ first_of gcc -std=c99 ../examples/first.c
 first_of g++ -std=c++17 ../examples/first.cpp
 if has cargo; then run "first.rs prints the same as the others" first rust first_of_rust; fi
 if has python3; then run "first.py prints the same as the others" first python first_of_python; fi
+
+# ---- Random calls ----
+
+if has cc && has c++ && has cargo && has python3; then
+    run "random calls are answered alike in four languages" \
+        env CARGO_TARGET_DIR="$work/rust" random/compare
+fi
 
 # ---- What an installation gives ----
 
