@@ -14,11 +14,23 @@ def functions_of(crate):
                     yield function, file
 
 
-def line_of(edit, top, crate):
-    """The file and the line that the first pair of an edit changes."""
-    old = re.search(r"^old: (.*)$", edit.text, re.MULTILINE)[1].strip()
-    lines = (top / "crates" / crate.name / edit.files[0]).read_text().splitlines()
-    return next((n for n, line in enumerate(lines, 1) if old in line), 0)
+def lines_of(edit, top, crate):
+    """The file and the line that each pair of an edit changes."""
+    file = None
+    for word, text in re.findall(r"^(file|old): (.*)$", edit.text, re.MULTILINE):
+        if word == "file":
+            file = text.strip()
+        else:
+            lines = (top / "crates" / crate.name / file).read_text().splitlines()
+            yield file, next((n for n, line in enumerate(lines, 1) if text.strip() in line), 0)
+
+
+def edited_functions(edit, functions, top, crate):
+    """The functions in which the pairs of an edit stand."""
+    for at, line in lines_of(edit, top, crate):
+        around = [f for f, file in functions
+                  if file == at and f.line <= line <= f.line + lines_in(f)]
+        yield from around[-1:]
 
 
 def edits_by_function(top, crate):
@@ -31,7 +43,7 @@ def edits_by_function(top, crate):
             near = [(f, file) for f, file in candidates if file in edit.files]
             candidates = near or candidates
         if len(candidates) > 1:
-            line = line_of(edit, top, crate)
+            _, line = next(lines_of(edit, top, crate))
             before = [(f, file) for f, file in candidates
                       if file == edit.files[0] and f.line <= line <= f.line + lines_in(f)]
             candidates = before or candidates
@@ -41,6 +53,10 @@ def edits_by_function(top, crate):
             candidates = declared or [(f, file) for f, file in candidates if f.public]
         if len(candidates) == 1:
             found[id(candidates[0][0])].append(edit)
+        if not candidates:
+            # One mistake for each of several functions that are alike.
+            for function in {id(f) for f in edited_functions(edit, functions, top, crate)}:
+                found[function].append(edit)
     return found
 
 

@@ -92,29 +92,14 @@ fn append_ports(ports: &[PortDetails], out: &mut Vec<u8>) -> Result<(), AllocErr
     out.extend_from_slice(b"\n")
 }
 
-/// Appends the line of what attributes lack, with the text that
-/// `Display` writes: a formatter would take a block of its own.
+/// Appends the line of what attributes lack.
 fn append_fault(fault: &AttributeVerificationError, out: &mut Vec<u8>) -> Result<(), AllocError>
     ensures ok { OnOk result (out.new.items ≡ out.old.items
         ++ (codes "refused " ++ verification_error_text fault.now ++ 10 ∷ [])) }
-    ensures err { OnErr result (take (vec_len out.old) out.new.items ≡ out.old.items) }
+    ensures err { OnErr result (out.new.items ≡ out.old.items) }
 {
-    match fault {
-        AttributeVerificationError::NonExistingKey(key) => {
-            out.extend_from_slice(b"refused AttributeVerificationError::NonExistingKey(\"")?;
-            out.extend_from_slice(key.as_bytes())?;
-            out.extend_from_slice(b"\")\n")
-        }
-        AttributeVerificationError::IncompatibleAttribute((key, value)) => {
-            out.extend_from_slice(
-                b"refused AttributeVerificationError::IncompatibleAttribute((\"",
-            )?;
-            out.extend_from_slice(key.as_bytes())?;
-            out.extend_from_slice(b"\", \"")?;
-            out.extend_from_slice(value.as_bytes())?;
-            out.extend_from_slice(b"\"))\n")
-        }
-    }
+    let line = format!(in *out.allocator(); "refused {}\n", fault)?;
+    out.extend_from_slice(line.as_bytes())
 }
 
 /// Appends the line of a reply to a command that has a
