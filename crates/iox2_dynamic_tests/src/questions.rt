@@ -152,17 +152,26 @@ fn ports_of_are(
     Ok(())
 }
 
+/// Compares the lists of a service to which all are attached.
+fn all_are_listed(
+    rt: &(impl Abort + AllocGlobal),
+    service: &DynamicConfig,
+    pattern: &Pattern,
+) -> Result<(), Fail> {
+    nodes_are(rt, service, [ONE_OF_FIVE, TWO_OF_FIVE])?;
+    ports_are(rt, service, pattern.first, Some(&[9, 7]))?;
+    ports_are(rt, service, pattern.second, Some(&[8, 6]))?;
+    ports_are(rt, service, pattern.other, None)?;
+    ports_of_are(rt, service, ONE_OF_FIVE, &[7, 8])?;
+    ports_of_are(rt, service, A, &[])
+}
+
 #[test]
 fn who_is_there_is_listed_at_once(rt: HostRuntime) -> Result<(), Fail> {
     for pattern in &PATTERNS {
         let mut service = service(rt.alloc(), pattern.kind, (2, 2, 2))?;
         are_answered(&rt, &mut service, pattern, &ALL_ARE_ATTACHED)?;
-        nodes_are(&rt, &service, [ONE_OF_FIVE, TWO_OF_FIVE])?;
-        ports_are(&rt, &service, pattern.first, Some(&[9, 7]))?;
-        ports_are(&rt, &service, pattern.second, Some(&[8, 6]))?;
-        ports_are(&rt, &service, pattern.other, None)?;
-        ports_of_are(&rt, &service, ONE_OF_FIVE, &[7, 8])?;
-        ports_of_are(&rt, &service, A, &[])?;
+        all_are_listed(&rt, &service, pattern)?;
     }
     Ok(())
 }
