@@ -1,6 +1,7 @@
 #!/usr/bin/env bash
-# Installs what bindings/build.sh has built, for C and C++: headers, libraries, a file for
-# pkg-config and a package for CMake.
+# Installs what bindings/build.sh has built: for C and C++ headers, libraries, a file for pkg-config
+# and a package for CMake; for Rust the crate, in PREFIX/share/iox2sd/rust; for Python a wheel, in
+# PREFIX/share/iox2sd/python, which Python 3.11 or later builds.
 #
 #     [DESTDIR=STAGE] bindings/install.sh PREFIX
 #
@@ -23,7 +24,7 @@ version=$(sed -n '/fn iox2sd_version(/,/^}/s/^ *write(b"\([0-9.]*\)", out)$/\1/p
 # A file that has the version in place of @VERSION@.
 versioned() { sed "s/@VERSION@/$version/g" "install/$1.in" | install -m 644 /dev/stdin "$2/$1"; }
 
-include=$prefix/include lib=$prefix/lib
+include=$prefix/include lib=$prefix/lib share=$prefix/share/iox2sd
 cmake=$lib/cmake/iox2sd
 install -d "$include" "$lib/pkgconfig" "$cmake"
 install -m 644 ../include/iox2sd*.h ../include/iox2sd.hpp "$include"
@@ -33,3 +34,18 @@ ln -sf libiox2sd.so.0 "$lib/libiox2sd.so"
 versioned iox2sd.pc "$lib/pkgconfig"
 versioned iox2sdConfigVersion.cmake "$cmake"
 install -m 644 install/iox2sdConfig.cmake "$cmake"
+
+# The crate, without its tests.
+rm -rf "$share"
+(cd rust && find Cargo.toml build.rs README.md LICENSE-* src examples -type f) |
+    while read -r file; do install -D -m 644 "rust/$file" "$share/rust/$file"; done
+
+# The wheel.
+if python3 -c 'import tomllib' 2> /dev/null; then
+    made=$(mktemp -d)
+    trap 'rm -rf "$made"' EXIT
+    IOX2SD_LIBRARY=$PWD/out/libiox2sd.so.0 python3 -B python/build_wheel.py "$made" > /dev/null
+    install -D -m 644 -t "$share/python" "$made"/*.whl
+else
+    echo "Python 3.11 was not found, so no wheel was installed" >&2
+fi

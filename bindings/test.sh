@@ -57,6 +57,15 @@ same_exports() {
         diff "$work/archive" "$work/shared"
 }
 
+# docs/C.md names each export, those that take a count by the name without `_at`.
+named_in_the_page() {
+    exported -g --defined-only out/libiox2sd.a | sed 's/_at$//' | sort -u > "$work/exports"
+    grep -o 'iox2sd_[a-z0-9_]*' ../docs/C.md | sort -u > "$work/named"
+    comm -23 "$work/exports" "$work/named" > "$work/unnamed"
+    cat "$work/unnamed"
+    [ -s "$work/exports" ] && [ ! -s "$work/unnamed" ]
+}
+
 # An example prints the lines that stand below 'It prints:' at its head.
 prints_what_it_says() {
     "$work/caller" > "$work/printed" &&
@@ -127,54 +136,66 @@ for compiler in g++ clang++; do
     for source in cpp/examples/*.cpp; do example "$compiler" "$source"; done
 done
 run "statuses agree" same_statuses
-if has nm; then run "libiox2sd exports iox2sd_* alone" same_exports; fi
+if has nm; then
+    run "libiox2sd exports iox2sd_* alone" same_exports
+    run "docs/C.md names each export" named_in_the_page
+fi
 
-# ---- One program in each language ----
+# ---- The same programs in each language ----
 
-# The first of these programs is what the others are compared with.
-first() {
+# The first of the programs of a name is what the others are compared with.
+alike() {
     local name=$1
     shift
     if ! "$@" > "$work/printed"; then return 1; fi
-    if [ ! -e "$work/first" ]; then
-        [ -s "$work/printed" ] && mv "$work/printed" "$work/first"
+    if [ ! -e "$work/$name" ]; then
+        [ -s "$work/printed" ] && mv "$work/printed" "$work/$name"
     else
-        diff "$work/first" "$work/printed"
+        diff "$work/$name" "$work/printed"
     fi
 }
 
-first_of() {
+# compiler, name, its ending and standard
+compiled() {
     has "$1" || return 0
-    run "$1 $3 compiles" "$1" "$2" "${warnings[@]}" -O2 -I../include "$3" out/libiox2sd.a \
-        -o "$work/caller" && run "$1 $3 prints the same as the others" first "$3" "$work/caller"
+    run "$1 $2.$3 compiles" "$1" "$4" "${warnings[@]}" -O2 -I../include "../examples/$2.$3" \
+        out/libiox2sd.a -o "$work/caller" &&
+        run "$1 $2.$3 prints the same as the others" alike "$2" "$work/caller"
 }
 
-# A package of its own that depends on the crate.
-first_of_rust() {
-    mkdir "$work/package"
-    cat > "$work/package/Cargo.toml" << END
+# Runs a program in a package of its own in a folder outside, which depends on the crate at a path.
+of_rust() {
+    mkdir -p "$work/package" &&
+        cp "../examples/$1.rs" "$work/package" &&
+        cat > "$work/package/Cargo.toml" << END || return 1
 [package]
-name = "first"
+name = "$1"
 edition = "2021"
 [dependencies]
-iox2sd = { path = "$PWD/rust" }
+iox2sd = { path = "$2" }
 [[bin]]
-name = "first"
-path = "$PWD/../examples/first.rs"
+name = "$1"
+path = "$1.rs"
 END
-    CARGO_TARGET_DIR=$work/rust cargo run --quiet --offline --jobs 1 \
+    CARGO_TARGET_DIR=$work/rust env -u IOX2SD_LIB_DIR cargo run --quiet --offline --jobs 1 \
         --manifest-path "$work/package/Cargo.toml"
 }
 
-first_of_python() {
+of_python() {
     PYTHONDONTWRITEBYTECODE=1 PYTHONPATH=python IOX2SD_LIBRARY=$PWD/out/libiox2sd.so.0 \
-        python3 ../examples/first.py
+        python3 "../examples/$1.py"
 }
 
-first_of gcc -std=c99 ../examples/first.c
-first_of g++ -std=c++17 ../examples/first.cpp
-if has cargo; then run "first.rs prints the same as the others" first rust first_of_rust; fi
-if has python3; then run "first.py prints the same as the others" first python first_of_python; fi
+for name in short first; do
+    compiled gcc "$name" c -std=c99
+    compiled g++ "$name" cpp -std=c++17
+    if has cargo; then
+        run "$name.rs prints the same as the others" alike "$name" of_rust "$name" "$PWD/rust"
+    fi
+    if has python3; then
+        run "$name.py prints the same as the others" alike "$name" of_python "$name"
+    fi
+done
 
 # ---- Random calls ----
 
@@ -190,7 +211,7 @@ outside() {
     cp ../examples/first.c ../examples/first.cpp "$work/outside" &&
         (cd "$work/outside" && gcc -std=c99 first.c "$@" -o c &&
             g++ -std=c++17 first.cpp "$@" -o cpp) &&
-        first c "$work/outside/c" && first cpp "$work/outside/cpp"
+        alike first "$work/outside/c" && alike first "$work/outside/cpp"
 }
 
 by_pkg_config() {
@@ -204,8 +225,19 @@ by_find_package() {
         cmake -S "$work/outside" -B "$work/outside/build" -DCMAKE_PREFIX_PATH="$1" &&
         cmake --build "$work/outside/build" --parallel 1 &&
         for program in c_static c_shared cpp_static cpp_shared; do
-            first "$program" "$work/outside/build/$program" || return 1
+            alike first "$work/outside/build/$program" || return 1
         done
+}
+
+by_cargo() { alike first of_rust first "$1/share/iox2sd/rust"; }
+
+by_pip() {
+    cp ../examples/first.py "$work/outside" &&
+        python3 -m venv "$work/outside/venv" &&
+        "$work/outside/venv/bin/python" -m pip install --no-index --quiet \
+            "$1"/share/iox2sd/python/*.whl &&
+        alike first env -u IOX2SD_LIBRARY "$work/outside/venv/bin/python" -I \
+            "$work/outside/first.py"
 }
 
 files_of() { (cd "$1" && find . -printf '%P %y %m\n' | sort); }
@@ -223,12 +255,24 @@ installation() {
         run "plain flags, static" outside "-I$prefix/include" "$prefix/lib/libiox2sd.a"
         run "plain flags, shared" outside "-I$prefix/include" "-L$prefix/lib" -liox2sd \
             "-Wl,-rpath,$prefix/lib"
-        if has pkg-config; then run "pkg-config" by_pkg_config "$prefix"; fi
-        if has cmake; then run "find_package" by_find_package "$prefix"; fi
-        mv "$prefix" "$work/moved"
-        rm -rf "$work/outside/build"
-        if has pkg-config; then run "pkg-config, moved" by_pkg_config "$work/moved"; fi
-        if has cmake; then run "find_package, moved" by_find_package "$work/moved"; fi
+    fi
+    installed_at "$prefix" ""
+    mv "$prefix" "$work/moved"
+    rm -rf "$work/outside"/*
+    installed_at "$work/moved" ", moved"
+}
+
+# prefix, and what is to be said of it
+installed_at() {
+    if has gcc && has g++; then
+        if has pkg-config; then run "pkg-config$2" by_pkg_config "$1"; fi
+        if has cmake; then run "find_package$2" by_find_package "$1"; fi
+    fi
+    if has cargo; then run "cargo, by a path$2" by_cargo "$1"; fi
+    if [ -e "$1/share/iox2sd/python" ]; then
+        run "pip install$2" by_pip "$1"
+    else
+        echo "no wheel was installed"
     fi
 }
 installation
@@ -238,7 +282,11 @@ if has cargo; then
     for example in first builder monitor discovery factory; do
         run "cargo run --example $example" crate run --quiet --example "$example"
     done
-    run "cargo doc" documented
+    run "cargo doc" documented &&
+        if has python3; then
+            run "each public item of the crate has an example" rust/check_examples \
+                "$work/rust/doc/iox2sd"
+        fi
     if has_cargo clippy; then run "cargo clippy" crate clippy --all-targets -- --deny warnings; fi
     if has_cargo fmt; then run "cargo fmt" cargo fmt --check --manifest-path rust/Cargo.toml; fi
     run "cargo package, and tests of what it packs" packaged

@@ -1433,13 +1433,16 @@ struct RequestResponseStaticConfig {
 /// The description of a blackboard service.
 struct BlackboardStaticConfig {
     std::size_t max_readers;
+    std::size_t max_writers = 1;
     std::size_t max_nodes;
     TypeDetail type_details;  ///< The type of the keys.
 
     BlackboardStaticConfig(const BlackboardSettings& settings, const TypeDetail& key) noexcept
         : max_readers(settings.max_readers), max_nodes(settings.max_nodes), type_details(key) {}
 
-    auto fields() const noexcept { return std::tie(max_readers, max_nodes, type_details); }
+    auto fields() const noexcept {
+        return std::tie(max_readers, max_writers, max_nodes, type_details);
+    }
 };
 
 /// The description of a service of one of the patterns.

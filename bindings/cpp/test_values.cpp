@@ -513,8 +513,83 @@ void descriptions() {
     CHECK(r.request_response()->request_message_type_details == details(8, 8));
     CHECK(r.request_response()->response_message_type_details == details(16, 8));
     CHECK(b.blackboard()->max_readers == 8 && b.blackboard()->max_nodes == 20);
+    CHECK(b.blackboard()->max_writers == 1);
     CHECK(b.blackboard()->type_details == type("u8", 1, 1));
     CHECK(p == p && p != e && (p < e) != (e < p));
+}
+
+/// What the library fixes of a service with these settings.
+template <class Settings, class Describe>
+iox2sd_description described(const Settings& settings, Describe describe) {
+    iox2sd_description made{};
+    CHECK(describe(&settings, reinterpret_cast<const std::uint8_t*>("a"), 1, iox2sd_id{}, &made)
+              .status == IOX2SD_DONE);
+    return made;
+}
+
+/// A description has the fields that the library fills in for C from the same settings.
+void descriptions_of_the_library() {
+    iox2sd_publish_subscribe_settings ps = iox2sd_publish_subscribe_defaults();
+    ps.max_subscribers = 11, ps.max_publishers = 12, ps.max_nodes = 13;
+    ps.publisher_history_size = 14, ps.subscriber_max_buffer_size = 15;
+    ps.subscriber_max_borrowed_samples = 16, ps.enable_safe_overflow = false;
+    PublishSubscribeSettings p = PublishSubscribeSettings::defaults();
+    p.max_subscribers = 11, p.max_publishers = 12, p.max_nodes = 13;
+    p.publisher_history_size = 14, p.subscriber_max_buffer_size = 15;
+    p.subscriber_max_borrowed_samples = 16, p.enable_safe_overflow = false;
+    const auto& a = described(ps, iox2sd_describe_publish_subscribe).publish_subscribe;
+    const PublishSubscribeStaticConfig b(p, details(8, 8));
+    CHECK(b.max_subscribers == a.max_subscribers && b.max_publishers == a.max_publishers);
+    CHECK(b.max_nodes == a.max_nodes && b.history_size == a.history_size);
+    CHECK(b.subscriber_max_buffer_size == a.subscriber_max_buffer_size);
+    CHECK(b.subscriber_max_borrowed_samples == a.subscriber_max_borrowed_samples);
+    CHECK(b.enable_safe_overflow == a.enable_safe_overflow);
+    CHECK(b.required_amount_of_samples_per_data_segment(3).value() ==
+          iox2sd_samples_of_config(&a, 3).count);
+
+    iox2sd_event_settings es = iox2sd_event_defaults();
+    es.max_listeners = 21, es.max_notifiers = 22, es.max_nodes = 23, es.event_id_max_value = 24;
+    EventStaticConfig q = EventSettings::defaults();
+    q.max_listeners = 21, q.max_notifiers = 22, q.max_nodes = 23, q.event_id_max_value = 24;
+    const auto& c = described(es, iox2sd_describe_event).event;
+    CHECK(q.max_listeners == c.max_listeners && q.max_notifiers == c.max_notifiers);
+    CHECK(q.max_nodes == c.max_nodes && q.event_id_max_value == c.event_id_max_value);
+    CHECK(q.deadline.has_value() == c.deadline.is_some);
+    CHECK(q.notifier_created_event.has_value() == c.notifier_created_event.is_some);
+    CHECK(q.notifier_dropped_event.has_value() == c.notifier_dropped_event.is_some);
+    CHECK(q.notifier_dead_event.has_value() == c.notifier_dead_event.is_some);
+
+    iox2sd_request_response_settings rs = iox2sd_request_response_defaults();
+    rs.max_active_requests_per_client = 31, rs.max_loaned_requests = 32;
+    rs.max_response_buffer_size = 33, rs.max_servers = 34, rs.max_clients = 35, rs.max_nodes = 36;
+    rs.max_borrowed_responses_per_pending_response = 37;
+    rs.enable_safe_overflow_for_requests = rs.enable_fire_and_forget_requests = false;
+    RequestResponseSettings r = RequestResponseSettings::defaults();
+    r.max_active_requests_per_client = 31, r.max_loaned_requests = 32;
+    r.max_response_buffer_size = 33, r.max_servers = 34, r.max_clients = 35, r.max_nodes = 36;
+    r.max_borrowed_responses_per_pending_response = 37;
+    r.enable_safe_overflow_for_requests = r.enable_fire_and_forget_requests = false;
+    const auto& d = described(rs, iox2sd_describe_request_response).request_response;
+    const RequestResponseStaticConfig e(r, details(8, 8), details(16, 8));
+    CHECK(e.max_active_requests_per_client == d.max_active_requests_per_client);
+    CHECK(e.max_loaned_requests == d.max_loaned_requests && e.max_nodes == d.max_nodes);
+    CHECK(e.max_response_buffer_size == d.max_response_buffer_size);
+    CHECK(e.max_servers == d.max_servers && e.max_clients == d.max_clients);
+    CHECK(e.max_borrowed_responses_per_pending_response ==
+          d.max_borrowed_responses_per_pending_response);
+    CHECK(e.enable_safe_overflow_for_requests == d.enable_safe_overflow_for_requests);
+    CHECK(e.enable_safe_overflow_for_responses == d.enable_safe_overflow_for_responses);
+    CHECK(e.enable_fire_and_forget_requests == d.enable_fire_and_forget_requests);
+    CHECK(e.required_amount_of_chunks_per_client_data_segment(3).value() ==
+          iox2sd_requests_of_config(&d, 3).count);
+    CHECK(e.required_amount_of_chunks_per_server_data_segment(3).value() ==
+          iox2sd_responses_of_config(&d, 3).count);
+
+    const iox2sd_blackboard_settings bs = {41, 42};
+    const auto& f = described(bs, iox2sd_describe_blackboard).blackboard;
+    const BlackboardStaticConfig g(BlackboardSettings{41, 42}, type("u8", 1, 1));
+    CHECK(g.max_readers == f.max_readers && g.max_writers == f.max_writers);
+    CHECK(g.max_nodes == f.max_nodes);
 }
 
 }  // namespace
@@ -534,5 +609,6 @@ int main() {
     validity();
     chunks();
     descriptions();
+    descriptions_of_the_library();
     return end_of_checks();
 }

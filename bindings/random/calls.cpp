@@ -393,6 +393,19 @@ void defaults(Line& in, Answer& out) {
     }
 }
 
+void global_defaults(Line&, Answer& out) {
+    out.status(Status::Done);
+    say_fields(out, GlobalSettings::defaults());
+}
+
+void duration(Line& in, Answer& out) {
+    GlobalSettings settings = GlobalSettings::defaults();
+    settings.creation_timeout.seconds = in.number();
+    settings.creation_timeout.nanoseconds = in.number32();
+    const auto checked = settings.check();
+    out.status(checked ? Status::Done : checked.error().status);
+}
+
 // ---- Ids ----
 
 void ids(Line& in, Answer& out) {
@@ -598,8 +611,6 @@ void roles(Line&, Answer& out) {
 
 // ---- Calls by name ----
 
-void not_expressed(Line&, Answer&) { throw NotExpressed(); }
-
 using Call = void (*)(Line&, Answer&);
 
 const std::unordered_map<std::string, Call> calls = {
@@ -645,8 +656,8 @@ const std::unordered_map<std::string, Call> calls = {
     {"requests", requests},
     {"responses", responses},
     {"defaults", defaults},
-    {"global_defaults", not_expressed},
-    {"duration", not_expressed},
+    {"global_defaults", global_defaults},
+    {"duration", duration},
     {"ids", ids},
     {"make", make},
     {"register", register_node},

@@ -108,7 +108,7 @@ class DynamicConfig:
         registering takes one of `tickets` tickets, and each attaching one of as many for its kind
         of ports; none comes back.
 
-        Raises `NoMemory`.
+        Raises `HasService` where the object has one already, and `NoMemory`.
         """
         what = "DynamicConfig"
         instance(messaging_pattern, MessagingPattern, f"{what}.messaging_pattern")

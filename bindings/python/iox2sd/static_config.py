@@ -157,6 +157,7 @@ class BlackboardStaticConfig(Checked):
     """What a blackboard service is. The numbers are those of `BlackboardSettings`."""
 
     max_readers: Size
+    max_writers: Size = 1
     max_nodes: Size
     type_details: TypeDetail
     """The type of the keys."""

@@ -68,6 +68,7 @@ class StaticConfigs(unittest.TestCase):
         keys = TypeDetail("Key", 8, 8)
         board = BlackboardStaticConfig.new(keys, BlackboardSettings(max_readers=3, max_nodes=5))
         self.assertEqual((board.max_readers, board.max_nodes, board.type_details), (3, 5, keys))
+        self.assertEqual(board.max_writers, 1)
 
     def test_chunks_of_publishers(self):
         given: "dict[str, Any]" = dict(

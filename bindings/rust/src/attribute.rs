@@ -32,18 +32,52 @@ use crate::semantic_string::SemanticString;
 
 kind! {
     /// What the key of an attribute allows: every byte from 1 to 127, but not none at all.
+    ///
+    /// ```
+    /// use iox2sd::attribute::AttributeKeyContent;
+    /// use iox2sd::semantic_string::SemanticString;
+    ///
+    /// assert_eq!(SemanticString::<AttributeKeyContent>::new(b"site")?, "site");
+    /// assert!(SemanticString::<AttributeKeyContent>::new(b"").is_err());
+    /// # Ok::<(), iox2sd::semantic_string::SemanticStringError>(())
+    /// ```
     AttributeKeyContent: check_attribute_key
 }
 
 kind! {
     /// What the value of an attribute allows: every byte from 1 to 127, but not none at all.
+    ///
+    /// ```
+    /// use iox2sd::attribute::AttributeValueContent;
+    /// use iox2sd::semantic_string::SemanticString;
+    ///
+    /// assert_eq!(SemanticString::<AttributeValueContent>::new(b"north")?, "north");
+    /// assert!(SemanticString::<AttributeValueContent>::new(b"\0").is_err());
+    /// # Ok::<(), iox2sd::semantic_string::SemanticStringError>(())
+    /// ```
     AttributeValueContent: check_attribute_value
 }
 
 /// The key of an attribute.
+///
+/// ```
+/// use iox2sd::attribute::AttributeKey;
+///
+/// let key: AttributeKey = "site".try_into()?;
+/// assert_eq!(key.as_bytes(), b"site");
+/// # Ok::<(), iox2sd::semantic_string::SemanticStringError>(())
+/// ```
 pub type AttributeKey = SemanticString<AttributeKeyContent>;
 
 /// The value of an attribute.
+///
+/// ```
+/// use iox2sd::attribute::AttributeValue;
+///
+/// let value: AttributeValue = "north".try_into()?;
+/// assert_eq!(value.as_bytes(), b"north");
+/// # Ok::<(), iox2sd::semantic_string::SemanticStringError>(())
+/// ```
 pub type AttributeValue = SemanticString<AttributeValueContent>;
 
 /// A key with a value. Attributes are compared by their keys, and then by their values.
@@ -65,6 +99,16 @@ pub struct Attribute {
 
 impl Attribute {
     /// The attribute with this key and this value.
+    ///
+    /// ```
+    /// use iox2sd::attribute::{Attribute, AttributeSet};
+    ///
+    /// let (site, north) = ("site".try_into()?, "north".try_into()?);
+    /// let mut set = AttributeSet::new();
+    /// set.add(&site, &north)?;
+    /// assert_eq!(set[0], Attribute::new(&site, &north));
+    /// # Ok::<(), Box<dyn std::error::Error>>(())
+    /// ```
     pub fn new(key: &AttributeKey, value: &AttributeValue) -> Self {
         Attribute {
             key: *key,
@@ -73,11 +117,27 @@ impl Attribute {
     }
 
     /// The key.
+    ///
+    /// ```
+    /// use iox2sd::attribute::Attribute;
+    ///
+    /// let attribute = Attribute::new(&"site".try_into()?, &"north".try_into()?);
+    /// assert_eq!(attribute.key(), "site");
+    /// # Ok::<(), iox2sd::semantic_string::SemanticStringError>(())
+    /// ```
     pub fn key(&self) -> &AttributeKey {
         &self.key
     }
 
     /// The value.
+    ///
+    /// ```
+    /// use iox2sd::attribute::Attribute;
+    ///
+    /// let attribute = Attribute::new(&"site".try_into()?, &"north".try_into()?);
+    /// assert_eq!(attribute.value(), "north");
+    /// # Ok::<(), iox2sd::semantic_string::SemanticStringError>(())
+    /// ```
     pub fn value(&self) -> &AttributeValue {
         &self.value
     }

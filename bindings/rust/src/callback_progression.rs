@@ -3,6 +3,23 @@
 use crate::display::shown_by_name;
 
 /// Whether a listing goes on after the entry that its callback was called on.
+///
+/// ```
+/// use iox2sd::attribute::AttributeSpecifier;
+/// use iox2sd::CallbackProgression;
+///
+/// let site = "site".try_into()?;
+/// let specifier = AttributeSpecifier::new()
+///     .define(&site, &"north".try_into()?)?
+///     .define(&site, &"east".try_into()?)?;
+/// let mut calls = 0;
+/// specifier.attributes().iter_key_values(&site, |_| {
+///     calls += 1;
+///     CallbackProgression::Stop
+/// });
+/// assert_eq!(calls, 1);
+/// # Ok::<(), Box<dyn std::error::Error>>(())
+/// ```
 #[derive(Clone, Copy, Debug, PartialEq, Eq, Hash)]
 pub enum CallbackProgression {
     /// It goes on with the next entry.

@@ -43,6 +43,14 @@ pub struct Config {
 }
 
 /// The settings that services of each pattern get where nothing else is said.
+///
+/// ```
+/// use iox2sd::config::Defaults;
+///
+/// let defaults = Defaults::default();
+/// assert_eq!(defaults.publish_subscribe.max_subscribers, 8);
+/// assert_eq!(defaults.blackboard.max_readers, 8);
+/// ```
 #[derive(Clone, Debug, Default, PartialEq, Eq)]
 pub struct Defaults {
     /// Those of publish-subscribe services.
@@ -67,16 +75,31 @@ impl Config {
     }
 
     /// The configuration file of a working directory.
+    ///
+    /// ```
+    /// use iox2sd::config::Config;
+    /// assert_eq!(Config::default_config_file_path(), "config/iceoryx2.toml");
+    /// ```
     pub fn default_config_file_path() -> FilePath {
         default_text(sys::IOX2SD_CONFIG_FILE_PATH)
     }
 
     /// The directory, below one for configurations, that has this system's configuration.
+    ///
+    /// ```
+    /// use iox2sd::config::Config;
+    /// assert_eq!(Config::relative_config_path(), "iceoryx2");
+    /// ```
     pub fn relative_config_path() -> Path {
         default_text(sys::IOX2SD_RELATIVE_CONFIG_PATH)
     }
 
     /// The configuration file below a user's directory for configurations.
+    ///
+    /// ```
+    /// use iox2sd::config::Config;
+    /// assert_eq!(Config::default_user_config_file_path(), "iceoryx2/iceoryx2.toml");
+    /// ```
     pub fn default_user_config_file_path() -> FilePath {
         default_text(sys::IOX2SD_USER_CONFIG_FILE_PATH)
     }

@@ -1,4 +1,18 @@
 //! What the entries of a service are, and the handles by which they are given back.
+//!
+//! ```
+//! use iox2sd::container::Role;
+//! use iox2sd::dynamic_config::{event, DynamicConfig, MessagingPatternSettings};
+//! use iox2sd::identifiers::UniqueNodeId;
+//!
+//! let room = event::DynamicConfigSettings { number_of_listeners: 1, number_of_notifiers: 1 };
+//! let mut service = DynamicConfig::new(&MessagingPatternSettings::Event(room), 2, 7)?;
+//! let node = UniqueNodeId::new(1, 0, 0, 1).expect("the id of a node");
+//! service.register_node_id(node)?;
+//! let second = service.register_node_id(node)?;
+//! assert_eq!((second.role(), second.slot(), second.ticket()), (Role::Node, 1, 1));
+//! # Ok::<(), Box<dyn std::error::Error>>(())
+//! ```
 
 use crate::display::{error_by_path, shown_by_name};
 use crate::library;
@@ -73,6 +87,14 @@ pub struct ContainerHandle {
 
 impl ContainerHandle {
     /// The handle with these parts. Whether a service has given it is a matter of the service.
+    ///
+    /// ```
+    /// use iox2sd::container::{ContainerHandle, Role};
+    ///
+    /// let handle = ContainerHandle::from_parts(7, Role::Node, 0, 3);
+    /// assert_eq!(handle, ContainerHandle::from_parts(7, Role::Node, 0, 3));
+    /// assert_ne!(handle, ContainerHandle::from_parts(7, Role::Node, 0, 4));
+    /// ```
     pub fn from_parts(service: u64, role: Role, slot: usize, ticket: u64) -> Self {
         ContainerHandle {
             service,
@@ -83,21 +105,41 @@ impl ContainerHandle {
     }
 
     /// The number of the service.
+    ///
+    /// ```
+    /// use iox2sd::container::{ContainerHandle, Role};
+    /// assert_eq!(ContainerHandle::from_parts(7, Role::Node, 0, 3).service(), 7);
+    /// ```
     pub fn service(&self) -> u64 {
         self.service
     }
 
     /// What has the handle.
+    ///
+    /// ```
+    /// use iox2sd::container::{ContainerHandle, Role};
+    /// assert_eq!(ContainerHandle::from_parts(7, Role::Writer, 0, 3).role(), Role::Writer);
+    /// ```
     pub fn role(&self) -> Role {
         self.role
     }
 
     /// The place among the entries of its role.
+    ///
+    /// ```
+    /// use iox2sd::container::{ContainerHandle, Role};
+    /// assert_eq!(ContainerHandle::from_parts(7, Role::Node, 2, 3).slot(), 2);
+    /// ```
     pub fn slot(&self) -> usize {
         self.slot
     }
 
     /// How many entries of its role the service had been given before.
+    ///
+    /// ```
+    /// use iox2sd::container::{ContainerHandle, Role};
+    /// assert_eq!(ContainerHandle::from_parts(7, Role::Node, 2, 3).ticket(), 3);
+    /// ```
     pub fn ticket(&self) -> u64 {
         self.ticket
     }
@@ -122,6 +164,21 @@ impl ContainerHandle {
 }
 
 /// Why nothing was given back.
+///
+/// ```
+/// use iox2sd::container::{ContainerHandle, Role};
+/// use iox2sd::dynamic_config::{event, DynamicConfig, MessagingPatternSettings};
+///
+/// let room = event::DynamicConfigSettings { number_of_listeners: 1, number_of_notifiers: 1 };
+/// let mut service = DynamicConfig::new(&MessagingPatternSettings::Event(room), 1, 7)?;
+/// let foreign = ContainerHandle::from_parts(8, Role::Listener, 0, 0);
+/// let refused = service.release_port(foreign).unwrap_err();
+/// assert_eq!(
+///     refused.to_string(),
+///     "ContainerRemoveError::ContainerHandleNotOwnedByContainer"
+/// );
+/// # Ok::<(), Box<dyn std::error::Error>>(())
+/// ```
 #[derive(Clone, Copy, Debug, PartialEq, Eq, Hash)]
 pub enum ContainerRemoveError {
     /// No entry of the service has this handle.

@@ -20,6 +20,13 @@ use std::cmp::Ordering;
 use std::fmt;
 
 /// The number that the operating system gives a process.
+///
+/// ```
+/// use iox2sd::identifiers::{ProcessId, UniqueServiceId};
+///
+/// assert_eq!(UniqueServiceId::new(17, 0, 0, 1).pid(), ProcessId::new(17));
+/// assert_eq!(ProcessId::new(17).to_string(), "17");
+/// ```
 #[derive(Clone, Copy, Debug, PartialEq, Eq, Hash)]
 pub struct ProcessId {
     value: u32,
@@ -27,11 +34,21 @@ pub struct ProcessId {
 
 impl ProcessId {
     /// The process of this number.
+    ///
+    /// ```
+    /// use iox2sd::identifiers::ProcessId;
+    /// assert_ne!(ProcessId::new(17), ProcessId::new(18));
+    /// ```
     pub fn new(value: u32) -> Self {
         ProcessId { value }
     }
 
     /// Its number.
+    ///
+    /// ```
+    /// use iox2sd::identifiers::ProcessId;
+    /// assert_eq!(ProcessId::new(17).value(), 17);
+    /// ```
     pub fn value(&self) -> u32 {
         self.value
     }
@@ -46,6 +63,14 @@ impl fmt::Display for ProcessId {
 
 /// A time: whole seconds, and the nanoseconds beside them, which may be any number of their type.
 /// The default is 0 of both.
+///
+/// ```
+/// use iox2sd::identifiers::{Time, UniqueServiceId};
+///
+/// let id = UniqueServiceId::new(17, 1000, 5, 1);
+/// assert_eq!(id.creation_time(), Time::new(1000, 5));
+/// assert_eq!(Time::default(), Time::new(0, 0));
+/// ```
 #[derive(Clone, Copy, Debug, Default, PartialEq, Eq, Hash)]
 pub struct Time {
     seconds: u64,
@@ -54,6 +79,13 @@ pub struct Time {
 
 impl Time {
     /// The time of these seconds and nanoseconds.
+    ///
+    /// ```
+    /// use iox2sd::identifiers::Time;
+    ///
+    /// let time = Time::new(u64::MAX, u32::MAX);
+    /// assert_eq!((time.seconds(), time.nanoseconds()), (u64::MAX, u32::MAX));
+    /// ```
     pub fn new(seconds: u64, nanoseconds: u32) -> Self {
         Time {
             seconds,
@@ -62,11 +94,21 @@ impl Time {
     }
 
     /// The whole seconds.
+    ///
+    /// ```
+    /// use iox2sd::identifiers::Time;
+    /// assert_eq!(Time::new(1000, 5).seconds(), 1000);
+    /// ```
     pub fn seconds(&self) -> u64 {
         self.seconds
     }
 
     /// The nanoseconds beside the seconds.
+    ///
+    /// ```
+    /// use iox2sd::identifiers::Time;
+    /// assert_eq!(Time::new(1000, 5).nanoseconds(), 5);
+    /// ```
     pub fn nanoseconds(&self) -> u32 {
         self.nanoseconds
     }
@@ -74,11 +116,18 @@ impl Time {
 
 /// Defines what all ids have, but for how they are made.
 macro_rules! unique_id {
-    ($(#[$documentation:meta])* $name:ident) => {
+    ($(#[$documentation:meta])* $name:ident: $(#[$made:meta])*) => {
         $(#[$documentation])*
         ///
         /// Ids go by their [`value`](Self::value), whose lower-case hexadecimal digits are their
         /// text.
+        ///
+        /// ```
+        #[doc = concat!("use iox2sd::identifiers::", stringify!($name), ";")]
+        ///
+        $(#[$made])*
+        /// assert_eq!(id.to_string(), "1000000020000000200000001");
+        /// ```
         #[derive(Clone, Copy, PartialEq, Eq, Hash)]
         pub struct $name {
             pub(crate) parts: sys::iox2sd_id,
@@ -90,16 +139,38 @@ macro_rules! unique_id {
             }
 
             /// The id as one number: process, seconds, nanoseconds and counter, 32 bits each.
+            ///
+            /// ```
+            #[doc = concat!("use iox2sd::identifiers::", stringify!($name), ";")]
+            ///
+            $(#[$made])*
+            /// assert_eq!(id.value(), 0x1_0000_0002_0000_0002_0000_0001);
+            /// ```
             pub fn value(&self) -> u128 {
                 value(self.parts)
             }
 
             /// The process that made the id.
+            ///
+            /// ```
+            #[doc = concat!("use iox2sd::identifiers::", stringify!($name), ";")]
+            ///
+            $(#[$made])*
+            /// assert_eq!(id.pid().value(), 1);
+            /// ```
             pub fn pid(&self) -> ProcessId {
                 ProcessId::new(self.parts.process)
             }
 
             /// When the id was made.
+            ///
+            /// ```
+            #[doc = concat!("use iox2sd::identifiers::", stringify!($name), ";")]
+            ///
+            $(#[$made])*
+            /// let time = id.creation_time();
+            /// assert_eq!((time.seconds(), time.nanoseconds()), (2, 2));
+            /// ```
             pub fn creation_time(&self) -> Time {
                 Time::new(u64::from(self.parts.seconds), self.parts.nanoseconds)
             }
@@ -137,11 +208,19 @@ macro_rules! unique_ids {
         $(
             unique_id! {
                 $(#[$documentation])*
-                $name
+                $name:
+                #[doc = concat!("let id = ", stringify!($name), "::new(1, 2, 2, 1);")]
             }
 
             impl $name {
                 /// The id with these parts.
+                ///
+                /// ```
+                #[doc = concat!("use iox2sd::identifiers::", stringify!($name), ";")]
+                ///
+                #[doc = concat!("let earlier = ", stringify!($name), "::new(1, 2, 0, 1);")]
+                #[doc = concat!("assert!(earlier < ", stringify!($name), "::new(1, 2, 2, 1));")]
+                /// ```
                 pub fn new(process: u32, seconds: u32, nanoseconds: u32, counter: u32) -> Self {
                     Self::of(sys::iox2sd_id { process, seconds, nanoseconds, counter })
                 }
@@ -173,7 +252,8 @@ unique_ids! {
 
 unique_id! {
     /// The id of a node. Its process and its counter are not both 0.
-    UniqueNodeId
+    UniqueNodeId:
+    /// let id = UniqueNodeId::new(1, 2, 2, 1).expect("the id of a node");
 }
 
 impl UniqueNodeId {
@@ -199,6 +279,15 @@ impl UniqueNodeId {
 
     /// Process and counter as one number, which is never 0. Nodes of one process with one counter
     /// share it.
+    ///
+    /// ```
+    /// use iox2sd::identifiers::UniqueNodeId;
+    ///
+    /// let one = UniqueNodeId::new(1, 2, 3, 4).expect("the id of a node");
+    /// let later = UniqueNodeId::new(1, 9, 9, 4).expect("the id of a node");
+    /// assert_eq!(one.owner_id(), (1 << 32) + 4);
+    /// assert_eq!(one.owner_id(), later.owner_id());
+    /// ```
     pub fn owner_id(&self) -> u64 {
         library::id_owner(self.parts)
     }
@@ -250,6 +339,13 @@ impl UniquePortId {
     }
 
     /// The id as one number, whatever its kind.
+    ///
+    /// ```
+    /// use iox2sd::identifiers::{UniquePortId, UniqueWriterId};
+    ///
+    /// let id = UniqueWriterId::new(1, 2, 3, 4);
+    /// assert_eq!(UniquePortId::Writer(id).value(), id.value());
+    /// ```
     pub fn value(&self) -> u128 {
         value(self.parts())
     }

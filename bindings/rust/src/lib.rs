@@ -67,6 +67,14 @@ mod text;
 pub use callback_progression::CallbackProgression;
 
 /// The modules of this crate that stand in the module `service` of iceoryx2.
+///
+/// ```
+/// use iox2sd::service::service_name::ServiceName;
+///
+/// let name: iox2sd::service_name::ServiceName = ServiceName::new("lidar/front")?;
+/// assert_eq!(name, "lidar/front");
+/// # Ok::<(), iox2sd::service::service_name::ServiceNameError>(())
+/// ```
 pub mod service {
     pub use crate::{
         attribute, dynamic_config, messaging_pattern, service_hash, service_name, static_config,
@@ -74,6 +82,10 @@ pub mod service {
 }
 
 /// The version of the library, as `0.1.0`.
+///
+/// ```
+/// assert_eq!(iox2sd::version().split('.').count(), 3);
+/// ```
 pub fn version() -> String {
     library::version().unwrap_or_else(|status| library::unexpected(status))
 }

@@ -1,4 +1,14 @@
 //! The messaging patterns of services.
+//!
+//! ```
+//! use iox2sd::messaging_pattern::MessagingPattern;
+//! use iox2sd::service_hash::ServiceHash;
+//!
+//! let name = "lidar/front".try_into()?;
+//! let images = ServiceHash::new(&name, MessagingPattern::PublishSubscribe)?;
+//! assert_ne!(images, ServiceHash::new(&name, MessagingPattern::Blackboard)?);
+//! # Ok::<(), Box<dyn std::error::Error>>(())
+//! ```
 
 use crate::display::shown_by_name;
 use crate::sys;

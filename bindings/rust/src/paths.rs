@@ -1,4 +1,14 @@
 //! Paths and names of files.
+//!
+//! ```
+//! use iox2sd::paths::{FileName, FilePath, Path};
+//!
+//! let mut directory = Path::new(b"/tmp")?;
+//! directory.add_path_entry(&Path::new(b"iceoryx2")?)?;
+//! let file = FilePath::from_path_and_file(&directory, &FileName::new(b"iceoryx2.toml")?)?;
+//! assert_eq!(file, "/tmp/iceoryx2/iceoryx2.toml");
+//! # Ok::<(), iox2sd::semantic_string::SemanticStringError>(())
+//! ```
 
 use crate::library;
 use crate::semantic_string::kind::kind;
@@ -6,23 +16,55 @@ use crate::semantic_string::{SemanticString, SemanticStringError};
 
 kind! {
     /// What a path allows: every byte from 1 to 127, and none at all.
+    ///
+    /// ```
+    /// use iox2sd::paths::PathContent;
+    /// use iox2sd::semantic_string::SemanticString;
+    ///
+    /// assert!(SemanticString::<PathContent>::new(b"").is_ok());
+    /// assert!(SemanticString::<PathContent>::new(b"a\0b").is_err());
+    /// ```
     PathContent: check_path
 }
 
 kind! {
     /// What the name of a file allows: any byte from 1 to 127 but `/`; not `.` and not `..`.
+    ///
+    /// ```
+    /// use iox2sd::paths::FileNameContent;
+    /// use iox2sd::semantic_string::SemanticString;
+    ///
+    /// assert!(SemanticString::<FileNameContent>::new(b"iceoryx2.toml").is_ok());
+    /// assert!(SemanticString::<FileNameContent>::new(b"..").is_err());
+    /// ```
     FileNameContent: check_file_name
 }
 
 kind! {
     /// What the path of a file allows: any byte from 1 to 127, where the bytes after the last `/`
     /// are the name of a file.
+    ///
+    /// ```
+    /// use iox2sd::paths::FilePathContent;
+    /// use iox2sd::semantic_string::SemanticString;
+    ///
+    /// assert!(SemanticString::<FilePathContent>::new(b"/tmp/iceoryx2.toml").is_ok());
+    /// assert!(SemanticString::<FilePathContent>::new(b"/tmp/").is_err());
+    /// ```
     FilePathContent: check_file_path
 }
 
 kind! {
     /// What a restricted name of a file allows: letters, digits, `-`, `.`, `:` and `_`; not `.` and
     /// not `..`.
+    ///
+    /// ```
+    /// use iox2sd::paths::RestrictedFileNameContent;
+    /// use iox2sd::semantic_string::SemanticString;
+    ///
+    /// assert!(SemanticString::<RestrictedFileNameContent>::new(b"Tqyt8mlaP0suuV").is_ok());
+    /// assert!(SemanticString::<RestrictedFileNameContent>::new(b"Tqyt8/mlaP0suuV").is_err());
+    /// ```
     RestrictedFileNameContent: check_restricted_name
 }
 

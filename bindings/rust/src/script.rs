@@ -1,5 +1,11 @@
 //! Scripts: a service and the commands on it as lines of text, for runs that can be written down
 //! and compared. `docs/SCRIPT.md` of service_descriptions has all lines and replies.
+//!
+//! ```
+//! let replies = iox2sd::script::run("service event 7 1 2 2\nregister 1.0.0.1\nderegister 0\n")?;
+//! assert_eq!(replies, "handle 0 0\nno-owners\n");
+//! # Ok::<(), iox2sd::script::ScriptError>(())
+//! ```
 
 use crate::library;
 use crate::sys;
@@ -7,6 +13,13 @@ use std::error::Error;
 use std::fmt;
 
 /// Why a script was not run to its end.
+///
+/// ```
+/// use iox2sd::script;
+///
+/// let refused = script::run("service event 7 1 2 2\nregister nobody\n").unwrap_err();
+/// assert_eq!(refused.to_string(), "bad line 2");
+/// ```
 #[derive(Clone, Debug, PartialEq, Eq)]
 pub enum ScriptError {
     /// A line has no meaning at its place, or no newline.

@@ -2,6 +2,16 @@
 //!
 //! Their kinds are [`AttributeKey`](crate::attribute::AttributeKey),
 //! [`AttributeValue`](crate::attribute::AttributeValue), and those of [`paths`](crate::paths).
+//!
+//! ```
+//! use iox2sd::attribute::AttributeKey;
+//! use iox2sd::semantic_string::SemanticStringError;
+//!
+//! let key = AttributeKey::new(b"site")?;
+//! assert_eq!(key.as_str(), "site");
+//! assert_eq!(AttributeKey::new(b"\0"), Err(SemanticStringError::InvalidContent));
+//! # Ok::<(), SemanticStringError>(())
+//! ```
 
 use crate::display::error_by_path;
 use crate::library;
@@ -12,6 +22,15 @@ use std::hash::{Hash, Hasher};
 use std::marker::PhantomData;
 
 /// Why a text is no semantic string.
+///
+/// ```
+/// use iox2sd::paths::FileName;
+/// use iox2sd::semantic_string::SemanticStringError;
+///
+/// let refused = FileName::new(b"a/b").unwrap_err();
+/// assert_eq!(refused, SemanticStringError::InvalidContent);
+/// assert_eq!(refused.to_string(), "SemanticStringError::InvalidContent");
+/// ```
 #[derive(Clone, Copy, Debug, PartialEq, Eq, Hash)]
 pub enum SemanticStringError {
     /// The text is empty, or has a byte or a form, that its kind does not allow.
@@ -36,6 +55,14 @@ impl SemanticStringError {
 }
 
 /// Why a text of a type's name was not made.
+///
+/// ```
+/// use iox2sd::semantic_string::StringModificationError;
+/// use iox2sd::static_config::message_type_details::TypeName;
+///
+/// let refused = TypeName::try_from("a".repeat(257).as_str()).unwrap_err();
+/// assert_eq!(refused, StringModificationError::InsertWouldExceedCapacity);
+/// ```
 #[derive(Clone, Copy, Debug, PartialEq, Eq, Hash)]
 pub enum StringModificationError {
     /// The text has too many bytes. This is reported before an illegal byte.
@@ -47,6 +74,17 @@ pub enum StringModificationError {
 error_by_path!(StringModificationError);
 
 /// A kind of semantic strings. The kinds are those of this crate.
+///
+/// ```
+/// use iox2sd::semantic_string::{Content, SemanticString};
+///
+/// fn longest<C: Content>(texts: &[SemanticString<C>]) -> usize {
+///     texts.iter().map(SemanticString::len).max().unwrap_or_default()
+/// }
+/// let keys = ["site".try_into()?, "robot".try_into()?];
+/// assert_eq!(longest::<iox2sd::attribute::AttributeKeyContent>(&keys), 5);
+/// # Ok::<(), iox2sd::semantic_string::SemanticStringError>(())
+/// ```
 pub trait Content: kind::Kind {}
 
 impl<K: kind::Kind> Content for K {}
@@ -143,21 +181,47 @@ impl<C: Content> SemanticString<C> {
     }
 
     /// The text.
+    ///
+    /// ```
+    /// use iox2sd::attribute::AttributeKey;
+    /// assert_eq!(AttributeKey::new(b"site")?.as_str(), "site");
+    /// # Ok::<(), iox2sd::semantic_string::SemanticStringError>(())
+    /// ```
     pub fn as_str(&self) -> &str {
         self.text.as_str()
     }
 
     /// The bytes of the text.
+    ///
+    /// ```
+    /// use iox2sd::attribute::AttributeKey;
+    /// assert_eq!(AttributeKey::new(b"site")?.as_bytes(), b"site");
+    /// # Ok::<(), iox2sd::semantic_string::SemanticStringError>(())
+    /// ```
     pub fn as_bytes(&self) -> &[u8] {
         self.as_str().as_bytes()
     }
 
     /// The number of bytes.
+    ///
+    /// ```
+    /// use iox2sd::attribute::AttributeKey;
+    /// assert_eq!(AttributeKey::new(b"site")?.len(), 4);
+    /// # Ok::<(), iox2sd::semantic_string::SemanticStringError>(())
+    /// ```
     pub fn len(&self) -> usize {
         self.as_bytes().len()
     }
 
     /// Whether there is no byte.
+    ///
+    /// ```
+    /// use iox2sd::paths::Path;
+    ///
+    /// assert!(Path::new(b"")?.is_empty());
+    /// assert!(!Path::new(b"/")?.is_empty());
+    /// # Ok::<(), iox2sd::semantic_string::SemanticStringError>(())
+    /// ```
     pub fn is_empty(&self) -> bool {
         self.as_bytes().is_empty()
     }

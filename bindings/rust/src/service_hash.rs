@@ -1,4 +1,14 @@
 //! The hash texts of services.
+//!
+//! ```
+//! use iox2sd::messaging_pattern::MessagingPattern;
+//! use iox2sd::service_hash::ServiceHash;
+//!
+//! let name = "My/Funk/ServiceName".try_into()?;
+//! let hash = ServiceHash::new(&name, MessagingPattern::PublishSubscribe)?;
+//! assert_eq!(hash, "Tqyt8mlaP0suuVSFdZJGzhoqqQY");
+//! # Ok::<(), Box<dyn std::error::Error>>(())
+//! ```
 
 use crate::display::error_by_path;
 use crate::library;
@@ -9,6 +19,11 @@ use crate::sys;
 use crate::text::shown_as_text;
 
 /// Why a service has no hash text.
+///
+/// ```
+/// use iox2sd::service_hash::ServiceHashError;
+/// assert_eq!(ServiceHashError::IllegalText.to_string(), "ServiceHashError::IllegalText");
+/// ```
 #[derive(Clone, Copy, Debug, PartialEq, Eq, Hash)]
 pub enum ServiceHashError {
     /// The text cannot be the name of a file. No text of the library's hasher, SHA-1, was ever seen
@@ -40,6 +55,17 @@ impl ServiceHash {
     /// The hash text of a service's pattern and name, by SHA-1.
     ///
     /// Refused with [`ServiceHashError::IllegalText`], which no call was ever seen to be.
+    ///
+    /// ```
+    /// use iox2sd::messaging_pattern::MessagingPattern;
+    /// use iox2sd::service_hash::ServiceHash;
+    ///
+    /// let (front, rear) = ("lidar/front".try_into()?, "lidar/rear".try_into()?);
+    /// let hash = ServiceHash::new(&front, MessagingPattern::Event)?;
+    /// assert_eq!(hash, ServiceHash::new(&front, MessagingPattern::Event)?);
+    /// assert_ne!(hash, ServiceHash::new(&rear, MessagingPattern::Event)?);
+    /// # Ok::<(), Box<dyn std::error::Error>>(())
+    /// ```
     pub fn new(name: &ServiceName, pattern: MessagingPattern) -> Result<Self, ServiceHashError> {
         match library::hash_text(pattern as u32, name) {
             Ok(text) => Ok(ServiceHash {
@@ -51,11 +77,25 @@ impl ServiceHash {
     }
 
     /// The greatest number of bytes of a hash text.
+    ///
+    /// ```
+    /// use iox2sd::service_hash::ServiceHash;
+    /// assert_eq!(ServiceHash::max_number_of_characters(), 64);
+    /// ```
     pub fn max_number_of_characters() -> usize {
         RestrictedFileName::capacity()
     }
 
     /// The text.
+    ///
+    /// ```
+    /// use iox2sd::messaging_pattern::MessagingPattern;
+    /// use iox2sd::service_hash::ServiceHash;
+    ///
+    /// let hash = ServiceHash::new(&"lidar/front".try_into()?, MessagingPattern::Event)?;
+    /// assert_eq!(hash.as_str(), hash.to_string());
+    /// # Ok::<(), Box<dyn std::error::Error>>(())
+    /// ```
     pub fn as_str(&self) -> &str {
         self.text.as_str()
     }

@@ -15,6 +15,14 @@ use crate::text::{shown_as_text, Text};
 use std::ops::Deref;
 
 /// Why a text is no service name.
+///
+/// ```
+/// use iox2sd::service_name::{ServiceName, ServiceNameError};
+///
+/// let refused = ServiceName::new("lidar\0front").unwrap_err();
+/// assert_eq!(refused, ServiceNameError::InvalidContent);
+/// assert_eq!(refused.to_string(), "ServiceNameError::InvalidContent");
+/// ```
 #[derive(Clone, Copy, Debug, PartialEq, Eq, Hash)]
 pub enum ServiceNameError {
     /// The name is empty, has a byte that is not from 1 to 127, or begins with the prefix of the
@@ -120,6 +128,12 @@ impl ServiceName {
     }
 
     /// The text of the name.
+    ///
+    /// ```
+    /// use iox2sd::service_name::ServiceName;
+    /// assert_eq!(ServiceName::new("lidar/front")?.as_str(), "lidar/front");
+    /// # Ok::<(), iox2sd::service_name::ServiceNameError>(())
+    /// ```
     pub fn as_str(&self) -> &str {
         self.text.as_str()
     }

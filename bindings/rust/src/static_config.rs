@@ -33,6 +33,18 @@ use messaging_pattern::MessagingPattern;
 
 /// The description of a service: its name, its hash text, its id, its attributes, and what is fixed
 /// by its pattern.
+///
+/// ```
+/// use iox2sd::config::Config;
+/// use iox2sd::identifiers::UniqueServiceId;
+/// use iox2sd::static_config::StaticConfig;
+///
+/// let (name, id) = ("front".try_into()?, UniqueServiceId::new(1, 0, 0, 1));
+/// let service = StaticConfig::new_event(&name, &Config::default(), id)?;
+/// assert_eq!(service, service.clone());
+/// assert_eq!((service.name(), service.unique_service_id()), (&name, id));
+/// # Ok::<(), Box<dyn std::error::Error>>(())
+/// ```
 #[derive(Clone, Debug, PartialEq, Eq)]
 pub struct StaticConfig {
     service_hash: ServiceHash,
@@ -64,6 +76,20 @@ macro_rules! of_pattern {
         }
 
         #[doc = concat!("Whether it is ", $kind, " service.")]
+        ///
+        /// ```
+        /// use iox2sd::config::Config;
+        /// use iox2sd::identifiers::UniqueServiceId;
+        /// use iox2sd::static_config::StaticConfig;
+        ///
+        /// let (name, id) = ("front".try_into()?, UniqueServiceId::new(1, 0, 0, 1));
+        /// let config = Config::default();
+        #[doc = concat!(
+            "let service = StaticConfig::", stringify!($make), "(&name, &config, id)?;"
+        )]
+        #[doc = concat!("assert!(service.", stringify!($is), "());")]
+        /// # Ok::<(), Box<dyn std::error::Error>>(())
+        /// ```
         pub fn $is(&self) -> bool {
             matches!(self.messaging_pattern, MessagingPattern::$variant(_))
         }
@@ -73,6 +99,22 @@ macro_rules! of_pattern {
         /// # Panics
         ///
         #[doc = concat!("Where [`Self::", stringify!($is), "`] says no.")]
+        ///
+        /// ```
+        /// use iox2sd::config::Config;
+        /// use iox2sd::identifiers::UniqueServiceId;
+        /// use iox2sd::static_config::StaticConfig;
+        ///
+        /// let (name, id) = ("front".try_into()?, UniqueServiceId::new(1, 0, 0, 1));
+        /// let config = Config::default();
+        #[doc = concat!(
+            "let service = StaticConfig::", stringify!($make), "(&name, &config, id)?;"
+        )]
+        #[doc = concat!("let defaults = &config.defaults.", stringify!($module), ";")]
+        #[doc = concat!("let fixed = service.", stringify!($module), "();")]
+        /// assert_eq!(fixed.max_nodes(), defaults.max_nodes);
+        /// # Ok::<(), Box<dyn std::error::Error>>(())
+        /// ```
         pub fn $module(&self) -> &$module::StaticConfig {
             match &self.messaging_pattern {
                 MessagingPattern::$variant(config) => config,
@@ -85,6 +127,21 @@ macro_rules! of_pattern {
         /// # Panics
         ///
         #[doc = concat!("Where [`Self::", stringify!($is), "`] says no.")]
+        ///
+        /// ```
+        /// use iox2sd::config::Config;
+        /// use iox2sd::identifiers::UniqueServiceId;
+        /// use iox2sd::static_config::StaticConfig;
+        ///
+        /// let (name, id) = ("front".try_into()?, UniqueServiceId::new(1, 0, 0, 1));
+        /// let config = Config::default();
+        #[doc = concat!(
+            "let mut service = StaticConfig::", stringify!($make), "(&name, &config, id)?;"
+        )]
+        #[doc = concat!("service.", stringify!($get_mut), "().max_nodes = 1;")]
+        #[doc = concat!("assert_eq!(service.", stringify!($module), "().max_nodes(), 1);")]
+        /// # Ok::<(), Box<dyn std::error::Error>>(())
+        /// ```
         pub fn $get_mut(&mut self) -> &mut $module::StaticConfig {
             match &mut self.messaging_pattern {
                 MessagingPattern::$variant(config) => config,
@@ -190,6 +247,21 @@ impl StaticConfig {
     }
 
     /// The same service with these attributes in place of those that it had.
+    ///
+    /// ```
+    /// use iox2sd::attribute::AttributeSpecifier;
+    /// use iox2sd::config::Config;
+    /// use iox2sd::identifiers::UniqueServiceId;
+    /// use iox2sd::static_config::StaticConfig;
+    ///
+    /// let (name, id) = ("front".try_into()?, UniqueServiceId::new(1, 0, 0, 1));
+    /// let site = "site".try_into()?;
+    /// let specifier = AttributeSpecifier::new().define(&site, &"north".try_into()?)?;
+    /// let service = StaticConfig::new_event(&name, &Config::default(), id)?
+    ///     .with_attributes(specifier.attributes());
+    /// assert_eq!(service.attributes(), specifier.attributes());
+    /// # Ok::<(), Box<dyn std::error::Error>>(())
+    /// ```
     pub fn with_attributes(self, attributes: &AttributeSet) -> Self {
         StaticConfig {
             attributes: attributes.clone(),
@@ -198,31 +270,101 @@ impl StaticConfig {
     }
 
     /// The attributes of the service.
+    ///
+    /// ```
+    /// use iox2sd::config::Config;
+    /// use iox2sd::identifiers::UniqueServiceId;
+    /// use iox2sd::static_config::StaticConfig;
+    ///
+    /// let (name, id) = ("front".try_into()?, UniqueServiceId::new(1, 0, 0, 1));
+    /// let service = StaticConfig::new_event(&name, &Config::default(), id)?;
+    /// assert!(service.attributes().is_empty());
+    /// # Ok::<(), Box<dyn std::error::Error>>(())
+    /// ```
     pub fn attributes(&self) -> &AttributeSet {
         &self.attributes
     }
 
     /// The hash text of the service.
+    ///
+    /// ```
+    /// use iox2sd::config::Config;
+    /// use iox2sd::identifiers::UniqueServiceId;
+    /// use iox2sd::messaging_pattern::MessagingPattern;
+    /// use iox2sd::service_hash::ServiceHash;
+    /// use iox2sd::static_config::StaticConfig;
+    ///
+    /// let (name, id) = ("front".try_into()?, UniqueServiceId::new(1, 0, 0, 1));
+    /// let service = StaticConfig::new_event(&name, &Config::default(), id)?;
+    /// assert_eq!(service.service_hash(), &ServiceHash::new(&name, MessagingPattern::Event)?);
+    /// # Ok::<(), Box<dyn std::error::Error>>(())
+    /// ```
     pub fn service_hash(&self) -> &ServiceHash {
         &self.service_hash
     }
 
     /// The id of the service.
+    ///
+    /// ```
+    /// use iox2sd::config::Config;
+    /// use iox2sd::identifiers::UniqueServiceId;
+    /// use iox2sd::static_config::StaticConfig;
+    ///
+    /// let (name, id) = ("front".try_into()?, UniqueServiceId::new(1, 0, 0, 1));
+    /// let service = StaticConfig::new_event(&name, &Config::default(), id)?;
+    /// assert_eq!(service.unique_service_id(), id);
+    /// # Ok::<(), Box<dyn std::error::Error>>(())
+    /// ```
     pub fn unique_service_id(&self) -> UniqueServiceId {
         self.unique_service_id
     }
 
     /// The name of the service.
+    ///
+    /// ```
+    /// use iox2sd::config::Config;
+    /// use iox2sd::identifiers::UniqueServiceId;
+    /// use iox2sd::static_config::StaticConfig;
+    ///
+    /// let (name, id) = ("front".try_into()?, UniqueServiceId::new(1, 0, 0, 1));
+    /// let service = StaticConfig::new_event(&name, &Config::default(), id)?;
+    /// assert_eq!(service.name(), "front");
+    /// # Ok::<(), Box<dyn std::error::Error>>(())
+    /// ```
     pub fn name(&self) -> &ServiceName {
         &self.service_name
     }
 
     /// The pattern of the service, with what is fixed by it.
+    ///
+    /// ```
+    /// use iox2sd::config::Config;
+    /// use iox2sd::identifiers::UniqueServiceId;
+    /// use iox2sd::static_config::StaticConfig;
+    ///
+    /// let (name, id) = ("front".try_into()?, UniqueServiceId::new(1, 0, 0, 1));
+    /// let service = StaticConfig::new_event(&name, &Config::default(), id)?;
+    /// assert_eq!(service.messaging_pattern().to_string(), "Event");
+    /// # Ok::<(), Box<dyn std::error::Error>>(())
+    /// ```
     pub fn messaging_pattern(&self) -> &MessagingPattern {
         &self.messaging_pattern
     }
 
     /// Whether both services have one pattern, whatever is fixed by it.
+    ///
+    /// ```
+    /// use iox2sd::config::Config;
+    /// use iox2sd::identifiers::UniqueServiceId;
+    /// use iox2sd::static_config::StaticConfig;
+    ///
+    /// let (name, id) = ("front".try_into()?, UniqueServiceId::new(1, 0, 0, 1));
+    /// let events = StaticConfig::new_event(&name, &Config::default(), id)?;
+    /// let board = StaticConfig::new_blackboard(&name, &Config::default(), id)?;
+    /// assert!(events.has_same_messaging_pattern(&events));
+    /// assert!(!events.has_same_messaging_pattern(&board));
+    /// # Ok::<(), Box<dyn std::error::Error>>(())
+    /// ```
     pub fn has_same_messaging_pattern(&self, rhs: &StaticConfig) -> bool {
         self.messaging_pattern
             .is_same_pattern(&rhs.messaging_pattern)

@@ -51,6 +51,21 @@ fn names_are_refused_by_their_cause() {
     );
 }
 
+/// The text is zeros that nobody has written, for which the system keeps no memory.
+#[test]
+fn a_length_of_more_than_32_bits_is_not_cut() {
+    let length = usize::try_from((1_u64 << 32) + 1).unwrap();
+    let text = String::from_utf8(vec![0; length]).unwrap();
+    assert_eq!(
+        ServiceName::new(&text),
+        Err(ServiceNameError::ExceedsMaximumLength)
+    );
+    assert_eq!(
+        AttributeKey::new(text.as_bytes()),
+        Err(SemanticStringError::ExceedsMaximumLength)
+    );
+}
+
 #[test]
 fn a_conversion_takes_the_prefix_that_new_refuses() {
     let name: ServiceName = "iox2://discovery".try_into().unwrap();

@@ -8,6 +8,20 @@ use std::ops::Deref;
 use std::slice;
 
 /// Why an attribute or a key was not added.
+///
+/// ```
+/// use iox2sd::attribute::{AttributeDefinitionError, AttributeSet};
+///
+/// let (site, north) = ("site".try_into()?, "north".try_into()?);
+/// let mut set = AttributeSet::new();
+/// for _ in 0..AttributeSet::capacity() {
+///     set.add(&site, &north)?;
+/// }
+/// let refused = set.add(&site, &north).unwrap_err();
+/// assert_eq!(refused, AttributeDefinitionError::ExceedsMaxSupportedAttributes);
+/// assert_eq!(refused.to_string(), "AttributeDefinitionError::ExceedsMaxSupportedAttributes");
+/// # Ok::<(), Box<dyn std::error::Error>>(())
+/// ```
 #[derive(Clone, Copy, Debug, PartialEq, Eq, Hash)]
 pub enum AttributeDefinitionError {
     /// There are as many already as there may be.
@@ -44,6 +58,11 @@ pub struct AttributeSet {
 
 impl AttributeSet {
     /// The set without attributes.
+    ///
+    /// ```
+    /// use iox2sd::attribute::AttributeSet;
+    /// assert!(AttributeSet::new().is_empty());
+    /// ```
     pub fn new() -> Self {
         Self::default()
     }
@@ -76,6 +95,16 @@ impl AttributeSet {
     }
 
     /// How many attributes there are.
+    ///
+    /// ```
+    /// use iox2sd::attribute::AttributeSet;
+    ///
+    /// let mut set = AttributeSet::new();
+    /// set.add(&"site".try_into()?, &"north".try_into()?)?;
+    /// set.add(&"site".try_into()?, &"north".try_into()?)?;
+    /// assert_eq!(set.number_of_attributes(), 2);
+    /// # Ok::<(), Box<dyn std::error::Error>>(())
+    /// ```
     pub fn number_of_attributes(&self) -> usize {
         self.attributes.len()
     }
@@ -94,6 +123,17 @@ impl AttributeSet {
     }
 
     /// How many values a key has.
+    ///
+    /// ```
+    /// use iox2sd::attribute::AttributeSet;
+    ///
+    /// let mut set = AttributeSet::new();
+    /// set.add(&"site".try_into()?, &"north".try_into()?)?;
+    /// set.add(&"site".try_into()?, &"east".try_into()?)?;
+    /// assert_eq!(set.number_of_key_values(&"site".try_into()?), 2);
+    /// assert_eq!(set.number_of_key_values(&"robot".try_into()?), 0);
+    /// # Ok::<(), Box<dyn std::error::Error>>(())
+    /// ```
     pub fn number_of_key_values(&self, key: &AttributeKey) -> usize {
         library::attribute_values(self, key).unwrap_or_else(|status| library::unexpected(status))
     }
@@ -126,6 +166,23 @@ impl AttributeSet {
 
     /// Calls the callback on the values that a key has, up to and with the first answer
     /// [`Stop`](CallbackProgression::Stop).
+    ///
+    /// ```
+    /// use iox2sd::attribute::AttributeSet;
+    /// use iox2sd::CallbackProgression;
+    ///
+    /// let site = "site".try_into()?;
+    /// let mut set = AttributeSet::new();
+    /// set.add(&site, &"north".try_into()?)?;
+    /// set.add(&site, &"east".try_into()?)?;
+    /// let mut seen = Vec::new();
+    /// set.iter_key_values(&site, |value| {
+    ///     seen.push(*value);
+    ///     CallbackProgression::Stop
+    /// });
+    /// assert_eq!(seen, ["east"]);
+    /// # Ok::<(), Box<dyn std::error::Error>>(())
+    /// ```
     pub fn iter_key_values<F: FnMut(&AttributeValue) -> CallbackProgression>(
         &self,
         key: &AttributeKey,
@@ -135,6 +192,18 @@ impl AttributeSet {
     }
 
     /// The values that a key has, in their order.
+    ///
+    /// ```
+    /// use iox2sd::attribute::AttributeSet;
+    ///
+    /// let site = "site".try_into()?;
+    /// let mut set = AttributeSet::new();
+    /// set.add(&site, &"north".try_into()?)?;
+    /// set.add(&"robot".try_into()?, &"r2".try_into()?)?;
+    /// set.add(&site, &"east".try_into()?)?;
+    /// assert!(set.key_values(&site).eq(["east", "north"]));
+    /// # Ok::<(), Box<dyn std::error::Error>>(())
+    /// ```
     pub fn key_values(&self, key: &AttributeKey) -> impl Iterator<Item = &AttributeValue> {
         let key = *key;
         (0..self.number_of_key_values(&key)).filter_map(move |index| self.key_value(&key, index))

@@ -1,6 +1,16 @@
 use super::{AttributeDefinitionError, AttributeKey, AttributeSet, AttributeValue};
 
 /// The attributes that a service is created with.
+///
+/// ```
+/// use iox2sd::attribute::AttributeSpecifier;
+///
+/// let specifier = AttributeSpecifier::new()
+///     .define(&"site".try_into()?, &"north".try_into()?)?
+///     .define(&"robot".try_into()?, &"r2".try_into()?)?;
+/// assert_eq!(specifier.attributes()[0].key(), "robot");
+/// # Ok::<(), Box<dyn std::error::Error>>(())
+/// ```
 #[derive(Clone, Debug, Default)]
 pub struct AttributeSpecifier {
     attributes: AttributeSet,
@@ -8,6 +18,11 @@ pub struct AttributeSpecifier {
 
 impl AttributeSpecifier {
     /// A specifier without attributes.
+    ///
+    /// ```
+    /// use iox2sd::attribute::AttributeSpecifier;
+    /// assert!(AttributeSpecifier::new().attributes().is_empty());
+    /// ```
     pub fn new() -> Self {
         Self::default()
     }
@@ -34,6 +49,16 @@ impl AttributeSpecifier {
     }
 
     /// The attributes.
+    ///
+    /// ```
+    /// use iox2sd::attribute::{AttributeSet, AttributeSpecifier};
+    ///
+    /// let (site, north) = ("site".try_into()?, "north".try_into()?);
+    /// let mut set = AttributeSet::new();
+    /// set.add(&site, &north)?;
+    /// assert_eq!(AttributeSpecifier::new().define(&site, &north)?.attributes(), &set);
+    /// # Ok::<(), Box<dyn std::error::Error>>(())
+    /// ```
     pub fn attributes(&self) -> &AttributeSet {
         &self.attributes
     }

@@ -5,6 +5,16 @@ use std::error::Error;
 use std::fmt;
 
 /// What a set of attributes lacks.
+///
+/// ```
+/// use iox2sd::attribute::{AttributeSet, AttributeVerifier};
+///
+/// let verifier = AttributeVerifier::new().require(&"site".try_into()?, &"north".try_into()?)?;
+/// let refused = verifier.verify_requirements(&AttributeSet::new()).unwrap_err();
+/// let text = r#"AttributeVerificationError::IncompatibleAttribute(("site", "north"))"#;
+/// assert_eq!(refused.to_string(), text);
+/// # Ok::<(), Box<dyn std::error::Error>>(())
+/// ```
 #[derive(Clone, Debug, PartialEq, Eq)]
 #[allow(clippy::large_enum_variant)] // Texts are copied by value, and none is boxed.
 pub enum AttributeVerificationError {
@@ -48,6 +58,13 @@ pub struct AttributeVerifier {
 
 impl AttributeVerifier {
     /// A verifier that requires nothing.
+    ///
+    /// ```
+    /// use iox2sd::attribute::AttributeVerifier;
+    ///
+    /// let verifier = AttributeVerifier::new();
+    /// assert!(verifier.required_attributes().is_empty() && verifier.required_keys().is_empty());
+    /// ```
     pub fn new() -> Self {
         Self::default()
     }
@@ -109,11 +126,29 @@ impl AttributeVerifier {
     }
 
     /// The pairs that are required.
+    ///
+    /// ```
+    /// use iox2sd::attribute::AttributeVerifier;
+    ///
+    /// let verifier = AttributeVerifier::new().require(&"site".try_into()?, &"north".try_into()?)?;
+    /// assert_eq!(verifier.required_attributes()[0].value(), "north");
+    /// # Ok::<(), Box<dyn std::error::Error>>(())
+    /// ```
     pub fn required_attributes(&self) -> &AttributeSet {
         &self.attributes
     }
 
     /// The keys that are required, in the order in which they were.
+    ///
+    /// ```
+    /// use iox2sd::attribute::AttributeVerifier;
+    ///
+    /// let verifier = AttributeVerifier::new()
+    ///     .require_key(&"site".try_into()?)?
+    ///     .require_key(&"robot".try_into()?)?;
+    /// assert_eq!(verifier.required_keys(), ["site", "robot"]);
+    /// # Ok::<(), Box<dyn std::error::Error>>(())
+    /// ```
     pub fn required_keys(&self) -> &[AttributeKey] {
         &self.keys
     }

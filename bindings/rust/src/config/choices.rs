@@ -4,6 +4,14 @@ use crate::sys;
 use std::fmt;
 
 /// What a sender does where a receiver's buffer is full and may not overflow.
+///
+/// ```
+/// use iox2sd::config::{BackpressureStrategy, PublishSubscribe};
+///
+/// let strategy = PublishSubscribe::default().backpressure_strategy;
+/// assert_eq!(strategy, BackpressureStrategy::RetryUntilDelivered);
+/// assert_eq!(strategy.to_string(), "RetryUntilDelivered");
+/// ```
 #[derive(Clone, Copy, Debug, PartialEq, Eq, Hash)]
 #[repr(u32)]
 pub enum BackpressureStrategy {
@@ -23,6 +31,14 @@ impl BackpressureStrategy {
 }
 
 /// How the room for messages grows where their length is known only at run time.
+///
+/// ```
+/// use iox2sd::config::{AllocationStrategy, PublishSubscribe};
+///
+/// let strategy = PublishSubscribe::default().publisher_allocation_strategy;
+/// assert_eq!(strategy, AllocationStrategy::Static);
+/// assert_eq!(AllocationStrategy::PowerOfTwo.to_string(), "PowerOfTwo");
+/// ```
 #[derive(Clone, Copy, Debug, PartialEq, Eq, Hash)]
 #[repr(u32)]
 pub enum AllocationStrategy {
@@ -44,6 +60,13 @@ impl AllocationStrategy {
 }
 
 /// Whether a port's data segment may grow.
+///
+/// ```
+/// use iox2sd::config::DataSegmentType;
+///
+/// assert_ne!(DataSegmentType::Dynamic, DataSegmentType::Static);
+/// assert_eq!(DataSegmentType::Dynamic.to_string(), "Dynamic");
+/// ```
 #[derive(Clone, Copy, Debug, PartialEq, Eq, Hash)]
 #[repr(u32)]
 pub enum DataSegmentType {
@@ -75,11 +98,21 @@ pub struct EventId {
 
 impl EventId {
     /// The event of this number.
+    ///
+    /// ```
+    /// use iox2sd::config::EventId;
+    /// assert_eq!(EventId::new(9).to_string(), "9");
+    /// ```
     pub fn new(value: usize) -> Self {
         EventId { value }
     }
 
     /// Its number.
+    ///
+    /// ```
+    /// use iox2sd::config::EventId;
+    /// assert_eq!(EventId::new(usize::MAX).as_value(), usize::MAX);
+    /// ```
     pub fn as_value(&self) -> usize {
         self.value
     }

@@ -6,6 +6,17 @@ use crate::sys;
 use std::time::Duration;
 
 /// The settings that all services and nodes of one system share.
+///
+/// ```
+/// use iox2sd::config::Global;
+/// use std::time::Duration;
+///
+/// let mut global = Global::default();
+/// assert_eq!(global.creation_timeout, Duration::from_millis(500));
+/// global.prefix = "robot_".try_into()?;
+/// assert_ne!(global, Global::default());
+/// # Ok::<(), iox2sd::semantic_string::SemanticStringError>(())
+/// ```
 #[derive(Clone, Debug, PartialEq, Eq)]
 pub struct Global {
     root_path: Path,
@@ -35,11 +46,25 @@ impl Default for Global {
 
 impl Global {
     /// The path below which everything else lies.
+    ///
+    /// ```
+    /// use iox2sd::config::Global;
+    /// assert_eq!(Global::default().root_path(), "/tmp/iceoryx2/");
+    /// ```
     pub fn root_path(&self) -> &Path {
         &self.root_path
     }
 
     /// Sets the path below which everything else lies.
+    ///
+    /// ```
+    /// use iox2sd::config::Global;
+    ///
+    /// let mut global = Global::default();
+    /// global.set_root_path(&"/run/robot".try_into()?);
+    /// assert_eq!(global.root_path(), "/run/robot");
+    /// # Ok::<(), iox2sd::semantic_string::SemanticStringError>(())
+    /// ```
     pub fn set_root_path(&mut self, value: &Path) {
         self.root_path = *value;
     }
@@ -83,6 +108,15 @@ impl Global {
 }
 
 /// Where the files of services lie, and how their names end.
+///
+/// ```
+/// use iox2sd::config::Service;
+///
+/// let files = Service::default();
+/// assert_eq!(files.directory, "services");
+/// assert_eq!(files.static_config_storage_suffix, ".service");
+/// assert!(files.cleanup_dead_nodes_on_open);
+/// ```
 #[derive(Clone, Debug, PartialEq, Eq)]
 pub struct Service {
     /// The directory of services, below the root path.
@@ -122,6 +156,15 @@ impl Default for Service {
 }
 
 /// Where the files of nodes lie, and how their names end.
+///
+/// ```
+/// use iox2sd::config::Node;
+///
+/// let files = Node::default();
+/// assert_eq!(files.directory, "nodes");
+/// assert_eq!(files.static_config_suffix, ".details");
+/// assert!(files.cleanup_dead_nodes_on_creation && files.cleanup_dead_nodes_on_destruction);
+/// ```
 #[derive(Clone, Debug, PartialEq, Eq)]
 pub struct Node {
     /// The directory of nodes, below the root path.

@@ -4,6 +4,13 @@ use crate::sys;
 use std::time::Duration;
 
 /// The settings that a publish-subscribe service gets by default.
+///
+/// ```
+/// use iox2sd::config::PublishSubscribe;
+///
+/// let settings = PublishSubscribe { max_publishers: 5, ..Default::default() };
+/// assert_eq!((settings.max_publishers, settings.max_nodes), (5, 20));
+/// ```
 #[derive(Clone, Debug, PartialEq, Eq)]
 pub struct PublishSubscribe {
     /// How many subscribers may be attached at once.
@@ -52,6 +59,13 @@ impl Default for PublishSubscribe {
 }
 
 /// The settings that an event service gets by default.
+///
+/// ```
+/// use iox2sd::config::Event;
+///
+/// let settings = Event { notifier_dead_event: Some(1), ..Default::default() };
+/// assert_eq!((settings.event_id_max_value, settings.deadline), (255, None));
+/// ```
 #[derive(Clone, Debug, PartialEq, Eq)]
 pub struct Event {
     /// How many listeners may be attached at once.
@@ -94,6 +108,13 @@ impl Default for Event {
 
 /// The settings that a request-response service gets by default. The name is spelt as iceoryx2
 /// spells it.
+///
+/// ```
+/// use iox2sd::config::RequestResonse;
+///
+/// let settings = RequestResonse { max_servers: 1, ..Default::default() };
+/// assert_eq!((settings.max_servers, settings.max_clients), (1, 8));
+/// ```
 #[derive(Clone, Debug, PartialEq, Eq)]
 pub struct RequestResonse {
     /// Whether a new request takes the oldest one's place where a server's buffer is full.
@@ -164,6 +185,13 @@ impl Default for RequestResonse {
 }
 
 /// The settings that a blackboard service gets by default.
+///
+/// ```
+/// use iox2sd::config::Blackboard;
+///
+/// let settings = Blackboard { max_readers: 3, ..Default::default() };
+/// assert_eq!((settings.max_readers, settings.max_nodes), (3, 20));
+/// ```
 #[derive(Clone, Debug, PartialEq, Eq)]
 pub struct Blackboard {
     /// How many readers may be attached at once.

@@ -5,6 +5,15 @@ use std::error::Error;
 use std::fmt;
 
 /// There was no memory for a service.
+///
+/// ```
+/// use iox2sd::dynamic_config::{event, AllocError, DynamicConfig, MessagingPatternSettings};
+///
+/// let room = event::DynamicConfigSettings { number_of_listeners: 1, number_of_notifiers: 1 };
+/// let refused = DynamicConfig::new(&MessagingPatternSettings::Event(room), usize::MAX, 7);
+/// assert_eq!(refused.unwrap_err(), AllocError);
+/// assert_eq!(AllocError.to_string(), "memory allocation failed");
+/// ```
 #[derive(Clone, Copy, Debug, PartialEq, Eq, Hash)]
 pub struct AllocError;
 
@@ -17,6 +26,24 @@ impl fmt::Display for AllocError {
 impl Error for AllocError {}
 
 /// Why a node was not registered.
+///
+/// ```
+/// # use iox2sd::dynamic_config::RegisterNodeResult;
+/// # use iox2sd::identifiers::UniqueNodeId;
+/// # use iox2sd::dynamic_config::{event, DynamicConfig, MessagingPatternSettings};
+/// # let (number_of_listeners, number_of_notifiers) = (2, 3);
+/// # let room = event::DynamicConfigSettings { number_of_listeners, number_of_notifiers };
+/// # let settings = MessagingPatternSettings::Event(room);
+/// let mut service = DynamicConfig::new(&settings, 1, 7)?;
+/// let node = UniqueNodeId::new(1, 0, 0, 1).expect("the id of a node");
+/// let handle = service.register_node_id(node)?;
+/// let full = service.register_node_id(node).unwrap_err();
+/// assert_eq!(full, RegisterNodeResult::ExceedsMaxNumberOfNodes);
+/// service.deregister_node_id(handle)?;
+/// let locked = service.register_node_id(node).unwrap_err();
+/// assert_eq!(locked.to_string(), "RegisterNodeResult::MarkedForDestruction");
+/// # Ok::<(), Box<dyn std::error::Error>>(())
+/// ```
 #[derive(Clone, Copy, Debug, PartialEq, Eq, Hash)]
 pub enum RegisterNodeResult {
     /// The service is locked for good, since its last node left. This is reported first.
@@ -38,6 +65,21 @@ impl RegisterNodeResult {
 }
 
 /// Whether a service has nodes, or may have some again.
+///
+/// ```
+/// # use iox2sd::dynamic_config::DeregisterNodeState;
+/// # use iox2sd::identifiers::UniqueNodeId;
+/// # use iox2sd::dynamic_config::{event, DynamicConfig, MessagingPatternSettings};
+/// # let (number_of_listeners, number_of_notifiers) = (2, 3);
+/// # let room = event::DynamicConfigSettings { number_of_listeners, number_of_notifiers };
+/// # let settings = MessagingPatternSettings::Event(room);
+/// let mut service = DynamicConfig::new(&settings, 2, 7)?;
+/// let node = UniqueNodeId::new(1, 0, 0, 1).expect("the id of a node");
+/// let (first, second) = (service.register_node_id(node)?, service.register_node_id(node)?);
+/// assert_eq!(service.deregister_node_id(first)?, DeregisterNodeState::HasOwners);
+/// assert_eq!(service.deregister_node_id(second)?, DeregisterNodeState::NoMoreOwners);
+/// # Ok::<(), Box<dyn std::error::Error>>(())
+/// ```
 #[derive(Clone, Copy, Debug, PartialEq, Eq, Hash)]
 pub enum DeregisterNodeState {
     /// The service is not locked.
@@ -59,6 +101,25 @@ impl DeregisterNodeState {
 }
 
 /// Why a node was not deregistered.
+///
+/// ```
+/// # use iox2sd::dynamic_config::{DeregisterError, ListenerDetails};
+/// # use iox2sd::identifiers::{UniqueListenerId, UniqueNodeId};
+/// # use iox2sd::dynamic_config::{event, DynamicConfig, MessagingPatternSettings};
+/// # let (number_of_listeners, number_of_notifiers) = (2, 3);
+/// # let room = event::DynamicConfigSettings { number_of_listeners, number_of_notifiers };
+/// # let settings = MessagingPatternSettings::Event(room);
+/// let mut service = DynamicConfig::new(&settings, 1, 7)?;
+/// let node_id = UniqueNodeId::new(1, 0, 0, 1).expect("the id of a node");
+/// let node = service.register_node_id(node_id)?;
+/// let listener_id = UniqueListenerId::new(1, 0, 0, 2);
+/// let port = service.attach(ListenerDetails { listener_id, node_id })?;
+/// let refused = service.deregister_node_id(node).unwrap_err();
+/// assert_eq!(refused, DeregisterError::PortsStillAttached);
+/// let refused = service.deregister_node_id(port).unwrap_err();
+/// assert_eq!(refused, DeregisterError::ContainerHandleNotOwnedByContainer);
+/// # Ok::<(), Box<dyn std::error::Error>>(())
+/// ```
 #[derive(Clone, Copy, Debug, PartialEq, Eq, Hash)]
 pub enum DeregisterError {
     /// No node of the service has this handle. This is reported first.
@@ -80,6 +141,25 @@ impl DeregisterError {
 }
 
 /// Why a port was not attached. The first cause is reported.
+///
+/// ```
+/// # use iox2sd::dynamic_config::{AttachError, ListenerDetails, ReaderDetails};
+/// # use iox2sd::identifiers::{UniqueListenerId, UniqueNodeId, UniqueReaderId};
+/// # use iox2sd::dynamic_config::{event, DynamicConfig, MessagingPatternSettings};
+/// # let (number_of_listeners, number_of_notifiers) = (2, 3);
+/// # let room = event::DynamicConfigSettings { number_of_listeners, number_of_notifiers };
+/// # let settings = MessagingPatternSettings::Event(room);
+/// let mut service = DynamicConfig::new(&settings, 1, 7)?;
+/// let node_id = UniqueNodeId::new(1, 0, 0, 1).expect("the id of a node");
+/// let reader = ReaderDetails { reader_id: UniqueReaderId::new(1, 0, 0, 2), node_id };
+/// assert_eq!(service.attach(reader), Err(AttachError::RoleNotInPattern));
+/// let listener = ListenerDetails { listener_id: UniqueListenerId::new(1, 0, 0, 2), node_id };
+/// assert_eq!(service.attach(listener), Err(AttachError::NodeNotRegistered));
+/// let node = service.register_node_id(node_id)?;
+/// service.deregister_node_id(node)?;
+/// assert_eq!(service.attach(listener), Err(AttachError::ServiceIsLocked));
+/// # Ok::<(), Box<dyn std::error::Error>>(())
+/// ```
 #[derive(Clone, Copy, Debug, PartialEq, Eq, Hash)]
 pub enum AttachError {
     /// The pattern of the service has no such ports.
@@ -107,6 +187,24 @@ impl AttachError {
 }
 
 /// What becomes of a port whose node is dead.
+///
+/// ```
+/// # use iox2sd::dynamic_config::{DeregisterNodeState, ListenerDetails, PortCleanupAction};
+/// # use iox2sd::identifiers::{UniqueListenerId, UniqueNodeId};
+/// # use iox2sd::dynamic_config::{event, DynamicConfig, MessagingPatternSettings};
+/// # let (number_of_listeners, number_of_notifiers) = (2, 3);
+/// # let room = event::DynamicConfigSettings { number_of_listeners, number_of_notifiers };
+/// # let settings = MessagingPatternSettings::Event(room);
+/// let mut service = DynamicConfig::new(&settings, 1, 7)?;
+/// let node_id = UniqueNodeId::new(1, 0, 0, 1).expect("the id of a node");
+/// service.register_node_id(node_id)?;
+/// let listener_id = UniqueListenerId::new(1, 0, 0, 2);
+/// service.attach(ListenerDetails { listener_id, node_id })?;
+/// let state = service.remove_dead_node_id(&node_id, |_| PortCleanupAction::SkipPort);
+/// assert_eq!(state, DeregisterNodeState::HasOwners);
+/// assert_eq!((service.number_of_nodes(), service.event().number_of_listeners()), (1, 1));
+/// # Ok::<(), Box<dyn std::error::Error>>(())
+/// ```
 #[derive(Clone, Copy, Debug, PartialEq, Eq, Hash)]
 pub enum PortCleanupAction {
     /// It is removed.

@@ -78,6 +78,22 @@ macro_rules! details {
 
 details! {
     /// A port that sends samples.
+    ///
+    /// ```
+    /// use iox2sd::config::DataSegmentType;
+    /// use iox2sd::dynamic_config::{PortDetails, PublisherDetails};
+    /// use iox2sd::identifiers::{UniqueNodeId, UniquePublisherId};
+    ///
+    /// let publisher = PublisherDetails {
+    ///     publisher_id: UniquePublisherId::new(1, 0, 0, 2),
+    ///     node_id: UniqueNodeId::new(1, 0, 0, 1).expect("the id of a node"),
+    ///     number_of_samples: 34,
+    ///     max_slice_len: 1,
+    ///     data_segment_type: DataSegmentType::Static,
+    ///     max_number_of_segments: 1,
+    /// };
+    /// assert_eq!(PortDetails::from(publisher), PortDetails::Publisher(publisher));
+    /// ```
     PublisherDetails of Publisher with publisher_id: UniquePublisherId;
     /// The most samples that it has at a time.
     number_of_samples: usize = number_of_samples;
@@ -92,6 +108,18 @@ details! {
 
 details! {
     /// A port that receives samples.
+    ///
+    /// ```
+    /// use iox2sd::dynamic_config::{PortDetails, SubscriberDetails};
+    /// use iox2sd::identifiers::{UniqueNodeId, UniqueSubscriberId};
+    ///
+    /// let subscriber = SubscriberDetails {
+    ///     subscriber_id: UniqueSubscriberId::new(1, 0, 0, 2),
+    ///     node_id: UniqueNodeId::new(1, 0, 0, 1).expect("the id of a node"),
+    ///     buffer_size: 2,
+    /// };
+    /// assert_eq!(PortDetails::from(subscriber), PortDetails::Subscriber(subscriber));
+    /// ```
     SubscriberDetails of Subscriber with subscriber_id: UniqueSubscriberId;
     /// The most samples that wait for it.
     buffer_size: usize = buffer_size;
@@ -99,16 +127,55 @@ details! {
 
 details! {
     /// A port that waits for events.
+    ///
+    /// ```
+    /// use iox2sd::dynamic_config::{PortDetails, ListenerDetails};
+    /// use iox2sd::identifiers::{UniqueListenerId, UniqueNodeId};
+    ///
+    /// let listener = ListenerDetails {
+    ///     listener_id: UniqueListenerId::new(1, 0, 0, 2),
+    ///     node_id: UniqueNodeId::new(1, 0, 0, 1).expect("the id of a node"),
+    /// };
+    /// assert_eq!(PortDetails::from(listener), PortDetails::Listener(listener));
+    /// ```
     ListenerDetails of Listener with listener_id: UniqueListenerId;
 }
 
 details! {
     /// A port that signals events.
+    ///
+    /// ```
+    /// use iox2sd::dynamic_config::{PortDetails, NotifierDetails};
+    /// use iox2sd::identifiers::{UniqueNodeId, UniqueNotifierId};
+    ///
+    /// let notifier = NotifierDetails {
+    ///     notifier_id: UniqueNotifierId::new(1, 0, 0, 2),
+    ///     node_id: UniqueNodeId::new(1, 0, 0, 1).expect("the id of a node"),
+    /// };
+    /// assert_eq!(PortDetails::from(notifier), PortDetails::Notifier(notifier));
+    /// ```
     NotifierDetails of Notifier with notifier_id: UniqueNotifierId;
 }
 
 details! {
     /// A port that answers requests.
+    ///
+    /// ```
+    /// use iox2sd::config::DataSegmentType;
+    /// use iox2sd::dynamic_config::{PortDetails, ServerDetails};
+    /// use iox2sd::identifiers::{UniqueNodeId, UniqueServerId};
+    ///
+    /// let server = ServerDetails {
+    ///     server_id: UniqueServerId::new(1, 0, 0, 2),
+    ///     node_id: UniqueNodeId::new(1, 0, 0, 1).expect("the id of a node"),
+    ///     request_buffer_size: 4,
+    ///     number_of_responses: 384,
+    ///     max_slice_len: 1,
+    ///     data_segment_type: DataSegmentType::Static,
+    ///     max_number_of_segments: 1,
+    /// };
+    /// assert_eq!(PortDetails::from(server), PortDetails::Server(server));
+    /// ```
     ServerDetails of Server with server_id: UniqueServerId;
     /// The most requests that wait for it.
     request_buffer_size: usize = request_buffer_size;
@@ -125,6 +192,23 @@ details! {
 
 details! {
     /// A port that sends requests.
+    ///
+    /// ```
+    /// use iox2sd::config::DataSegmentType;
+    /// use iox2sd::dynamic_config::{PortDetails, ClientDetails};
+    /// use iox2sd::identifiers::{UniqueClientId, UniqueNodeId};
+    ///
+    /// let client = ClientDetails {
+    ///     client_id: UniqueClientId::new(1, 0, 0, 2),
+    ///     node_id: UniqueNodeId::new(1, 0, 0, 1).expect("the id of a node"),
+    ///     number_of_requests: 18,
+    ///     response_buffer_size: 2,
+    ///     max_slice_len: 1,
+    ///     data_segment_type: DataSegmentType::Static,
+    ///     max_number_of_segments: 1,
+    /// };
+    /// assert_eq!(PortDetails::from(client), PortDetails::Client(client));
+    /// ```
     ClientDetails of Client with client_id: UniqueClientId;
     /// The most requests that it has at a time.
     number_of_requests: usize = number_of_requests;
@@ -141,11 +225,33 @@ details! {
 
 details! {
     /// A port that reads a blackboard.
+    ///
+    /// ```
+    /// use iox2sd::dynamic_config::{PortDetails, ReaderDetails};
+    /// use iox2sd::identifiers::{UniqueNodeId, UniqueReaderId};
+    ///
+    /// let reader = ReaderDetails {
+    ///     reader_id: UniqueReaderId::new(1, 0, 0, 2),
+    ///     node_id: UniqueNodeId::new(1, 0, 0, 1).expect("the id of a node"),
+    /// };
+    /// assert_eq!(PortDetails::from(reader), PortDetails::Reader(reader));
+    /// ```
     ReaderDetails of Reader with reader_id: UniqueReaderId;
 }
 
 details! {
     /// A port that writes to a blackboard.
+    ///
+    /// ```
+    /// use iox2sd::dynamic_config::{PortDetails, WriterDetails};
+    /// use iox2sd::identifiers::{UniqueNodeId, UniqueWriterId};
+    ///
+    /// let writer = WriterDetails {
+    ///     writer_id: UniqueWriterId::new(1, 0, 0, 2),
+    ///     node_id: UniqueNodeId::new(1, 0, 0, 1).expect("the id of a node"),
+    /// };
+    /// assert_eq!(PortDetails::from(writer), PortDetails::Writer(writer));
+    /// ```
     WriterDetails of Writer with writer_id: UniqueWriterId;
 }
 
@@ -212,6 +318,17 @@ impl PortDetails {
     }
 
     /// What the port is.
+    ///
+    /// ```
+    /// use iox2sd::container::Role;
+    /// use iox2sd::dynamic_config::{PortDetails, ReaderDetails};
+    /// use iox2sd::identifiers::{UniqueNodeId, UniqueReaderId};
+    ///
+    /// let node_id = UniqueNodeId::new(1, 0, 0, 1).expect("the id of a node");
+    /// let reader_id = UniqueReaderId::new(1, 0, 0, 2);
+    /// let port = PortDetails::Reader(ReaderDetails { reader_id, node_id });
+    /// assert_eq!(port.role(), Role::Reader);
+    /// ```
     pub fn role(&self) -> Role {
         match self {
             PortDetails::Publisher(_) => Role::Publisher,
@@ -226,11 +343,31 @@ impl PortDetails {
     }
 
     /// The id of the node that the port belongs to.
+    ///
+    /// ```
+    /// use iox2sd::dynamic_config::{PortDetails, ReaderDetails};
+    /// use iox2sd::identifiers::{UniqueNodeId, UniqueReaderId};
+    ///
+    /// let node_id = UniqueNodeId::new(1, 0, 0, 1).expect("the id of a node");
+    /// let reader_id = UniqueReaderId::new(1, 0, 0, 2);
+    /// let port = PortDetails::Reader(ReaderDetails { reader_id, node_id });
+    /// assert_eq!(port.node_id(), node_id);
+    /// ```
     pub fn node_id(&self) -> UniqueNodeId {
         UniqueNodeId::of(self.parts().node)
     }
 
     /// The id of the port.
+    ///
+    /// ```
+    /// use iox2sd::dynamic_config::{PortDetails, ReaderDetails};
+    /// use iox2sd::identifiers::{UniqueNodeId, UniquePortId, UniqueReaderId};
+    ///
+    /// let node_id = UniqueNodeId::new(1, 0, 0, 1).expect("the id of a node");
+    /// let reader_id = UniqueReaderId::new(1, 0, 0, 2);
+    /// let port = PortDetails::Reader(ReaderDetails { reader_id, node_id });
+    /// assert_eq!(port.port_id(), UniquePortId::Reader(reader_id));
+    /// ```
     pub fn port_id(&self) -> UniquePortId {
         match self {
             PortDetails::Publisher(details) => UniquePortId::Publisher(details.publisher_id),

@@ -1,4 +1,16 @@
 //! The ports of an event service: listeners and notifiers.
+//!
+//! ```
+//! use iox2sd::dynamic_config::{event, DynamicConfig, MessagingPatternSettings};
+//!
+//! let room = event::DynamicConfigSettings {
+//!     number_of_listeners: 2,
+//!     number_of_notifiers: 1,
+//! };
+//! let service = DynamicConfig::new(&MessagingPatternSettings::Event(room), 1, 7)?;
+//! assert_eq!(service.event().listeners().count(), 0);
+//! # Ok::<(), iox2sd::dynamic_config::AllocError>(())
+//! ```
 
 use super::listing::{self, ports_of_pattern};
 use super::{ListenerDetails, NotifierDetails};
@@ -9,6 +21,19 @@ use std::fmt;
 use std::vec;
 
 /// How many ports of each kind there may be at a time.
+///
+/// ```
+/// use iox2sd::container::Role;
+/// use iox2sd::dynamic_config::{event, DynamicConfig, MessagingPatternSettings};
+///
+/// let room = event::DynamicConfigSettings {
+///     number_of_listeners: 2,
+///     number_of_notifiers: 1,
+/// };
+/// let service = DynamicConfig::new(&MessagingPatternSettings::Event(room), 1, 7)?;
+/// assert_eq!(service.max_ports(Role::Listener), Some(2));
+/// # Ok::<(), iox2sd::dynamic_config::AllocError>(())
+/// ```
 #[derive(Clone, Copy, Debug, PartialEq, Eq)]
 pub struct DynamicConfigSettings {
     /// How many listeners there may be at a time.
@@ -18,6 +43,39 @@ pub struct DynamicConfigSettings {
 }
 
 ports_of_pattern! {
+    /// use iox2sd::dynamic_config::{event, DynamicConfig, MessagingPatternSettings};
+    ///
+    /// # let (number_of_listeners, number_of_notifiers) = (1, 1);
+    /// # let room = event::DynamicConfigSettings { number_of_listeners, number_of_notifiers };
+    /// # let settings = MessagingPatternSettings::Event(room);
+    /// let service = DynamicConfig::new(&settings, 1, 7)?;
+    /// assert_eq!(service.event().listeners().count(), 0);
+    /// # Ok::<(), iox2sd::dynamic_config::AllocError>(())
+    event:
     ListenerDetails: number_of_listeners list_listeners listeners, "listeners";
+    /// # use iox2sd::dynamic_config::{event, DynamicConfig, MessagingPatternSettings};
+    /// use iox2sd::dynamic_config::ListenerDetails;
+    /// use iox2sd::identifiers::{UniqueListenerId, UniqueNodeId};
+    ///
+    /// # let (number_of_listeners, number_of_notifiers) = (1, 1);
+    /// # let room = event::DynamicConfigSettings { number_of_listeners, number_of_notifiers };
+    /// # let settings = MessagingPatternSettings::Event(room);
+    /// let mut service = DynamicConfig::new(&settings, 1, 7)?;
+    /// let node_id = UniqueNodeId::new(1, 0, 0, 1).expect("the id of a node");
+    /// service.register_node_id(node_id)?;
+    /// let details = ListenerDetails { listener_id: UniqueListenerId::new(1, 0, 0, 2), node_id };
+    /// service.attach(details)?;
     NotifierDetails: number_of_notifiers list_notifiers notifiers, "notifiers";
+    /// # use iox2sd::dynamic_config::{event, DynamicConfig, MessagingPatternSettings};
+    /// use iox2sd::dynamic_config::NotifierDetails;
+    /// use iox2sd::identifiers::{UniqueNodeId, UniqueNotifierId};
+    ///
+    /// # let (number_of_listeners, number_of_notifiers) = (1, 1);
+    /// # let room = event::DynamicConfigSettings { number_of_listeners, number_of_notifiers };
+    /// # let settings = MessagingPatternSettings::Event(room);
+    /// let mut service = DynamicConfig::new(&settings, 1, 7)?;
+    /// let node_id = UniqueNodeId::new(1, 0, 0, 1).expect("the id of a node");
+    /// service.register_node_id(node_id)?;
+    /// let details = NotifierDetails { notifier_id: UniqueNotifierId::new(1, 0, 0, 2), node_id };
+    /// service.attach(details)?;
 }

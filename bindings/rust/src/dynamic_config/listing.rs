@@ -18,10 +18,19 @@ pub(super) fn count<T: Details>(service: &Service) -> usize {
 
 /// Defines the questions about the two kinds of ports of one pattern.
 macro_rules! ports_of_pattern {
-    ($(
-        $details:ident: $number:ident $list:ident $all:ident, $kind:literal;
-    )*) => {
+    (
+        $(#[$example:meta])*
+        $module:ident:
+        $(
+            $details:ident: $number:ident $list:ident $all:ident, $kind:literal;
+            $(#[$attached:meta])*
+        )*
+    ) => {
         /// The ports of a service, as [`super::DynamicConfig`] lends them.
+        ///
+        /// ```
+        $(#[$example])*
+        /// ```
         pub struct DynamicConfig {
             pub(super) service: Service,
         }
@@ -29,6 +38,15 @@ macro_rules! ports_of_pattern {
         impl DynamicConfig {
             $(
                 #[doc = concat!("How many ", $kind, " are attached.")]
+                ///
+                /// ```
+                $(#[$attached])*
+                #[doc = concat!(
+                    "assert_eq!(service.", stringify!($module), "().", stringify!($number),
+                    "(), 1);"
+                )]
+                /// # Ok::<(), Box<dyn std::error::Error>>(())
+                /// ```
                 pub fn $number(&self) -> usize {
                     listing::count::<$details>(&self.service)
                 }
@@ -37,6 +55,20 @@ macro_rules! ports_of_pattern {
                     "Calls the callback on the details of the ", $kind, " by rising slot, up to ",
                     "and with the first answer [`Stop`](CallbackProgression::Stop)."
                 )]
+                ///
+                /// ```
+                /// use iox2sd::CallbackProgression;
+                $(#[$attached])*
+                /// let mut seen = Vec::new();
+                #[doc = concat!(
+                    "service.", stringify!($module), "().", stringify!($list), "(|details| {"
+                )]
+                ///     seen.push(*details);
+                ///     CallbackProgression::Stop
+                /// });
+                /// assert_eq!(seen, [details]);
+                /// # Ok::<(), Box<dyn std::error::Error>>(())
+                /// ```
                 pub fn $list<F: FnMut(&$details) -> CallbackProgression>(&self, mut callback: F) {
                     visit(self.$all(), |details| callback(&details));
                 }
@@ -44,6 +76,15 @@ macro_rules! ports_of_pattern {
                 #[doc = concat!(
                     "The details of the ", $kind, " that are attached now, by rising slot."
                 )]
+                ///
+                /// ```
+                $(#[$attached])*
+                #[doc = concat!(
+                    "assert!(service.", stringify!($module), "().", stringify!($all),
+                    "().eq([details]));"
+                )]
+                /// # Ok::<(), Box<dyn std::error::Error>>(())
+                /// ```
                 pub fn $all(&self) -> vec::IntoIter<$details> {
                     listing::ports(&self.service)
                 }

@@ -1,4 +1,16 @@
 //! The ports of a request-response service: servers and clients.
+//!
+//! ```
+//! use iox2sd::dynamic_config::{request_response, DynamicConfig, MessagingPatternSettings};
+//!
+//! let room = request_response::DynamicConfigSettings {
+//!     number_of_servers: 2,
+//!     number_of_clients: 1,
+//! };
+//! let service = DynamicConfig::new(&MessagingPatternSettings::RequestResponse(room), 1, 7)?;
+//! assert_eq!(service.request_response().servers().count(), 0);
+//! # Ok::<(), iox2sd::dynamic_config::AllocError>(())
+//! ```
 
 use super::listing::{self, ports_of_pattern};
 use super::{ClientDetails, ServerDetails};
@@ -9,6 +21,19 @@ use std::fmt;
 use std::vec;
 
 /// How many ports of each kind there may be at a time.
+///
+/// ```
+/// use iox2sd::container::Role;
+/// use iox2sd::dynamic_config::{request_response, DynamicConfig, MessagingPatternSettings};
+///
+/// let room = request_response::DynamicConfigSettings {
+///     number_of_servers: 2,
+///     number_of_clients: 1,
+/// };
+/// let service = DynamicConfig::new(&MessagingPatternSettings::RequestResponse(room), 1, 7)?;
+/// assert_eq!(service.max_ports(Role::Server), Some(2));
+/// # Ok::<(), iox2sd::dynamic_config::AllocError>(())
+/// ```
 #[derive(Clone, Copy, Debug, PartialEq, Eq)]
 pub struct DynamicConfigSettings {
     /// How many servers there may be at a time.
@@ -18,6 +43,63 @@ pub struct DynamicConfigSettings {
 }
 
 ports_of_pattern! {
+    /// use iox2sd::dynamic_config::{request_response, DynamicConfig, MessagingPatternSettings};
+    ///
+    /// # let room = request_response::DynamicConfigSettings {
+    /// #     number_of_servers: 1,
+    /// #     number_of_clients: 1,
+    /// # };
+    /// # let settings = MessagingPatternSettings::RequestResponse(room);
+    /// let service = DynamicConfig::new(&settings, 1, 7)?;
+    /// assert_eq!(service.request_response().servers().count(), 0);
+    /// # Ok::<(), iox2sd::dynamic_config::AllocError>(())
+    request_response:
     ServerDetails: number_of_servers list_servers servers, "servers";
+    /// # use iox2sd::config::DataSegmentType;
+    /// # use iox2sd::dynamic_config::{request_response, DynamicConfig, MessagingPatternSettings};
+    /// use iox2sd::dynamic_config::ServerDetails;
+    /// use iox2sd::identifiers::{UniqueNodeId, UniqueServerId};
+    ///
+    /// # let room = request_response::DynamicConfigSettings {
+    /// #     number_of_servers: 1,
+    /// #     number_of_clients: 1,
+    /// # };
+    /// # let settings = MessagingPatternSettings::RequestResponse(room);
+    /// let mut service = DynamicConfig::new(&settings, 1, 7)?;
+    /// let node_id = UniqueNodeId::new(1, 0, 0, 1).expect("the id of a node");
+    /// service.register_node_id(node_id)?;
+    /// let details = ServerDetails {
+    ///     server_id: UniqueServerId::new(1, 0, 0, 2),
+    ///     node_id,
+    ///     request_buffer_size: 4,
+    ///     number_of_responses: 384,
+    ///     max_slice_len: 1,
+    ///     data_segment_type: DataSegmentType::Static,
+    ///     max_number_of_segments: 1,
+    /// };
+    /// service.attach(details)?;
     ClientDetails: number_of_clients list_clients clients, "clients";
+    /// # use iox2sd::config::DataSegmentType;
+    /// # use iox2sd::dynamic_config::{request_response, DynamicConfig, MessagingPatternSettings};
+    /// use iox2sd::dynamic_config::ClientDetails;
+    /// use iox2sd::identifiers::{UniqueClientId, UniqueNodeId};
+    ///
+    /// # let room = request_response::DynamicConfigSettings {
+    /// #     number_of_servers: 1,
+    /// #     number_of_clients: 1,
+    /// # };
+    /// # let settings = MessagingPatternSettings::RequestResponse(room);
+    /// let mut service = DynamicConfig::new(&settings, 1, 7)?;
+    /// let node_id = UniqueNodeId::new(1, 0, 0, 1).expect("the id of a node");
+    /// service.register_node_id(node_id)?;
+    /// let details = ClientDetails {
+    ///     client_id: UniqueClientId::new(1, 0, 0, 2),
+    ///     node_id,
+    ///     number_of_requests: 18,
+    ///     response_buffer_size: 2,
+    ///     max_slice_len: 1,
+    ///     data_segment_type: DataSegmentType::Static,
+    ///     max_number_of_segments: 1,
+    /// };
+    /// service.attach(details)?;
 }

@@ -13,6 +13,15 @@ use std::fmt;
 use std::vec;
 
 /// For how many ports of each kind a service has room, by its pattern.
+///
+/// ```
+/// use iox2sd::dynamic_config::{event, DynamicConfig, MessagingPatternSettings};
+///
+/// let room = event::DynamicConfigSettings { number_of_listeners: 1, number_of_notifiers: 1 };
+/// let service = DynamicConfig::new(&MessagingPatternSettings::Event(room), 1, 7)?;
+/// assert!(service.is_event());
+/// # Ok::<(), iox2sd::dynamic_config::AllocError>(())
+/// ```
 #[derive(Clone, Copy, Debug, PartialEq, Eq)]
 pub enum MessagingPatternSettings {
     /// A request-response service.
@@ -71,6 +80,19 @@ enum MessagingPattern {
 /// ```compile_fail,E0277
 /// fn share<T: Sync>() {}
 /// share::<iox2sd::dynamic_config::DynamicConfig>();
+/// ```
+///
+/// ```
+/// use iox2sd::dynamic_config::{event, DynamicConfig, MessagingPatternSettings};
+/// use iox2sd::identifiers::UniqueNodeId;
+/// use std::thread;
+///
+/// let room = event::DynamicConfigSettings { number_of_listeners: 1, number_of_notifiers: 1 };
+/// let mut service = DynamicConfig::new(&MessagingPatternSettings::Event(room), 1, 7)?;
+/// let node = UniqueNodeId::new(1, 0, 0, 1).expect("the id of a node");
+/// let other = thread::spawn(move || service.register_node_id(node).map(|_| service));
+/// assert_eq!(other.join().expect("it ends")?.number_of_nodes(), 1);
+/// # Ok::<(), Box<dyn std::error::Error>>(())
 /// ```
 pub struct DynamicConfig {
     messaging_pattern: MessagingPattern,
@@ -370,6 +392,18 @@ impl DynamicConfig {
 /// Questions about a service.
 impl DynamicConfig {
     /// The pattern of the service.
+    ///
+    /// ```
+    /// use iox2sd::messaging_pattern::MessagingPattern;
+    ///
+    /// # use iox2sd::dynamic_config::{event, DynamicConfig, MessagingPatternSettings};
+    /// # let (number_of_listeners, number_of_notifiers) = (2, 3);
+    /// # let room = event::DynamicConfigSettings { number_of_listeners, number_of_notifiers };
+    /// # let settings = MessagingPatternSettings::Event(room);
+    /// let service = DynamicConfig::new(&settings, 1, 7)?;
+    /// assert_eq!(service.kind(), MessagingPattern::Event);
+    /// # Ok::<(), Box<dyn std::error::Error>>(())
+    /// ```
     pub fn kind(&self) -> Kind {
         match self.messaging_pattern {
             MessagingPattern::RequestResponse(_) => Kind::RequestResponse,
@@ -380,73 +414,249 @@ impl DynamicConfig {
     }
 
     /// The number of the service, which each of its handles has.
+    ///
+    /// ```
+    /// # use iox2sd::dynamic_config::{event, DynamicConfig, MessagingPatternSettings};
+    /// # let (number_of_listeners, number_of_notifiers) = (2, 3);
+    /// # let room = event::DynamicConfigSettings { number_of_listeners, number_of_notifiers };
+    /// # let settings = MessagingPatternSettings::Event(room);
+    /// let service = DynamicConfig::new(&settings, 1, 7)?;
+    /// assert_eq!(service.service_number(), 7);
+    /// # Ok::<(), Box<dyn std::error::Error>>(())
+    /// ```
     pub fn service_number(&self) -> u64 {
         self.service().number()
     }
 
     /// The roles of the pattern's two kinds of ports, in the order of [`ports_of`](Self::ports_of).
+    ///
+    /// ```
+    /// use iox2sd::container::Role;
+    ///
+    /// # use iox2sd::dynamic_config::{event, DynamicConfig, MessagingPatternSettings};
+    /// # let (number_of_listeners, number_of_notifiers) = (2, 3);
+    /// # let room = event::DynamicConfigSettings { number_of_listeners, number_of_notifiers };
+    /// # let settings = MessagingPatternSettings::Event(room);
+    /// let service = DynamicConfig::new(&settings, 1, 7)?;
+    /// assert_eq!(service.port_roles(), (Role::Listener, Role::Notifier));
+    /// # Ok::<(), Box<dyn std::error::Error>>(())
+    /// ```
     pub fn port_roles(&self) -> (Role, Role) {
         let (first, second) = self.service().roles();
         (Role::of(first), Role::of(second))
     }
 
     /// Whether the pattern has ports of the role; no for [`Role::Node`].
+    ///
+    /// ```
+    /// use iox2sd::container::Role;
+    ///
+    /// # use iox2sd::dynamic_config::{event, DynamicConfig, MessagingPatternSettings};
+    /// # let (number_of_listeners, number_of_notifiers) = (2, 3);
+    /// # let room = event::DynamicConfigSettings { number_of_listeners, number_of_notifiers };
+    /// # let settings = MessagingPatternSettings::Event(room);
+    /// let service = DynamicConfig::new(&settings, 1, 7)?;
+    /// assert!(service.has_role(Role::Notifier));
+    /// assert!(!service.has_role(Role::Reader) && !service.has_role(Role::Node));
+    /// # Ok::<(), Box<dyn std::error::Error>>(())
+    /// ```
     pub fn has_role(&self, role: Role) -> bool {
         self.service().has_role(role as u64)
     }
 
     /// Whether the service is locked for good: it has no node and no port then, and takes none any
     /// more.
+    ///
+    /// ```
+    /// use iox2sd::identifiers::UniqueNodeId;
+    ///
+    /// # use iox2sd::dynamic_config::{event, DynamicConfig, MessagingPatternSettings};
+    /// # let (number_of_listeners, number_of_notifiers) = (2, 3);
+    /// # let room = event::DynamicConfigSettings { number_of_listeners, number_of_notifiers };
+    /// # let settings = MessagingPatternSettings::Event(room);
+    /// let mut service = DynamicConfig::new(&settings, 1, 7)?;
+    /// assert!(!service.is_locked());
+    /// let node = UniqueNodeId::new(1, 0, 0, 1).expect("the id of a node");
+    /// let handle = service.register_node_id(node)?;
+    /// service.deregister_node_id(handle)?;
+    /// assert!(service.is_locked());
+    /// # Ok::<(), Box<dyn std::error::Error>>(())
+    /// ```
     pub fn is_locked(&self) -> bool {
         self.service().is_locked()
     }
 
     /// How many handles of nodes there are: a node that is registered twice counts twice.
+    ///
+    /// ```
+    /// use iox2sd::identifiers::UniqueNodeId;
+    ///
+    /// # use iox2sd::dynamic_config::{event, DynamicConfig, MessagingPatternSettings};
+    /// # let (number_of_listeners, number_of_notifiers) = (2, 3);
+    /// # let room = event::DynamicConfigSettings { number_of_listeners, number_of_notifiers };
+    /// # let settings = MessagingPatternSettings::Event(room);
+    /// let mut service = DynamicConfig::new(&settings, 3, 7)?;
+    /// let node = UniqueNodeId::new(1, 0, 0, 1).expect("the id of a node");
+    /// service.register_node_id(node)?;
+    /// service.register_node_id(node)?;
+    /// assert_eq!(service.number_of_nodes(), 2);
+    /// # Ok::<(), Box<dyn std::error::Error>>(())
+    /// ```
     pub fn number_of_nodes(&self) -> usize {
         self.service().number_of_nodes()
     }
 
     /// How many handles of nodes there may be at a time.
+    ///
+    /// ```
+    /// # use iox2sd::dynamic_config::{event, DynamicConfig, MessagingPatternSettings};
+    /// # let (number_of_listeners, number_of_notifiers) = (2, 3);
+    /// # let room = event::DynamicConfigSettings { number_of_listeners, number_of_notifiers };
+    /// # let settings = MessagingPatternSettings::Event(room);
+    /// assert_eq!(DynamicConfig::new(&settings, 3, 7)?.max_nodes(), 3);
+    /// # Ok::<(), Box<dyn std::error::Error>>(())
+    /// ```
     pub fn max_nodes(&self) -> usize {
         self.service().max_nodes()
     }
 
     /// Whether [`register_node_id`](Self::register_node_id) would register a node.
+    ///
+    /// ```
+    /// use iox2sd::identifiers::UniqueNodeId;
+    ///
+    /// # use iox2sd::dynamic_config::{event, DynamicConfig, MessagingPatternSettings};
+    /// # let (number_of_listeners, number_of_notifiers) = (2, 3);
+    /// # let room = event::DynamicConfigSettings { number_of_listeners, number_of_notifiers };
+    /// # let settings = MessagingPatternSettings::Event(room);
+    /// let mut service = DynamicConfig::new(&settings, 1, 7)?;
+    /// assert!(service.has_room_for_node());
+    /// service.register_node_id(UniqueNodeId::new(1, 0, 0, 1).expect("the id of a node"))?;
+    /// assert!(!service.has_room_for_node());
+    /// # Ok::<(), Box<dyn std::error::Error>>(())
+    /// ```
     pub fn has_room_for_node(&self) -> bool {
         self.service().has_room_for_node()
     }
 
     /// How many ports of the role there are, or `None` where the pattern has no such ports.
+    ///
+    /// ```
+    /// use iox2sd::container::Role;
+    ///
+    /// # use iox2sd::dynamic_config::{event, DynamicConfig, MessagingPatternSettings};
+    /// # let (number_of_listeners, number_of_notifiers) = (2, 3);
+    /// # let room = event::DynamicConfigSettings { number_of_listeners, number_of_notifiers };
+    /// # let settings = MessagingPatternSettings::Event(room);
+    /// let service = DynamicConfig::new(&settings, 1, 7)?;
+    /// assert_eq!(service.count_ports(Role::Listener), Some(0));
+    /// assert_eq!(service.count_ports(Role::Reader), None);
+    /// # Ok::<(), Box<dyn std::error::Error>>(())
+    /// ```
     pub fn count_ports(&self, role: Role) -> Option<usize> {
         self.service().count_ports(role as u64)
     }
 
     /// How many ports of the role there may be at a time, or `None` where the pattern has no such
     /// ports.
+    ///
+    /// ```
+    /// use iox2sd::container::Role;
+    ///
+    /// # use iox2sd::dynamic_config::{event, DynamicConfig, MessagingPatternSettings};
+    /// # let (number_of_listeners, number_of_notifiers) = (2, 3);
+    /// # let room = event::DynamicConfigSettings { number_of_listeners, number_of_notifiers };
+    /// # let settings = MessagingPatternSettings::Event(room);
+    /// let service = DynamicConfig::new(&settings, 1, 7)?;
+    /// assert_eq!(service.max_ports(Role::Listener), Some(2));
+    /// assert_eq!(service.max_ports(Role::Reader), None);
+    /// # Ok::<(), Box<dyn std::error::Error>>(())
+    /// ```
     pub fn max_ports(&self, role: Role) -> Option<usize> {
         self.service().max_ports(role as u64)
     }
 
     /// Whether [`attach`](Self::attach) would attach a port of the role, if its node is registered,
     /// or `None` where the pattern has no such ports.
+    ///
+    /// ```
+    /// use iox2sd::container::Role;
+    ///
+    /// # use iox2sd::dynamic_config::{event, DynamicConfig, MessagingPatternSettings};
+    /// # let (number_of_listeners, number_of_notifiers) = (2, 3);
+    /// # let room = event::DynamicConfigSettings { number_of_listeners, number_of_notifiers };
+    /// # let settings = MessagingPatternSettings::Event(room);
+    /// let service = DynamicConfig::new(&settings, 1, 7)?;
+    /// assert_eq!(service.has_room(Role::Notifier), Some(true));
+    /// assert_eq!(service.has_room(Role::Reader), None);
+    /// # Ok::<(), Box<dyn std::error::Error>>(())
+    /// ```
     pub fn has_room(&self, role: Role) -> Option<bool> {
         self.service().has_room(role as u64)
     }
 
     /// The node that was registered with this handle and is still there, or `None` for each other
     /// handle.
+    ///
+    /// ```
+    /// use iox2sd::identifiers::UniqueNodeId;
+    ///
+    /// # use iox2sd::dynamic_config::{event, DynamicConfig, MessagingPatternSettings};
+    /// # let (number_of_listeners, number_of_notifiers) = (2, 3);
+    /// # let room = event::DynamicConfigSettings { number_of_listeners, number_of_notifiers };
+    /// # let settings = MessagingPatternSettings::Event(room);
+    /// let mut service = DynamicConfig::new(&settings, 1, 7)?;
+    /// let node = UniqueNodeId::new(1, 0, 0, 1).expect("the id of a node");
+    /// let handle = service.register_node_id(node)?;
+    /// assert_eq!(service.node(handle), Some(node));
+    /// service.deregister_node_id(handle)?;
+    /// assert_eq!(service.node(handle), None);
+    /// # Ok::<(), Box<dyn std::error::Error>>(())
+    /// ```
     pub fn node(&self, handle: ContainerHandle) -> Option<UniqueNodeId> {
         self.service().node(handle.parts()).map(UniqueNodeId::of)
     }
 
     /// The port that was attached with this handle and is still there, or `None` for each other
     /// handle, a node's too.
+    ///
+    /// ```
+    /// # use iox2sd::dynamic_config::ListenerDetails;
+    /// # use iox2sd::identifiers::{UniqueListenerId, UniqueNodeId};
+    /// # use iox2sd::dynamic_config::{event, DynamicConfig, MessagingPatternSettings};
+    /// # let (number_of_listeners, number_of_notifiers) = (2, 3);
+    /// # let room = event::DynamicConfigSettings { number_of_listeners, number_of_notifiers };
+    /// # let settings = MessagingPatternSettings::Event(room);
+    /// let mut service = DynamicConfig::new(&settings, 1, 7)?;
+    /// let node_id = UniqueNodeId::new(1, 0, 0, 1).expect("the id of a node");
+    /// let node = service.register_node_id(node_id)?;
+    /// let listener = ListenerDetails { listener_id: UniqueListenerId::new(1, 0, 0, 2), node_id };
+    /// let port = service.attach(listener)?;
+    /// assert_eq!(service.port(port), Some(listener.into()));
+    /// assert_eq!(service.port(node), None);
+    /// # Ok::<(), Box<dyn std::error::Error>>(())
+    /// ```
     pub fn port(&self, handle: ContainerHandle) -> Option<PortDetails> {
         let port = self.service().port(handle.parts())?;
         Some(PortDetails::of(&port))
     }
 
     /// The ids of the nodes that are registered now, by rising slot, one for each handle.
+    ///
+    /// ```
+    /// use iox2sd::identifiers::UniqueNodeId;
+    ///
+    /// # use iox2sd::dynamic_config::{event, DynamicConfig, MessagingPatternSettings};
+    /// # let (number_of_listeners, number_of_notifiers) = (2, 3);
+    /// # let room = event::DynamicConfigSettings { number_of_listeners, number_of_notifiers };
+    /// # let settings = MessagingPatternSettings::Event(room);
+    /// let mut service = DynamicConfig::new(&settings, 2, 7)?;
+    /// let node = UniqueNodeId::new(1, 0, 0, 1).expect("the id of a node");
+    /// service.register_node_id(node)?;
+    /// service.register_node_id(node)?;
+    /// assert!(service.nodes().eq([node, node]));
+    /// # Ok::<(), Box<dyn std::error::Error>>(())
+    /// ```
     pub fn nodes(&self) -> vec::IntoIter<UniqueNodeId> {
         let nodes = self.service().nodes();
         let nodes: Vec<_> = nodes.into_iter().map(UniqueNodeId::of).collect();
@@ -455,6 +665,26 @@ impl DynamicConfig {
 
     /// The ports of the role that are attached now, by rising slot, or `None` where the pattern has
     /// no such ports.
+    ///
+    /// ```
+    /// use iox2sd::container::Role;
+    ///
+    /// # use iox2sd::dynamic_config::ListenerDetails;
+    /// # use iox2sd::identifiers::{UniqueListenerId, UniqueNodeId};
+    /// # use iox2sd::dynamic_config::{event, DynamicConfig, MessagingPatternSettings};
+    /// # let (number_of_listeners, number_of_notifiers) = (2, 3);
+    /// # let room = event::DynamicConfigSettings { number_of_listeners, number_of_notifiers };
+    /// # let settings = MessagingPatternSettings::Event(room);
+    /// let mut service = DynamicConfig::new(&settings, 1, 7)?;
+    /// let node_id = UniqueNodeId::new(1, 0, 0, 1).expect("the id of a node");
+    /// service.register_node_id(node_id)?;
+    /// let listener = ListenerDetails { listener_id: UniqueListenerId::new(1, 0, 0, 2), node_id };
+    /// service.attach(listener)?;
+    /// let listeners = service.ports(Role::Listener).expect("an event service has listeners");
+    /// assert!(listeners.eq([listener.into()]));
+    /// assert!(service.ports(Role::Reader).is_none());
+    /// # Ok::<(), Box<dyn std::error::Error>>(())
+    /// ```
     pub fn ports(&self, role: Role) -> Option<vec::IntoIter<PortDetails>> {
         let ports = self.service().ports(role as u64)?;
         let ports: Vec<_> = ports.iter().map(PortDetails::of).collect();
@@ -463,6 +693,24 @@ impl DynamicConfig {
 
     /// The ports of the node, by its whole id: those of the pattern's first kind before those of
     /// its second, each kind by rising slot.
+    ///
+    /// ```
+    /// # use iox2sd::dynamic_config::ListenerDetails;
+    /// # use iox2sd::identifiers::{UniqueListenerId, UniqueNodeId};
+    /// # use iox2sd::dynamic_config::{event, DynamicConfig, MessagingPatternSettings};
+    /// # let (number_of_listeners, number_of_notifiers) = (2, 3);
+    /// # let room = event::DynamicConfigSettings { number_of_listeners, number_of_notifiers };
+    /// # let settings = MessagingPatternSettings::Event(room);
+    /// let mut service = DynamicConfig::new(&settings, 1, 7)?;
+    /// let node_id = UniqueNodeId::new(1, 0, 0, 1).expect("the id of a node");
+    /// service.register_node_id(node_id)?;
+    /// let listener = ListenerDetails { listener_id: UniqueListenerId::new(1, 0, 0, 2), node_id };
+    /// service.attach(listener)?;
+    /// assert!(service.ports_of(&node_id).eq([listener.into()]));
+    /// let other = UniqueNodeId::new(2, 0, 0, 1).expect("the id of a node");
+    /// assert_eq!(service.ports_of(&other).count(), 0);
+    /// # Ok::<(), Box<dyn std::error::Error>>(())
+    /// ```
     pub fn ports_of(&self, node: &UniqueNodeId) -> vec::IntoIter<PortDetails> {
         let ports = self.service().ports_of(node.parts);
         let ports: Vec<_> = ports.iter().map(PortDetails::of).collect();
@@ -471,6 +719,27 @@ impl DynamicConfig {
 
     /// Calls the callback on the nodes by rising slot, once for each handle, up to and with the
     /// first answer [`Stop`](CallbackProgression::Stop).
+    ///
+    /// ```
+    /// use iox2sd::identifiers::UniqueNodeId;
+    /// use iox2sd::CallbackProgression;
+    ///
+    /// # use iox2sd::dynamic_config::{event, DynamicConfig, MessagingPatternSettings};
+    /// # let (number_of_listeners, number_of_notifiers) = (2, 3);
+    /// # let room = event::DynamicConfigSettings { number_of_listeners, number_of_notifiers };
+    /// # let settings = MessagingPatternSettings::Event(room);
+    /// let mut service = DynamicConfig::new(&settings, 2, 7)?;
+    /// let node = UniqueNodeId::new(1, 0, 0, 1).expect("the id of a node");
+    /// service.register_node_id(node)?;
+    /// service.register_node_id(node)?;
+    /// let mut seen = Vec::new();
+    /// service.list_node_ids(|id| {
+    ///     seen.push(*id);
+    ///     CallbackProgression::Stop
+    /// });
+    /// assert_eq!(seen, [node]);
+    /// # Ok::<(), Box<dyn std::error::Error>>(())
+    /// ```
     pub fn list_node_ids<F: FnMut(&UniqueNodeId) -> CallbackProgression>(&self, mut callback: F) {
         visit(self.nodes(), |node| callback(&node));
     }
@@ -478,6 +747,32 @@ impl DynamicConfig {
     /// Calls the callback on the ports of the role by rising slot, up to and with the first answer
     /// [`Stop`](CallbackProgression::Stop); `false`, and no call, where the pattern has no such
     /// ports.
+    ///
+    /// ```
+    /// use iox2sd::container::Role;
+    /// use iox2sd::CallbackProgression;
+    ///
+    /// # use iox2sd::dynamic_config::ListenerDetails;
+    /// # use iox2sd::identifiers::{UniqueListenerId, UniqueNodeId};
+    /// # use iox2sd::dynamic_config::{event, DynamicConfig, MessagingPatternSettings};
+    /// # let (number_of_listeners, number_of_notifiers) = (2, 3);
+    /// # let room = event::DynamicConfigSettings { number_of_listeners, number_of_notifiers };
+    /// # let settings = MessagingPatternSettings::Event(room);
+    /// let mut service = DynamicConfig::new(&settings, 1, 7)?;
+    /// let node_id = UniqueNodeId::new(1, 0, 0, 1).expect("the id of a node");
+    /// service.register_node_id(node_id)?;
+    /// let listener = ListenerDetails { listener_id: UniqueListenerId::new(1, 0, 0, 2), node_id };
+    /// service.attach(listener)?;
+    /// let mut seen = Vec::new();
+    /// let listed = service.list_ports(Role::Listener, |port| {
+    ///     seen.push(*port);
+    ///     CallbackProgression::Continue
+    /// });
+    /// assert!(listed);
+    /// assert_eq!(seen, [listener.into()]);
+    /// assert!(!service.list_ports(Role::Reader, |_| CallbackProgression::Stop));
+    /// # Ok::<(), Box<dyn std::error::Error>>(())
+    /// ```
     pub fn list_ports<F: FnMut(&PortDetails) -> CallbackProgression>(
         &self,
         role: Role,
@@ -493,8 +788,14 @@ impl DynamicConfig {
 
 /// Defines, for one pattern, whether a service has it and the questions about its ports.
 macro_rules! of_pattern {
-    ($kind:literal $variant:ident $module:ident $is:ident) => {
+    ($kind:literal $variant:ident $module:ident $is:ident $number:ident $(#[$made:meta])*) => {
         #[doc = concat!("Whether it is ", $kind, " service.")]
+        ///
+        /// ```
+        $(#[$made])*
+        #[doc = concat!("assert!(service.", stringify!($is), "());")]
+        /// # Ok::<(), iox2sd::dynamic_config::AllocError>(())
+        /// ```
         pub fn $is(&self) -> bool {
             matches!(self.messaging_pattern, MessagingPattern::$variant(_))
         }
@@ -504,6 +805,14 @@ macro_rules! of_pattern {
         /// # Panics
         ///
         #[doc = concat!("Where [`Self::", stringify!($is), "`] says no.")]
+        ///
+        /// ```
+        $(#[$made])*
+        #[doc = concat!(
+            "assert_eq!(service.", stringify!($module), "().", stringify!($number), "(), 0);"
+        )]
+        /// # Ok::<(), iox2sd::dynamic_config::AllocError>(())
+        /// ```
         pub fn $module(&self) -> &$module::DynamicConfig {
             match &self.messaging_pattern {
                 MessagingPattern::$variant(ports) => ports,
@@ -518,10 +827,58 @@ macro_rules! of_pattern {
 
 /// The ports of each pattern, by their types.
 impl DynamicConfig {
-    of_pattern!("a request-response" RequestResponse request_response is_request_response);
-    of_pattern!("a publish-subscribe" PublishSubscribe publish_subscribe is_publish_subscribe);
-    of_pattern!("an event" Event event is_event);
-    of_pattern!("a blackboard" Blackboard blackboard is_blackboard);
+    of_pattern! {
+        "a request-response" RequestResponse request_response is_request_response
+        number_of_servers
+        /// use iox2sd::dynamic_config::{request_response, DynamicConfig, MessagingPatternSettings};
+        ///
+        /// let room = request_response::DynamicConfigSettings {
+        ///     number_of_servers: 2,
+        ///     number_of_clients: 2,
+        /// };
+        /// let settings = MessagingPatternSettings::RequestResponse(room);
+        /// let service = DynamicConfig::new(&settings, 1, 7)?;
+    }
+
+    of_pattern! {
+        "a publish-subscribe" PublishSubscribe publish_subscribe is_publish_subscribe
+        number_of_publishers
+        /// use iox2sd::dynamic_config::publish_subscribe;
+        /// use iox2sd::dynamic_config::{DynamicConfig, MessagingPatternSettings};
+        ///
+        /// let room = publish_subscribe::DynamicConfigSettings {
+        ///     number_of_publishers: 2,
+        ///     number_of_subscribers: 2,
+        /// };
+        /// let settings = MessagingPatternSettings::PublishSubscribe(room);
+        /// let service = DynamicConfig::new(&settings, 1, 7)?;
+    }
+
+    of_pattern! {
+        "an event" Event event is_event
+        number_of_listeners
+        /// use iox2sd::dynamic_config::{event, DynamicConfig, MessagingPatternSettings};
+        ///
+        /// let room = event::DynamicConfigSettings {
+        ///     number_of_listeners: 2,
+        ///     number_of_notifiers: 2,
+        /// };
+        /// let settings = MessagingPatternSettings::Event(room);
+        /// let service = DynamicConfig::new(&settings, 1, 7)?;
+    }
+
+    of_pattern! {
+        "a blackboard" Blackboard blackboard is_blackboard
+        number_of_readers
+        /// use iox2sd::dynamic_config::{blackboard, DynamicConfig, MessagingPatternSettings};
+        ///
+        /// let room = blackboard::DynamicConfigSettings {
+        ///     number_of_readers: 2,
+        ///     number_of_writers: 2,
+        /// };
+        /// let settings = MessagingPatternSettings::Blackboard(room);
+        /// let service = DynamicConfig::new(&settings, 1, 7)?;
+    }
 }
 
 impl fmt::Debug for DynamicConfig {

@@ -1,9 +1,26 @@
 //! What is fixed of a blackboard service.
+//!
+//! ```
+//! use iox2sd::config::Config;
+//! use iox2sd::static_config::blackboard::StaticConfig;
+//!
+//! let fixed = StaticConfig::new(&Config::default());
+//! assert_eq!(fixed.max_readers(), 8);
+//! ```
 
 use super::message_type_details::TypeDetail;
 use crate::config::Config;
 
 /// What is fixed of a blackboard service.
+///
+/// ```
+/// use iox2sd::config::Config;
+/// use iox2sd::static_config::blackboard::StaticConfig;
+///
+/// let mut fixed = StaticConfig::new(&Config::default());
+/// fixed.max_nodes = 1;
+/// assert_ne!(fixed, StaticConfig::new(&Config::default()));
+/// ```
 #[derive(Clone, Copy, Debug, PartialEq, Eq, Hash)]
 pub struct StaticConfig {
     /// How many readers there may be at once.
@@ -18,6 +35,14 @@ pub struct StaticConfig {
 
 impl StaticConfig {
     /// The blackboard defaults of a configuration, with one writer and the default type details.
+    ///
+    /// ```
+    /// use iox2sd::config::Config;
+    /// use iox2sd::static_config::blackboard::StaticConfig;
+    ///
+    /// let fixed = StaticConfig::new(&Config::default());
+    /// assert_eq!((fixed.max_readers, fixed.max_writers, fixed.max_nodes), (8, 1, 20));
+    /// ```
     pub fn new(config: &Config) -> Self {
         let defaults = &config.defaults.blackboard;
         StaticConfig {
@@ -29,16 +54,46 @@ impl StaticConfig {
     }
 
     /// How many nodes may have the service open at once.
+    ///
+    /// ```
+    /// use iox2sd::config::Config;
+    /// use iox2sd::static_config::blackboard::StaticConfig;
+    ///
+    /// let mut config = Config::default();
+    /// config.defaults.blackboard.max_nodes = 5;
+    /// assert_eq!(StaticConfig::new(&config).max_nodes(), 5);
+    /// ```
     pub fn max_nodes(&self) -> usize {
         self.max_nodes
     }
 
     /// How many readers there may be at once.
+    ///
+    /// ```
+    /// use iox2sd::config::Config;
+    /// use iox2sd::static_config::blackboard::StaticConfig;
+    ///
+    /// let mut config = Config::default();
+    /// config.defaults.blackboard.max_readers = 5;
+    /// assert_eq!(StaticConfig::new(&config).max_readers(), 5);
+    /// ```
     pub fn max_readers(&self) -> usize {
         self.max_readers
     }
 
     /// The type of the keys.
+    ///
+    /// ```
+    /// use iox2sd::config::Config;
+    /// use iox2sd::static_config::blackboard::StaticConfig;
+    /// use iox2sd::static_config::message_type_details::{TypeDetail, TypeVariant};
+    ///
+    /// let mut fixed = StaticConfig::new(&Config::default());
+    /// assert_eq!(fixed.type_details(), &TypeDetail::default());
+    /// fixed.type_details = TypeDetail::new::<u64>(TypeVariant::FixedSize)?;
+    /// assert_eq!(fixed.type_details().size(), 8);
+    /// # Ok::<(), Box<dyn std::error::Error>>(())
+    /// ```
     pub fn type_details(&self) -> &TypeDetail {
         &self.type_details
     }

@@ -1,10 +1,31 @@
 //! What is fixed of an event service.
+//!
+//! ```
+//! use iox2sd::config::Config;
+//! use iox2sd::static_config::event::StaticConfig;
+//!
+//! let fixed = StaticConfig::new(&Config::default());
+//! assert_eq!(fixed.event_id_max_value(), 255);
+//! ```
 
 use crate::config::{Config, EventId};
 use crate::identifiers::Time;
 use std::time::Duration;
 
 /// How long listeners wait for a notification before one counts as missed.
+///
+/// ```
+/// use iox2sd::config::Config;
+/// use iox2sd::identifiers::Time;
+/// use iox2sd::static_config::event::{Deadline, StaticConfig};
+/// use std::time::Duration;
+///
+/// let value = Duration::from_secs(2);
+/// let mut config = Config::default();
+/// config.defaults.event.deadline = Some(value);
+/// let expected = Deadline { creation_time: Time::default(), value };
+/// assert_eq!(StaticConfig::new(&config).deadline, Some(expected));
+/// ```
 #[derive(Clone, Copy, Debug, PartialEq, Eq, Hash)]
 pub struct Deadline {
     /// When the deadline was set.
@@ -14,6 +35,15 @@ pub struct Deadline {
 }
 
 /// What is fixed of an event service.
+///
+/// ```
+/// use iox2sd::config::Config;
+/// use iox2sd::static_config::event::StaticConfig;
+///
+/// let mut fixed = StaticConfig::new(&Config::default());
+/// fixed.max_nodes = 1;
+/// assert_ne!(fixed, StaticConfig::new(&Config::default()));
+/// ```
 #[derive(Clone, Copy, Debug, PartialEq, Eq, Hash)]
 pub struct StaticConfig {
     /// How many notifiers there may be at once.
@@ -36,6 +66,14 @@ pub struct StaticConfig {
 
 impl StaticConfig {
     /// The event defaults of a configuration. A deadline is made with the default time.
+    ///
+    /// ```
+    /// use iox2sd::config::Config;
+    /// use iox2sd::static_config::event::StaticConfig;
+    ///
+    /// let fixed = StaticConfig::new(&Config::default());
+    /// assert_eq!((fixed.max_notifiers, fixed.max_listeners, fixed.max_nodes), (16, 16, 36));
+    /// ```
     pub fn new(config: &Config) -> Self {
         let defaults = &config.defaults.event;
         let deadline = |value| Deadline {
@@ -55,41 +93,118 @@ impl StaticConfig {
     }
 
     /// The longest time between two notifications, if there is such a limit.
+    ///
+    /// ```
+    /// use iox2sd::config::Config;
+    /// use iox2sd::static_config::event::StaticConfig;
+    /// use std::time::Duration;
+    ///
+    /// let mut config = Config::default();
+    /// assert_eq!(StaticConfig::new(&config).deadline(), None);
+    /// config.defaults.event.deadline = Some(Duration::from_secs(2));
+    /// assert_eq!(StaticConfig::new(&config).deadline(), Some(Duration::from_secs(2)));
+    /// ```
     pub fn deadline(&self) -> Option<Duration> {
         self.deadline.map(|deadline| deadline.value)
     }
 
     /// How many nodes may have the service open at once.
+    ///
+    /// ```
+    /// use iox2sd::config::Config;
+    /// use iox2sd::static_config::event::StaticConfig;
+    ///
+    /// let mut config = Config::default();
+    /// config.defaults.event.max_nodes = 5;
+    /// assert_eq!(StaticConfig::new(&config).max_nodes(), 5);
+    /// ```
     pub fn max_nodes(&self) -> usize {
         self.max_nodes
     }
 
     /// How many notifiers there may be at once.
+    ///
+    /// ```
+    /// use iox2sd::config::Config;
+    /// use iox2sd::static_config::event::StaticConfig;
+    ///
+    /// let mut config = Config::default();
+    /// config.defaults.event.max_notifiers = 5;
+    /// assert_eq!(StaticConfig::new(&config).max_notifiers(), 5);
+    /// ```
     pub fn max_notifiers(&self) -> usize {
         self.max_notifiers
     }
 
     /// How many listeners there may be at once.
+    ///
+    /// ```
+    /// use iox2sd::config::Config;
+    /// use iox2sd::static_config::event::StaticConfig;
+    ///
+    /// let mut config = Config::default();
+    /// config.defaults.event.max_listeners = 5;
+    /// assert_eq!(StaticConfig::new(&config).max_listeners(), 5);
+    /// ```
     pub fn max_listeners(&self) -> usize {
         self.max_listeners
     }
 
     /// The greatest number that an event may have.
+    ///
+    /// ```
+    /// use iox2sd::config::Config;
+    /// use iox2sd::static_config::event::StaticConfig;
+    ///
+    /// let mut config = Config::default();
+    /// config.defaults.event.event_id_max_value = 5;
+    /// assert_eq!(StaticConfig::new(&config).event_id_max_value(), 5);
+    /// ```
     pub fn event_id_max_value(&self) -> usize {
         self.event_id_max_value
     }
 
     /// The event that reports a new notifier, if there is one.
+    ///
+    /// ```
+    /// use iox2sd::config::{Config, EventId};
+    /// use iox2sd::static_config::event::StaticConfig;
+    ///
+    /// let mut config = Config::default();
+    /// assert_eq!(StaticConfig::new(&config).notifier_created_event(), None);
+    /// config.defaults.event.notifier_created_event = Some(3);
+    /// assert_eq!(StaticConfig::new(&config).notifier_created_event(), Some(EventId::new(3)));
+    /// ```
     pub fn notifier_created_event(&self) -> Option<EventId> {
         self.notifier_created_event.map(EventId::new)
     }
 
     /// The event that reports that a notifier went, if there is one.
+    ///
+    /// ```
+    /// use iox2sd::config::{Config, EventId};
+    /// use iox2sd::static_config::event::StaticConfig;
+    ///
+    /// let mut config = Config::default();
+    /// assert_eq!(StaticConfig::new(&config).notifier_dropped_event(), None);
+    /// config.defaults.event.notifier_dropped_event = Some(3);
+    /// assert_eq!(StaticConfig::new(&config).notifier_dropped_event(), Some(EventId::new(3)));
+    /// ```
     pub fn notifier_dropped_event(&self) -> Option<EventId> {
         self.notifier_dropped_event.map(EventId::new)
     }
 
     /// The event that reports a notifier whose node died, if there is one.
+    ///
+    /// ```
+    /// use iox2sd::config::{Config, EventId};
+    /// use iox2sd::static_config::event::StaticConfig;
+    ///
+    /// let mut config = Config::default();
+    /// assert_eq!(StaticConfig::new(&config).notifier_dead_event(), None);
+    /// config.defaults.event.notifier_dead_event = Some(3);
+    /// assert_eq!(StaticConfig::new(&config).notifier_dead_event(), Some(EventId::new(3)));
+    /// ```
     pub fn notifier_dead_event(&self) -> Option<EventId> {
         self.notifier_dead_event.map(EventId::new)
     }

@@ -30,6 +30,13 @@ use std::fmt;
 use std::mem::{align_of, size_of};
 
 /// How many values of a type a message has.
+///
+/// ```
+/// use iox2sd::static_config::message_type_details::TypeVariant;
+///
+/// assert_eq!(TypeVariant::default(), TypeVariant::FixedSize);
+/// assert_eq!(TypeVariant::Dynamic.to_string(), "Dynamic");
+/// ```
 #[derive(Clone, Copy, Debug, Default, PartialEq, Eq, Hash)]
 #[repr(u32)]
 pub enum TypeVariant {
@@ -59,6 +66,14 @@ pub struct TypeName {
 
 impl TypeName {
     /// The text of the name.
+    ///
+    /// ```
+    /// use iox2sd::static_config::message_type_details::TypeName;
+    ///
+    /// assert_eq!(TypeName::try_from("u64")?.as_str(), "u64");
+    /// assert_eq!(TypeName::default().as_str(), "");
+    /// # Ok::<(), Box<dyn std::error::Error>>(())
+    /// ```
     pub fn as_str(&self) -> &str {
         self.text.as_str()
     }
@@ -94,6 +109,15 @@ impl TryFrom<&str> for TypeName {
 shown_as_text!(TypeName);
 
 /// Why there are no details of a type.
+///
+/// ```
+/// use iox2sd::static_config::message_type_details::{TypeDetail, TypeDetailError, TypeVariant};
+/// use iox2sd::semantic_string::StringModificationError;
+///
+/// let refused = TypeDetail::from_parts(TypeVariant::FixedSize, "Größe", 8, 3);
+/// let cause = StringModificationError::InvalidCharacter;
+/// assert_eq!(refused, Err(TypeDetailError::Name(cause)));
+/// ```
 #[derive(Clone, Copy, Debug, PartialEq, Eq, Hash)]
 pub enum TypeDetailError {
     /// The text is no name of a type.
@@ -109,6 +133,15 @@ error_by_path!(TypeDetailError);
 ///
 /// The alignment is a power of two, but for the default details, which stand where none were given:
 /// their alignment and size are 0, and their name is empty.
+///
+/// ```
+/// use iox2sd::static_config::message_type_details::{TypeDetail, TypeVariant};
+///
+/// let detail = TypeDetail::from_parts(TypeVariant::FixedSize, "u64", 8, 8)?;
+/// assert_eq!(detail, TypeDetail::new::<u64>(TypeVariant::FixedSize)?);
+/// assert_eq!(TypeDetail::default().alignment(), 0);
+/// # Ok::<(), iox2sd::static_config::message_type_details::TypeDetailError>(())
+/// ```
 #[derive(Clone, Copy, Debug, Default, PartialEq, Eq, Hash)]
 pub struct TypeDetail {
     variant: TypeVariant,
@@ -171,28 +204,69 @@ impl TypeDetail {
     }
 
     /// How many values of the type a message has.
+    ///
+    /// ```
+    /// use iox2sd::static_config::message_type_details::{TypeDetail, TypeVariant};
+    ///
+    /// let detail = TypeDetail::from_parts(TypeVariant::Dynamic, "Point", 12, 4)?;
+    /// assert_eq!(detail.variant(), TypeVariant::Dynamic);
+    /// # Ok::<(), iox2sd::static_config::message_type_details::TypeDetailError>(())
+    /// ```
     pub fn variant(&self) -> TypeVariant {
         self.variant
     }
 
     /// The name of the type.
+    ///
+    /// ```
+    /// use iox2sd::static_config::message_type_details::{TypeDetail, TypeVariant};
+    ///
+    /// let detail = TypeDetail::from_parts(TypeVariant::Dynamic, "Point", 12, 4)?;
+    /// assert_eq!(detail.type_name(), &"Point");
+    /// # Ok::<(), iox2sd::static_config::message_type_details::TypeDetailError>(())
+    /// ```
     pub fn type_name(&self) -> &TypeName {
         &self.type_name
     }
 
     /// How many bytes a value takes.
+    ///
+    /// ```
+    /// use iox2sd::static_config::message_type_details::{TypeDetail, TypeVariant};
+    ///
+    /// let detail = TypeDetail::from_parts(TypeVariant::Dynamic, "Point", 12, 4)?;
+    /// assert_eq!(detail.size(), 12);
+    /// # Ok::<(), iox2sd::static_config::message_type_details::TypeDetailError>(())
+    /// ```
     pub fn size(&self) -> usize {
         self.size
     }
 
     /// The number of which the place of each value is a multiple: a power of two, or 0 in the
     /// default details.
+    ///
+    /// ```
+    /// use iox2sd::static_config::message_type_details::{TypeDetail, TypeVariant};
+    ///
+    /// let detail = TypeDetail::from_parts(TypeVariant::Dynamic, "Point", 12, 4)?;
+    /// assert_eq!(detail.alignment(), 4);
+    /// # Ok::<(), iox2sd::static_config::message_type_details::TypeDetailError>(())
+    /// ```
     pub fn alignment(&self) -> usize {
         self.alignment
     }
 }
 
 /// The types of the parts of a message, which lie one after another.
+///
+/// ```
+/// use iox2sd::static_config::message_type_details::{MessageTypeDetails, TypeVariant};
+///
+/// let mut details = MessageTypeDetails::from::<u64, (), u8>(TypeVariant::FixedSize)?;
+/// details.user_header = details.header;
+/// assert_eq!(details, MessageTypeDetails::from::<u64, u64, u8>(TypeVariant::FixedSize)?);
+/// # Ok::<(), iox2sd::static_config::message_type_details::TypeDetailError>(())
+/// ```
 #[derive(Clone, Copy, Debug, Default, PartialEq, Eq, Hash)]
 pub struct MessageTypeDetails {
     /// The type of the header, which belongs to the system.
@@ -204,6 +278,14 @@ pub struct MessageTypeDetails {
 }
 
 /// Why a message has no layout or no places.
+///
+/// ```
+/// use iox2sd::static_config::message_type_details::{LayoutError, MessageTypeDetails};
+///
+/// let refused = MessageTypeDetails::default().sample_layout(1).unwrap_err();
+/// assert_eq!(refused, LayoutError::DetailsNotGiven);
+/// assert_eq!(refused.to_string(), "LayoutError::DetailsNotGiven");
+/// ```
 #[derive(Clone, Copy, Debug, PartialEq, Eq, Hash)]
 pub enum LayoutError {
     /// The details of a part were not given: they are the default ones.
@@ -251,11 +333,28 @@ impl MessageTypeDetails {
     }
 
     /// Whether the details of all parts were given.
+    ///
+    /// ```
+    /// use iox2sd::static_config::message_type_details::{MessageTypeDetails, TypeVariant};
+    ///
+    /// assert!(!MessageTypeDetails::default().has_alignments());
+    /// assert!(MessageTypeDetails::from::<u64, (), u8>(TypeVariant::FixedSize)?.has_alignments());
+    /// # Ok::<(), iox2sd::static_config::message_type_details::TypeDetailError>(())
+    /// ```
     pub fn has_alignments(&self) -> bool {
         library::layout(self, 0) != Err(sys::IOX2SD_BAD_ALIGNMENT)
     }
 
     /// Whether a message with its header at the place `header` has a place for its payload.
+    ///
+    /// ```
+    /// use iox2sd::static_config::message_type_details::{MessageTypeDetails, TypeVariant};
+    ///
+    /// let details = MessageTypeDetails::from::<u64, (), u8>(TypeVariant::FixedSize)?;
+    /// assert!(details.has_places(4096));
+    /// assert!(!details.has_places(usize::MAX));
+    /// # Ok::<(), iox2sd::static_config::message_type_details::TypeDetailError>(())
+    /// ```
     pub fn has_places(&self, header: usize) -> bool {
         library::places(self, header).is_ok()
     }
@@ -284,6 +383,14 @@ impl MessageTypeDetails {
 
     /// The place of the payload in a message with its header at the place `header`. Refused in the
     /// same way.
+    ///
+    /// ```
+    /// use iox2sd::static_config::message_type_details::{MessageTypeDetails, TypeVariant};
+    ///
+    /// let details = MessageTypeDetails::from::<u64, u32, u64>(TypeVariant::FixedSize)?;
+    /// assert_eq!(details.payload_ptr_from_header(4096)?, 4112);
+    /// # Ok::<(), Box<dyn std::error::Error>>(())
+    /// ```
     pub fn payload_ptr_from_header(&self, header: usize) -> Result<usize, LayoutError> {
         let (_, payload) = library::places(self, header).map_err(LayoutError::of)?;
         Ok(payload)
@@ -317,6 +424,16 @@ impl MessageTypeDetails {
 
     /// Whether an opener with these details may use the messages of a service with the details
     /// `rhs`: [`check_compatible_to`](Self::check_compatible_to) refuses nothing.
+    ///
+    /// ```
+    /// use iox2sd::static_config::message_type_details::{MessageTypeDetails, TypeVariant};
+    ///
+    /// let opener = MessageTypeDetails::from::<u64, (), i8>(TypeVariant::FixedSize)?;
+    /// let service = MessageTypeDetails::from::<u64, (), u8>(TypeVariant::FixedSize)?;
+    /// assert!(opener.is_compatible_to(&opener));
+    /// assert!(!opener.is_compatible_to(&service));
+    /// # Ok::<(), iox2sd::static_config::message_type_details::TypeDetailError>(())
+    /// ```
     pub fn is_compatible_to(&self, rhs: &Self) -> bool {
         self.check_compatible_to(rhs).is_ok()
     }
@@ -361,6 +478,17 @@ impl MessageTypeDetails {
 }
 
 /// A part of a message.
+///
+/// ```
+/// use iox2sd::static_config::message_type_details::{MessagePart, MessageTypeDetails, TypeVariant};
+///
+/// let opener = MessageTypeDetails::from::<u64, u8, u8>(TypeVariant::FixedSize)?;
+/// let service = MessageTypeDetails::from::<u64, i8, u8>(TypeVariant::FixedSize)?;
+/// let refused = opener.check_compatible_to(&service).unwrap_err();
+/// assert_eq!(refused.part, MessagePart::UserHeader);
+/// assert_eq!(refused.part.to_string(), "user header");
+/// # Ok::<(), iox2sd::static_config::message_type_details::TypeDetailError>(())
+/// ```
 #[derive(Clone, Copy, Debug, PartialEq, Eq, Hash)]
 #[repr(u32)]
 pub enum MessagePart {
@@ -391,6 +519,19 @@ impl fmt::Display for MessagePart {
 }
 
 /// What of a part keeps an opener out.
+///
+/// ```
+/// use iox2sd::static_config::message_type_details::{
+///     IncompatibilityCause, MessageTypeDetails, TypeVariant,
+/// };
+///
+/// let opener = MessageTypeDetails::from::<u64, u8, u8>(TypeVariant::FixedSize)?;
+/// let service = MessageTypeDetails::from::<u64, i8, u8>(TypeVariant::FixedSize)?;
+/// let refused = opener.check_compatible_to(&service).unwrap_err();
+/// assert_eq!(refused.cause, IncompatibilityCause::OtherName);
+/// assert_eq!(refused.cause.to_string(), "another type name");
+/// # Ok::<(), iox2sd::static_config::message_type_details::TypeDetailError>(())
+/// ```
 #[derive(Clone, Copy, Debug, PartialEq, Eq, Hash)]
 pub enum IncompatibilityCause {
     /// Its details were not given, by the opener or by the service.
@@ -422,6 +563,16 @@ impl fmt::Display for IncompatibilityCause {
 }
 
 /// Why an opener may not use the messages of a service.
+///
+/// ```
+/// use iox2sd::static_config::message_type_details::{MessageTypeDetails, TypeVariant};
+///
+/// let opener = MessageTypeDetails::from::<u64, u8, u8>(TypeVariant::FixedSize)?;
+/// let service = MessageTypeDetails::from::<u64, i8, u8>(TypeVariant::FixedSize)?;
+/// let refused = opener.check_compatible_to(&service).unwrap_err();
+/// assert_eq!(refused.to_string(), "the user header has another type name");
+/// # Ok::<(), iox2sd::static_config::message_type_details::TypeDetailError>(())
+/// ```
 #[derive(Clone, Copy, Debug, PartialEq, Eq, Hash)]
 pub struct Incompatibility {
     /// The first part that keeps it out.

@@ -1,4 +1,13 @@
 //! The pattern of a service, with what is fixed by it.
+//!
+//! ```
+//! use iox2sd::config::Config;
+//! use iox2sd::static_config::event::StaticConfig;
+//! use iox2sd::static_config::messaging_pattern::MessagingPattern;
+//!
+//! let pattern = MessagingPattern::Event(StaticConfig::new(&Config::default()));
+//! assert_eq!(pattern.to_string(), "Event");
+//! ```
 
 use super::{blackboard, event, publish_subscribe, request_response};
 use crate::messaging_pattern::MessagingPattern as Kind;
@@ -42,6 +51,16 @@ impl fmt::Display for MessagingPattern {
 
 impl MessagingPattern {
     /// The pattern alone.
+    ///
+    /// ```
+    /// use iox2sd::config::Config;
+    /// use iox2sd::messaging_pattern::MessagingPattern as Kind;
+    /// use iox2sd::static_config::event::StaticConfig;
+    /// use iox2sd::static_config::messaging_pattern::MessagingPattern;
+    ///
+    /// let pattern = MessagingPattern::Event(StaticConfig::new(&Config::default()));
+    /// assert_eq!(pattern.kind(), Kind::Event);
+    /// ```
     pub fn kind(&self) -> Kind {
         match self {
             MessagingPattern::RequestResponse(_) => Kind::RequestResponse,
@@ -52,6 +71,18 @@ impl MessagingPattern {
     }
 
     /// Whether both are one pattern, whatever is fixed by it.
+    ///
+    /// ```
+    /// use iox2sd::config::Config;
+    /// use iox2sd::static_config::event::StaticConfig;
+    /// use iox2sd::static_config::messaging_pattern::MessagingPattern;
+    ///
+    /// let mut config = Config::default();
+    /// let one = MessagingPattern::Event(StaticConfig::new(&config));
+    /// config.defaults.event.max_listeners = 1;
+    /// let other = MessagingPattern::Event(StaticConfig::new(&config));
+    /// assert!(one.is_same_pattern(&other) && one != other);
+    /// ```
     pub fn is_same_pattern(&self, rhs: &MessagingPattern) -> bool {
         self.kind() == rhs.kind()
     }
@@ -61,6 +92,15 @@ impl MessagingPattern {
     /// # Panics
     ///
     /// Where the pattern is another, as [`kind`](Self::kind) says.
+    ///
+    /// ```
+    /// use iox2sd::config::Config;
+    /// use iox2sd::static_config::messaging_pattern::MessagingPattern;
+    /// use iox2sd::static_config::request_response::StaticConfig;
+    ///
+    /// let fixed = StaticConfig::new(&Config::default());
+    /// assert_eq!(MessagingPattern::RequestResponse(fixed).request_response(), &fixed);
+    /// ```
     pub fn request_response(&self) -> &request_response::StaticConfig {
         match self {
             MessagingPattern::RequestResponse(config) => config,
@@ -73,6 +113,15 @@ impl MessagingPattern {
     /// # Panics
     ///
     /// Where the pattern is another, as [`kind`](Self::kind) says.
+    ///
+    /// ```
+    /// use iox2sd::config::Config;
+    /// use iox2sd::static_config::messaging_pattern::MessagingPattern;
+    /// use iox2sd::static_config::publish_subscribe::StaticConfig;
+    ///
+    /// let fixed = StaticConfig::new(&Config::default());
+    /// assert_eq!(MessagingPattern::PublishSubscribe(fixed).publish_subscribe(), &fixed);
+    /// ```
     pub fn publish_subscribe(&self) -> &publish_subscribe::StaticConfig {
         match self {
             MessagingPattern::PublishSubscribe(config) => config,

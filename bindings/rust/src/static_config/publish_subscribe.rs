@@ -1,10 +1,27 @@
 //! What is fixed of a publish-subscribe service.
+//!
+//! ```
+//! use iox2sd::config::Config;
+//! use iox2sd::static_config::publish_subscribe::StaticConfig;
+//!
+//! let fixed = StaticConfig::new(&Config::default());
+//! assert_eq!(fixed.max_subscribers(), 8);
+//! ```
 
 use super::message_type_details::MessageTypeDetails;
 use crate::config::Config;
 use crate::library;
 
 /// What is fixed of a publish-subscribe service.
+///
+/// ```
+/// use iox2sd::config::Config;
+/// use iox2sd::static_config::publish_subscribe::StaticConfig;
+///
+/// let mut fixed = StaticConfig::new(&Config::default());
+/// fixed.max_nodes = 1;
+/// assert_ne!(fixed, StaticConfig::new(&Config::default()));
+/// ```
 #[derive(Clone, Copy, Debug, PartialEq, Eq, Hash)]
 pub struct StaticConfig {
     /// How many subscribers there may be at once.
@@ -27,6 +44,15 @@ pub struct StaticConfig {
 
 impl StaticConfig {
     /// The publish-subscribe defaults of a configuration, with the default type details.
+    ///
+    /// ```
+    /// use iox2sd::config::Config;
+    /// use iox2sd::static_config::publish_subscribe::StaticConfig;
+    ///
+    /// let fixed = StaticConfig::new(&Config::default());
+    /// assert_eq!((fixed.max_publishers, fixed.max_subscribers, fixed.max_nodes), (2, 8, 20));
+    /// assert!(!fixed.message_type_details.has_alignments());
+    /// ```
     pub fn new(config: &Config) -> Self {
         let defaults = &config.defaults.publish_subscribe;
         StaticConfig {
@@ -66,41 +92,117 @@ impl StaticConfig {
     }
 
     /// How many nodes may have the service open at once.
+    ///
+    /// ```
+    /// use iox2sd::config::Config;
+    /// use iox2sd::static_config::publish_subscribe::StaticConfig;
+    ///
+    /// let mut config = Config::default();
+    /// config.defaults.publish_subscribe.max_nodes = 5;
+    /// assert_eq!(StaticConfig::new(&config).max_nodes(), 5);
+    /// ```
     pub fn max_nodes(&self) -> usize {
         self.max_nodes
     }
 
     /// How many publishers there may be at once.
+    ///
+    /// ```
+    /// use iox2sd::config::Config;
+    /// use iox2sd::static_config::publish_subscribe::StaticConfig;
+    ///
+    /// let mut config = Config::default();
+    /// config.defaults.publish_subscribe.max_publishers = 5;
+    /// assert_eq!(StaticConfig::new(&config).max_publishers(), 5);
+    /// ```
     pub fn max_publishers(&self) -> usize {
         self.max_publishers
     }
 
     /// How many subscribers there may be at once.
+    ///
+    /// ```
+    /// use iox2sd::config::Config;
+    /// use iox2sd::static_config::publish_subscribe::StaticConfig;
+    ///
+    /// let mut config = Config::default();
+    /// config.defaults.publish_subscribe.max_subscribers = 5;
+    /// assert_eq!(StaticConfig::new(&config).max_subscribers(), 5);
+    /// ```
     pub fn max_subscribers(&self) -> usize {
         self.max_subscribers
     }
 
     /// How many of the last samples a publisher keeps for subscribers that come later.
+    ///
+    /// ```
+    /// use iox2sd::config::Config;
+    /// use iox2sd::static_config::publish_subscribe::StaticConfig;
+    ///
+    /// let mut config = Config::default();
+    /// config.defaults.publish_subscribe.publisher_history_size = 5;
+    /// assert_eq!(StaticConfig::new(&config).history_size(), 5);
+    /// ```
     pub fn history_size(&self) -> usize {
         self.history_size
     }
 
     /// How many samples a subscriber's buffer has room for.
+    ///
+    /// ```
+    /// use iox2sd::config::Config;
+    /// use iox2sd::static_config::publish_subscribe::StaticConfig;
+    ///
+    /// let mut config = Config::default();
+    /// config.defaults.publish_subscribe.subscriber_max_buffer_size = 5;
+    /// assert_eq!(StaticConfig::new(&config).subscriber_max_buffer_size(), 5);
+    /// ```
     pub fn subscriber_max_buffer_size(&self) -> usize {
         self.subscriber_max_buffer_size
     }
 
     /// How many samples a subscriber may hold at once.
+    ///
+    /// ```
+    /// use iox2sd::config::Config;
+    /// use iox2sd::static_config::publish_subscribe::StaticConfig;
+    ///
+    /// let mut config = Config::default();
+    /// config.defaults.publish_subscribe.subscriber_max_borrowed_samples = 5;
+    /// assert_eq!(StaticConfig::new(&config).subscriber_max_borrowed_samples(), 5);
+    /// ```
     pub fn subscriber_max_borrowed_samples(&self) -> usize {
         self.subscriber_max_borrowed_samples
     }
 
     /// Whether a new sample takes the oldest one's place where a buffer is full.
+    ///
+    /// ```
+    /// use iox2sd::config::Config;
+    /// use iox2sd::static_config::publish_subscribe::StaticConfig;
+    ///
+    /// let mut config = Config::default();
+    /// assert!(StaticConfig::new(&config).has_safe_overflow());
+    /// config.defaults.publish_subscribe.enable_safe_overflow = false;
+    /// assert!(!StaticConfig::new(&config).has_safe_overflow());
+    /// ```
     pub fn has_safe_overflow(&self) -> bool {
         self.enable_safe_overflow
     }
 
     /// The types of a message's parts.
+    ///
+    /// ```
+    /// use iox2sd::config::Config;
+    /// use iox2sd::static_config::message_type_details::{MessageTypeDetails, TypeVariant};
+    /// use iox2sd::static_config::publish_subscribe::StaticConfig;
+    ///
+    /// let mut fixed = StaticConfig::new(&Config::default());
+    /// let details = MessageTypeDetails::from::<u64, (), u32>(TypeVariant::FixedSize)?;
+    /// fixed.message_type_details = details;
+    /// assert_eq!(fixed.message_type_details(), &details);
+    /// # Ok::<(), iox2sd::static_config::message_type_details::TypeDetailError>(())
+    /// ```
     pub fn message_type_details(&self) -> &MessageTypeDetails {
         &self.message_type_details
     }

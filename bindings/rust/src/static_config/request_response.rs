@@ -1,10 +1,27 @@
 //! What is fixed of a request-response service.
+//!
+//! ```
+//! use iox2sd::config::Config;
+//! use iox2sd::static_config::request_response::StaticConfig;
+//!
+//! let fixed = StaticConfig::new(&Config::default());
+//! assert_eq!(fixed.max_active_requests_per_client(), 4);
+//! ```
 
 use super::message_type_details::MessageTypeDetails;
 use crate::config::Config;
 use crate::library;
 
 /// What is fixed of a request-response service.
+///
+/// ```
+/// use iox2sd::config::Config;
+/// use iox2sd::static_config::request_response::StaticConfig;
+///
+/// let mut fixed = StaticConfig::new(&Config::default());
+/// fixed.max_nodes = 1;
+/// assert_ne!(fixed, StaticConfig::new(&Config::default()));
+/// ```
 #[derive(Clone, Copy, Debug, PartialEq, Eq, Hash)]
 pub struct StaticConfig {
     /// Whether a new request takes the oldest one's place where a server's buffer is full.
@@ -35,6 +52,15 @@ pub struct StaticConfig {
 
 impl StaticConfig {
     /// The request-response defaults of a configuration, with the default type details.
+    ///
+    /// ```
+    /// use iox2sd::config::Config;
+    /// use iox2sd::static_config::request_response::StaticConfig;
+    ///
+    /// let fixed = StaticConfig::new(&Config::default());
+    /// assert_eq!((fixed.max_servers, fixed.max_clients, fixed.max_nodes), (2, 8, 20));
+    /// assert!(!fixed.request_message_type_details.has_alignments());
+    /// ```
     pub fn new(config: &Config) -> Self {
         let defaults = &config.defaults.request_response;
         StaticConfig {
@@ -99,61 +125,178 @@ impl StaticConfig {
     }
 
     /// The types of a request's parts.
+    ///
+    /// ```
+    /// use iox2sd::config::Config;
+    /// use iox2sd::static_config::message_type_details::{MessageTypeDetails, TypeVariant};
+    /// use iox2sd::static_config::request_response::StaticConfig;
+    ///
+    /// let mut fixed = StaticConfig::new(&Config::default());
+    /// let details = MessageTypeDetails::from::<u64, (), u32>(TypeVariant::FixedSize)?;
+    /// fixed.request_message_type_details = details;
+    /// assert_eq!(fixed.request_message_type_details(), &details);
+    /// # Ok::<(), iox2sd::static_config::message_type_details::TypeDetailError>(())
+    /// ```
     pub fn request_message_type_details(&self) -> &MessageTypeDetails {
         &self.request_message_type_details
     }
 
     /// The types of a response's parts.
+    ///
+    /// ```
+    /// use iox2sd::config::Config;
+    /// use iox2sd::static_config::message_type_details::{MessageTypeDetails, TypeVariant};
+    /// use iox2sd::static_config::request_response::StaticConfig;
+    ///
+    /// let mut fixed = StaticConfig::new(&Config::default());
+    /// let details = MessageTypeDetails::from::<u64, (), u32>(TypeVariant::FixedSize)?;
+    /// fixed.response_message_type_details = details;
+    /// assert_eq!(fixed.response_message_type_details(), &details);
+    /// # Ok::<(), iox2sd::static_config::message_type_details::TypeDetailError>(())
+    /// ```
     pub fn response_message_type_details(&self) -> &MessageTypeDetails {
         &self.response_message_type_details
     }
 
     /// Whether a new request takes the oldest one's place where a server's buffer is full.
+    ///
+    /// ```
+    /// use iox2sd::config::Config;
+    /// use iox2sd::static_config::request_response::StaticConfig;
+    ///
+    /// let mut config = Config::default();
+    /// assert!(StaticConfig::new(&config).has_safe_overflow_for_requests());
+    /// config.defaults.request_response.enable_safe_overflow_for_requests = false;
+    /// assert!(!StaticConfig::new(&config).has_safe_overflow_for_requests());
+    /// ```
     pub fn has_safe_overflow_for_requests(&self) -> bool {
         self.enable_safe_overflow_for_requests
     }
 
     /// Whether a new response takes the oldest one's place where a client's buffer is full.
+    ///
+    /// ```
+    /// use iox2sd::config::Config;
+    /// use iox2sd::static_config::request_response::StaticConfig;
+    ///
+    /// let mut config = Config::default();
+    /// assert!(StaticConfig::new(&config).has_safe_overflow_for_responses());
+    /// config.defaults.request_response.enable_safe_overflow_for_responses = false;
+    /// assert!(!StaticConfig::new(&config).has_safe_overflow_for_responses());
+    /// ```
     pub fn has_safe_overflow_for_responses(&self) -> bool {
         self.enable_safe_overflow_for_responses
     }
 
     /// Whether a client may send a request and take no response.
+    ///
+    /// ```
+    /// use iox2sd::config::Config;
+    /// use iox2sd::static_config::request_response::StaticConfig;
+    ///
+    /// let mut config = Config::default();
+    /// assert!(StaticConfig::new(&config).does_support_fire_and_forget_requests());
+    /// config.defaults.request_response.enable_fire_and_forget_requests = false;
+    /// assert!(!StaticConfig::new(&config).does_support_fire_and_forget_requests());
+    /// ```
     pub fn does_support_fire_and_forget_requests(&self) -> bool {
         self.enable_fire_and_forget_requests
     }
 
     /// How many responses to one request a client may hold at once.
+    ///
+    /// ```
+    /// use iox2sd::config::Config;
+    /// use iox2sd::static_config::request_response::StaticConfig;
+    ///
+    /// let mut config = Config::default();
+    /// config.defaults.request_response.max_borrowed_responses_per_pending_response = 5;
+    /// assert_eq!(StaticConfig::new(&config).max_borrowed_responses_per_pending_response(), 5);
+    /// ```
     pub fn max_borrowed_responses_per_pending_response(&self) -> usize {
         self.max_borrowed_responses_per_pending_response
     }
 
     /// How many requests of one client may be open at each server at once.
+    ///
+    /// ```
+    /// use iox2sd::config::Config;
+    /// use iox2sd::static_config::request_response::StaticConfig;
+    ///
+    /// let mut config = Config::default();
+    /// config.defaults.request_response.max_active_requests_per_client = 5;
+    /// assert_eq!(StaticConfig::new(&config).max_active_requests_per_client(), 5);
+    /// ```
     pub fn max_active_requests_per_client(&self) -> usize {
         self.max_active_requests_per_client
     }
 
     /// How many responses to one request a client's buffer has room for.
+    ///
+    /// ```
+    /// use iox2sd::config::Config;
+    /// use iox2sd::static_config::request_response::StaticConfig;
+    ///
+    /// let mut config = Config::default();
+    /// config.defaults.request_response.max_response_buffer_size = 5;
+    /// assert_eq!(StaticConfig::new(&config).max_response_buffer_size(), 5);
+    /// ```
     pub fn max_response_buffer_size(&self) -> usize {
         self.max_response_buffer_size
     }
 
     /// How many requests a client may have taken and not yet sent.
+    ///
+    /// ```
+    /// use iox2sd::config::Config;
+    /// use iox2sd::static_config::request_response::StaticConfig;
+    ///
+    /// let mut config = Config::default();
+    /// config.defaults.request_response.max_loaned_requests = 5;
+    /// assert_eq!(StaticConfig::new(&config).max_loaned_requests(), 5);
+    /// ```
     pub fn max_loaned_requests(&self) -> usize {
         self.max_loaned_requests
     }
 
     /// How many servers there may be at once.
+    ///
+    /// ```
+    /// use iox2sd::config::Config;
+    /// use iox2sd::static_config::request_response::StaticConfig;
+    ///
+    /// let mut config = Config::default();
+    /// config.defaults.request_response.max_servers = 5;
+    /// assert_eq!(StaticConfig::new(&config).max_servers(), 5);
+    /// ```
     pub fn max_servers(&self) -> usize {
         self.max_servers
     }
 
     /// How many clients there may be at once.
+    ///
+    /// ```
+    /// use iox2sd::config::Config;
+    /// use iox2sd::static_config::request_response::StaticConfig;
+    ///
+    /// let mut config = Config::default();
+    /// config.defaults.request_response.max_clients = 5;
+    /// assert_eq!(StaticConfig::new(&config).max_clients(), 5);
+    /// ```
     pub fn max_clients(&self) -> usize {
         self.max_clients
     }
 
     /// How many nodes may have the service open at once.
+    ///
+    /// ```
+    /// use iox2sd::config::Config;
+    /// use iox2sd::static_config::request_response::StaticConfig;
+    ///
+    /// let mut config = Config::default();
+    /// config.defaults.request_response.max_nodes = 5;
+    /// assert_eq!(StaticConfig::new(&config).max_nodes(), 5);
+    /// ```
     pub fn max_nodes(&self) -> usize {
         self.max_nodes
     }
