@@ -9,13 +9,14 @@ import tempfile
 from pathlib import Path
 from typing import NamedTuple
 
+import marks
 import measure
 
 HERE = Path(__file__).resolve().parent
 PLAIN = HERE / "plain_calls"
 PROVED = HERE.parent / "crates" / "bench_calls"
 MARK = 1.0
-REFUSED = b"no such call\n"
+DEBIAN = Path("/usr/share/cargo/registry")
 
 
 class Call(NamedTuple):
@@ -57,7 +58,9 @@ CALLS = [
 
 def built():
     """The paths of both programs, which are built first: `plain_calls` each time, the proved one
-    where it is missing."""
+    where it is missing. `None` where there are not the libraries of which `plain_calls` is made."""
+    if not all(any(DEBIAN.glob(f"{library}-*")) for library in ("sha1", "base64")):
+        return None
     subprocess.run(["cargo", "build", "--release", "--quiet", "--offline"], cwd=PLAIN, check=True)
     proved = PROVED / "out" / "bench_calls"
     if not proved.exists():
@@ -67,38 +70,32 @@ def built():
 
 
 def measured(programs, call, work):
-    """Instructions of one call in each of the programs, or `None` where the proved one has no such
-    call."""
+    """Instructions of one call in each of the programs."""
     scripts = []
     for calls in (call.few, call.many):
         script = Path(work) / f"{calls}"
         script.write_text(f"{call.name} {call.places} {call.rounds} {calls}\n")
         scripts.append(script)
-        with open(script, "rb") as stdin:
-            if subprocess.run([programs[0]], stdin=stdin, capture_output=True, check=True).stdout == REFUSED:
-                return None
         fault = measure.check_same(programs, script)
         if fault:
             sys.exit(f"{script.read_text()}: {fault}")
     few, many = scripts
     made = call.rounds * (call.many - call.few)
-    return [(measure.instructions(program, many) - measure.instructions(program, few)) / made for program in programs]
+    return [measure.difference(measure.instructions(program, many), measure.instructions(program, few), made) for program in programs]
 
 
 def table(programs):
-    """Prints a row for each call, and gives the marks that are missed."""
+    """Prints a row for each call, and gives what each came to and its mark."""
+    if programs is None:
+        print("Single calls are not measured: librust-sha1-dev and librust-base64-dev are not installed.")
+        return [marks.Mark(f"{call.name} {call.places}", None, MARK) for call in CALLS]
     print("| Call | Nodes, subscribers, publishers | Instructions a call | Ratio, at most 1.0 |\n|---|---|---|---|", flush=True)
-    missed = []
+    found = []
     for call in CALLS:
         places = call.places.replace(" ", ", ") if call.places in (DEFAULT, LARGE) else ""
         with tempfile.TemporaryDirectory() as work:
-            pair = measured(programs, call, work)
-        if pair is None:
-            print(f"| {call.name} | {places} | no such call yet | |", flush=True)
-            continue
-        ratio = pair[0] / pair[1]
-        mark = "" if round(ratio, 2) <= MARK else ", missed"
-        print(f"| {call.name} | {places} | {pair[0]:,.0f} / {pair[1]:,.0f} | {ratio:.2f}{mark} |", flush=True)
-        if mark:
-            missed.append(f"{call.name} {places}: instructions {ratio:.2f}, mark {MARK}")
-    return missed
+            proved, plain = measured(programs, call, work)
+        mark = marks.Mark(f"{call.name} {call.places}", marks.ratio(proved, plain), MARK)
+        print(f"| {call.name} | {places} | {marks.pair(',.0f', proved, plain)} | {mark.of()}{', missed' * mark.is_missed()} |", flush=True)
+        found.append(mark)
+    return found
