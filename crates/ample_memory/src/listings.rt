@@ -2,7 +2,7 @@
 use super::Called;
 use iox2_dynamic::dynamic_config::{DynamicConfig, MessagingPatternSettings, event};
 use iox2_ids::identifiers::UniqueNodeId;
-use service_callers::discovery::list_attached;
+use service_examples::discovery::list_attached;
 use std::alloc::{AllocError, Global};
 
 /// A list of this many members.

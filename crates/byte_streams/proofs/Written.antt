@@ -9,14 +9,19 @@ slice_tail : (bs : List ℕ) (i : ℕ) → take (length bs - i) (drop i bs) ≡ 
 slice_tail bs i = rw (← length-drop i bs) (take-length (drop i bs))
 
 -- what was appended, and then some more
-pub appends_more : (a b c : Option (List ℕ)) (xs ys : List ℕ) → Appends a b xs → Appends b c ys → Appends a c (xs ++ ys)
+pub appends_more : (a b c : Option (List ℕ)) (xs ys : List ℕ) → Appends a b xs → Appends b c ys
+    → Appends a c (xs ++ ys)
 appends_more None b c xs ys p q = tt
 appends_more (Some xa) None c xs ys p q = absurd p
 appends_more (Some xa) (Some xb) None xs ys p q = absurd q
-appends_more (Some xa) (Some xb) (Some xc) xs ys p q = q ∙ ap (λ (r : List ℕ). r ++ ys) p ∙ append_assoc xa xs ys
+appends_more (Some xa) (Some xb) (Some xc) xs ys p q = q ∙ ap (λ (r : List ℕ). r ++ ys) p
+    ∙ append_assoc xa xs ys
 
 -- n bytes more were written, and the slice after them is left
-pub written_more : (bytes done rest : List ℕ) (n : ℕ) → bytes ≡ done ++ rest → bytes ≡ (done ++ take n rest) ++ take (length rest - n) (drop n rest)
+pub written_more : (bytes done rest : List ℕ) (n : ℕ) → bytes ≡ done ++ rest
+    → bytes ≡ (done ++ take n rest) ++ take (length rest - n) (drop n rest)
 written_more bytes done rest n e =
-    e ∙ ap (λ (xs : List ℕ). done ++ xs) (sym (take-append-drop n rest) ∙ ap (λ (xs : List ℕ). take n rest ++ xs) (sym (slice_tail rest n)))
+    e ∙ ap (λ (xs : List ℕ). done ++ xs)
+    (sym (take-append-drop n rest)
+    ∙ ap (λ (xs : List ℕ). take n rest ++ xs) (sym (slice_tail rest n)))
     ∙ sym (append_assoc done (take n rest) (take (length rest - n) (drop n rest)))

@@ -17,7 +17,8 @@ suits_through a b c p q = record {
 }
 
 -- details are equal where their parts are
-same_facts : (v w : TypeVariant) (m n : List ℕ) (s t a b : ℕ) → v ≡ w → m ≡ n → s ≡ t → a ≡ b → detail v m s a ≡ detail w n t b
+same_facts : (v w : TypeVariant) (m n : List ℕ) (s t a b : ℕ) → v ≡ w → m ≡ n → s ≡ t → a ≡ b
+    → detail v m s a ≡ detail w n t b
 same_facts v w m n s t a b variant type_name size alignment = cc
 
 same_from_suits : (a b : TypeDetailParts) → Suits a b → Suits b a → a ≡ b
@@ -26,12 +27,17 @@ same_from_suits a b p q =
     let second = q.alignment in
     same_facts _ _ _ _ _ _ _ _ p.variant p.type_name p.size (omega arith)
 
-same_message : (h i u v p q : TypeDetailParts) → h ≡ i → u ≡ v → p ≡ q → message h u p ≡ message i v q
+same_message : (h i u v p q : TypeDetailParts) → h ≡ i → u ≡ v → p ≡ q
+    → message h u p ≡ message i v q
 same_message h i u v p q header user_header payload = cc
 
 pub compatible_to_itself : IsCompatibleToItself
 compatible_to_itself d =
-    record { header = refl; user_header = suits_itself d.user_header; payload = suits_itself d.payload }
+    record {
+      header = refl;
+      user_header = suits_itself d.user_header;
+      payload = suits_itself d.payload;
+    }
 
 pub compatible_through : IsCompatibleThrough
 compatible_through a b c p q = record {

@@ -8,26 +8,14 @@ use Rattle.std.specs.Bool.{Decides}
 use Rattle.std.specs.Cmp.{booleans_Decides, unsigned_Decides}
 use Rattle.std.specs.Cmp.Lexicographic.{pointwise}
 use Rattle.std.specs.Option.{option_eq}
-use Rattle.iox2_config.specs.GlobalSettings.{GlobalSettings}
 use Rattle.iox2_config.specs.contracts.config.ConfigPartialEq.TheImpl as config
 use Rattle.iox2_config.specs.contracts.config.choices.AllocationStrategyPartialEq.TheImpl as allocation
 use Rattle.iox2_config.specs.contracts.config.choices.BackpressureStrategyPartialEq.TheImpl as backpressure
-use Rattle.iox2_config.specs.contracts.config.defaults.DefaultsPartialEq.TheImpl as defaults
-use Rattle.iox2_config.specs.contracts.config.event.EventPartialEq.TheImpl as event
-use Rattle.iox2_config.specs.contracts.config.global.GlobalPartialEq.TheImpl as global
-use Rattle.iox2_config.specs.contracts.config.node.NodePartialEq.TheImpl as node
-use Rattle.iox2_config.specs.contracts.config.request_response.RequestResonsePartialEq.TheImpl as request_response
-use Rattle.iox2_config.specs.contracts.config.service.ServicePartialEq.TheImpl as service
 use Rattle.iox2_config.specs.contracts.types.message_details.MessageTypeDetailsPartialEq.TheImpl as message_details
 use Rattle.iox2_config.specs.contracts.types.type_detail.TypeVariantPartialEq.TheImpl as variant
 use Rattle.iox2_config.specs.declared.config.Config.{Config}
 use Rattle.iox2_config.specs.declared.config.choices.AllocationStrategy.{AllocationStrategy}
 use Rattle.iox2_config.specs.declared.config.choices.BackpressureStrategy.{BackpressureStrategy}
-use Rattle.iox2_config.specs.declared.config.defaults.Defaults.{Defaults}
-use Rattle.iox2_config.specs.declared.config.event.Event.{Event}
-use Rattle.iox2_config.specs.declared.config.node.Node.{Node}
-use Rattle.iox2_config.specs.declared.config.request_response.RequestResonse.{RequestResonse}
-use Rattle.iox2_config.specs.declared.config.service.Service.{Service}
 use Rattle.iox2_config.specs.declared.types.message_details.MessageTypeDetails.{MessageTypeDetails}
 use Rattle.iox2_config.specs.declared.types.type_detail.TypeVariant.{TypeVariant}
 
@@ -43,8 +31,10 @@ abbrev pub flags : EqualityTest Bool
 flags = record { test = beq; decides = booleans_Decides }
 
 module _ {A B : Type 0} where
-  pub pairs_decide : (s : EqualityTest A) (t : EqualityTest B) (p q : A × B) → Decides (s.test p.0 q.0 && t.test p.1 q.1) (p ≡ q)
-  pairs_decide s t p q = Decides-like _ (λ e i. (e.0 i, e.1 i)) (λ e. (ap (λ r. r.0) e, ap (λ r. r.1) e))
+  pub pairs_decide : (s : EqualityTest A) (t : EqualityTest B) (p q : A × B)
+      → Decides (s.test p.0 q.0 && t.test p.1 q.1) (p ≡ q)
+  pairs_decide s t p q =
+      Decides-like _ (λ e i. (e.0 i, e.1 i)) (λ e. (ap (λ r. r.0) e, ap (λ r. r.1) e))
       (Decides-and _ _ (s.decides p.0 q.0) (t.decides p.1 q.1))
 
   -- of two values, each by its own test
@@ -52,10 +42,13 @@ module _ {A B : Type 0} where
   pairs s t = record { test = λ p q. s.test p.0 q.0 && t.test p.1 q.1; decides = pairs_decide s t }
 
   -- of a struct, by what it is made of
-  abbrev pub structs : (to : A → B) (from : B → A) → ((a : A) → from (to a) ≡ a) → EqualityTest B → EqualityTest A
+  abbrev pub structs : (to : A → B) (from : B → A) → ((a : A) → from (to a) ≡ a) → EqualityTest B
+      → EqualityTest A
   structs to from back t = record {
     test = λ a b. t.test (to a) (to b);
-    decides = λ a b. Decides-like _ (λ e. sym (back a) ∙ (ap from e ∙ back b)) (ap to) (t.decides (to a) (to b));
+    decides =
+        λ a b. Decides-like _ (λ e. sym (back a) ∙ (ap from e ∙ back b)) (ap to)
+        (t.decides (to a) (to b));
   }
 
 module _ {A : Type 0} (t : EqualityTest A) where
@@ -69,13 +62,18 @@ module _ {A : Type 0} (t : EqualityTest A) where
 
   -- of two lists, item by item
   abbrev pub lists : EqualityTest (List A)
-  lists = record { test = pointwise t.test; decides = λ xs ys. slice_eq-Decides t.decides xs ys _ refl }
+  lists = record {
+    test = pointwise t.test;
+    decides = λ xs ys. slice_eq-Decides t.decides xs ys _ refl;
+  }
 
   -- of a value with a mark of its kind, whose own test always holds
   abbrev pub marked : EqualityTest A
   marked = record {
     test = λ a b. t.test a b && true;
-    decides = λ a b. Decides-like _ (λ e. e.0) (λ e. (e, refl)) (Decides-and _ true (t.decides a b) (λ h. h, λ h. h));
+    decides =
+        λ a b. Decides-like _ (λ e. e.0) (λ e. (e, refl))
+        (Decides-and _ true (t.decides a b) (λ h. h, λ h. h));
   }
 
 -- of two texts, byte by byte
@@ -85,7 +83,8 @@ texts = lists numbers
 pub allocations_decide : (x y : AllocationStrategy) → Decides (allocation.ghosts.eq x y) (x ≡ y)
 allocations_decide x y = search rules
 
-pub backpressures_decide : (x y : BackpressureStrategy) → Decides (backpressure.ghosts.eq x y) (x ≡ y)
+pub backpressures_decide : (x y : BackpressureStrategy)
+    → Decides (backpressure.ghosts.eq x y) (x ≡ y)
 backpressures_decide x y = search rules
 
 abbrev pub allocations : EqualityTest AllocationStrategy
@@ -101,31 +100,15 @@ abbrev pub variants : EqualityTest TypeVariant
 variants = record { test = variant.ghosts.eq; decides = variants_decide }
 
 -- `hlevel tests` is the test that a derive makes of a struct
-pub ruleset tests = (numbers, flags, texts, pairs, structs, options, allocations, backpressures, variants)
+pub ruleset tests =
+    (numbers, flags, texts, pairs, structs, options, allocations, backpressures, variants)
 
 pub decided : {A : Type 0} (t : EqualityTest A) (a b : A) → Decides (t.test a b) (a ≡ b)
 decided t = t.decides
 
-pub services_decide : (a b : Service) → Decides (service.ghosts.eq a b) (a ≡ b)
-services_decide = decided (hlevel tests)
-
-pub nodes_decide : (a b : Node) → Decides (node.ghosts.eq a b) (a ≡ b)
-nodes_decide = decided (hlevel tests)
-
-pub globals_decide : (a b : GlobalSettings) → Decides (global.ghosts.eq a b) (a ≡ b)
-globals_decide = decided (hlevel tests)
-
-pub events_decide : (a b : Event) → Decides (event.ghosts.eq a b) (a ≡ b)
-events_decide = decided (hlevel tests)
-
-pub request_responses_decide : (a b : RequestResonse) → Decides (request_response.ghosts.eq a b) (a ≡ b)
-request_responses_decide = decided (hlevel tests)
-
-pub defaults_decide : (a b : Defaults) → Decides (defaults.ghosts.eq a b) (a ≡ b)
-defaults_decide = decided (hlevel tests)
-
 pub configurations_decide : (a b : Config) → Decides (config.ghosts.eq a b) (a ≡ b)
 configurations_decide = decided (hlevel tests)
 
-pub message_details_decide : (a b : MessageTypeDetails) → Decides (message_details.ghosts.eq a b) (a ≡ b)
+pub message_details_decide : (a b : MessageTypeDetails)
+    → Decides (message_details.ghosts.eq a b) (a ≡ b)
 message_details_decide = decided (hlevel tests)

@@ -21,18 +21,24 @@ pub record HoldsMessage (d : MessageTypeDetails) (n size header : ℕ) : Type 0 
   pub place_fits : payload_place d header < 2 ^ 64
   pub own : Holds header size (parts d d header n)
   pub openers : (o : MessageTypeDetails) → MayOpen o d → Holds header size (parts d o header n)
-  pub elements : (o : MessageTypeDetails) → MayOpen o d → o.payload.alignment ∣ o.payload.size → (i : ℕ) → i < n →
+  pub elements : (o : MessageTypeDetails) → MayOpen o d → o.payload.alignment ∣ o.payload.size
+      → (i : ℕ) → i < n →
       IsAligned (element d o header i) × Within (payload_part d o header n) (element d o header i)
 
 -- block i of those that lie end to end from `header` on
 abbrev pub block : MessageTypeDetails → ℕ → ℕ → ℕ → Part
 block d size header i =
-    record { start = header + i * size; end = header + (i + 1) * size; alignment = d.header.alignment }
+    record {
+      start = header + i * size;
+      end = header + (i + 1) * size;
+      alignment = d.header.alignment;
+    }
 
 -- each block of this size that starts at a multiple of the header's alignment holds a message of n
 -- elements, and so do blocks that lie end to end, of which no two share a place
 pub record HoldsEverywhere (d : MessageTypeDetails) (n size : ℕ) : Type 0 where
-  pub alone : (header : ℕ) → d.header.alignment ∣ header → header + size < 2 ^ 64 → HoldsMessage d n size header
+  pub alone : (header : ℕ) → d.header.alignment ∣ header → header + size < 2 ^ 64
+      → HoldsMessage d n size header
   pub in_rows : (header count : ℕ) → d.header.alignment ∣ header → header + count * size < 2 ^ 64 →
       (i : ℕ) → i < count → HoldsMessage d n size (header + i * size)
   pub apart : (header i j : ℕ) → i < j → Apart (block d size header i) (block d size header j)

@@ -24,8 +24,10 @@ IsCompatibleToItself = (details : MessageTypeDetails) → Compatible details det
 -- what is compatible to something compatible is compatible
 abbrev pub IsCompatibleThrough : Type 0
 IsCompatibleThrough =
-    (first second third : MessageTypeDetails) → Compatible first second → Compatible second third → Compatible first third
+    (first second third : MessageTypeDetails) → Compatible first second → Compatible second third
+    → Compatible first third
 
 -- details that are compatible both ways are equal
 abbrev pub AreEqualBothWays : Type 0
-AreEqualBothWays = (one other : MessageTypeDetails) → Compatible one other → Compatible other one → one ≡ other
+AreEqualBothWays = (one other : MessageTypeDetails) → Compatible one other → Compatible other one
+    → one ≡ other

@@ -14,8 +14,10 @@ variant_writes Dynamic = isize (pos 1)
 
 -- what a type's details give: each part in turn
 abbrev pub detail_writes : TypeDetailParts → HashWrites
-detail_writes d = variant_writes d.variant ++ (text_writes d.type_name ++ (usize d.size ++ usize d.alignment))
+detail_writes d = variant_writes d.variant
+    ++ (text_writes d.type_name ++ (usize d.size ++ usize d.alignment))
 
 -- what a message's details give: those of each of its types in turn
 abbrev pub details_writes : MessageTypeDetails → HashWrites
-details_writes d = detail_writes d.header ++ (detail_writes d.user_header ++ detail_writes d.payload)
+details_writes d = detail_writes d.header
+    ++ (detail_writes d.user_header ++ detail_writes d.payload)

@@ -1,5 +1,5 @@
--- Hash texts of services.
-use Rattle.std.specs.Prelude.{◌≡◌, ℕ, ◌+◌, List, ◌∷◌, Result, Ok, Err}
+-- The patterns of services, and hash texts.
+use Rattle.std.specs.Prelude.{◌≡◌, ◌≢◌, ℕ, ◌+◌, List, ◌∷◌, Option, Some, None, Result, Ok, Err, codes}
 use Rattle.sha1.specs.Sha1.{sha1}
 use Rattle.base64.specs.Engines.{url_safe_no_pad}
 use Rattle.base64.specs.GeneralPurpose.{encode_of}
@@ -16,6 +16,18 @@ pattern_number Event = 1
 pattern_number RequestResponse = 2
 pattern_number Blackboard = 3
 
+-- the pattern of a number, if there is one
+abbrev pub ReadsPattern : ℕ → Option PatternKind → Type 0
+ReadsPattern number (Some kind) = pattern_number kind ≡ number
+ReadsPattern number None = (kind : PatternKind) → pattern_number kind ≢ number
+
+-- the word for a pattern
+abbrev pub pattern_word : PatternKind → List ℕ
+pattern_word PublishSubscribe = codes "publish-subscribe"
+pattern_word Event = codes "event"
+pattern_word RequestResponse = codes "request-response"
+pattern_word Blackboard = codes "blackboard"
+
 -- the number of the pattern as one digit, and then the name
 abbrev pub hash_input : PatternKind → List ℕ → List ℕ
 hash_input kind name = (48 + pattern_number kind) ∷ name
@@ -26,8 +38,10 @@ sha1_text input = encode_of url_safe_no_pad (sha1 input)
 
 -- what the making of a hash text answers: a refusal by the hasher only for an input that it may
 -- refuse, and else what it means by the input, or that this is not legal
-abbrev pub MakesHash : (List ℕ → List ℕ) → (List ℕ → Type 0) → List ℕ → Result (List ℕ) ServiceHashError → Type 0
-MakesHash meaning may_refuse input (Ok text) = (text ≡ meaning input) × IsRestrictedName 64 (meaning input)
+abbrev pub MakesHash : (List ℕ → List ℕ) → (List ℕ → Type 0) → List ℕ
+    → Result (List ℕ) ServiceHashError → Type 0
+MakesHash meaning may_refuse input (Ok text) = (text ≡ meaning input)
+    × IsRestrictedName 64 (meaning input)
 MakesHash meaning may_refuse input (Err HasherFailed) = may_refuse input
 MakesHash meaning may_refuse input (Err IllegalText) = ¬ (IsRestrictedName 64 (meaning input))
 

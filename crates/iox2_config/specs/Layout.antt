@@ -10,12 +10,15 @@ user_header_place d header = least_multiple (header + d.header.size) d.user_head
 
 -- the payload lies behind the user header, at the first place that suits it
 abbrev pub payload_place : MessageTypeDetails → ℕ → ℕ
-payload_place d header = least_multiple (user_header_place d header + d.user_header.size) d.payload.alignment
+payload_place d header =
+    least_multiple (user_header_place d header + d.user_header.size) d.payload.alignment
 
 -- the size that a message of n elements is given: enough for the largest gaps between its parts
-abbrev pub bound : MessageTypeDetails → ℕ → ℕ
-bound d n =
-    least_multiple (d.header.size + d.user_header.size + d.user_header.alignment - 1 + d.payload.size * n + d.payload.alignment - 1) d.header.alignment
+abbrev pub sample_size : MessageTypeDetails → ℕ → ℕ
+sample_size d n =
+    least_multiple
+    (d.header.size + d.user_header.size + d.user_header.alignment - 1 + d.payload.size * n
+    + d.payload.alignment - 1) d.header.alignment
 
 -- the details were given: the default ones have no alignment
 pub record HaveAlignments (d : MessageTypeDetails) : Type 0 where
@@ -31,7 +34,11 @@ pub record HasPlaces (d : MessageTypeDetails) (header : ℕ) : Type 0 where
 -- the parts of a service's message of n elements, each with the alignment that `reader` has for it
 abbrev pub header_part : MessageTypeDetails → MessageTypeDetails → ℕ → Part
 header_part service reader header =
-    record { start = header; end = header + service.header.size; alignment = reader.header.alignment }
+    record {
+      start = header;
+      end = header + service.header.size;
+      alignment = reader.header.alignment;
+    }
 
 abbrev pub user_header_part : MessageTypeDetails → MessageTypeDetails → ℕ → Part
 user_header_part service reader header = record {
@@ -49,7 +56,8 @@ payload_part service reader header n = record {
 
 abbrev pub parts : MessageTypeDetails → MessageTypeDetails → ℕ → ℕ → List Part
 parts service reader header n =
-    header_part service reader header ∷ user_header_part service reader header ∷ payload_part service reader header n ∷ []
+    header_part service reader header ∷ user_header_part service reader header
+    ∷ payload_part service reader header n ∷ []
 
 -- element i of the payload
 abbrev pub element : MessageTypeDetails → MessageTypeDetails → ℕ → ℕ → Part

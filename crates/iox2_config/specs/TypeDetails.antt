@@ -49,9 +49,12 @@ FirstRefused (name ∷ names) error =
     MakesText 256 name (Err error) ⊎ (IsTypeName name × FirstRefused names error)
 
 -- what the making of the details of a message's parts answers
-abbrev pub DescribesMessage : MessageTypeDetails → Result MessageTypeDetails TypeDetailError → Type 0
+abbrev pub DescribesMessage : MessageTypeDetails → Result MessageTypeDetails TypeDetailError
+    → Type 0
 DescribesMessage parts (Ok made) =
     (made ≡ parts) × IsLegal parts.header × IsLegal parts.user_header × IsLegal parts.payload
 DescribesMessage parts (Err (Name error)) =
-    FirstRefused (parts.header.type_name ∷ parts.user_header.type_name ∷ parts.payload.type_name ∷ []) error
+    FirstRefused
+    (parts.header.type_name ∷ parts.user_header.type_name ∷ parts.payload.type_name
+    ∷ []) error
 DescribesMessage parts (Err AlignmentNotPowerOfTwo) = ⊥

@@ -97,6 +97,27 @@ fn sha1_meets_its_vectors(rt: HostRuntime) {
 }
 
 #[test]
+fn patterns_have_numbers_and_words(rt: HostRuntime) {
+    let numbered = [0, 3, 4].map(|number| PatternKind::of_number(number));
+    let first_and_last = [
+        Some(PatternKind::PublishSubscribe),
+        Some(PatternKind::Blackboard),
+        None,
+    ];
+    assert_eq!(rt; numbered, first_and_last);
+    let words = PatternKind::ALL.map(|kind| kind.word());
+    assert_eq!(rt;
+        words,
+        [
+            "publish-subscribe",
+            "event",
+            "request-response",
+            "blackboard"
+        ]
+    );
+}
+
+#[test]
 fn pattern_and_name_are_hashed(rt: HostRuntime) {
     let name = ServiceName::new("My/Funk/ServiceName").expect(&rt, "a name");
     for (kind, wanted) in [

@@ -6,35 +6,47 @@ use Rattle.std.proofs.Math.Dec.{eqb}
 use Rattle.std.proofs.lemmas.Bool.{eqb-true, eq-eqb}
 use Rattle.std.proofs.lemmas.List.Sums.{AllPass-from_list_all, list_all-from_AllPass}
 use Rattle.std.proofs.lemmas.List.Sorted.{length_permutation, sum_by-IsPermutation}
-use Rattle.iox2_container.specs.declared.container.calls.RegistryReply.{RegistryReply}
-use Rattle.iox2_container.specs.declared.container.calls.RegistryReply.TheVariants as Reply
+use Rattle.iox2_container.specs.declared.container.comparison.calls.RegistryReply.{RegistryReply}
+use Rattle.iox2_container.specs.declared.container.comparison.calls.RegistryReply.TheVariants as Reply
 use Rattle.iox2_container.specs.Agreement.{EquallyMany, AgreesBy}
 use Rattle.iox2_container.specs.Calls.{SameReply, SameKind}
 
 -- the test of each item in turn decides it, where the lists are equally long
-pub tells_equally_many : {T : Type 0} (eq : T → T → Bool) (ones others : List T) (all : Bool) → length ones ≡ length others → all ≡ list_all (λ x. eqb (count_by (eq x) ones) (count_by (eq x) others)) ones → IsTrue all ↔ EquallyMany eq ones others
+pub tells_equally_many : {T : Type 0} (eq : T → T → Bool) (ones others : List T) (all : Bool)
+    → length ones ≡ length others
+    → all ≡ list_all (λ x. eqb (count_by (eq x) ones) (count_by (eq x) others)) ones → IsTrue all
+    ↔ EquallyMany eq ones others
 tells_equally_many eq ones others all as_long e = (
   λ yes. record {
     as_long = as_long;
-    each = λ k d below. eqb-true _ _ (AllPass-from_list_all (λ x. eqb (count_by (eq x) ones) (count_by (eq x) others)) ones (sym e ∙ yes) k d below);
+    each = λ k d below. eqb-true _ _
+        (AllPass-from_list_all (λ x. eqb (count_by (eq x) ones) (count_by (eq x) others)) ones
+        (sym e ∙ yes) k d below);
   },
-  λ many. e ∙ list_all-from_AllPass (λ x. eqb (count_by (eq x) ones) (count_by (eq x) others)) ones (λ k d below. eq-eqb _ _ (many.each k d below)),
+  λ many. e
+      ∙ list_all-from_AllPass (λ x. eqb (count_by (eq x) ones) (count_by (eq x) others)) ones
+      (λ k d below. eq-eqb _ _ (many.each k d below)),
 )
 
-permuted_equally : {T : Type 0} (eq : T → T → Bool) (ones others : List T) → IsPermutation ones others → EquallyMany eq ones others
+permuted_equally : {T : Type 0} (eq : T → T → Bool) (ones others : List T)
+    → IsPermutation ones others → EquallyMany eq ones others
 permuted_equally eq ones others p = record {
   as_long = sym (length_permutation ones others p);
   each = λ k d below. sym (sum_by-IsPermutation _ ones others p);
 }
 
-same_agree : {T : Type 0} (eq : T → T → Bool) (one other : RegistryReply T) → SameReply one other → AgreesBy eq one other
+same_agree : {T : Type 0} (eq : T → T → Bool) (one other : RegistryReply T) → SameReply one other
+    → AgreesBy eq one other
 same_agree eq (Reply.Handle one) (Reply.Handle other) same = tt
-same_agree eq (Reply.Entries one) (Reply.Entries other) same = permuted_equally eq one.items other.items same
+same_agree eq (Reply.Entries one) (Reply.Entries other) same =
+    permuted_equally eq one.items other.items same
 same_agree eq one other same = same
 
 -- replies of one kind agree
-pub same_kind_agrees : {T : Type 0} (eq : T → T → Bool) (ones others : List (RegistryReply T)) → SameKind ones others → AllZip (AgreesBy eq) ones others
+pub same_kind_agrees : {T : Type 0} (eq : T → T → Bool) (ones others : List (RegistryReply T))
+    → SameKind ones others → AllZip (AgreesBy eq) ones others
 same_kind_agrees eq [] [] same = tt
 same_kind_agrees eq [] (other ∷ others) same = same
 same_kind_agrees eq (one ∷ ones) [] same = same
-same_kind_agrees eq (one ∷ ones) (other ∷ others) same = (same_agree eq one other same.0, same_kind_agrees eq ones others same.1)
+same_kind_agrees eq (one ∷ ones) (other ∷ others) same =
+    (same_agree eq one other same.0, same_kind_agrees eq ones others same.1)

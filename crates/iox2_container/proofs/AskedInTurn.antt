@@ -1,9 +1,9 @@
 -- Callbacks that are asked in turn.
 use Rattle.std.proofs.Common.{◌≡◌, ℕ, zero, suc, ◌+◌, Option, Some, None, List, [], ◌∷◌, ◌++◌, take, map, refl, sym, ◌∙◌, ap, subst, arith, inl, inr}
 use Rattle.std.specs.Prelude.{slice_get}
-use Rattle.iox2_texts.specs.declared.bounded.CallbackProgression.{CallbackProgression}
-use Rattle.iox2_texts.specs.declared.bounded.CallbackProgression.TheVariants.{Continue, Stop}
-use Rattle.iox2_container.specs.declared.container.cell.Occupant.{Occupant}
+use Rattle.iox2_texts.specs.declared.bounded.callback_progression.CallbackProgression.{CallbackProgression}
+use Rattle.iox2_texts.specs.declared.bounded.callback_progression.CallbackProgression.TheVariants.{Continue, Stop}
+use Rattle.iox2_container.specs.declared.container.slots.cell.Occupant.{Occupant}
 use Rattle.iox2_container.specs.Cells.{occupant}
 use Rattle.iox2_container.specs.State.{Entry}
 use Rattle.iox2_container.specs.Places.{entries_from}
@@ -13,14 +13,19 @@ use Rattle.iox2_container.specs.Passes.{AskedOfCell}
 use Rattle.iox2_container.specs.Steps.{Asked, Visit}
 use Rattle.iox2_container.proofs.CellEntries.{same_entry}
 
-pub Asked-push : {F A R : Type 0} (calls : F → A → R → F → Type 0) (f : F) (items : List A) (answers : List R) (g : F) (item : A) (answer : R) (h : F) → Asked calls f items answers g → calls g item answer h → Asked calls f (items ++ item ∷ []) (answers ++ answer ∷ []) h
-Asked-push {F} calls f [] [] g item answer h a c = (h, subst (λ (k : F). calls k item answer h) a c, refl)
+pub Asked-push : {F A R : Type 0} (calls : F → A → R → F → Type 0) (f : F) (items : List A)
+    (answers : List R) (g : F) (item : A) (answer : R) (h : F) → Asked calls f items answers g
+    → calls g item answer h → Asked calls f (items ++ item ∷ []) (answers ++ answer ∷ []) h
+Asked-push {F} calls f [] [] g item answer h a c =
+    (h, subst (λ (k : F). calls k item answer h) a c, refl)
 Asked-push calls f [] (r ∷ rs) g item answer h a c = absurd a
 Asked-push calls f (x ∷ xs) [] g item answer h a c = absurd a
-Asked-push calls f (x ∷ xs) (r ∷ rs) g item answer h a c = (a.0, a.1, Asked-push calls a.0 xs rs g item answer h a.2 c)
+Asked-push calls f (x ∷ xs) (r ∷ rs) g item answer h a c =
+    (a.0, a.1, Asked-push calls a.0 xs rs g item answer h a.2 c)
 
 -- the details in the first cells, and those after them
-pub entries_split : {T : Type 0} (low i : ℕ) (cells : List (Option (Occupant T))) → (rest : List (Entry T)) × (entries_from low cells ≡ entries_from low (take i cells) ++ rest)
+pub entries_split : {T : Type 0} (low i : ℕ) (cells : List (Option (Occupant T)))
+    → (rest : List (Entry T)) × (entries_from low cells ≡ entries_from low (take i cells) ++ rest)
 entries_split low zero cells = (entries_from low cells, refl)
 entries_split low (suc i) [] = ([], refl)
 entries_split low (suc i) (None ∷ cells) = entries_split (low + 1) i cells
@@ -32,12 +37,15 @@ entries_split {T} low (suc i) (Some o ∷ cells) =
 abbrev pub details_of : {T : Type 0} → List (Entry T) → List T
 details_of es = map (λ e. e.details) es
 
-pub details-append : {T : Type 0} (xs ys : List (Entry T)) → details_of (xs ++ ys) ≡ details_of xs ++ details_of ys
+pub details-append : {T : Type 0} (xs ys : List (Entry T)) → details_of (xs ++ ys) ≡ details_of xs
+    ++ details_of ys
 details-append [] ys = refl
 details-append (x ∷ xs) ys = ap (λ l. x.details ∷ l) (details-append xs ys)
 
 -- one cell more
-pub taken_more : {T : Type 0} (low i : ℕ) (cells : List (Option (Occupant T))) (x : Entry T) → slice_get cells i ≡ Some (Some (occupant x.ticket x.details)) → x.slot ≡ low + i → entries_from low (take (suc i) cells) ≡ entries_from low (take i cells) ++ x ∷ []
+pub taken_more : {T : Type 0} (low i : ℕ) (cells : List (Option (Occupant T))) (x : Entry T)
+    → slice_get cells i ≡ Some (Some (occupant x.ticket x.details)) → x.slot ≡ low + i
+    → entries_from low (take (suc i) cells) ≡ entries_from low (take i cells) ++ x ∷ []
 taken_more low i [] x h s = (cc)
 taken_more low zero (None ∷ cells) x h s = (cc)
 taken_more {T} low zero (Some o ∷ cells) x h s =
@@ -47,7 +55,9 @@ taken_more {T} low (suc i) (Some o ∷ cells) x h s =
     let y : Entry T = record { slot = low; ticket = o.ticket; details = o.details } in
     ap (λ (l : List (Entry T)). y ∷ l) (taken_more (low + 1) i cells x h (omega arith))
 
-pub taken_free : {T : Type 0} (low i : ℕ) (cells : List (Option (Occupant T))) → slice_get cells i ≡ Some None → entries_from low (take (suc i) cells) ≡ entries_from low (take i cells)
+pub taken_free : {T : Type 0} (low i : ℕ) (cells : List (Option (Occupant T)))
+    → slice_get cells i ≡ Some None
+    → entries_from low (take (suc i) cells) ≡ entries_from low (take i cells)
 taken_free low i [] h = (cc)
 taken_free low zero (None ∷ cells) h = refl
 taken_free low zero (Some o ∷ cells) h = (cc)
@@ -57,48 +67,79 @@ taken_free {T} low (suc i) (Some o ∷ cells) h =
     ap (λ (l : List (Entry T)). y ∷ l) (taken_free (low + 1) i cells h)
 
 -- so far each answer was `Continue`
-abbrev pub GoesOn : {F T : Type 0} → (F → T → CallbackProgression → F → Type 0) → F → List T → F → Type 0
+abbrev pub GoesOn : {F T : Type 0} → (F → T → CallbackProgression → F → Type 0) → F → List T → F
+    → Type 0
 GoesOn calls f [] g = g ≡ f
-GoesOn {F} calls f (item ∷ items) g = (between : F) × calls f item Continue between × GoesOn calls between items g
+GoesOn {F} calls f (item ∷ items) g = (between : F) × calls f item Continue between
+    × GoesOn calls between items g
 
-goes_one_more : {F T : Type 0} (calls : F → T → CallbackProgression → F → Type 0) (f : F) (items : List T) (g : F) (item : T) (h : F) → GoesOn calls f items g → calls g item Continue h → GoesOn calls f (items ++ item ∷ []) h
-goes_one_more {F} calls f [] g item h w c = (h, subst (λ (k : F). calls k item Continue h) w c, refl)
+goes_one_more : {F T : Type 0} (calls : F → T → CallbackProgression → F → Type 0) (f : F)
+    (items : List T) (g : F) (item : T) (h : F) → GoesOn calls f items g
+    → calls g item Continue h → GoesOn calls f (items ++ item ∷ []) h
+goes_one_more {F} calls f [] g item h w c =
+    (h, subst (λ (k : F). calls k item Continue h) w c, refl)
 goes_one_more calls f (x ∷ xs) g item h w c = (w.0, w.1, goes_one_more calls w.0 xs g item h w.2 c)
 
-visits_rest : {F T : Type 0} (calls : F → T → CallbackProgression → F → Type 0) (f : F) (seen : List T) (g : F) (rest : List T) (h : F) → GoesOn calls f seen g → Visits calls g rest h → Visits calls f (seen ++ rest) h
+visits_rest : {F T : Type 0} (calls : F → T → CallbackProgression → F → Type 0) (f : F)
+    (seen : List T) (g : F) (rest : List T) (h : F) → GoesOn calls f seen g
+    → Visits calls g rest h → Visits calls f (seen ++ rest) h
 visits_rest {F} calls f [] g rest h w v = subst (λ (k : F). Visits calls k rest h) w v
 visits_rest calls f (x ∷ xs) g rest h w v = inr (w.0, w.1, visits_rest calls w.0 xs g rest h w.2 v)
 
-details_more : {T : Type 0} (i : ℕ) (cells : List (Option (Occupant T))) (t : ℕ) (d : T) → slice_get cells i ≡ Some (Some (occupant t d)) → details_of (entries_from 0 (take (suc i) cells)) ≡ details_of (entries_from 0 (take i cells)) ++ d ∷ []
+details_more : {T : Type 0} (i : ℕ) (cells : List (Option (Occupant T))) (t : ℕ) (d : T)
+    → slice_get cells i ≡ Some (Some (occupant t d))
+    → details_of (entries_from 0 (take (suc i) cells)) ≡ details_of (entries_from 0 (take i cells))
+    ++ d ∷ []
 details_more {T} i cells t d h =
     let x : Entry T = record { slot = i; ticket = t; details = d } in
-    ap details_of (taken_more 0 i cells x h (omega arith)) ∙ details-append (entries_from 0 (take i cells)) (x ∷ [])
+    ap details_of (taken_more 0 i cells x h (omega arith))
+    ∙ details-append (entries_from 0 (take i cells)) (x ∷ [])
 
-pub goes_on : {F T : Type 0} (calls : F → T → CallbackProgression → F → Type 0) (f g h : F) (cells : List (Option (Occupant T))) (i : ℕ) (cell : Option (Occupant T)) (answer : CallbackProgression) → slice_get cells i ≡ Some cell → AskedOfCell calls g cell answer h → answer ≡ Continue → GoesOn calls f (details_of (entries_from 0 (take i cells))) g → GoesOn calls f (details_of (entries_from 0 (take (suc i) cells))) h
+pub goes_on : {F T : Type 0} (calls : F → T → CallbackProgression → F → Type 0) (f g h : F)
+    (cells : List (Option (Occupant T))) (i : ℕ) (cell : Option (Occupant T))
+    (answer : CallbackProgression) → slice_get cells i ≡ Some cell
+    → AskedOfCell calls g cell answer h → answer ≡ Continue
+    → GoesOn calls f (details_of (entries_from 0 (take i cells))) g
+    → GoesOn calls f (details_of (entries_from 0 (take (suc i) cells))) h
 goes_on {F} {T} calls f g h cells i None answer is a c w =
     subst (λ (k : F). GoesOn calls f (details_of (entries_from 0 (take (suc i) cells))) k) (sym a.1)
-    (subst (λ (l : List (Entry T)). GoesOn calls f (details_of l) g) (sym (taken_free 0 i cells is)) w)
+    (subst (λ (l : List (Entry T)). GoesOn calls f (details_of l) g)
+    (sym (taken_free 0 i cells is)) w)
 goes_on {F} {T} calls f g h cells i (Some o) answer is a c w =
     subst (λ (l : List T). GoesOn calls f l h) (sym (details_more i cells o.ticket o.details is))
-    (goes_one_more calls f (details_of (entries_from 0 (take i cells))) g o.details h w (subst (λ (r : CallbackProgression). calls g o.details r h) c a))
+    (goes_one_more calls f (details_of (entries_from 0 (take i cells))) g o.details h w
+    (subst (λ (r : CallbackProgression). calls g o.details r h) c a))
 
-pub stops : {F T : Type 0} (calls : F → T → CallbackProgression → F → Type 0) (f g h : F) (cells : List (Option (Occupant T))) (i : ℕ) (cell : Option (Occupant T)) (answer : CallbackProgression) → slice_get cells i ≡ Some cell → AskedOfCell calls g cell answer h → answer ≡ Stop → GoesOn calls f (details_of (entries_from 0 (take i cells))) g → Visit calls f (details_of (entries_from 0 cells)) h
-stops {F} {T} calls f g h cells i None answer is a c w = (let e : Continue ≡ Stop = sym a.0 ∙ c in cc)
+pub stops : {F T : Type 0} (calls : F → T → CallbackProgression → F → Type 0) (f g h : F)
+    (cells : List (Option (Occupant T))) (i : ℕ) (cell : Option (Occupant T))
+    (answer : CallbackProgression) → slice_get cells i ≡ Some cell
+    → AskedOfCell calls g cell answer h → answer ≡ Stop
+    → GoesOn calls f (details_of (entries_from 0 (take i cells))) g
+    → Visit calls f (details_of (entries_from 0 cells)) h
+stops {F} {T} calls f g h cells i None answer is a c w =
+    (let e : Continue ≡ Stop = sym a.0 ∙ c in cc)
 stops {F} {T} calls f g h cells i (Some o) answer is a c w =
     let split = entries_split 0 (suc i) cells in
     let seen : List T = details_of (entries_from 0 (take i cells)) in
     let rest : List T = details_of split.0 in
     let all_are : details_of (entries_from 0 cells) ≡ seen ++ o.details ∷ rest =
-    ap details_of split.1 ∙ (details-append (entries_from 0 (take (suc i) cells)) split.0 ∙ (ap (λ (l : List T). l ++ rest) (details_more i cells o.ticket o.details is) ∙ append_assoc seen (o.details ∷ []) rest)) in
+    ap details_of split.1
+    ∙ (details-append (entries_from 0 (take (suc i) cells)) split.0
+    ∙ (ap (λ (l : List T). l ++ rest) (details_more i cells o.ticket o.details is)
+    ∙ append_assoc seen (o.details ∷ []) rest)) in
     record {
-      visits = subst (λ (l : List T). Visits calls f l h) (sym all_are) (visits_rest calls f seen g (o.details ∷ rest) h w (inl (subst (λ (r : CallbackProgression). calls g o.details r h) c a)));
+      visits = subst (λ (l : List T). Visits calls f l h) (sym all_are)
+          (visits_rest calls f seen g (o.details ∷ rest) h w
+          (inl (subst (λ (r : CallbackProgression). calls g o.details r h) c a)));
     }
 
-visits_all : {F T : Type 0} (calls : F → T → CallbackProgression → F → Type 0) (f g : F) (items : List T) → GoesOn calls f items g → Visits calls f items g
+visits_all : {F T : Type 0} (calls : F → T → CallbackProgression → F → Type 0) (f g : F)
+    (items : List T) → GoesOn calls f items g → Visits calls f items g
 visits_all calls f g [] w = w
 visits_all calls f g (x ∷ xs) w = inr (w.0, w.1, visits_all calls w.0 g xs w.2)
 
-pub ends : {F T : Type 0} (calls : F → T → CallbackProgression → F → Type 0) (f g : F) (items : List T) → GoesOn calls f items g → Visit calls f items g
+pub ends : {F T : Type 0} (calls : F → T → CallbackProgression → F → Type 0) (f g : F)
+    (items : List T) → GoesOn calls f items g → Visit calls f items g
 ends calls f g items w = record { visits = visits_all calls f g items w }
 
 pub not_stop : (a : CallbackProgression) → (a ≡ Stop → ⊥) → a ≡ Continue

@@ -4,76 +4,120 @@ use Rattle.std.specs.Prelude.{All, AllPairs, slice_get, slice_set, replicate}
 use Rattle.std.proofs.lemmas.List.Elements.{All-nil, All-cons, All-weaker}
 use Rattle.std.proofs.lemmas.List.Kept.{AllPairs-cons}
 use Rattle.std.proofs.lemmas.Option.{slice_get_within}
-use Rattle.iox2_container.specs.declared.container.cell.Occupant.{Occupant}
+use Rattle.iox2_container.specs.declared.container.slots.cell.Occupant.{Occupant}
 use Rattle.iox2_container.specs.Cells.{occupant}
 use Rattle.iox2_container.specs.State.{Entry}
-use Rattle.iox2_container.specs.Steps.{Gains}
+use Rattle.iox2_container.specs.Steps.{InsertsOne}
 use Rattle.iox2_container.specs.Places.{NoneFrom, entries_from}
 
 -- the entry is that of a cell
-pub record Stands {T : Type 0} (low : ℕ) (cells : List (Option (Occupant T))) (e : Entry T) : Type 0 where
+pub record HasEntry {T : Type 0} (low : ℕ) (cells : List (Option (Occupant T)))
+    (e : Entry T) : Type 0 where
   pub at : ℕ
   pub slot_is : e.slot ≡ low + at
   pub cell_is : slice_get cells at ≡ Some (Some (occupant e.ticket e.details))
 
-stands_later : {T : Type 0} (low : ℕ) (c : Option (Occupant T)) (cells : List (Option (Occupant T))) (e : Entry T) → Stands (low + 1) cells e → Stands low (c ∷ cells) e
-stands_later low c cells e s = record { at = suc s.at; slot_is = omega (arith, s.slot_is); cell_is = s.cell_is }
+stands_later : {T : Type 0} (low : ℕ) (c : Option (Occupant T)) (cells : List (Option (Occupant T)))
+    (e : Entry T) → HasEntry (low + 1) cells e → HasEntry low (c ∷ cells) e
+stands_later low c cells e s =
+    record { at = suc s.at; slot_is = omega (arith, s.slot_is); cell_is = s.cell_is }
 
-pub entries_stand : {T : Type 0} (low : ℕ) (cells : List (Option (Occupant T))) → All (Stands low cells) (entries_from low cells)
-entries_stand {T} low [] = All-nil (Stands low ([]))
+pub entries_stand : {T : Type 0} (low : ℕ) (cells : List (Option (Occupant T)))
+    → All (HasEntry low cells) (entries_from low cells)
+entries_stand {T} low [] = All-nil (HasEntry low ([]))
 entries_stand low (None ∷ cells) =
-    All-weaker (Stands (low + 1) cells) (Stands low (None ∷ cells)) (stands_later low None cells) (entries_from (low + 1) cells) (entries_stand (low + 1) cells)
+    All-weaker (HasEntry (low + 1) cells) (HasEntry low (None ∷ cells))
+    (stands_later low None cells) (entries_from (low + 1) cells)
+    (entries_stand (low + 1) cells)
 entries_stand {T} low (Some o ∷ cells) =
     let x : Entry T = record { slot = low; ticket = o.ticket; details = o.details } in
-    All-cons (Stands low (Some o ∷ cells)) x (entries_from (low + 1) cells)
+    All-cons (HasEntry low (Some o ∷ cells)) x (entries_from (low + 1) cells)
     (record { at = zero; slot_is = omega arith; cell_is = refl })
-    (All-weaker (Stands (low + 1) cells) (Stands low (Some o ∷ cells)) (stands_later low (Some o) cells) (entries_from (low + 1) cells) (entries_stand (low + 1) cells))
+    (All-weaker (HasEntry (low + 1) cells) (HasEntry low (Some o ∷ cells))
+    (stands_later low (Some o) cells) (entries_from (low + 1) cells)
+    (entries_stand (low + 1) cells))
 
-pub slots_from : {T : Type 0} (low : ℕ) (cells : List (Option (Occupant T))) → AllPairs (λ (v w : Entry T). v.slot < w.slot) (entries_from low cells)
+pub slots_from : {T : Type 0} (low : ℕ) (cells : List (Option (Occupant T)))
+    → AllPairs (λ (v w : Entry T). v.slot < w.slot) (entries_from low cells)
 slots_from {T} low [] = λ i j d h l. absurd (omega arith)
 slots_from low (None ∷ cells) = slots_from (low + 1) cells
 slots_from {T} low (Some o ∷ cells) =
     let x : Entry T = record { slot = low; ticket = o.ticket; details = o.details } in
     AllPairs-cons (λ (v w : Entry T). v.slot < w.slot) x (entries_from (low + 1) cells)
-    (All-weaker (Stands (low + 1) cells) (λ (w : Entry T). low < w.slot) (λ w s. omega (arith, s.slot_is)) (entries_from (low + 1) cells) (entries_stand (low + 1) cells))
+    (All-weaker (HasEntry (low + 1) cells) (λ (w : Entry T). low < w.slot)
+    (λ w s. omega (arith, s.slot_is)) (entries_from (low + 1) cells)
+    (entries_stand (low + 1) cells))
     (slots_from (low + 1) cells)
 
 -- what stands in a cell is one entry alone
-pub same_entry : {T : Type 0} (slot : ℕ) (o : Occupant T) (x : Entry T) → slot ≡ x.slot → ◌≡◌ {A = Option (Option (Occupant T))} (Some (Some o)) (Some (Some (occupant x.ticket x.details))) → (let y : Entry T = record { slot = slot; ticket = o.ticket; details = o.details } in y) ≡ x
+pub same_entry : {T : Type 0} (slot : ℕ) (o : Occupant T) (x : Entry T) → slot ≡ x.slot
+    → ◌≡◌ {A = Option (Option (Occupant T))} (Some (Some o))
+    (Some (Some (occupant x.ticket x.details)))
+    → (let y : Entry T = record { slot = slot; ticket = o.ticket; details = o.details } in y) ≡ x
 same_entry {T} slot o x s h =
-    let f : ℕ → Occupant T → Entry T = λ n p. record { slot = n; ticket = p.ticket; details = p.details } in
+    let f : ℕ → Occupant T → Entry T =
+    λ n p. record { slot = n; ticket = p.ticket; details = p.details } in
     let e : o ≡ occupant x.ticket x.details = (cc) in
     ap (λ n. f n o) s ∙ ap (f x.slot) e
 
-gains_later : {T : Type 0} (old new : List (Entry T)) (x y : Entry T) → Gains old new x → Gains (y ∷ old) (y ∷ new) x
-gains_later old new x y g = record { before = y ∷ g.before; after = g.after; old_is = ap (λ l. y ∷ l) g.old_is; new_is = ap (λ l. y ∷ l) g.new_is }
+gains_later : {T : Type 0} (old new : List (Entry T)) (x y : Entry T) → InsertsOne old new x
+    → InsertsOne (y ∷ old) (y ∷ new) x
+gains_later old new x y g =
+    record {
+      before = y ∷ g.before;
+      after = g.after;
+      old_is = ap (λ l. y ∷ l) g.old_is;
+      new_is = ap (λ l. y ∷ l) g.new_is;
+    }
 
 -- a write to a free cell
-pub gains_write : {T : Type 0} (low : ℕ) (cells : List (Option (Occupant T))) (i : ℕ) (x : Entry T) → slice_get cells i ≡ Some None → x.slot ≡ low + i → Gains (entries_from low cells) (entries_from low (slice_set cells i (Some (occupant x.ticket x.details)))) x
+pub gains_write : {T : Type 0} (low : ℕ) (cells : List (Option (Occupant T))) (i : ℕ) (x : Entry T)
+    → slice_get cells i ≡ Some None → x.slot ≡ low + i
+    → InsertsOne (entries_from low cells)
+    (entries_from low (slice_set cells i (Some (occupant x.ticket x.details)))) x
 gains_write low [] i x h s = (cc)
 gains_write {T} low (None ∷ cells) zero x h s =
     let e : low ≡ x.slot = omega arith in
-    record { before = []; after = entries_from (low + 1) cells; old_is = refl; new_is = ap (λ (n : ℕ). (let y : Entry T = record { slot = n; ticket = x.ticket; details = x.details } in y) ∷ entries_from (low + 1) cells) e }
+    record {
+      before = [];
+      after = entries_from (low + 1) cells;
+      old_is = refl;
+      new_is = ap
+          (λ (n : ℕ).
+          (let y : Entry T = record { slot = n; ticket = x.ticket; details = x.details } in y)
+          ∷ entries_from (low + 1) cells) e;
+    }
 gains_write low (Some o ∷ cells) zero x h s = (cc)
 gains_write low (None ∷ cells) (suc i) x h s = gains_write (low + 1) cells i x h (omega arith)
 gains_write {T} low (Some o ∷ cells) (suc i) x h s =
-    gains_later (entries_from (low + 1) cells) (entries_from (low + 1) (slice_set cells i (Some (occupant x.ticket x.details)))) x (record { slot = low; ticket = o.ticket; details = o.details })
+    gains_later (entries_from (low + 1) cells)
+    (entries_from (low + 1) (slice_set cells i (Some (occupant x.ticket x.details)))) x
+    (record { slot = low; ticket = o.ticket; details = o.details })
     (gains_write (low + 1) cells i x h (omega arith))
 
 -- a cell that is emptied
-pub gains_clear : {T : Type 0} (low : ℕ) (cells : List (Option (Occupant T))) (i : ℕ) (x : Entry T) → slice_get cells i ≡ Some (Some (occupant x.ticket x.details)) → x.slot ≡ low + i → Gains (entries_from low (slice_set cells i None)) (entries_from low cells) x
+pub gains_clear : {T : Type 0} (low : ℕ) (cells : List (Option (Occupant T))) (i : ℕ) (x : Entry T)
+    → slice_get cells i ≡ Some (Some (occupant x.ticket x.details)) → x.slot ≡ low + i
+    → InsertsOne (entries_from low (slice_set cells i None)) (entries_from low cells) x
 gains_clear low [] i x h s = (cc)
 gains_clear low (None ∷ cells) zero x h s = (cc)
 gains_clear {T} low (Some o ∷ cells) zero x h s =
     let e : low ≡ x.slot = omega arith in
-    record { before = []; after = entries_from (low + 1) cells; old_is = refl; new_is = ap (λ (y : Entry T). y ∷ entries_from (low + 1) cells) (same_entry low o x e h) }
+    record {
+      before = [];
+      after = entries_from (low + 1) cells;
+      old_is = refl;
+      new_is = ap (λ (y : Entry T). y ∷ entries_from (low + 1) cells) (same_entry low o x e h);
+    }
 gains_clear low (None ∷ cells) (suc i) x h s = gains_clear (low + 1) cells i x h (omega arith)
 gains_clear {T} low (Some o ∷ cells) (suc i) x h s =
-    gains_later (entries_from (low + 1) (slice_set cells i None)) (entries_from (low + 1) cells) x (record { slot = low; ticket = o.ticket; details = o.details })
+    gains_later (entries_from (low + 1) (slice_set cells i None)) (entries_from (low + 1) cells) x
+    (record { slot = low; ticket = o.ticket; details = o.details })
     (gains_clear (low + 1) cells i x h (omega arith))
 
 -- a free cell is room
-pub room_from : {T : Type 0} (low : ℕ) (cells : List (Option (Occupant T))) → length (entries_from low cells) ≤ length cells
+pub room_from : {T : Type 0} (low : ℕ) (cells : List (Option (Occupant T)))
+    → length (entries_from low cells) ≤ length cells
 room_from low [] = omega arith
 room_from low (None ∷ cells) = omega (arith, room_from (low + 1) cells)
 room_from low (Some o ∷ cells) = omega (arith, room_from (low + 1) cells)
@@ -83,7 +127,8 @@ nothing_stands low zero = refl
 nothing_stands low (suc n) = nothing_stands (low + 1) n
 
 -- where no entry stands from a place on, all stand before it
-pub all_before : {T : Type 0} (low end : ℕ) (cells : List (Option (Occupant T))) → NoneFrom cells end → entries_from low (take end cells) ≡ entries_from low cells
+pub all_before : {T : Type 0} (low end : ℕ) (cells : List (Option (Occupant T)))
+    → NoneFrom cells end → entries_from low (take end cells) ≡ entries_from low cells
 all_before low zero [] free = refl
 all_before low (suc end) [] free = refl
 all_before low zero (None ∷ cells) free =
@@ -93,21 +138,36 @@ all_before low (suc end) (None ∷ cells) free =
     all_before (low + 1) end cells (λ slot later taken. free (suc slot) (omega arith) taken)
 all_before {T} low (suc end) (Some o ∷ cells) free =
     let x : Entry T = record { slot = low; ticket = o.ticket; details = o.details } in
-    ap (λ (l : List (Entry T)). x ∷ l) (all_before (low + 1) end cells (λ slot later taken. free (suc slot) (omega arith) taken))
+    ap (λ (l : List (Entry T)). x ∷ l)
+    (all_before (low + 1) end cells
+    (λ slot later taken. free (suc slot) (omega arith) taken))
 
-pub below_from : {T : Type 0} (cells : List (Option (Occupant T))) → All (λ (e : Entry T). e.slot < length cells) (entries_from 0 cells)
+pub below_from : {T : Type 0} (cells : List (Option (Occupant T)))
+    → All (λ (e : Entry T). e.slot < length cells) (entries_from 0 cells)
 below_from {T} cells =
-    All-weaker (Stands 0 cells) (λ (e : Entry T). e.slot < length cells) (λ e s. omega (arith, s.slot_is, slice_get_within cells s.at (Some (occupant e.ticket e.details)) s.cell_is)) (entries_from 0 cells) (entries_stand 0 cells)
+    All-weaker (HasEntry 0 cells) (λ (e : Entry T). e.slot < length cells)
+    (λ e s. omega (
+      arith,
+      s.slot_is,
+      slice_get_within cells s.at (Some (occupant e.ticket e.details)) s.cell_is,
+    ))
+    (entries_from 0 cells) (entries_stand 0 cells)
 
 -- each entry is what its cell shows
-pub shown_from : {T : Type 0} (cells : List (Option (Occupant T))) → All (λ (e : Entry T). slice_get cells e.slot ≡ Some (Some (occupant e.ticket e.details))) (entries_from 0 cells)
+pub shown_from : {T : Type 0} (cells : List (Option (Occupant T)))
+    → All (λ (e : Entry T). slice_get cells e.slot ≡ Some (Some (occupant e.ticket e.details)))
+    (entries_from 0 cells)
 shown_from {T} cells =
-    All-weaker (Stands 0 cells) (λ (e : Entry T). slice_get cells e.slot ≡ Some (Some (occupant e.ticket e.details)))
-    (λ e s. let at_slot : e.slot ≡ s.at = omega (arith, s.slot_is) in ap (slice_get cells) at_slot ∙ s.cell_is)
+    All-weaker (HasEntry 0 cells)
+    (λ (e : Entry T). slice_get cells e.slot ≡ Some (Some (occupant e.ticket e.details)))
+    (λ e s. let at_slot : e.slot ≡ s.at = omega (arith, s.slot_is) in ap (slice_get cells) at_slot
+    ∙ s.cell_is)
     (entries_from 0 cells) (entries_stand 0 cells)
 
 -- where no cell is free, each has an entry
-pub full_from : {T : Type 0} (low : ℕ) (cells : List (Option (Occupant T))) → ((k : ℕ) → k < length cells → slice_get cells k ≢ Some None) → length cells ≤ length (entries_from low cells)
+pub full_from : {T : Type 0} (low : ℕ) (cells : List (Option (Occupant T)))
+    → ((k : ℕ) → k < length cells → slice_get cells k ≢ Some None)
+    → length cells ≤ length (entries_from low cells)
 full_from low [] h = omega arith
 full_from low (None ∷ cells) h = absurd (h zero (omega arith) refl)
 full_from low (Some o ∷ cells) h =

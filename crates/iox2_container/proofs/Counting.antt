@@ -3,12 +3,12 @@ use Rattle.std.proofs.Common.{◌≡◌, ℕ, zero, suc, ◌+◌, ◌≤◌, ◌
 use Rattle.std.specs.Prelude.{All, if◌then◌else◌, nat_lt, slice_get}
 use Rattle.std.proofs.lemmas.List.{append-nil}
 use Rattle.std.proofs.lemmas.List.Elements.{All-nil, All-cons}
-use Rattle.iox2_container.specs.declared.container.cell.Occupant.{Occupant}
+use Rattle.iox2_container.specs.declared.container.slots.cell.Occupant.{Occupant}
 use Rattle.std.proofs.lemmas.Bool.{lt-ltb, le-ltb, cases_order}
 use Rattle.iox2_container.specs.Passes.{AreOthers, PlaceIsOf, cell_is_of}
 use Rattle.iox2_container.specs.Places.{NoneFrom, entries_from}
 use Rattle.iox2_container.specs.State.{Entry}
-use Rattle.iox2_container.specs.Steps.{Gains, candidates, is_of, staying, is_true_first, after_first_answer}
+use Rattle.iox2_container.specs.Steps.{InsertsOne, candidates, is_of, staying, is_true_first, after_first_answer}
 use Rattle.iox2_container.proofs.AskedInTurn.{entries_split, taken_free, taken_more}
 use Rattle.iox2_container.proofs.CellEntries.{all_before}
 use Rattle.iox2_container.proofs.Sweeping.{add_zero}
@@ -22,61 +22,95 @@ abbrev pub one_if : Bool → ℕ
 one_if b = if b then 1 else 0
 
 -- the first entry, and the others
-pub counted-cons : {T : Type 0} (p : T → Bool) (e : Entry T) (es : List (Entry T)) → counted p (e ∷ es) ≡ one_if (p e.details) + counted p es
-counted-cons p e es = elim (p e.details) as (λ b. length (if b then e ∷ candidates p es else candidates p es) ≡ one_if b + counted p es) [ true ↦ omega arith | false ↦ omega arith ]
+pub counted-cons : {T : Type 0} (p : T → Bool) (e : Entry T) (es : List (Entry T))
+    → counted p (e ∷ es) ≡ one_if (p e.details) + counted p es
+counted-cons p e es =
+    elim (p e.details) as
+    (λ b. length (if b then e ∷ candidates p es else candidates p es)
+    ≡ one_if b + counted p es) [ true ↦ omega arith | false ↦ omega arith ]
 
 -- the entries round one
-pub counted-between : {T : Type 0} (p : T → Bool) (xs : List (Entry T)) (x : Entry T) (ys : List (Entry T)) → counted p (xs ++ x ∷ ys) ≡ counted p (xs ++ ys) + one_if (p x.details)
+pub counted-between : {T : Type 0} (p : T → Bool) (xs : List (Entry T)) (x : Entry T)
+    (ys : List (Entry T))
+    → counted p (xs ++ x ∷ ys) ≡ counted p (xs ++ ys) + one_if (p x.details)
 counted-between p [] x ys = omega (arith, counted-cons p x ys)
 counted-between p (e ∷ xs) x ys =
-    omega (arith, counted-cons p e (xs ++ x ∷ ys), counted-cons p e (xs ++ ys), counted-between p xs x ys)
+    omega (
+      arith,
+      counted-cons p e (xs ++ x ∷ ys),
+      counted-cons p e (xs ++ ys),
+      counted-between p xs x ys,
+    )
 
-counted_cell : {T : Type 0} (node : T → ℕ) (id i : ℕ) (cells : List (Option (Occupant T))) (cell : Option (Occupant T)) → slice_get cells i ≡ Some cell
-    → counted (is_of node id) (entries_from 0 (take (suc i) cells)) ≡ counted (is_of node id) (entries_from 0 (take i cells)) + one_if (cell_is_of node id cell)
-counted_cell node id i cells None h = ap (counted (is_of node id)) (taken_free 0 i cells h) ∙ add_zero (counted (is_of node id) (entries_from 0 (take i cells)))
+counted_cell : {T : Type 0} (node : T → ℕ) (id i : ℕ) (cells : List (Option (Occupant T)))
+    (cell : Option (Occupant T)) → slice_get cells i ≡ Some cell
+    → counted (is_of node id) (entries_from 0 (take (suc i) cells))
+    ≡ counted (is_of node id) (entries_from 0 (take i cells)) + one_if (cell_is_of node id cell)
+counted_cell node id i cells None h = ap (counted (is_of node id)) (taken_free 0 i cells h)
+    ∙ add_zero (counted (is_of node id) (entries_from 0 (take i cells)))
 counted_cell {T} node id i cells (Some o) h =
     let x : Entry T = record { slot = i; ticket = o.ticket; details = o.details } in
     let before = entries_from 0 (take i cells) in
     ap (counted (is_of node id)) (taken_more 0 i cells x h (omega arith))
-    ∙ (counted-between (is_of node id) before x [] ∙ ap (λ es. counted (is_of node id) es + one_if (is_of node id o.details)) (append-nil before))
+    ∙ (counted-between (is_of node id) before x []
+    ∙ ap (λ es. counted (is_of node id) es + one_if (is_of node id o.details))
+    (append-nil before))
 
 -- one cell more, by what a loop knows of it
-pub counted_more : {T : Type 0} (node : T → ℕ) (id i n m : ℕ) (cells : List (Option (Occupant T))) (cell : Option (Occupant T)) (b : Bool) → slice_get cells i ≡ Some cell → b ≡ cell_is_of node id cell
-    → m ≡ n + one_if b → n ≡ counted (is_of node id) (entries_from 0 (take i cells)) → m ≡ counted (is_of node id) (entries_from 0 (take (i + 1) cells))
+pub counted_more : {T : Type 0} (node : T → ℕ) (id i n m : ℕ) (cells : List (Option (Occupant T)))
+    (cell : Option (Occupant T)) (b : Bool) → slice_get cells i ≡ Some cell
+    → b ≡ cell_is_of node id cell
+    → m ≡ n + one_if b → n ≡ counted (is_of node id) (entries_from 0 (take i cells))
+    → m ≡ counted (is_of node id) (entries_from 0 (take (i + 1) cells))
 counted_more node id i n m cells cell b h e em en =
     em ∙ (ap (λ k. k + one_if b) en
     ∙ (ap (λ c. counted (is_of node id) (entries_from 0 (take i cells)) + one_if c) e
-    ∙ (sym (counted_cell node id i cells cell h) ∙ ap (λ k. counted (is_of node id) (entries_from 0 (take k cells))) (sym (add-one i)))))
+    ∙ (sym (counted_cell node id i cells cell h)
+    ∙ ap (λ k. counted (is_of node id) (entries_from 0 (take k cells))) (sym (add-one i)))))
 
 pub few_more : (n m slot : ℕ) (b : Bool) → m ≡ n + one_if b → n ≤ slot → m ≤ slot + 1
 few_more n m slot true e h = omega arith
 few_more n m slot false e h = omega arith
 
-counted-append : {T : Type 0} (p : T → Bool) (xs ys : List (Entry T)) → counted p (xs ++ ys) ≡ counted p xs + counted p ys
+counted-append : {T : Type 0} (p : T → Bool) (xs ys : List (Entry T))
+    → counted p (xs ++ ys) ≡ counted p xs + counted p ys
 counted-append p [] ys = omega arith
-counted-append p (e ∷ xs) ys = omega (arith, counted-cons p e (xs ++ ys), counted-cons p e xs, counted-append p xs ys)
+counted-append p (e ∷ xs) ys =
+    omega (arith, counted-cons p e (xs ++ ys), counted-cons p e xs, counted-append p xs ys)
 
 -- some entry is the node's, where one stands in a place
-pub some_counted : {T : Type 0} (node : T → ℕ) (id i : ℕ) (cells : List (Option (Occupant T))) (b : Bool) → PlaceIsOf node id cells i b → b ≡ true → nat_lt 0 (counted (is_of node id) (entries_from 0 cells)) ≡ true
+pub some_counted : {T : Type 0} (node : T → ℕ) (id i : ℕ) (cells : List (Option (Occupant T)))
+    (b : Bool) → PlaceIsOf node id cells i b → b ≡ true
+    → nat_lt 0 (counted (is_of node id) (entries_from 0 cells)) ≡ true
 some_counted {T} node id i cells b p t =
     let s = entries_split 0 (suc i) cells in
     let more = counted_cell node id i cells p.0 p.1 in
     let one : one_if (cell_is_of node id p.0) ≡ 1 = ap one_if (sym p.2 ∙ t) in
-    let all = ap (counted (is_of node id)) s.1 ∙ counted-append (is_of node id) (entries_from 0 (take (suc i) cells)) s.0 in
+    let all = ap (counted (is_of node id)) s.1
+    ∙ counted-append (is_of node id) (entries_from 0 (take (suc i) cells)) s.0 in
     lt-ltb 0 (counted (is_of node id) (entries_from 0 cells)) (omega (arith, more, one, all))
 
 -- none is, where none stands in any place
-pub none_counted : {T : Type 0} (node : T → ℕ) (id n : ℕ) (cells : List (Option (Occupant T))) → AreOthers node id cells 0 n → counted (is_of node id) (entries_from 0 (take n cells)) ≡ 0
+pub none_counted : {T : Type 0} (node : T → ℕ) (id n : ℕ) (cells : List (Option (Occupant T)))
+    → AreOthers node id cells 0 n → counted (is_of node id) (entries_from 0 (take n cells)) ≡ 0
 none_counted node id zero cells others = refl
 none_counted node id (suc n) cells others =
     let o = others n (omega arith) (omega arith) in
-    omega (arith, counted_cell node id n cells o.0 o.1, ap one_if (sym o.2), none_counted node id n cells (λ k l h. others k l (omega arith)))
+    omega (
+      arith,
+      counted_cell node id n cells o.0 o.1,
+      ap one_if (sym o.2),
+      none_counted node id n cells (λ k l h. others k l (omega arith)),
+    )
 
 -- one place more
-pub others_more : {T : Type 0} (node : T → ℕ) (id from i : ℕ) (cells : List (Option (Occupant T))) (b : Bool) → AreOthers node id cells from i → PlaceIsOf node id cells i b → b ≡ false → AreOthers node id cells from (i + 1)
+pub others_more : {T : Type 0} (node : T → ℕ) (id from i : ℕ) (cells : List (Option (Occupant T)))
+    (b : Bool) → AreOthers node id cells from i → PlaceIsOf node id cells i b → b ≡ false
+    → AreOthers node id cells from (i + 1)
 others_more node id from i cells b others is miss k l h =
     elim (cases_order k i) as (λ _. PlaceIsOf node id cells k false) [
-      | inl e ↦ subst (λ (n : ℕ). PlaceIsOf node id cells n false) (sym e) (is.0, is.1, sym miss ∙ is.2)
+      | inl e ↦ subst (λ (n : ℕ). PlaceIsOf node id cells n false) (sym e)
+          (is.0, is.1, sym miss ∙ is.2)
       | inr v ↦ (elim v as (λ _. PlaceIsOf node id cells k false) [
         | inl less ↦ others k l less
         | inr more ↦ absurd (omega arith)
@@ -84,7 +118,9 @@ others_more node id from i cells b others is miss k l h =
     ]
 
 -- other places, and more of them
-pub others_join : {T : Type 0} (node : T → ℕ) (id from i j to : ℕ) (cells : List (Option (Occupant T))) → AreOthers node id cells from i → AreOthers node id cells j to → j ≤ i → AreOthers node id cells from to
+pub others_join : {T : Type 0} (node : T → ℕ) (id from i j to : ℕ)
+    (cells : List (Option (Occupant T))) → AreOthers node id cells from i
+    → AreOthers node id cells j to → j ≤ i → AreOthers node id cells from to
 others_join {T} node id from i j to cells before after le k l h =
     elim (cases_order k i) as (λ _. PlaceIsOf node id cells k false) [
       | inl e ↦ after k (omega arith) h
@@ -95,32 +131,48 @@ others_join {T} node id from i j to cells before after le k l h =
     ]
 
 -- one other place
-pub other_at : {T : Type 0} (node : T → ℕ) (id i to : ℕ) (cells : List (Option (Occupant T))) (b : Bool) → PlaceIsOf node id cells i b → b ≡ false → to ≡ i + 1 → AreOthers node id cells i to
+pub other_at : {T : Type 0} (node : T → ℕ) (id i to : ℕ) (cells : List (Option (Occupant T)))
+    (b : Bool) → PlaceIsOf node id cells i b → b ≡ false → to ≡ i + 1
+    → AreOthers node id cells i to
 other_at node id i to cells b is miss e k l h =
     let at : i ≡ k = omega arith in
     subst (λ (n : ℕ). PlaceIsOf node id cells n false) at (is.0, is.1, sym miss ∙ is.2)
 
 -- a search finds whether some entry is the node's
-pub found_is : {T : Type 0} (node : T → ℕ) (id end at : ℕ) (cells : List (Option (Occupant T))) → at ≤ end → NoneFrom cells end → AreOthers node id cells 0 at → (at < end → PlaceIsOf node id cells at true) → nat_lt at end ≡ nat_lt 0 (counted (is_of node id) (entries_from 0 cells))
+pub found_is : {T : Type 0} (node : T → ℕ) (id end at : ℕ) (cells : List (Option (Occupant T)))
+    → at ≤ end → NoneFrom cells end → AreOthers node id cells 0 at
+    → (at < end → PlaceIsOf node id cells at true)
+    → nat_lt at end ≡ nat_lt 0 (counted (is_of node id) (entries_from 0 cells))
 found_is {T} node id end at cells within free others found =
-    elim (cases_order at end) as (λ _. nat_lt at end ≡ nat_lt 0 (counted (is_of node id) (entries_from 0 cells))) [
+    elim (cases_order at end) as
+    (λ _. nat_lt at end ≡ nat_lt 0 (counted (is_of node id) (entries_from 0 cells))) [
       | inl e ↦
           let all : counted (is_of node id) (entries_from 0 cells) ≡ 0 =
-          ap (counted (is_of node id)) (sym (all_before 0 end cells free)) ∙ (ap (λ (n : ℕ). counted (is_of node id) (entries_from 0 (take n cells))) (sym e) ∙ none_counted node id at cells others) in
+          ap (counted (is_of node id)) (sym (all_before 0 end cells free))
+          ∙ (ap (λ (n : ℕ). counted (is_of node id) (entries_from 0 (take n cells))) (sym e)
+          ∙ none_counted node id at cells others) in
           le-ltb at end (omega arith) ∙ ap (nat_lt 0) (sym all)
-      | inr v ↦ (elim v as (λ _. nat_lt at end ≡ nat_lt 0 (counted (is_of node id) (entries_from 0 cells))) [
-        | inl less ↦ lt-ltb at end less ∙ sym (some_counted node id at cells true (found less) refl)
-        | inr more ↦ absurd (omega arith)
-      ])
+      | inr v ↦
+          (elim v as
+          (λ _. nat_lt at end ≡ nat_lt 0 (counted (is_of node id) (entries_from 0 cells))) [
+            | inl less ↦ lt-ltb at end less
+                ∙ sym (some_counted node id at cells true (found less) refl)
+            | inr more ↦ absurd (omega arith)
+          ])
     ]
 
 -- one entry more
-pub counted-Gains : {T : Type 0} (p : T → Bool) (old new : List (Entry T)) (x : Entry T) → Gains old new x → counted p new ≡ counted p old + one_if (p x.details)
-counted-Gains p old new x g =
-    ap (counted p) g.new_is ∙ (counted-between p g.before x g.after ∙ ap (λ es. counted p es + one_if (p x.details)) (sym g.old_is))
+pub counted-InsertsOne : {T : Type 0} (p : T → Bool) (old new : List (Entry T)) (x : Entry T)
+    → InsertsOne old new x → counted p new ≡ counted p old + one_if (p x.details)
+counted-InsertsOne p old new x g =
+    ap (counted p) g.new_is
+    ∙ (counted-between p g.before x g.after
+    ∙ ap (λ es. counted p es + one_if (p x.details)) (sym g.old_is))
 
 -- a recovery leaves entries that are not dead
-pub counted-staying : {T : Type 0} (p is_dead : T → Bool) → ((d : T) → is_dead d ≡ true → p d ≡ false) → (es : List (Entry T)) (answers : List Bool) → counted p (staying is_dead es answers) ≡ counted p es
+pub counted-staying : {T : Type 0} (p is_dead : T → Bool)
+    → ((d : T) → is_dead d ≡ true → p d ≡ false) → (es : List (Entry T)) (answers : List Bool)
+    → counted p (staying is_dead es answers) ≡ counted p es
 counted-staying p is_dead other [] answers = refl
 counted-staying {T} p is_dead other (e ∷ es) answers =
     let gone : List (Entry T) = staying is_dead es (after_first_answer answers) in
@@ -128,11 +180,15 @@ counted-staying {T} p is_dead other (e ∷ es) answers =
     let c = counted-cons p e es in
     let g = counted-staying p is_dead other es (after_first_answer answers) in
     let k = counted-staying p is_dead other es answers in
-    (elim (is_dead e.details) as (λ b. (b ≡ true → p e.details ≡ false) → counted p (if b then (if is_true_first answers then gone else e ∷ gone) else e ∷ kept) ≡ counted p (e ∷ es)) [
-      | true ↦ λ o. elim (is_true_first answers) as (λ b. counted p (if b then gone else e ∷ gone) ≡ counted p (e ∷ es)) [
-        | true ↦ let n : one_if (p e.details) ≡ 0 = ap one_if (o refl) in omega (arith, c, g, n)
-        | false ↦ omega (arith, c, g, counted-cons p e gone)
-      ]
+    (elim (is_dead e.details) as
+    (λ b. (b ≡ true → p e.details ≡ false)
+    → counted p (if b then (if is_true_first answers then gone else e ∷ gone) else e ∷ kept)
+    ≡ counted p (e ∷ es)) [
+      | true ↦ λ o. elim (is_true_first answers) as
+          (λ b. counted p (if b then gone else e ∷ gone) ≡ counted p (e ∷ es)) [
+            | true ↦ let n : one_if (p e.details) ≡ 0 = ap one_if (o refl) in omega (arith, c, g, n)
+            | false ↦ omega (arith, c, g, counted-cons p e gone)
+          ]
       | false ↦ λ o. omega (arith, c, k, counted-cons p e kept)
     ]) (other e.details)
 
@@ -141,7 +197,8 @@ not_one true h = absurd (omega arith)
 not_one false h = refl
 
 -- where none is counted, each differs
-pub All-other : {T : Type 0} (p : T → Bool) (es : List (Entry T)) → counted p es ≡ 0 → All (λ e. p e.details ≡ false) es
+pub All-other : {T : Type 0} (p : T → Bool) (es : List (Entry T)) → counted p es ≡ 0
+    → All (λ e. p e.details ≡ false) es
 All-other {T} p [] h = All-nil (λ (e : Entry T). p e.details ≡ false)
 All-other {T} p (e ∷ es) h =
     All-cons (λ (e : Entry T). p e.details ≡ false) e es

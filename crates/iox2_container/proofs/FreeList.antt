@@ -3,14 +3,15 @@ use Rattle.std.proofs.Common.{◌≡◌, ◌≢◌, ℕ, zero, suc, ◌<◌, Opt
 use Rattle.std.specs.Prelude.{All, slice_get, slice_set, replicate}
 use Rattle.std.proofs.lemmas.List.Elements.{All-nil, All-cons, All-head, All-tail, All-weaker}
 use Rattle.iox2_container.specs.FreeList.{Linked, LeadsThrough, IsFreeAt}
-use Rattle.iox2_container.specs.declared.container.cell.Cell.TheVariants.{Taken, Free}
-use Rattle.iox2_container.specs.declared.container.cell.Occupant.{Occupant}
+use Rattle.iox2_container.specs.declared.container.slots.cell.Cell.TheVariants.{Taken, Free}
+use Rattle.iox2_container.specs.declared.container.slots.cell.Occupant.{Occupant}
 use Rattle.iox2_container.specs.Cells.{occupant, shown}
 use Rattle.iox2_container.proofs.ListEdits.{get_set_other, get_set_same}
 use Rattle.iox2_container.proofs.ShownCells.{shown_at}
 
 -- each slot of the list is free
-pub threads_free : {T : Type 0} (cells : List (Linked T)) (head : Option ℕ) (free : List ℕ) → LeadsThrough cells head free → All (IsFreeAt cells) free
+pub threads_free : {T : Type 0} (cells : List (Linked T)) (head : Option ℕ) (free : List ℕ)
+    → LeadsThrough cells head free → All (IsFreeAt cells) free
 threads_free cells None [] t = All-nil (IsFreeAt cells)
 threads_free cells None (slot ∷ slots) t = absurd t
 threads_free cells (Some head) [] t = absurd t
@@ -18,14 +19,20 @@ threads_free cells (Some head) (slot ∷ slots) t =
     All-cons (IsFreeAt cells) slot slots (t.2.0, t.2.1) (threads_free cells t.2.0 slots t.2.2)
 
 -- a slot that is not free is not in the list
-pub taken_apart : {T : Type 0} (cells : List (Linked T)) (head : Option ℕ) (free : List ℕ) (slot ticket : ℕ) (details : T) → LeadsThrough cells head free → slice_get cells slot ≡ Some (Taken ticket details) → All (λ other. other ≢ slot) free
+pub taken_apart : {T : Type 0} (cells : List (Linked T)) (head : Option ℕ) (free : List ℕ)
+    (slot ticket : ℕ) (details : T) → LeadsThrough cells head free
+    → slice_get cells slot ≡ Some (Taken ticket details) → All (λ other. other ≢ slot) free
 taken_apart {T} cells head free slot ticket details t h =
     All-weaker (IsFreeAt cells) (λ other. other ≢ slot)
-    (λ other is e. (let z : ◌≡◌ {A = Option (Linked T)} (Some (Free is.0)) (Some (Taken ticket details)) = sym is.1 ∙ (ap (slice_get cells) e ∙ h) in cc))
+    (λ other is e.
+    (let z : ◌≡◌ {A = Option (Linked T)} (Some (Free is.0))
+    (Some (Taken ticket details)) = sym is.1 ∙ (ap (slice_get cells) e ∙ h) in cc))
     free (threads_free cells head free t)
 
 -- a write to another slot leaves the list
-pub threads_kept : {T : Type 0} (cells : List (Linked T)) (head : Option ℕ) (free : List ℕ) (slot : ℕ) (cell : Linked T) → All (λ other. other ≢ slot) free → LeadsThrough cells head free → LeadsThrough (slice_set cells slot cell) head free
+pub threads_kept : {T : Type 0} (cells : List (Linked T)) (head : Option ℕ) (free : List ℕ)
+    (slot : ℕ) (cell : Linked T) → All (λ other. other ≢ slot) free
+    → LeadsThrough cells head free → LeadsThrough (slice_set cells slot cell) head free
 threads_kept cells None [] slot cell o t = t
 threads_kept cells None (s ∷ slots) slot cell o t = absurd t
 threads_kept cells (Some head) [] slot cell o t = absurd t
@@ -40,21 +47,36 @@ threads_kept cells (Some head) (s ∷ slots) slot cell o t = (
 )
 
 -- a slot is put before the list
-pub threads_freed : {T : Type 0} (cells : List (Linked T)) (head : Option ℕ) (free : List ℕ) (slot : ℕ) → slot < length cells → All (λ other. other ≢ slot) free → LeadsThrough cells head free → LeadsThrough (slice_set cells slot (Free head)) (Some slot) (slot ∷ free)
-threads_freed cells head free slot h o t =
-    (refl, o, (head, get_set_same cells slot (Free head) h, threads_kept cells head free slot (Free head) o t))
+pub threads_freed : {T : Type 0} (cells : List (Linked T)) (head : Option ℕ) (free : List ℕ)
+    (slot : ℕ) → slot < length cells → All (λ other. other ≢ slot) free
+    → LeadsThrough cells head free
+    → LeadsThrough (slice_set cells slot (Free head)) (Some slot) (slot ∷ free)
+threads_freed cells head free slot h o t = (
+  refl,
+  o,
+  (
+    head,
+    get_set_same cells slot (Free head) h,
+    threads_kept cells head free slot (Free head) o t,
+  ),
+)
 
 -- a cell that is not taken is free
-pub cell_free : {T : Type 0} (cells : List (Linked T)) (slot : ℕ) → slot < length cells → ((ticket : ℕ) → (details : T) → slice_get cells slot ≢ Some (Taken ticket details)) → IsFreeAt cells slot
+pub cell_free : {T : Type 0} (cells : List (Linked T)) (slot : ℕ) → slot < length cells
+    → ((ticket : ℕ) → (details : T) → slice_get cells slot ≢ Some (Taken ticket details))
+    → IsFreeAt cells slot
 cell_free [] slot h n = absurd (omega arith)
 cell_free (Free next ∷ cells) zero h n = (next, refl)
 cell_free (Taken ticket details ∷ cells) zero h n = absurd (n ticket details refl)
 cell_free (c ∷ cells) (suc slot) h n = cell_free cells slot (omega arith) n
 
-pub shown_free : {T : Type 0} (cells : List (Linked T)) (slot : ℕ) → IsFreeAt cells slot → ◌≡◌ {A = Option (Option (Occupant T))} (slice_get (map shown cells) slot) (Some None)
+pub shown_free : {T : Type 0} (cells : List (Linked T)) (slot : ℕ) → IsFreeAt cells slot
+    → ◌≡◌ {A = Option (Option (Occupant T))} (slice_get (map shown cells) slot) (Some None)
 shown_free cells slot f = shown_at cells slot (Free f.0) f.1
 
-pub taken_of_shown : {T : Type 0} (cell : Linked T) (ticket : ℕ) (details : T) → ◌≡◌ {A = Option (Occupant T)} (shown cell) (Some (occupant ticket details)) → cell ≡ Taken ticket details
+pub taken_of_shown : {T : Type 0} (cell : Linked T) (ticket : ℕ) (details : T)
+    → ◌≡◌ {A = Option (Occupant T)} (shown cell) (Some (occupant ticket details))
+    → cell ≡ Taken ticket details
 taken_of_shown {T} (Taken t d) ticket details e =
     let p : ◌≡◌ {A = Occupant T} (occupant t d) (occupant ticket details) = (cc) in
     let et : t ≡ ticket = ap (λ (q : Occupant T). q.ticket) p in
@@ -62,13 +84,17 @@ taken_of_shown {T} (Taken t d) ticket details e =
     (cc)
 taken_of_shown (Free next) ticket details e = (cc)
 
-pub replicate_free : {T : Type 0} (n slot ticket : ℕ) (details : T) → slice_get (replicate n (let cell : Linked T = Free None in cell)) slot ≢ Some (Taken ticket details)
+pub replicate_free : {T : Type 0} (n slot ticket : ℕ) (details : T)
+    → slice_get (replicate n (let cell : Linked T = Free None in cell)) slot
+    ≢ Some (Taken ticket details)
 replicate_free zero slot ticket details e = (cc)
 replicate_free (suc n) zero ticket details e = (cc)
 replicate_free (suc n) (suc slot) ticket details e = replicate_free n slot ticket details e
 
 -- what is shown as taken, is taken
-pub taken_at : {T : Type 0} (cells : List (Linked T)) (slot ticket : ℕ) (details : T) → ◌≡◌ {A = Option (Option (Occupant T))} (slice_get (map shown cells) slot) (Some (Some (occupant ticket details))) → slice_get cells slot ≡ Some (Taken ticket details)
+pub taken_at : {T : Type 0} (cells : List (Linked T)) (slot ticket : ℕ) (details : T)
+    → ◌≡◌ {A = Option (Option (Occupant T))} (slice_get (map shown cells) slot)
+    (Some (Some (occupant ticket details))) → slice_get cells slot ≡ Some (Taken ticket details)
 taken_at [] slot ticket details h = (cc)
 taken_at {T} (cell ∷ cells) zero ticket details h =
     let e : ◌≡◌ {A = Option (Occupant T)} (shown cell) (Some (occupant ticket details)) = (cc) in

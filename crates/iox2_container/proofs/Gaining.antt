@@ -5,12 +5,14 @@ use Rattle.std.proofs.Math.Seq.{take-append_seam, drop-append_seam}
 use Rattle.std.proofs.lemmas.List.Elements.{All-append, All-cons, All-head, All-tail, All-take, All-drop}
 use Rattle.std.proofs.lemmas.List.Kept.{AllPairs-cons}
 use Rattle.iox2_container.specs.State.{Entry}
-use Rattle.iox2_container.specs.Steps.{Gains}
+use Rattle.iox2_container.specs.Steps.{InsertsOne}
 
-pub AllPairs-head : {X : Type 0} (R : X → X → Type 0) (x : X) (xs : List X) → AllPairs R (x ∷ xs) → All (R x) xs
+pub AllPairs-head : {X : Type 0} (R : X → X → Type 0) (x : X) (xs : List X) → AllPairs R (x ∷ xs)
+    → All (R x) xs
 AllPairs-head R x xs p k d h = p zero (suc k) d (omega arith) (omega arith)
 
-pub AllPairs-tail : {X : Type 0} (R : X → X → Type 0) (x : X) (xs : List X) → AllPairs R (x ∷ xs) → AllPairs R xs
+pub AllPairs-tail : {X : Type 0} (R : X → X → Type 0) (x : X) (xs : List X) → AllPairs R (x ∷ xs)
+    → AllPairs R xs
 AllPairs-tail R x xs p i j d h l = p (suc i) (suc j) d (omega arith) (omega arith)
 
 pub All-front : {X : Type 0} (P : X → Type 0) (b a : List X) → All P (b ++ a) → All P b
@@ -19,20 +21,26 @@ All-front P b a h = rw take-append_seam at (All-take P (length b) (b ++ a) h)
 pub All-back : {X : Type 0} (P : X → Type 0) (b a : List X) → All P (b ++ a) → All P a
 All-back P b a h = rw drop-append_seam at (All-drop P (length b) (b ++ a) h)
 
-pub All-put : {X : Type 0} (P : X → Type 0) (b a : List X) (x : X) → All P (b ++ a) → P x → All P (b ++ x ∷ a)
-All-put P b a x h p = All-append P b (x ∷ a) (All-front P b a h) (All-cons P x a p (All-back P b a h))
+pub All-put : {X : Type 0} (P : X → Type 0) (b a : List X) (x : X) → All P (b ++ a) → P x
+    → All P (b ++ x ∷ a)
+All-put P b a x h p =
+    All-append P b (x ∷ a) (All-front P b a h) (All-cons P x a p (All-back P b a h))
 
-pub All-cut : {X : Type 0} (P : X → Type 0) (b a : List X) (x : X) → All P (b ++ x ∷ a) → All P (b ++ a)
-All-cut P b a x h = All-append P b a (All-front P b (x ∷ a) h) (All-tail P x a (All-back P b (x ∷ a) h))
+pub All-cut : {X : Type 0} (P : X → Type 0) (b a : List X) (x : X) → All P (b ++ x ∷ a)
+    → All P (b ++ a)
+All-cut P b a x h =
+    All-append P b a (All-front P b (x ∷ a) h) (All-tail P x a (All-back P b (x ∷ a) h))
 
-pub AllPairs-put : {X : Type 0} (R : X → X → Type 0) (b a : List X) (x : X) → ((y : X) → R x y → R y x) → AllPairs R (b ++ a) → All (R x) (b ++ a) → AllPairs R (b ++ x ∷ a)
+pub AllPairs-put : {X : Type 0} (R : X → X → Type 0) (b a : List X) (x : X)
+    → ((y : X) → R x y → R y x) → AllPairs R (b ++ a) → All (R x) (b ++ a) → AllPairs R (b ++ x ∷ a)
 AllPairs-put R [] a x s p h = AllPairs-cons R x a h p
 AllPairs-put R (y ∷ b) a x s p h =
     AllPairs-cons R y (b ++ x ∷ a)
     (All-put (R y) b a x (AllPairs-head R y (b ++ a) p) (s y (All-head (R x) y (b ++ a) h)))
     (AllPairs-put R b a x s (AllPairs-tail R y (b ++ a) p) (All-tail (R x) y (b ++ a) h))
 
-pub AllPairs-cut : {X : Type 0} (R : X → X → Type 0) (b a : List X) (x : X) → AllPairs R (b ++ x ∷ a) → AllPairs R (b ++ a)
+pub AllPairs-cut : {X : Type 0} (R : X → X → Type 0) (b a : List X) (x : X)
+    → AllPairs R (b ++ x ∷ a) → AllPairs R (b ++ a)
 AllPairs-cut R [] a x p = AllPairs-tail R x a p
 AllPairs-cut R (y ∷ b) a x p =
     AllPairs-cons R y (b ++ a)
@@ -40,6 +48,13 @@ AllPairs-cut R (y ∷ b) a x p =
     (AllPairs-cut R b a x (AllPairs-tail R y (b ++ x ∷ a) p))
 
 -- there is one more
-pub length-Gains : {T : Type 0} (old new : List (Entry T)) (x : Entry T) → Gains old new x → length new ≡ length old + 1
-length-Gains old new x g =
-    ap length g.new_is ∙ (omega (arith, length-append g.before (x ∷ g.after), length-append g.before g.after, ap length g.old_is))
+pub length-InsertsOne : {T : Type 0} (old new : List (Entry T)) (x : Entry T) → InsertsOne old new x
+    → length new ≡ length old + 1
+length-InsertsOne old new x g =
+    ap length g.new_is
+    ∙ (omega (
+      arith,
+      length-append g.before (x ∷ g.after),
+      length-append g.before g.after,
+      ap length g.old_is,
+    ))

@@ -2,48 +2,86 @@
 use Rattle.std.proofs.Common.{◌≡◌, ◌≢◌, ℕ, Option, Some, None, List, refl, sym, ◌∙◌, ap, arith}
 use Rattle.std.specs.Prelude.{MatchOption, slice_get, slice_set}
 use Rattle.std.proofs.lemmas.List.Elements.{All-weaker}
-use Rattle.iox2_container.specs.declared.container.ledger.Ledger.{Ledger}
+use Rattle.iox2_container.specs.declared.container.registry_header.RegistryHeader.{RegistryHeader}
 use Rattle.iox2_container.specs.declared.container.role.Role.{Role}
-use Rattle.iox2_container.specs.declared.container.cell.Occupant.{Occupant}
+use Rattle.iox2_container.specs.declared.container.slots.cell.Occupant.{Occupant}
 use Rattle.iox2_container.specs.Cells.{occupant}
 use Rattle.iox2_container.specs.Handle.{Handle}
 use Rattle.iox2_container.specs.State.{Entry, RegistryState, handle_of}
-use Rattle.iox2_container.specs.Steps.{IsForeign, Stands}
+use Rattle.iox2_container.specs.Steps.{IsUnknownHandle, HasEntry}
 use Rattle.iox2_container.specs.Places.{Finds, entries_from}
-use Rattle.iox2_container.specs.LedgerAndPlaces.{registry_of}
+use Rattle.iox2_container.specs.HeaderAndPlaces.{registry_of}
 use Rattle.iox2_container.proofs.CellEntries.{shown_from, gains_clear}
 use Rattle.iox2_container.proofs.Members.{of_all, gained}
 
 -- what was found in the handle's place, by the names that its calls have
-pub finds : {T : Type 0} (cells : List (Option (Occupant T))) (handle : Handle) (slot ticket : ℕ) (cell : Option (Occupant T)) (found : Option T) → slot ≡ handle.slot → ticket ≡ handle.ticket → slice_get cells slot ≡ Some cell → MatchOption found ((d : T) → cell ≢ Some (occupant ticket d)) (λ d. cell ≡ Some (occupant ticket d)) → Finds cells handle found
+pub finds : {T : Type 0} (cells : List (Option (Occupant T))) (handle : Handle) (slot ticket : ℕ)
+    (cell : Option (Occupant T)) (found : Option T) → slot ≡ handle.slot
+    → ticket ≡ handle.ticket → slice_get cells slot ≡ Some cell
+    → MatchOption found ((d : T) → cell ≢ Some (occupant ticket d))
+    (λ d. cell ≡ Some (occupant ticket d)) → Finds cells handle found
 finds {T} cells handle slot ticket cell None es et shown f =
-    λ d q. f d (let z : ◌≡◌ {A = Option (Option (Occupant T))} (Some cell) (Some (Some (occupant ticket d))) = sym shown ∙ (ap (slice_get cells) es ∙ (q ∙ ap (λ (t : ℕ). (let o : Option (Option (Occupant T)) = Some (Some (occupant t d)) in o)) (sym et))) in cc)
+    λ d q. f d
+    (let z : ◌≡◌ {A = Option (Option (Occupant T))} (Some cell)
+    (Some (Some (occupant ticket d))) = sym shown
+    ∙ (ap (slice_get cells) es
+    ∙ (q ∙ ap
+    (λ (t : ℕ). (let o : Option (Option (Occupant T)) = Some (Some (occupant t d)) in o))
+    (sym et))) in cc)
 finds {T} cells handle slot ticket cell (Some d) es et shown f =
-    ap (slice_get cells) (sym es) ∙ (shown ∙ (ap (λ (o : Option (Occupant T)). Some o) f ∙ ap (λ (t : ℕ). (let o : Option (Option (Occupant T)) = Some (Some (occupant t d)) in o)) et))
+    ap (slice_get cells) (sym es)
+    ∙ (shown ∙ (ap (λ (o : Option (Occupant T)). Some o) f
+    ∙ ap (λ (t : ℕ). (let o : Option (Option (Occupant T)) = Some (Some (occupant t d)) in o))
+    et))
 
 -- nothing was found, so no entry has the handle
-pub foreign_by_ticket : {T : Type 0} (a : Ledger) (cells : List (Option (Occupant T))) (handle : Handle) → Finds cells handle None → IsForeign (registry_of a cells) handle
+pub foreign_by_ticket : {T : Type 0} (a : RegistryHeader) (cells : List (Option (Occupant T)))
+    (handle : Handle) → Finds cells handle None → IsUnknownHandle (registry_of a cells) handle
 foreign_by_ticket {T} a cells handle none =
-    All-weaker (λ (x : Entry T). slice_get cells x.slot ≡ Some (Some (occupant x.ticket x.details))) (λ (x : Entry T). handle ≢ handle_of (registry_of a cells) x)
+    All-weaker (λ (x : Entry T). slice_get cells x.slot ≡ Some (Some (occupant x.ticket x.details)))
+    (λ (x : Entry T). handle ≢ handle_of (registry_of a cells) x)
     (λ x is q.
     let f : ℕ → Option (Option (Occupant T)) = λ t. Some (Some (occupant t x.details)) in
-    none x.details (ap (λ (k : Handle). slice_get cells k.slot) q ∙ (is ∙ ap f (sym (ap (λ (k : Handle). k.ticket) q)))))
+    none x.details
+    (ap (λ (k : Handle). slice_get cells k.slot) q
+    ∙ (is ∙ ap f (sym (ap (λ (k : Handle). k.ticket) q)))))
     (entries_from 0 cells) (shown_from cells)
 
 -- the handle is that of an entry of this container
-pub has_parts : (a : Ledger) (handle : Handle) → handle.service ≡ a.service → handle.role ≡ a.role → handle ≡ record { service = a.service; role = a.role; slot = handle.slot; ticket = handle.ticket }
+pub has_parts : (a : RegistryHeader) (handle : Handle) → handle.service ≡ a.service
+    → handle.role ≡ a.role
+    → handle ≡ record {
+      service = a.service;
+      role = a.role;
+      slot = handle.slot;
+      ticket = handle.ticket;
+    }
 has_parts a handle hs hr =
-    let h : ℕ → Role → Handle = λ n r. record { service = n; role = r; slot = handle.slot; ticket = handle.ticket } in
+    let h : ℕ → Role → Handle =
+    λ n r. record { service = n; role = r; slot = handle.slot; ticket = handle.ticket } in
     ap (λ n. h n handle.role) hs ∙ ap (h a.service) hr
 
 -- what was found is what the handle names
-pub names : {T : Type 0} (a : Ledger) (cells : List (Option (Occupant T))) (handle : Handle) (found : Option T) → handle.service ≡ a.service → handle.role ≡ a.role → Finds cells handle found → MatchOption found (IsForeign (registry_of a cells) handle) (Stands (registry_of a cells) handle)
+pub names : {T : Type 0} (a : RegistryHeader) (cells : List (Option (Occupant T))) (handle : Handle)
+    (found : Option T) → handle.service ≡ a.service → handle.role ≡ a.role
+    → Finds cells handle found
+    → MatchOption found (IsUnknownHandle (registry_of a cells) handle)
+    (HasEntry (registry_of a cells) handle)
 names a cells handle None hs hr l = foreign_by_ticket a cells handle l
 names {T} a cells handle (Some d) hs hr shown =
-    let x : Entry T = record { slot = handle.slot; ticket = handle.ticket; details = d } in
-    (x, has_parts a handle hs hr, refl, (entries_from 0 (slice_set cells handle.slot None), gains_clear 0 cells handle.slot x shown (omega arith)))
+    let x : Entry T = record { slot = handle.slot; ticket = handle.ticket; details = d } in (
+      x,
+      has_parts a handle hs hr,
+      refl,
+      (
+        entries_from 0 (slice_set cells handle.slot None),
+        gains_clear 0 cells handle.slot x shown (omega arith),
+      ),
+    )
 
 -- an entry's handle is not a foreign one
-pub not_foreign : {T : Type 0} (r : RegistryState T) (handle : Handle) (d : T) → Stands r handle d → IsForeign r handle → ⊥
+pub not_foreign : {T : Type 0} (r : RegistryState T) (handle : Handle) (d : T) → HasEntry r handle d
+    → IsUnknownHandle r handle → ⊥
 not_foreign {T} r handle d s f =
-    of_all (λ (x : Entry T). handle ≢ handle_of r x) r.entries s.0 f (gained s.3.0 r.entries s.0 s.3.1) s.1
+    of_all (λ (x : Entry T). handle ≢ handle_of r x) r.entries s.0 f
+    (gained s.3.0 r.entries s.0 s.3.1) s.1

@@ -15,13 +15,14 @@ pub mod Sweeping
 pub mod Counting
 pub mod Recovering
 pub mod FreeList
-pub mod FreeSlots
+pub mod SlotAllocator
 pub mod Members
 pub mod Leaving
+pub mod Growing
 pub mod Histories
 pub mod SameEntries
 pub mod KnownHandles
-pub mod Alike
+pub mod SameContents
 pub mod Runs
 pub mod Collecting
 pub mod Tallies

@@ -12,85 +12,155 @@ use Rattle.iox2_container.specs.declared.container.release.ReleaseState.{Release
 use Rattle.iox2_container.specs.Handle.{Handle}
 use Rattle.iox2_container.specs.ContainerState.{ContainerState}
 use Rattle.iox2_container.specs.State.{Entry, RegistryState, IsRegistry, handle_of}
-use Rattle.iox2_container.specs.Steps.{AddStep, RemoveStep, Gains, IsForeign, Stands, TakesEntry, candidates, entries_of, is_of, lock_after}
+use Rattle.iox2_container.specs.Steps.{AddStep, RemoveStep, InsertsOne, IsUnknownHandle, HasEntry, TakesEntry, candidates, entries_of, is_of, lock_after}
 use Rattle.iox2_container.proofs.Gaining.{AllPairs-head, AllPairs-tail}
-use Rattle.iox2_container.specs.Changes.{StaysRegistry, Adds, Removes}
+use Rattle.iox2_container.specs.Changes.{Changes, Adds, Removes}
 use Rattle.iox2_container.specs.Mapped.{entry_as, registry_as, container_as}
 
-AllPairs-map : {A B : Type 0} (R : B → B → Type 0) (g : A → B) (xs : List A) → AllPairs (λ x y. R (g x) (g y)) xs → AllPairs R (map g xs)
+AllPairs-map : {A B : Type 0} (R : B → B → Type 0) (g : A → B) (xs : List A)
+    → AllPairs (λ x y. R (g x) (g y)) xs → AllPairs R (map g xs)
 AllPairs-map R g [] p = λ i j d h l. absurd (omega (arith, l))
 AllPairs-map R g (x ∷ xs) p =
     AllPairs-cons R (g x) (map g xs)
     (All-map (R (g x)) g xs (AllPairs-head (λ x y. R (g x) (g y)) x xs p))
     (AllPairs-map R g xs (AllPairs-tail (λ x y. R (g x) (g y)) x xs p))
 
-pub IsRegistry-as : {T U : Type 0} (g : T → U) (r : RegistryState T) → IsRegistry r → IsRegistry (registry_as g r)
+pub IsRegistry-as : {T U : Type 0} (g : T → U) (r : RegistryState T) → IsRegistry r
+    → IsRegistry (registry_as g r)
 IsRegistry-as {T} {U} g r h = record {
-  slots_rise = AllPairs-map (λ (a b : Entry U). a.slot < b.slot) (entry_as g) r.entries h.slots_rise;
+  slots_rise =
+      AllPairs-map (λ (a b : Entry U). a.slot < b.slot) (entry_as g) r.entries h.slots_rise;
   slots_below = All-map (λ (e : Entry U). e.slot < r.capacity) (entry_as g) r.entries h.slots_below;
-  tickets_differ = AllPairs-map (λ (a b : Entry U). a.ticket ≢ b.ticket) (entry_as g) r.entries h.tickets_differ;
+  tickets_differ =
+      AllPairs-map (λ (a b : Entry U). a.ticket ≢ b.ticket) (entry_as g) r.entries h.tickets_differ;
   tickets_used = All-map (λ (e : Entry U). e.ticket < r.used) (entry_as g) r.entries h.tickets_used;
   budget_kept = h.budget_kept;
   locked_is_empty = λ t. ap (map (entry_as g)) (h.locked_is_empty t);
 }
 
-pub StaysRegistry-as : {T U : Type 0} (g : T → U) (old new : ContainerState T) → StaysRegistry old new → StaysRegistry (container_as g old) (container_as g new)
-StaysRegistry-as g old new k = (IsRegistry-as g new.registry k.0, k.1)
+-- a change of which the step is one with other details too
+pub Changes-as : {T U : Type 0} {Step : RegistryState T → RegistryState T
+    → Type 0} {Step' : RegistryState U → RegistryState U → Type 0} (g : T → U)
+    (old new : ContainerState T)
+    → (Step old.registry new.registry
+    → Step' (registry_as g old.registry) (registry_as g new.registry))
+    → Changes Step old new → Changes Step' (container_as g old) (container_as g new)
+Changes-as g old new step c = record {
+  step = step c.step;
+  kept = IsRegistry-as g new.registry c.kept;
+  touched = c.touched;
+}
 
-Gains-as : {T U : Type 0} (g : T → U) (old new : List (Entry T)) (x : Entry T) → Gains old new x → Gains (map (entry_as g) old) (map (entry_as g) new) (entry_as g x)
-Gains-as g old new x h = record {
+InsertsOne-as : {T U : Type 0} (g : T → U) (old new : List (Entry T)) (x : Entry T)
+    → InsertsOne old new x → InsertsOne (map (entry_as g) old) (map (entry_as g) new) (entry_as g x)
+InsertsOne-as g old new x h = record {
   before = map (entry_as g) h.before;
   after = map (entry_as g) h.after;
   old_is = ap (map (entry_as g)) h.old_is ∙ map-append (entry_as g) h.before h.after;
   new_is = ap (map (entry_as g)) h.new_is ∙ map-append (entry_as g) h.before (x ∷ h.after);
 }
 
-AddStep-as : {T U : Type 0} (g : T → U) (old : RegistryState T) (details : T) (answer : Result Handle ContainerAddFailure) (new : RegistryState T) → AddStep old details answer new → AddStep (registry_as g old) (g details) answer (registry_as g new)
+AddStep-as : {T U : Type 0} (g : T → U) (old : RegistryState T) (details : T)
+    (answer : Result Handle ContainerAddFailure) (new : RegistryState T)
+    → AddStep old details answer new
+    → AddStep (registry_as g old) (g details) answer (registry_as g new)
 AddStep-as g old details (Err IsLocked) new h = (h.0, ap (registry_as g) h.1)
 AddStep-as g old details (Err OutOfSpace) new h =
     (h.0, rw (length-map old.entries (entry_as g)) h.1, ap (registry_as g) h.2)
 AddStep-as {T} g old details (Ok handle) new h =
-    let x : Entry T = record { slot = handle.slot; ticket = old.used; details = details } in
-    (h.0, rw (length-map old.entries (entry_as g)) h.1, (h.2.0, All-map (λ e. e.slot ≢ handle.slot) (entry_as g) old.entries h.2.1, Gains-as g old.entries new.entries x h.2.2, ap (registry_as g) h.2.3))
+    let x : Entry T = record { slot = handle.slot; ticket = old.used; details = details } in (
+      h.0,
+      rw (length-map old.entries (entry_as g)) h.1,
+      (
+        h.2.0,
+        All-map (λ e. e.slot ≢ handle.slot) (entry_as g) old.entries h.2.1,
+        InsertsOne-as g old.entries new.entries x h.2.2,
+        ap (registry_as g) h.2.3,
+      ),
+    )
 
-RemoveStep-as : {T U : Type 0} (g : T → U) (old : RegistryState T) (handle : Handle) (mode : ReleaseMode) (answer : Result ReleaseState ContainerRemoveError) (new : RegistryState T) → RemoveStep old handle mode answer new → RemoveStep (registry_as g old) handle mode answer (registry_as g new)
-RemoveStep-as g old handle mode (Err e) new h =
-    (All-map (λ x. handle ≢ handle_of (registry_as g old) x) (entry_as g) old.entries h.0, ap (registry_as g) h.1)
+RemoveStep-as : {T U : Type 0} (g : T → U) (old : RegistryState T) (handle : Handle)
+    (mode : ReleaseMode) (answer : Result ReleaseState ContainerRemoveError)
+    (new : RegistryState T) → RemoveStep old handle mode answer new
+    → RemoveStep (registry_as g old) handle mode answer (registry_as g new)
+RemoveStep-as g old handle mode (Err e) new h = (
+  All-map (λ x. handle ≢ handle_of (registry_as g old) x) (entry_as g) old.entries h.0,
+  ap (registry_as g) h.1,
+)
 RemoveStep-as {T} {U} g old handle mode (Ok state) new h =
-    let as_left : ℕ → RegistryState U = λ n. record (registry_as g old) { entries = map (entry_as g) new.entries; locked = lock_after mode n old.locked } in
-    ((entry_as g h.0.0, h.0.1, Gains-as g new.entries old.entries h.0.0 h.0.2, ap (registry_as g) h.0.3 ∙ ap as_left (sym (length-map new.entries (entry_as g)))), h.1)
+    let as_left : ℕ → RegistryState U =
+    λ n. record
+    (registry_as g old) {
+      entries = map (entry_as g) new.entries;
+      locked = lock_after mode n old.locked;
+    } in (
+      (
+        entry_as g h.0.0,
+        h.0.1,
+        InsertsOne-as g new.entries old.entries h.0.0 h.0.2,
+        ap (registry_as g) h.0.3 ∙ ap as_left (sym (length-map new.entries (entry_as g))),
+      ),
+      h.1,
+    )
 
-pub Adds-as : {T U : Type 0} (g : T → U) (old : ContainerState T) (details : T) (answer : Result Handle ContainerAddFailure) (new : ContainerState T) → Adds old details answer new → Adds (container_as g old) (g details) answer (container_as g new)
-Adds-as g old details answer new h =
-    (AddStep-as g old.registry details answer new.registry h.0, StaysRegistry-as g old new h.1)
+pub Adds-as : {T U : Type 0} (g : T → U) (old : ContainerState T) (details : T)
+    (answer : Result Handle ContainerAddFailure) (new : ContainerState T)
+    → Adds old details answer new
+    → Adds (container_as g old) (g details) answer (container_as g new)
+Adds-as g old details answer new =
+    Changes-as g old new (AddStep-as g old.registry details answer new.registry)
 
-pub Removes-as : {T U : Type 0} (g : T → U) (old : ContainerState T) (handle : Handle) (mode : ReleaseMode) (answer : Result ReleaseState ContainerRemoveError) (new : ContainerState T) → Removes old handle mode answer new → Removes (container_as g old) handle mode answer (container_as g new)
-Removes-as g old handle mode answer new h =
-    (RemoveStep-as g old.registry handle mode answer new.registry h.0, StaysRegistry-as g old new h.1)
+pub Removes-as : {T U : Type 0} (g : T → U) (old : ContainerState T) (handle : Handle)
+    (mode : ReleaseMode) (answer : Result ReleaseState ContainerRemoveError)
+    (new : ContainerState T) → Removes old handle mode answer new
+    → Removes (container_as g old) handle mode answer (container_as g new)
+Removes-as g old handle mode answer new =
+    Changes-as g old new (RemoveStep-as g old.registry handle mode answer new.registry)
 
-pub listed-as : {T U : Type 0} (g : T → U) (es : List (Entry T)) → map (λ e. e.details) (map (entry_as g) es) ≡ map g (map (λ e. e.details) es)
+pub listed-as : {T U : Type 0} (g : T → U) (es : List (Entry T))
+    → map (λ e. e.details) (map (entry_as g) es) ≡ map g (map (λ e. e.details) es)
 listed-as g [] = refl
 listed-as g (e ∷ es) = ap (λ l. g e.details ∷ l) (listed-as g es)
 
 -- how many entries of a node there are, with other details
-counted-as : {T U : Type 0} (g : T → U) (is_dead : T → Bool) (is_dead' : U → Bool) → ((x : T) → is_dead' (g x) ≡ is_dead x) → (es : List (Entry T)) → length (candidates is_dead' (map (entry_as g) es)) ≡ length (candidates is_dead es)
+counted-as : {T U : Type 0} (g : T → U) (is_dead : T → Bool) (is_dead' : U → Bool)
+    → ((x : T) → is_dead' (g x) ≡ is_dead x) → (es : List (Entry T))
+    → length (candidates is_dead' (map (entry_as g) es)) ≡ length (candidates is_dead es)
 counted-as g is_dead is_dead' same [] = refl
-counted-as g is_dead is_dead' same (e ∷ es) = rw (same e.details) (elim (is_dead e.details) as (λ b. length (if b then entry_as g e ∷ candidates is_dead' (map (entry_as g) es) else candidates is_dead' (map (entry_as g) es)) ≡ length (if b then e ∷ candidates is_dead es else candidates is_dead es)) [
-  | true ↦ ap suc (counted-as g is_dead is_dead' same es)
-  | false ↦ counted-as g is_dead is_dead' same es
-])
+counted-as g is_dead is_dead' same (e ∷ es) =
+    rw (same e.details)
+    (elim (is_dead e.details) as
+    (λ b. length
+    (if b then entry_as g e
+    ∷ candidates is_dead' (map (entry_as g) es) else candidates is_dead' (map (entry_as g) es))
+    ≡ length (if b then e ∷ candidates is_dead es else candidates is_dead es)) [
+      | true ↦ ap suc (counted-as g is_dead is_dead' same es)
+      | false ↦ counted-as g is_dead is_dead' same es
+    ])
 
-pub entries_of-as : {T U : Type 0} (g : T → U) (node : T → ℕ) (node' : U → ℕ) → ((x : T) → node' (g x) ≡ node x) → (id : ℕ) (r : RegistryState T) → entries_of node' id (registry_as g r) ≡ entries_of node id r
+pub entries_of-as : {T U : Type 0} (g : T → U) (node : T → ℕ) (node' : U → ℕ)
+    → ((x : T) → node' (g x) ≡ node x) → (id : ℕ) (r : RegistryState T)
+    → entries_of node' id (registry_as g r) ≡ entries_of node id r
 entries_of-as g node node' same id r =
     counted-as g (is_of node id) (is_of node' id) (λ x. ap (λ n. n == id) (same x)) r.entries
 
 -- who has a handle, and whether there is room, with other details
-pub IsForeign-as : {T U : Type 0} (g : T → U) (r : RegistryState T) (handle : Handle) → IsForeign r handle → IsForeign (registry_as g r) handle
-IsForeign-as g r handle h = All-map (λ x. handle ≢ handle_of (registry_as g r) x) (entry_as g) r.entries h
+pub IsUnknownHandle-as : {T U : Type 0} (g : T → U) (r : RegistryState T) (handle : Handle)
+    → IsUnknownHandle r handle → IsUnknownHandle (registry_as g r) handle
+IsUnknownHandle-as g r handle h =
+    All-map (λ x. handle ≢ handle_of (registry_as g r) x) (entry_as g) r.entries h
 
-pub Stands-as : {T U : Type 0} (g : T → U) (r : RegistryState T) (handle : Handle) (details : T) → Stands r handle details → Stands (registry_as g r) handle (g details)
-Stands-as g r handle details h =
-    (entry_as g h.0, h.1, ap g h.2, (map (entry_as g) h.3.0, Gains-as g h.3.0 r.entries h.0 h.3.1))
+pub HasEntry-as : {T U : Type 0} (g : T → U) (r : RegistryState T) (handle : Handle) (details : T)
+    → HasEntry r handle details → HasEntry (registry_as g r) handle (g details)
+HasEntry-as g r handle details h = (
+  entry_as g h.0,
+  h.1,
+  ap g h.2,
+  (map (entry_as g) h.3.0, InsertsOne-as g h.3.0 r.entries h.0 h.3.1),
+)
 
-pub TakesEntry-as : {T U : Type 0} (g : T → U) (r : RegistryState T) → TakesEntry (registry_as g r) ≡ TakesEntry r
-TakesEntry-as g r = ap (λ n. (r.locked ≡ false) × ((n < r.capacity) × (r.used < r.budget))) (length-map r.entries (entry_as g))
+pub TakesEntry-as : {T U : Type 0} (g : T → U) (r : RegistryState T)
+    → TakesEntry (registry_as g r) ≡ TakesEntry r
+TakesEntry-as g r =
+    ap (λ n. (r.locked ≡ false) × ((n < r.capacity) × (r.used < r.budget)))
+    (length-map r.entries (entry_as g))

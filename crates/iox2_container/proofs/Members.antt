@@ -3,7 +3,7 @@ use Rattle.std.proofs.Common.{◌≡◌, ◌≢◌, ℕ, zero, suc, List, [], �
 use Rattle.std.specs.Prelude.{All, AllPairs}
 use Rattle.std.proofs.lemmas.List.Elements.{All-head, All-tail}
 use Rattle.iox2_container.specs.State.{Entry}
-use Rattle.iox2_container.specs.Steps.{Gains}
+use Rattle.iox2_container.specs.Steps.{InsertsOne}
 use Rattle.iox2_container.proofs.Gaining.{AllPairs-head, AllPairs-tail}
 
 -- x is in the list
@@ -24,7 +24,8 @@ contains_among (y ∷ ys) x (inr a) =
     (suc c.0, omega (arith, c.1), c.2)
 
 -- what holds of some item holds of the first or of another
-pub first_or_other : {X : Type 0} (P : X → Type 0) (x : X) (xs : List X) → Any P (x ∷ xs) → P x ⊎ Any P xs
+pub first_or_other : {X : Type 0} (P : X → Type 0) (x : X) (xs : List X) → Any P (x ∷ xs) → P x
+    ⊎ Any P xs
 first_or_other P x xs (zero, y, l, e, p) = inl (subst P (sym e) p)
 first_or_other P x xs (suc k, y, l, e, p) = inr (k, y, omega (arith, l), e, p)
 
@@ -45,20 +46,28 @@ among_put_self : {X : Type 0} (b a : List X) (x : X) → Among x (b ++ x ∷ a)
 among_put_self [] a x = inl refl
 among_put_self (z ∷ b) a x = inr (among_put_self b a x)
 
-among_cut : {X : Type 0} (b a : List X) (x y : X) → Among y (b ++ x ∷ a) → Among y (b ++ a) ⊎ (y ≡ x)
+among_cut : {X : Type 0} (b a : List X) (x y : X) → Among y (b ++ x ∷ a) → Among y (b ++ a)
+    ⊎ (y ≡ x)
 among_cut [] a x y (inl e) = inr e
 among_cut [] a x y (inr h) = inl h
 among_cut (z ∷ b) a x y (inl e) = inl (inl e)
-among_cut {X} (z ∷ b) a x y (inr h) = elim (among_cut b a x y h) [ inl k ↦ inl (inr k) | inr e ↦ inr e ]
+among_cut {X} (z ∷ b) a x y (inr h) =
+    elim (among_cut b a x y h) [ inl k ↦ inl (inr k) | inr e ↦ inr e ]
 
 -- the entry that was gained, the others, and no third
-pub gained : {T : Type 0} (old new : List (Entry T)) (x : Entry T) → Gains old new x → Among x new
-gained old new x g = moved x (g.before ++ x ∷ g.after) new (sym g.new_is) (among_put_self g.before g.after x)
+pub gained : {T : Type 0} (old new : List (Entry T)) (x : Entry T) → InsertsOne old new x
+    → Among x new
+gained old new x g =
+    moved x (g.before ++ x ∷ g.after) new (sym g.new_is) (among_put_self g.before g.after x)
 
-pub among_more : {T : Type 0} (old new : List (Entry T)) (x y : Entry T) → Gains old new x → Among y old → Among y new
-among_more old new x y g h = moved y (g.before ++ x ∷ g.after) new (sym g.new_is) (among_put g.before g.after x y (moved y old (g.before ++ g.after) g.old_is h))
+pub among_more : {T : Type 0} (old new : List (Entry T)) (x y : Entry T) → InsertsOne old new x
+    → Among y old → Among y new
+among_more old new x y g h =
+    moved y (g.before ++ x ∷ g.after) new (sym g.new_is)
+    (among_put g.before g.after x y (moved y old (g.before ++ g.after) g.old_is h))
 
-pub among_less : {T : Type 0} (old new : List (Entry T)) (x y : Entry T) → Gains old new x → Among y new → Among y old ⊎ (y ≡ x)
+pub among_less : {T : Type 0} (old new : List (Entry T)) (x y : Entry T) → InsertsOne old new x
+    → Among y new → Among y old ⊎ (y ≡ x)
 among_less old new x y g h =
     elim (among_cut g.before g.after x y (moved y new (g.before ++ x ∷ g.after) g.new_is h)) [
       | inl m ↦ inl (moved y (g.before ++ g.after) old (sym g.old_is) m)
@@ -68,12 +77,20 @@ among_less old new x y g h =
 -- a list without one of its entries
 pub record Without {T : Type 0} (es : List (Entry T)) (x : Entry T) : Type 0 where
   pub rest : List (Entry T)
-  pub gains : Gains rest es x
+  pub gains : InsertsOne rest es x
 
 pub without : {T : Type 0} (es : List (Entry T)) (x : Entry T) → Among x es → Without es x
 without [] x h = absurd h
 without {T} (e ∷ es) x (inl p) =
-    record { rest = es; gains = record { before = []; after = es; old_is = refl; new_is = ap (λ (y : Entry T). y ∷ es) (sym p) } }
+    record {
+      rest = es;
+      gains = record {
+        before = [];
+        after = es;
+        old_is = refl;
+        new_is = ap (λ (y : Entry T). y ∷ es) (sym p);
+      };
+    }
 without {T} (e ∷ es) x (inr h) =
     let w = without es x h in
     record {
@@ -87,26 +104,34 @@ without {T} (e ∷ es) x (inr h) =
     }
 
 -- entries that differ in their number, which is the slot or the ticket
-abbrev pub Differ : {T : Type 0} → (Entry T → ℕ) → List (Entry T) → Type 0
-Differ n es = AllPairs (λ v w. n v ≢ n w) es
+abbrev pub DifferBy : {T : Type 0} → (Entry T → ℕ) → List (Entry T) → Type 0
+DifferBy n es = AllPairs (λ v w. n v ≢ n w) es
 
-pub head_differs : {T : Type 0} (n : Entry T → ℕ) (e : Entry T) (es : List (Entry T)) (x : Entry T) → Differ n (e ∷ es) → Among x es → n e ≢ n x
+pub head_differs : {T : Type 0} (n : Entry T → ℕ) (e : Entry T) (es : List (Entry T)) (x : Entry T)
+    → DifferBy n (e ∷ es) → Among x es → n e ≢ n x
 head_differs n e es x p h = of_all (λ w. n e ≢ n w) es x (AllPairs-head (λ v w. n v ≢ n w) e es p) h
 
-pub rest_differ : {T : Type 0} (n : Entry T → ℕ) (e : Entry T) (es : List (Entry T)) → Differ n (e ∷ es) → Differ n es
+pub rest_differ : {T : Type 0} (n : Entry T → ℕ) (e : Entry T) (es : List (Entry T))
+    → DifferBy n (e ∷ es) → DifferBy n es
 rest_differ n e es p = AllPairs-tail (λ v w. n v ≢ n w) e es p
 
-cut_differs : {T : Type 0} (n : Entry T → ℕ) (b a : List (Entry T)) (x y : Entry T) → Differ n (b ++ x ∷ a) → Among y (b ++ a) → n y ≢ n x
+cut_differs : {T : Type 0} (n : Entry T → ℕ) (b a : List (Entry T)) (x y : Entry T)
+    → DifferBy n (b ++ x ∷ a) → Among y (b ++ a) → n y ≢ n x
 cut_differs n [] a x y p h s = head_differs n x a y p h (sym s)
-cut_differs n (z ∷ b) a x y p (inl e) s = head_differs n z (b ++ x ∷ a) x p (among_put_self b a x) (sym (ap n e) ∙ s)
+cut_differs n (z ∷ b) a x y p (inl e) s =
+    head_differs n z (b ++ x ∷ a) x p (among_put_self b a x) (sym (ap n e) ∙ s)
 cut_differs n (z ∷ b) a x y p (inr h) s = cut_differs n b a x y (rest_differ n z (b ++ x ∷ a) p) h s
 
-pub other_differs : {T : Type 0} (n : Entry T → ℕ) (old new : List (Entry T)) (x y : Entry T) → Gains old new x → Differ n new → Among y old → n y ≢ n x
+pub other_differs : {T : Type 0} (n : Entry T → ℕ) (old new : List (Entry T)) (x y : Entry T)
+    → InsertsOne old new x → DifferBy n new → Among y old → n y ≢ n x
 other_differs {T} n old new x y g p h =
-    cut_differs n g.before g.after x y (subst (λ (l : List (Entry T)). Differ n l) g.new_is p) (moved y old (g.before ++ g.after) g.old_is h)
+    cut_differs n g.before g.after x y (subst (λ (l : List (Entry T)). DifferBy n l) g.new_is p)
+    (moved y old (g.before ++ g.after) g.old_is h)
 
 -- entries of one ticket are one
-pub one_by_ticket : {T : Type 0} (es v w : List (Entry T)) (x y : Entry T) → AllPairs (λ a b. a.ticket ≢ b.ticket) es → Gains v es x → Gains w es y → x.ticket ≡ y.ticket → y ≡ x
+pub one_by_ticket : {T : Type 0} (es v w : List (Entry T)) (x y : Entry T)
+    → AllPairs (λ a b. a.ticket ≢ b.ticket) es → InsertsOne v es x → InsertsOne w es y
+    → x.ticket ≡ y.ticket → y ≡ x
 one_by_ticket es v w x y differ gx gy t =
     elim (among_less v es x y gx (gained w es y gy)) [
       | inl h ↦ absurd (other_differs (λ e. e.ticket) v es x y gx differ h (sym t))

@@ -2,8 +2,8 @@
 use Rattle.std.proofs.Common.{◌≡◌, ℕ, zero, suc, ◌+◌, ◌-◌, Bool, Option, Some, None, Ok, Err, List, [], ◌∷◌, length, refl, sym, ◌∙◌, ap, subst, arith}
 use Rattle.std.specs.Prelude.{IsTrue, slice_get, slice_set}
 use Rattle.std.proofs.Math.ListN.{length-set}
-use Rattle.iox2_container.specs.declared.container.cell.Occupant.{Occupant}
-use Rattle.iox2_container.specs.declared.container.ledger.Ledger.{Ledger}
+use Rattle.iox2_container.specs.declared.container.slots.cell.Occupant.{Occupant}
+use Rattle.iox2_container.specs.declared.container.registry_header.RegistryHeader.{RegistryHeader}
 use Rattle.iox2_container.specs.Cells.{occupant}
 use Rattle.iox2_container.specs.declared.container.refusal.ContainerRemoveError.{ContainerRemoveError}
 use Rattle.iox2_container.specs.declared.container.release.ReleaseMode.{ReleaseMode}
@@ -11,11 +11,11 @@ use Rattle.iox2_container.specs.declared.container.release.ReleaseMode.TheVarian
 use Rattle.iox2_container.specs.declared.container.release.ReleaseState.{ReleaseState}
 use Rattle.iox2_container.specs.Handle.{Handle}
 use Rattle.iox2_container.specs.State.{Entry, RegistryState}
-use Rattle.iox2_container.specs.Steps.{Gains, IsForeign, RemoveStep, lock_after, release_state}
+use Rattle.iox2_container.specs.Steps.{InsertsOne, IsUnknownHandle, RemoveStep, lock_after, release_state}
 use Rattle.iox2_container.specs.Places.{Finds, IsTakenAt, entries_from}
-use Rattle.iox2_container.specs.LedgerAndPlaces.{registry_of, AreRegistry}
+use Rattle.iox2_container.specs.HeaderAndPlaces.{registry_of, AreRegistry}
 use Rattle.iox2_container.proofs.CellEntries.{gains_clear, below_from}
-use Rattle.iox2_container.proofs.Gaining.{length-Gains}
+use Rattle.iox2_container.proofs.Gaining.{length-InsertsOne}
 use Rattle.iox2_container.proofs.Handles.{has_parts}
 use Rattle.iox2_container.proofs.Keeping.{kept_remove}
 
@@ -24,7 +24,8 @@ nothing_left [] h = refl
 nothing_left (e ∷ es) h = absurd (omega arith)
 
 -- a lock that was set just now, is set by the last that went
-pub lock_is_last : (mode : ReleaseMode) (left : ℕ) (locked : Bool) → IsTrue (lock_after mode left locked) → (IsTrue locked → ⊥) → left ≡ 0
+pub lock_is_last : (mode : ReleaseMode) (left : ℕ) (locked : Bool)
+    → IsTrue (lock_after mode left locked) → (IsTrue locked → ⊥) → left ≡ 0
 lock_is_last LockIfLastIndex zero locked t n = refl
 lock_is_last LockIfLastIndex (suc left) locked t n = absurd (n t)
 lock_is_last Default left locked t n = absurd (n t)
@@ -34,50 +35,86 @@ abbrev entry_at : {T : Type 0} → Handle → T → Entry T
 entry_at handle d = record { slot = handle.slot; ticket = handle.ticket; details = d }
 
 -- the place of the handle is taken, by the names that its calls have
-pub taken_at : {T : Type 0} (cells read : List (Option (Occupant T))) (handle : Handle) (slot : ℕ) (d : T) → Finds cells handle (Some d) → read ≡ cells → slot ≡ handle.slot → IsTakenAt read slot
-taken_at {T} cells read handle slot d shown r e =
-    (occupant handle.ticket d, ap (λ (cs : List (Option (Occupant T))). slice_get cs slot) r ∙ (ap (slice_get cells) e ∙ shown))
+pub taken_at : {T : Type 0} (cells read : List (Option (Occupant T))) (handle : Handle) (slot : ℕ)
+    (d : T) → Finds cells handle (Some d) → read ≡ cells → slot ≡ handle.slot
+    → IsTakenAt read slot
+taken_at {T} cells read handle slot d shown r e = (
+  occupant handle.ticket d,
+  ap (λ (cs : List (Option (Occupant T))). slice_get cs slot) r
+      ∙ (ap (slice_get cells) e ∙ shown),
+)
 
 -- and it is cleared
-pub cleared : {T : Type 0} (cells read s : List (Option (Occupant T))) (handle : Handle) (slot : ℕ) → read ≡ cells → slot ≡ handle.slot → s ≡ slice_set read slot None → s ≡ slice_set cells handle.slot None
+pub cleared : {T : Type 0} (cells read s : List (Option (Occupant T))) (handle : Handle) (slot : ℕ)
+    → read ≡ cells → slot ≡ handle.slot → s ≡ slice_set read slot None
+    → s ≡ slice_set cells handle.slot None
 cleared {T} cells read s handle slot r e w =
-    w ∙ (ap (λ (cs : List (Option (Occupant T))). slice_set cs slot None) r ∙ ap (λ n. slice_set cells n None) e)
+    w ∙ (ap (λ (cs : List (Option (Occupant T))). slice_set cs slot None) r
+    ∙ ap (λ n. slice_set cells n None) e)
 
-gains_of_clear : {T : Type 0} (cells s : List (Option (Occupant T))) (handle : Handle) (d : T) → Finds cells handle (Some d) → s ≡ slice_set cells handle.slot None → Gains (entries_from 0 s) (entries_from 0 cells) (entry_at handle d)
+gains_of_clear : {T : Type 0} (cells s : List (Option (Occupant T))) (handle : Handle) (d : T)
+    → Finds cells handle (Some d) → s ≡ slice_set cells handle.slot None
+    → InsertsOne (entries_from 0 s) (entries_from 0 cells) (entry_at handle d)
 gains_of_clear {T} cells s handle d shown e =
-    subst (λ (cs : List (Option (Occupant T))). Gains (entries_from 0 cs) (entries_from 0 cells) (entry_at handle d)) (sym e) (gains_clear 0 cells handle.slot (entry_at handle d) shown (omega arith))
+    subst (λ (cs : List (Option (Occupant T))). InsertsOne (entries_from 0 cs)
+    (entries_from 0 cells) (entry_at handle d)) (sym e)
+    (gains_clear 0 cells handle.slot (entry_at handle d) shown (omega arith))
 
 -- an entry goes, so there was one
-pub some_stood : {T : Type 0} (a : Ledger) (cells s : List (Option (Occupant T))) (handle : Handle) (d : T) → AreRegistry a cells → Finds cells handle (Some d) → s ≡ slice_set cells handle.slot None → a.count ≡ length (entries_from 0 s) + 1
+pub some_stood : {T : Type 0} (a : RegistryHeader) (cells s : List (Option (Occupant T)))
+    (handle : Handle) (d : T) → AreRegistry a cells → Finds cells handle (Some d)
+    → s ≡ slice_set cells handle.slot None → a.count ≡ length (entries_from 0 s) + 1
 some_stood a cells s handle d k shown e =
-    k.1 ∙ length-Gains (entries_from 0 s) (entries_from 0 cells) (entry_at handle d) (gains_of_clear cells s handle d shown e)
+    k.1 ∙ length-InsertsOne (entries_from 0 s) (entries_from 0 cells) (entry_at handle d)
+    (gains_of_clear cells s handle d shown e)
 
-pub kept_clear : {T : Type 0} (a : Ledger) (cells s : List (Option (Occupant T))) (handle : Handle) (d : T) (mode : ReleaseMode) (locked : Bool) → AreRegistry a cells → Finds cells handle (Some d) → s ≡ slice_set cells handle.slot None → locked ≡ lock_after mode (a.count - 1) a.locked → AreRegistry (record a { count = a.count - 1; locked = locked }) s
+pub kept_clear : {T : Type 0} (a : RegistryHeader) (cells s : List (Option (Occupant T)))
+    (handle : Handle) (d : T) (mode : ReleaseMode) (locked : Bool) → AreRegistry a cells
+    → Finds cells handle (Some d) → s ≡ slice_set cells handle.slot None
+    → locked ≡ lock_after mode (a.count - 1) a.locked
+    → AreRegistry (record a { count = a.count - 1; locked = locked }) s
 kept_clear {T} a cells s handle d mode locked k shown e l =
     let one : a.count ≡ length (entries_from 0 s) + 1 = some_stood a cells s handle d k shown e in
-    let was_open : IsTrue a.locked → ⊥ = λ t. (let z : length (entries_from 0 cells) ≡ 0 = ap length (k.0.locked_is_empty t) in omega (arith, k.1)) in
+    let was_open : IsTrue a.locked → ⊥ =
+    λ t. (let z : length (entries_from 0 cells) ≡ 0 = ap length (k.0.locked_is_empty t) in
+    omega (arith, k.1)) in
     let left : a.count - 1 ≡ length (entries_from 0 s) = omega arith in (
-      kept_remove (registry_of a cells) (length s) (entries_from 0 s) (entry_at handle d) locked k.0 (gains_of_clear cells s handle d shown e) (below_from s)
-          (λ t. nothing_left (entries_from 0 s) (sym left ∙ lock_is_last mode (a.count - 1) a.locked (subst IsTrue l t) was_open)),
+      kept_remove (registry_of a cells) (length s) (entries_from 0 s) (entry_at handle d) locked k.0
+          (gains_of_clear cells s handle d shown e) (below_from s)
+          (λ t. nothing_left (entries_from 0 s)
+          (sym left
+          ∙ lock_is_last mode (a.count - 1) a.locked (subst IsTrue l t) was_open)),
       left,
     )
 
-pub remove_step : {T : Type 0} (a : Ledger) (cells s : List (Option (Occupant T))) (handle : Handle) (d : T) (mode : ReleaseMode) (locked : Bool) (state : ReleaseState) → AreRegistry a cells → handle.service ≡ a.service → handle.role ≡ a.role → Finds cells handle (Some d) → s ≡ slice_set cells handle.slot None → locked ≡ lock_after mode (a.count - 1) a.locked → state ≡ release_state locked → RemoveStep (registry_of a cells) handle mode (Ok state) (registry_of (record a { count = a.count - 1; locked = locked }) s)
+pub remove_step : {T : Type 0} (a : RegistryHeader) (cells s : List (Option (Occupant T)))
+    (handle : Handle) (d : T) (mode : ReleaseMode) (locked : Bool) (state : ReleaseState)
+    → AreRegistry a cells → handle.service ≡ a.service → handle.role ≡ a.role
+    → Finds cells handle (Some d) → s ≡ slice_set cells handle.slot None
+    → locked ≡ lock_after mode (a.count - 1) a.locked → state ≡ release_state locked
+    → RemoveStep (registry_of a cells) handle mode (Ok state)
+    (registry_of (record a { count = a.count - 1; locked = locked }) s)
 remove_step {T} a cells s handle d mode locked state k hs hr shown e l st =
     let new : RegistryState T = registry_of (record a { count = a.count - 1; locked = locked }) s in
     let same : length s ≡ length cells = ap length e ∙ length-set cells handle.slot None in
-    let left : a.count - 1 ≡ length (entries_from 0 s) = omega (arith, some_stood a cells s handle d k shown e) in
+    let left : a.count - 1 ≡ length (entries_from 0 s) =
+    omega (arith, some_stood a cells s handle d k shown e) in
     let f : ℕ → Bool → RegistryState T = λ n b. record new { capacity = n; locked = b } in (
       (
         entry_at handle d,
         has_parts a handle hs hr,
         gains_of_clear cells s handle d shown e,
-        ap (λ n. f n locked) same ∙ ap (f (length cells)) (l ∙ ap (λ n. lock_after mode n a.locked) left),
+        ap (λ n. f n locked) same
+            ∙ ap (f (length cells)) (l ∙ ap (λ n. lock_after mode n a.locked) left),
       ),
       st,
     )
 
-pub refused_step : {T : Type 0} (a : Ledger) (cells s : List (Option (Occupant T))) (handle : Handle) (mode : ReleaseMode) (error : ContainerRemoveError) → IsForeign (registry_of a cells) handle → s ≡ cells → RemoveStep (registry_of a cells) handle mode (Err error) (registry_of a s)
+pub refused_step : {T : Type 0} (a : RegistryHeader) (cells s : List (Option (Occupant T)))
+    (handle : Handle) (mode : ReleaseMode) (error : ContainerRemoveError)
+    → IsUnknownHandle (registry_of a cells) handle → s ≡ cells
+    → RemoveStep (registry_of a cells) handle mode (Err error) (registry_of a s)
 refused_step {T} a cells s handle mode error none e =
-    let f : List (Option (Occupant T)) → RegistryState T = λ cs. record (registry_of a cells) { capacity = length cs; entries = entries_from 0 cs } in
+    let f : List (Option (Occupant T)) → RegistryState T =
+    λ cs. record (registry_of a cells) { capacity = length cs; entries = entries_from 0 cs } in
     (none, ap f e)

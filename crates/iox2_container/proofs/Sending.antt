@@ -11,15 +11,15 @@ use Rattle.std.specs.contracts.prelude.OptionDebug.TheImpl as OptionDebug
 use Rattle.std.specs.contracts.prelude.UsizeDebug.TheImpl as UsizeDebug
 use Rattle.std.specs.declared.clone.Clone.{Ghosts as CloneGhosts}
 use Rattle.std.specs.declared.fmt.Debug.{Ghosts as DebugGhosts}
-use Rattle.iox2_container.specs.contracts.container.cell.Cell as Cell
-use Rattle.iox2_container.specs.contracts.container.free_list.FreeList as FreeList
-use Rattle.iox2_container.specs.contracts.container.free_list.FreeListFreeSlots.TheImpl as FreeListFreeSlots
-use Rattle.iox2_container.specs.contracts.container.ledger.Ledger as Ledger
+use Rattle.iox2_container.specs.contracts.container.slots.cell.Cell as Cell
+use Rattle.iox2_container.specs.contracts.container.free.free_list.FreeList as FreeList
+use Rattle.iox2_container.specs.contracts.container.free.free_list.FreeListSlotAllocator.TheImpl as FreeListSlotAllocator
+use Rattle.iox2_container.specs.contracts.container.registry_header.RegistryHeader as RegistryHeader
 use Rattle.iox2_container.specs.contracts.container.slot_map.SlotMap as SlotMap
 use Rattle.iox2_container.specs.contracts.container.slot_map.SlotMap.TheInside as Inside
 use Rattle.iox2_container.specs.contracts.container.slots.Slots as Slots
-use Rattle.iox2_container.specs.contracts.container.touches.Touches as Touches
-use Rattle.iox2_container.specs.declared.container.free_slots.FreeSlots.{Ghosts as FreeSlotsGhosts}
+use Rattle.iox2_container.specs.contracts.container.slots.touches.Touches as Touches
+use Rattle.iox2_container.specs.declared.container.free.slot_allocator.SlotAllocator.{Ghosts as SlotAllocatorGhosts}
 
 Touches-send : IsSend Touches.the_row
 Touches-send = owning_send Touches.the_type tt (λ d. tt) (λ k x w. tt)
@@ -27,21 +27,26 @@ Touches-send = owning_send Touches.the_type tt (λ d. tt) (λ k x w. tt)
 pub Slots-send : (C : RattleType) → IsSend C → IsSend (Slots.the_row C)
 Slots-send C s = search (crosses, sendable, Touches-send) depth 20
 
-Ledger-send : IsSend Ledger.the_row
-Ledger-send = search sendable depth 20
+RegistryHeader-send : IsSend RegistryHeader.the_row
+RegistryHeader-send = search sendable depth 20
 
 FreeList-send : IsSend FreeList.the_row
 FreeList-send = search sendable depth 20
 
 Cell-send : (T N : RattleType) → IsSend T → IsSend N → IsSend (Cell.the_row T N)
 Cell-send T N t n =
-    recorded_send (Enum (enum.shape (Cell.the_type T N))) _ _ ((Cell.the_type T N).to_one) (enum_send (enum.shape (Cell.the_type T N)) ((n, tt), ((search sendable, (t, tt)), tt)))
+    recorded_send (Enum (enum.shape (Cell.the_type T N))) _ _ ((Cell.the_type T N).to_one)
+    (enum_send (enum.shape (Cell.the_type T N)) ((n, tt), ((search sendable, (t, tt)), tt)))
 
 -- any slot map
-module _ (T S N : RattleType) (slots : FreeSlotsGhosts S.Denot T.Denot N.Denot) (debug : DebugGhosts N.Denot) where
+module _ (T S N : RattleType) (slots : SlotAllocatorGhosts S.Denot T.Denot N.Denot)
+    (debug : DebugGhosts N.Denot) where
   inside_send : IsSend T → IsSend S → IsSend N → IsSend (Inside.the_row T S N slots debug)
   inside_send t s n =
-      declared_send (Inside.the_type T S N slots debug) (Ledger-send, (Slots-send _ (Cell-send T N t n), (as_row_send (row_field S) s, (search sendable, tt))))
+      declared_send (Inside.the_type T S N slots debug) (
+        RegistryHeader-send,
+        (Slots-send _ (Cell-send T N t n), (as_row_send (row_field S) s, (search sendable, tt))),
+      )
 
   pub SlotMap-send : IsSend T → IsSend S → IsSend N → IsSend (SlotMap.the_row T S N slots debug)
   SlotMap-send t s n = view_send (Inside.the_row T S N slots debug) _ _ _ _ (inside_send t s n)
@@ -51,6 +56,11 @@ next : IsSend (Option.the_row u64-field.row)
 next = search sendable depth 20
 
 pub ListContainer-send : (T : RattleType) (clone : CloneGhosts T.Denot) → IsSend T
-    → IsSend (SlotMap.the_row T FreeList.the_row (Option.the_row u64-field.row) (FreeListFreeSlots.ghosts T clone FreeListFreeSlots.no_dict) (OptionDebug.ghosts u64-field.row UsizeDebug.ghosts OptionDebug.no_dict))
+    → IsSend (SlotMap.the_row T FreeList.the_row (Option.the_row u64-field.row)
+    (FreeListSlotAllocator.ghosts T clone FreeListSlotAllocator.no_dict)
+    (OptionDebug.ghosts u64-field.row UsizeDebug.ghosts OptionDebug.no_dict))
 ListContainer-send T clone s =
-    SlotMap-send T FreeList.the_row (Option.the_row u64-field.row) (FreeListFreeSlots.ghosts T clone FreeListFreeSlots.no_dict) (OptionDebug.ghosts u64-field.row UsizeDebug.ghosts OptionDebug.no_dict) s FreeList-send next
+    SlotMap-send T FreeList.the_row (Option.the_row u64-field.row)
+    (FreeListSlotAllocator.ghosts T clone FreeListSlotAllocator.no_dict)
+    (OptionDebug.ghosts u64-field.row UsizeDebug.ghosts OptionDebug.no_dict) s FreeList-send
+    next

@@ -1,28 +1,41 @@
 -- Callbacks that count what they are asked about.
 use Rattle.std.proofs.Common.{◌≡◌, ℕ, ◌+◌, ◌<◌, List, [], ◌∷◌, length, ◌∙◌, ap, arith, inl, inr}
 use Rattle.iox2_texts.specs.Attribute.{Visits}
-use Rattle.iox2_texts.specs.declared.bounded.CallbackProgression.{CallbackProgression}
-use Rattle.iox2_texts.specs.declared.bounded.CallbackProgression.TheVariants.{Continue, Stop}
+use Rattle.iox2_texts.specs.declared.bounded.callback_progression.CallbackProgression.{CallbackProgression}
+use Rattle.iox2_texts.specs.declared.bounded.callback_progression.CallbackProgression.TheVariants.{Continue, Stop}
 use Rattle.iox2_container.specs.Callbacks.{CanBeAsked, CanVisit}
 use Rattle.iox2_container.specs.Steps.{Asked, Visit}
 use Rattle.iox2_container.proofs.Callable.{CanBeAsked-by, CanVisit-by}
 
 -- a callback that counts one more at each call, and may be called while the count is below a bound
-module _ {F A R : Type 0} (takes : F → A → Type 0) (calls : F → A → R → F → Type 0) (count : F → ℕ) (top : ℕ)
+module _ {F A R : Type 0} (takes : F → A → Type 0) (calls : F → A → R → F → Type 0) (count : F → ℕ)
+    (top : ℕ)
     (asks : (f : F) (x : A) → count f + 1 < top → takes f x)
     (counts : (f : F) (x : A) (r : R) (h : F) → calls f x r h → count h ≡ count f + 1) where
-  pub CanBeAsked-counting : (f : F) (items : List A) → count f + length items < top → CanBeAsked takes calls f items
-  CanBeAsked-counting = CanBeAsked-by takes calls (λ f xs. count f + length xs < top) (λ f x xs i. asks f x (omega (arith, i))) (λ f x xs r h i c. omega (arith, i, counts f x r h c))
+  pub CanBeAsked-counting : (f : F) (items : List A) → count f + length items < top
+      → CanBeAsked takes calls f items
+  CanBeAsked-counting =
+      CanBeAsked-by takes calls (λ f xs. count f + length xs < top)
+      (λ f x xs i. asks f x (omega (arith, i)))
+      (λ f x xs r h i c. omega (arith, i, counts f x r h c))
 
-module _ {F A : Type 0} (takes : F → A → Type 0) (calls : F → A → CallbackProgression → F → Type 0) (count : F → ℕ) (top : ℕ)
+module _ {F A : Type 0} (takes : F → A → Type 0) (calls : F → A → CallbackProgression → F → Type 0)
+    (count : F → ℕ) (top : ℕ)
     (asks : (f : F) (x : A) → count f + 1 < top → takes f x)
     (counts : (f : F) (x : A) (h : F) → calls f x Continue h → count h ≡ count f + 1) where
-  pub CanVisit-counting : (f : F) (items : List A) → count f + length items < top → CanVisit takes calls f items
-  CanVisit-counting = CanVisit-by takes calls (λ f xs. count f + length xs < top) (λ f x xs i. asks f x (omega (arith, i))) (λ f x xs h i c. omega (arith, i, counts f x h c))
+  pub CanVisit-counting : (f : F) (items : List A) → count f + length items < top
+      → CanVisit takes calls f items
+  CanVisit-counting =
+      CanVisit-by takes calls (λ f xs. count f + length xs < top)
+      (λ f x xs i. asks f x (omega (arith, i)))
+      (λ f x xs h i c. omega (arith, i, counts f x h c))
 
 -- what it has counted in the end
-pub tallied : {F A R N : Type 0} (calls : F → A → R → F → Type 0) (name : F → N) (count : F → ℕ) → ((q : F) (x : A) (r : R) (v : F) → calls q x r v → (name v ≡ name q) × (count v ≡ count q + 1))
-    → (f : F) (items : List A) (answers : List R) (h : F) → Asked calls f items answers h → (name h ≡ name f) × (count h ≡ count f + length items)
+pub tallied : {F A R N : Type 0} (calls : F → A → R → F → Type 0) (name : F → N) (count : F → ℕ)
+    → ((q : F) (x : A) (r : R) (v : F) → calls q x r v → (name v ≡ name q)
+    × (count v ≡ count q + 1))
+    → (f : F) (items : List A) (answers : List R) (h : F) → Asked calls f items answers h
+    → (name h ≡ name f) × (count h ≡ count f + length items)
 tallied calls name count step f [] [] h a = (ap name a, omega (arith, ap count a))
 tallied calls name count step f [] (r ∷ rs) h a = absurd a
 tallied calls name count step f (x ∷ xs) [] h a = absurd a
@@ -30,14 +43,19 @@ tallied calls name count step f (x ∷ xs) (r ∷ rs) h a =
     let s = step f x r a.0 a.1 in
     let t = tallied calls name count step a.0 xs rs h a.2 in (t.0 ∙ s.0, omega (arith, t.1, s.1))
 
-module _ {F A N : Type 0} (calls : F → A → CallbackProgression → F → Type 0) (name : F → N) (count : F → ℕ)
-    (step : (q : F) (x : A) (r : CallbackProgression) (v : F) → calls q x r v → (name v ≡ name q) × (r ≡ Continue) × (count v ≡ count q + 1)) where
-  tallied_visits : (f : F) (items : List A) (h : F) → Visits calls f items h → (name h ≡ name f) × (count h ≡ count f + length items)
+module _ {F A N : Type 0} (calls : F → A → CallbackProgression → F → Type 0) (name : F → N)
+    (count : F → ℕ)
+    (step : (q : F) (x : A) (r : CallbackProgression) (v : F) → calls q x r v → (name v ≡ name q)
+    × (r ≡ Continue) × (count v ≡ count q + 1)) where
+  tallied_visits : (f : F) (items : List A) (h : F) → Visits calls f items h → (name h ≡ name f)
+      × (count h ≡ count f + length items)
   tallied_visits f [] h done = (ap name done, omega (arith, ap count done))
-  tallied_visits f (x ∷ xs) h (inl stopped) = (let z : Stop ≡ Continue = (step f x Stop h stopped).1 in cc)
+  tallied_visits f (x ∷ xs) h (inl stopped) =
+      (let z : Stop ≡ Continue = (step f x Stop h stopped).1 in cc)
   tallied_visits f (x ∷ xs) h (inr goes) =
       let s = step f x Continue goes.0 goes.1 in
       let t = tallied_visits goes.0 xs h goes.2 in (t.0 ∙ s.0, omega (arith, t.1, s.2))
 
-  pub tallied_visit : (f : F) (items : List A) (h : F) → Visit calls f items h → (name h ≡ name f) × (count h ≡ count f + length items)
+  pub tallied_visit : (f : F) (items : List A) (h : F) → Visit calls f items h → (name h ≡ name f)
+      × (count h ≡ count f + length items)
   tallied_visit f items h visit = tallied_visits f items h visit.visits

@@ -8,10 +8,10 @@ use Rattle.iox2_container.specs.declared.container.refusal.ContainerAddFailure.{
 use Rattle.iox2_container.specs.declared.container.refusal.ContainerRemoveError.{ContainerRemoveError}
 use Rattle.iox2_container.specs.declared.container.release.ReleaseMode.{ReleaseMode}
 use Rattle.iox2_container.specs.declared.container.release.ReleaseState.{ReleaseState}
-use Rattle.iox2_container.specs.declared.container.calls.RegistryCall.{RegistryCall}
-use Rattle.iox2_container.specs.declared.container.calls.RegistryCall.TheVariants as Call
-use Rattle.iox2_container.specs.declared.container.calls.RegistryReply.{RegistryReply}
-use Rattle.iox2_container.specs.declared.container.calls.RegistryReply.TheVariants as Reply
+use Rattle.iox2_container.specs.declared.container.comparison.calls.RegistryCall.{RegistryCall}
+use Rattle.iox2_container.specs.declared.container.comparison.calls.RegistryCall.TheVariants as Call
+use Rattle.iox2_container.specs.declared.container.comparison.calls.RegistryReply.{RegistryReply}
+use Rattle.iox2_container.specs.declared.container.comparison.calls.RegistryReply.TheVariants as Reply
 use Rattle.iox2_container.specs.Handle.{Handle}
 use Rattle.iox2_container.specs.State.{IsRegistry}
 use Rattle.iox2_container.specs.ContainerState.{ContainerState}
@@ -35,7 +35,9 @@ is_outside number keys details = not (list_any (λ key. key == number details) k
 abbrev pub RecoversBut : {T : Type 0} → (T → Bool) → (T → ℕ) → List ℕ
     → ContainerState T → ReleaseMode → ReleaseState → ContainerState T → Type 0
 RecoversBut is_dead number keys old mode state new =
-    RecoversBy {F = Unit {0}} (λ _ details goes _. goes ≡ is_outside number keys details) is_dead old tt mode state new tt
+    RecoversBy {F = Unit {0}}
+    (λ _ details goes _. goes ≡ is_outside number keys details) is_dead old tt mode state
+    new tt
 
 -- the reply to an add
 abbrev pub reply_of_add : {T : Type 0} → Result Handle ContainerAddFailure → RegistryReply T
@@ -43,32 +45,43 @@ reply_of_add (Ok handle) = Reply.Handle handle
 reply_of_add (Err failure) = Reply.Refused failure
 
 -- the reply to a removal
-abbrev pub reply_of_remove : {T : Type 0} → Result ReleaseState ContainerRemoveError → RegistryReply T
+abbrev pub reply_of_remove : {T : Type 0} → Result ReleaseState ContainerRemoveError
+    → RegistryReply T
 reply_of_remove (Ok state) = Reply.State state
 reply_of_remove (Err e) = Reply.NotOwned
 
 -- a removal by the handle that an earlier call gave, if it gave one
-abbrev pub RemoveGiven : {T : Type 0} → ContainerState T → Option Handle → ReleaseMode → RegistryReply T → ContainerState T → Type 0
+abbrev pub RemoveGiven : {T : Type 0} → ContainerState T → Option Handle → ReleaseMode
+    → RegistryReply T → ContainerState T → Type 0
 RemoveGiven old None mode reply new = (reply ≡ Reply.NoHandle) × (new ≡ old)
 RemoveGiven old (Some handle) mode reply new =
-    (result : Result ReleaseState ContainerRemoveError) × Removes old handle mode result new × (reply ≡ reply_of_remove result)
+    (result : Result ReleaseState ContainerRemoveError) × Removes old handle mode result new
+    × (reply ≡ reply_of_remove result)
 
 -- what a registry may reply to a call, after it gave the
 -- earlier replies, and how often it touches its slots
 abbrev pub CallStep : {T : Type 0} → (T → ℕ) → (T → ℕ)
-    → ContainerState T → List (RegistryReply T) → RegistryCall T → RegistryReply T → ContainerState T → Type 0
+    → ContainerState T → List (RegistryReply T) → RegistryCall T → RegistryReply T
+    → ContainerState T → Type 0
 CallStep node number old earlier (Call.Add details) reply new =
-    (result : Result Handle ContainerAddFailure) × Adds old details result new × (reply ≡ reply_of_add result)
-CallStep node number old earlier (Call.Remove k mode) reply new = RemoveGiven old (handle_given earlier k) mode reply new
+    (result : Result Handle ContainerAddFailure) × Adds old details result new
+    × (reply ≡ reply_of_add result)
+CallStep node number old earlier (Call.Remove k mode) reply new =
+    RemoveGiven old (handle_given earlier k) mode reply new
 CallStep node number old earlier (Call.Recover dead keys mode) reply new =
-    (state : ReleaseState) × RecoversBut (is_of node dead) number keys.items old mode state new × (reply ≡ Reply.State state)
+    (state : ReleaseState) × RecoversBut (is_of node dead) number keys.items old mode state new
+    × (reply ≡ Reply.State state)
 CallStep {T} node number old earlier Call.List reply new =
-    (entries : Vec T) × (entries.items ≡ listed old.registry) × (reply ≡ Reply.Entries entries) × (new ≡ old)
-CallStep node number old earlier Call.Len reply new = (reply ≡ Reply.Count (length old.registry.entries)) × (new ≡ old)
+    (entries : Vec T) × (entries.items ≡ listed old.registry) × (reply ≡ Reply.Entries entries)
+    × (new ≡ old)
+CallStep node number old earlier Call.Len reply new =
+    (reply ≡ Reply.Count (length old.registry.entries)) × (new ≡ old)
 
 -- a registry was called, and its reply put after the earlier ones
-pub record Answered {T : Type 0} (node number : T → ℕ) (old : ContainerState T) (earlier : List (RegistryReply T))
-    (call : RegistryCall T) (replies : List (RegistryReply T)) (new : ContainerState T) : Type 0 where
+pub record Answered {T : Type 0} (node number : T → ℕ) (old : ContainerState T)
+    (earlier : List (RegistryReply T))
+    (call : RegistryCall T) (replies : List (RegistryReply T))
+    (new : ContainerState T) : Type 0 where
   pub reply : RegistryReply T
   pub step : CallStep node number old earlier call reply new
   pub kept : IsRegistry new.registry
@@ -76,16 +89,19 @@ pub record Answered {T : Type 0} (node number : T → ℕ) (old : ContainerState
 
 -- replies to calls in turn, after the earlier ones
 abbrev pub CallRun : {T : Type 0} → (T → ℕ) → (T → ℕ)
-    → ContainerState T → List (RegistryReply T) → List (RegistryCall T) → List (RegistryReply T) → ContainerState T → Type 0
+    → ContainerState T → List (RegistryReply T) → List (RegistryCall T) → List (RegistryReply T)
+    → ContainerState T → Type 0
 CallRun node number old earlier [] [] new = new ≡ old
 CallRun {T} node number old earlier (call ∷ calls) (reply ∷ replies) new =
-    (mid : ContainerState T) × CallStep node number old earlier call reply mid × IsRegistry mid.registry
+    (mid : ContainerState T) × CallStep node number old earlier call reply mid
+    × IsRegistry mid.registry
     × CallRun node number mid (earlier ++ reply ∷ []) calls replies new
 CallRun node number old earlier [] (reply ∷ replies) new = ⊥
 CallRun node number old earlier (call ∷ calls) [] new = ⊥
 
 -- a registry made as many of the calls as there are replies, and these are the replies
-pub record Made {T : Type 0} (node number : T → ℕ) (old : ContainerState T) (calls : List (RegistryCall T))
+pub record Made {T : Type 0} (node number : T → ℕ) (old : ContainerState T)
+    (calls : List (RegistryCall T))
     (replies : List (RegistryReply T)) (new : ContainerState T) : Type 0 where
   pub run : CallRun node number old [] (take (length replies) calls) replies new
 

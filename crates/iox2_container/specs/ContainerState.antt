@@ -15,7 +15,16 @@ container registry touches = record { registry = registry; touches = touches }
 -- an empty registry of which nothing was touched
 abbrev pub fresh : {T : Type 0} → ℕ → Role → ℕ → ℕ → ContainerState T
 fresh service role capacity tickets = record {
-  registry = record { service = service; role = role; capacity = capacity; budget = tickets; entries = []; locked = false; used = 0 };
+  registry =
+      record {
+        service = service;
+        role = role;
+        capacity = capacity;
+        budget = tickets;
+        entries = [];
+        locked = false;
+        used = 0;
+      };
   touches = 0;
 }
 

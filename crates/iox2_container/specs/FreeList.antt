@@ -1,8 +1,8 @@
 -- Free slots in a list that is linked through their cells.
 use Rattle.std.specs.Prelude.{◌≡◌, ◌≢◌, ℕ, ◌+◌, ◌≤◌, ◌<◌, Option, Some, None, List, [], ◌∷◌, length, map, slice_get, All, ⊤}
-use Rattle.iox2_container.specs.declared.container.cell.Cell.{Cell}
-use Rattle.iox2_container.specs.declared.container.cell.Cell.TheVariants.{Taken, Free}
-use Rattle.iox2_container.specs.declared.container.free_list.FreeList.{FreeList}
+use Rattle.iox2_container.specs.declared.container.slots.cell.Cell.{Cell}
+use Rattle.iox2_container.specs.declared.container.slots.cell.Cell.TheVariants.{Taken, Free}
+use Rattle.iox2_container.specs.declared.container.free.free_list.FreeList.{FreeList}
 use Rattle.iox2_container.specs.Places.{entries_from}
 use Rattle.iox2_container.specs.Cells.{shown}
 
@@ -18,7 +18,8 @@ LeadsThrough cells (Some head) [] = ⊥
 LeadsThrough {T} cells (Some head) (slot ∷ slots) =
     (head ≡ slot)
     × All (λ later. later ≢ slot) slots
-    × ((next : Option ℕ) × (slice_get cells slot ≡ Some (Free next)) × LeadsThrough cells next slots)
+    × ((next : Option ℕ) × (slice_get cells slot ≡ Some (Free next))
+    × LeadsThrough cells next slots)
 
 -- the cell is free, and names the next one
 abbrev pub IsFreeAt : {T : Type 0} → List (Linked T) → ℕ → Type 0
@@ -33,7 +34,8 @@ HasFree cells None fresh = fresh < length cells
 abbrev pub TakesFirst : {T : Type 0} → List (Linked T) → Option ℕ → ℕ → ℕ → Option ℕ → ℕ → Type 0
 TakesFirst cells (Some head) fresh slot head' fresh' =
     (slot ≡ head) × (slice_get cells head ≡ Some (Free head')) × (fresh' ≡ fresh)
-TakesFirst cells None fresh slot head' fresh' = (slot ≡ fresh) × (head' ≡ None) × (fresh' ≡ fresh + 1)
+TakesFirst cells None fresh slot head' fresh' = (slot ≡ fresh) × (head' ≡ None)
+    × (fresh' ≡ fresh + 1)
 
 -- these slots are free again, the one that was freed last first
 abbrev pub AreFreed : {T : Type 0} → FreeList → List (Linked T) → List ℕ → Type 0
@@ -42,14 +44,17 @@ AreFreed l cells freed = LeadsThrough cells l.head freed
 -- the slot that was freed last is taken, or else the first that was never used
 abbrev pub TakesLastFreed : List ℕ → ℕ → ℕ → List ℕ → ℕ → Type 0
 TakesLastFreed [] fresh slot left fresh' = (slot ≡ fresh) × (left ≡ []) × (fresh' ≡ fresh + 1)
-TakesLastFreed (last ∷ freed) fresh slot left fresh' = (slot ≡ last) × (left ≡ freed) × (fresh' ≡ fresh)
+TakesLastFreed (last ∷ freed) fresh slot left fresh' = (slot ≡ last) × (left ≡ freed)
+    × (fresh' ≡ fresh)
 
 -- whatever slots are free again, the one that was freed
 -- last is taken, or else the first that was never used
-abbrev pub PutsFirst : {T : Type 0} → FreeList → List (Linked T) → ℕ → FreeList → List (Linked T) → Type 0
+abbrev pub PutsFirst : {T : Type 0} → FreeList → List (Linked T) → ℕ → FreeList → List (Linked T)
+    → Type 0
 PutsFirst old cells slot new cells' =
     (freed : List ℕ) → AreFreed old cells freed
-    → (left : List ℕ) × AreFreed new cells' left × TakesLastFreed freed old.fresh slot left new.fresh
+    → (left : List ℕ) × AreFreed new cells' left
+    × TakesLastFreed freed old.fresh slot left new.fresh
 
 -- each slot that was used before is taken, or in the list once; each later one is free
 pub record IsFreeList {T : Type 0} (l : FreeList) (cells : List (Linked T)) : Type 0 where

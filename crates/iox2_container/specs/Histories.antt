@@ -8,14 +8,15 @@ use Rattle.iox2_container.specs.declared.container.release.ReleaseMode.{ReleaseM
 use Rattle.iox2_container.specs.declared.container.release.ReleaseState.{ReleaseState}
 use Rattle.iox2_container.specs.Handle.{Handle}
 use Rattle.iox2_container.specs.State.{Entry, RegistryState, IsRegistry, handle_of}
-use Rattle.iox2_container.specs.Steps.{AddStep, RemoveStep, Recovers, Stands, Asked, asked_about, candidates, is_true_first, after_first_answer}
+use Rattle.iox2_container.specs.Steps.{AddStep, RemoveStep, Recovers, HasEntry, Asked, asked_about, candidates, is_true_first, after_first_answer}
 
 -- the entries that go, where the candidates were answered so, in order
 abbrev pub leaving : {T : Type 0} → (T → Bool) → List (Entry T) → List Bool → List (Entry T)
 leaving is_dead [] answers = []
 leaving is_dead (e ∷ es) answers =
     let others = leaving is_dead es (after_first_answer answers) in
-    if is_dead e.details then (if is_true_first answers then e ∷ others else others) else leaving is_dead es answers
+    if is_dead e.details then
+    (if is_true_first answers then e ∷ others else others) else leaving is_dead es answers
 
 -- a change that was asked for, and what came of it
 pub data Change (T : Type 0) : Type 0 where
@@ -60,7 +61,8 @@ TakesOut handle (Removing removed mode (Err e)) = ⊥
 TakesOut handle (Recovering is_dead answers went mode state) = Contains went handle
 
 -- the details were added under the handle, and not since removed or recovered
-pub record Remains {T : Type 0} (changes : List (Change T)) (handle : Handle) (details : T) : Type 0 where
+pub record Remains {T : Type 0} (changes : List (Change T)) (handle : Handle)
+    (details : T) : Type 0 where
   pub earlier : List (Change T)
   pub later : List (Change T)
   pub added : changes ≡ earlier ++ Adding details (Ok handle) ∷ later
@@ -68,9 +70,10 @@ pub record Remains {T : Type 0} (changes : List (Change T)) (handle : Handle) (d
 
 -- a removal by the handle is refused, and no entry has it
 pub record IsRefused {T : Type 0} (r : RegistryState T) (handle : Handle) : Type 0 where
-  pub removal : (mode : ReleaseMode) (result : Result ReleaseState ContainerRemoveError) (new : RegistryState T)
+  pub removal : (mode : ReleaseMode) (result : Result ReleaseState ContainerRemoveError)
+      (new : RegistryState T)
       → RemoveStep r handle mode result new → result ≡ Err ContainerHandleNotOwnedByContainer
-  pub nothing : (details : T) → Stands r handle details → ⊥
+  pub nothing : (details : T) → HasEntry r handle details → ⊥
 
 -- the handle that the change gave
 abbrev pub handle_given_by : {T : Type 0} → Change T → Option Handle

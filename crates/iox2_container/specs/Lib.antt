@@ -11,8 +11,8 @@ pub mod Calls
 pub mod Agreement
 -- What contracts see of slots, which others may use by themselves
 pub mod Cells
--- Inner facts, which no other crate needs: places, passes over them, the ledger, and the free list
+-- Inner facts, which no other crate needs: places, passes over them, the header, and the free list
 pub mod Places
 pub mod Passes
-pub mod LedgerAndPlaces
+pub mod HeaderAndPlaces
 pub mod FreeList

@@ -2,9 +2,9 @@
 use Rattle.std.specs.Prelude.{◌≡◌, ℕ, ◌+◌, ◌≤◌, ◌<◌, nat_lt, Bool, false, IsTrue, Option, Some, None, List, length, map, slice_get, ⊤}
 use Rattle.std.specs.Bool.{MatchBool}
 use Rattle.std.specs.List.{list_any}
-use Rattle.iox2_texts.specs.declared.bounded.CallbackProgression.{CallbackProgression}
-use Rattle.iox2_texts.specs.declared.bounded.CallbackProgression.TheVariants.{Continue}
-use Rattle.iox2_container.specs.declared.container.cell.Occupant.{Occupant}
+use Rattle.iox2_texts.specs.declared.bounded.callback_progression.CallbackProgression.{CallbackProgression}
+use Rattle.iox2_texts.specs.declared.bounded.callback_progression.CallbackProgression.TheVariants.{Continue}
+use Rattle.iox2_container.specs.declared.container.slots.cell.Occupant.{Occupant}
 use Rattle.iox2_container.specs.State.{Entry}
 use Rattle.iox2_container.specs.Steps.{Asked, candidates, staying, is_of}
 
@@ -20,7 +20,8 @@ TakesCell takes f None = ⊤
 TakesCell takes f (Some o) = takes f o.details
 
 -- a callback may be asked about what is in a cell, if it is the dead node's
-abbrev pub TakesDead : {F T : Type 0} → (F → T → Type 0) → (T → Bool) → F → Option (Occupant T) → Type 0
+abbrev pub TakesDead : {F T : Type 0} → (F → T → Type 0) → (T → Bool) → F → Option (Occupant T)
+    → Type 0
 TakesDead takes is_dead f None = ⊤
 TakesDead takes is_dead f (Some o) = IsTrue (is_dead o.details) → takes f o.details
 
@@ -31,14 +32,17 @@ cell_is_of node id (Some o) = is_of node id o.details
 
 -- whether this place's cell is one of the node's
 abbrev pub PlaceIsOf : {T : Type 0} → (T → ℕ) → ℕ → List (Option (Occupant T)) → ℕ → Bool → Type 0
-PlaceIsOf {T} node id cells slot is = (cell : Option (Occupant T)) × (slice_get cells slot ≡ Some cell) × (is ≡ cell_is_of node id cell)
+PlaceIsOf {T} node id cells slot is = (cell : Option (Occupant T))
+    × (slice_get cells slot ≡ Some cell) × (is ≡ cell_is_of node id cell)
 
 -- no entry of the node stands in these places
 abbrev pub AreOthers : {T : Type 0} → (T → ℕ) → ℕ → List (Option (Occupant T)) → ℕ → ℕ → Type 0
-AreOthers node id cells from to = (slot : ℕ) → from ≤ slot → slot < to → PlaceIsOf node id cells slot false
+AreOthers node id cells from to = (slot : ℕ) → from ≤ slot → slot < to
+    → PlaceIsOf node id cells slot false
 
 -- whether what is in a cell goes, where a callback is asked about it if it is the dead node's
-abbrev pub SweptCell : {F T : Type 0} → (F → T → Bool → F → Type 0) → (T → Bool) → F → Option (Occupant T) → Bool → F → Type 0
+abbrev pub SweptCell : {F T : Type 0} → (F → T → Bool → F → Type 0) → (T → Bool) → F
+    → Option (Occupant T) → Bool → F → Type 0
 SweptCell calls is_dead f None goes f' = (goes ≡ false) × (f' ≡ f)
 SweptCell calls is_dead f (Some o) goes f' =
     MatchBool (is_dead o.details) (calls f o.details goes f') ((goes ≡ false) × (f' ≡ f))

@@ -1,6 +1,6 @@
 -- What stands in numbered places.
 use Rattle.std.specs.Prelude.{◌≡◌, ◌≢◌, ℕ, ◌+◌, ◌≤◌, Option, Some, None, List, [], ◌∷◌, map, slice_get}
-use Rattle.iox2_container.specs.declared.container.cell.Occupant.{Occupant}
+use Rattle.iox2_container.specs.declared.container.slots.cell.Occupant.{Occupant}
 use Rattle.iox2_container.specs.Cells.{occupant}
 use Rattle.iox2_container.specs.Handle.{Handle}
 use Rattle.iox2_container.specs.State.{Entry}
@@ -26,5 +26,7 @@ NoneFrom cells end = (slot : ℕ) → end ≤ slot → IsTakenAt cells slot → 
 
 -- the details in the handle's place, if they have its ticket
 abbrev pub Finds : {T : Type 0} → List (Option (Occupant T)) → Handle → Option T → Type 0
-Finds {T} cells handle None = (details : T) → slice_get cells handle.slot ≢ Some (Some (occupant handle.ticket details))
-Finds cells handle (Some details) = slice_get cells handle.slot ≡ Some (Some (occupant handle.ticket details))
+Finds {T} cells handle None = (details : T)
+    → slice_get cells handle.slot ≢ Some (Some (occupant handle.ticket details))
+Finds cells handle (Some details) =
+    slice_get cells handle.slot ≡ Some (Some (occupant handle.ticket details))

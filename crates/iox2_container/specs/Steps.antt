@@ -3,7 +3,7 @@ use Rattle.std.specs.Prelude.{◌≡◌, ◌≢◌, ℕ, zero, suc, ◌+◌, ◌
 use Rattle.std.specs.Prelude.{Result, Ok, Err, List, [], ◌∷◌, ◌++◌, length, map, filter, All}
 use Rattle.std.specs.List.{list_any}
 use Rattle.iox2_texts.specs.Attribute.{Visits}
-use Rattle.iox2_texts.specs.declared.bounded.CallbackProgression.{CallbackProgression}
+use Rattle.iox2_texts.specs.declared.bounded.callback_progression.CallbackProgression.{CallbackProgression}
 use Rattle.iox2_container.specs.declared.container.refusal.ContainerAddFailure.{ContainerAddFailure}
 use Rattle.iox2_container.specs.declared.container.refusal.ContainerAddFailure.TheVariants.{IsLocked, OutOfSpace}
 use Rattle.iox2_container.specs.declared.container.refusal.ContainerRemoveError.{ContainerRemoveError}
@@ -15,7 +15,7 @@ use Rattle.iox2_container.specs.Handle.{Handle}
 use Rattle.iox2_container.specs.State.{Entry, RegistryState, handle_of}
 
 -- the new entries are the old ones and x
-pub record Gains {T : Type 0} (old new : List (Entry T)) (x : Entry T) : Type 0 where
+pub record InsertsOne {T : Type 0} (old new : List (Entry T)) (x : Entry T) : Type 0 where
   pub before : List (Entry T)
   pub after : List (Entry T)
   pub old_is : old ≡ before ++ after
@@ -39,14 +39,16 @@ Enters {T} old details handle new =
     let x : Entry T = record { slot = handle.slot; ticket = old.used; details = details } in
     (handle ≡ handle_of old x)
     × All (λ e. e.slot ≢ x.slot) old.entries
-    × Gains old.entries new.entries x
+    × InsertsOne old.entries new.entries x
     × (new ≡ record old { entries = new.entries; used = old.used + 1 })
 
 -- what `add` may do
-abbrev pub AddStep : {T : Type 0} → RegistryState T → T → Result Handle ContainerAddFailure → RegistryState T → Type 0
+abbrev pub AddStep : {T : Type 0} → RegistryState T → T → Result Handle ContainerAddFailure
+    → RegistryState T → Type 0
 AddStep old details (Err IsLocked) new = (old.locked ≡ true) × (new ≡ old)
 AddStep old details (Err OutOfSpace) new = (old.locked ≡ false) × IsFull old × (new ≡ old)
-AddStep old details (Ok handle) new = (old.locked ≡ false) × HasRoom old × Enters old details handle new
+AddStep old details (Ok handle) new = (old.locked ≡ false) × HasRoom old
+    × Enters old details handle new
 
 -- the answer by the lock
 abbrev pub release_state : Bool → ReleaseState
@@ -61,23 +63,28 @@ lock_after Default left locked = locked
 -- the entry of the handle goes
 abbrev pub Leaves : {T : Type 0} → RegistryState T → Handle → ReleaseMode → RegistryState T → Type 0
 Leaves {T} old handle mode new =
-    (x : Entry T) × (handle ≡ handle_of old x) × Gains new.entries old.entries x
-    × (new ≡ record old { entries = new.entries; locked = lock_after mode (length new.entries) old.locked })
+    (x : Entry T) × (handle ≡ handle_of old x) × InsertsOne new.entries old.entries x
+    × (new ≡ record old {
+      entries = new.entries;
+      locked = lock_after mode (length new.entries) old.locked;
+    })
 
 -- no entry has the handle
-abbrev pub IsForeign : {T : Type 0} → RegistryState T → Handle → Type 0
-IsForeign r handle = All (λ x. handle ≢ handle_of r x) r.entries
+abbrev pub IsUnknownHandle : {T : Type 0} → RegistryState T → Handle → Type 0
+IsUnknownHandle r handle = All (λ x. handle ≢ handle_of r x) r.entries
 
 -- what `remove` may do
 abbrev pub RemoveStep : {T : Type 0} → RegistryState T → Handle → ReleaseMode
     → Result ReleaseState ContainerRemoveError → RegistryState T → Type 0
-RemoveStep old handle mode (Ok state) new = Leaves old handle mode new × (state ≡ release_state new.locked)
-RemoveStep old handle mode (Err e) new = IsForeign old handle × (new ≡ old)
+RemoveStep old handle mode (Ok state) new = Leaves old handle mode new
+    × (state ≡ release_state new.locked)
+RemoveStep old handle mode (Err e) new = IsUnknownHandle old handle × (new ≡ old)
 
 -- the entry of the handle has these details
-abbrev pub Stands : {T : Type 0} → RegistryState T → Handle → T → Type 0
-Stands {T} r handle details =
-    (x : Entry T) × (handle ≡ handle_of r x) × (x.details ≡ details) × ((rest : List (Entry T)) × Gains rest r.entries x)
+abbrev pub HasEntry : {T : Type 0} → RegistryState T → Handle → T → Type 0
+HasEntry {T} r handle details =
+    (x : Entry T) × (handle ≡ handle_of r x) × (x.details ≡ details)
+    × ((rest : List (Entry T)) × InsertsOne rest r.entries x)
 
 -- a callback was asked once for each item, in order, and gave these answers
 abbrev pub Asked : {F A R : Type 0} → (F → A → R → F → Type 0) → F → List A → List R → F → Type 0
@@ -93,7 +100,8 @@ listed r = map (λ e. e.details) r.entries
 
 -- a callback was asked about the items in order, up to and with the first answer `Stop`, or about
 -- all. It is a record, so that a proof finds the calls in it
-pub record Visit {F A : Type 0} (calls : F → A → CallbackProgression → F → Type 0) (f : F) (items : List A) (f' : F) : Type 0 where
+pub record Visit {F A : Type 0} (calls : F → A → CallbackProgression → F → Type 0) (f : F)
+    (items : List A) (f' : F) : Type 0 where
   pub visits : Visits calls f items f'
 
 -- whether details are those of the node
@@ -127,14 +135,17 @@ abbrev pub staying : {T : Type 0} → (T → Bool) → List (Entry T) → List B
 staying is_dead [] answers = []
 staying is_dead (e ∷ es) answers =
     let others = staying is_dead es (after_first_answer answers) in
-    if is_dead e.details then (if is_true_first answers then others else e ∷ others) else e ∷ staying is_dead es answers
+    if is_dead e.details then (if is_true_first answers then others else e ∷ others) else e
+    ∷ staying is_dead es answers
 
 -- the candidates were answered so, in order
-abbrev pub Recovers : {T : Type 0} → (T → Bool) → List Bool → RegistryState T → ReleaseMode → ReleaseState → RegistryState T → Type 0
+abbrev pub Recovers : {T : Type 0} → (T → Bool) → List Bool → RegistryState T → ReleaseMode
+    → ReleaseState → RegistryState T → Type 0
 Recovers is_dead answers old mode state new =
     (new ≡ record old {
       entries = staying is_dead old.entries answers;
-      locked = if list_any (λ goes. goes) answers then lock_after mode (length new.entries) old.locked else old.locked;
+      locked = if list_any (λ goes. goes) answers then lock_after mode
+          (length new.entries) old.locked else old.locked;
     })
     × (state ≡ release_state new.locked)
 

@@ -1,30 +1,23 @@
 //! Registries: bounded maps from handles to details. No handle is given twice, and a locked
 //! registry stays locked.
 
-mod agreement;
 mod attached;
-mod calls;
-mod cell;
 mod comparison;
-mod free_list;
-mod free_slots;
+mod free;
 mod handle;
-mod ledger;
 mod listing;
-mod lowest_free;
 mod passes;
 mod places;
 mod refusal;
 mod registry;
+mod registry_header;
 mod release;
 mod role;
 mod slot_map;
 mod slots;
-mod touches;
 
 pub use attached::Attached;
-pub use calls::{RegistryCall, RegistryReply};
-pub use comparison::compare;
+pub use comparison::{RegistryCall, RegistryReply, compare};
 pub use handle::ContainerHandle;
 pub use listing::entries;
 pub use refusal::{ContainerAddFailure, ContainerRemoveError};

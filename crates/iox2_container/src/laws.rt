@@ -4,7 +4,7 @@ ghost use Rattle.std.specs.Prelude.{◌≡◌, ◌↔◌, ◌≢◌, Bool, IsTru
 ghost use Rattle.std.specs.Fn.{CalledAt};
 ghost use Rattle.iox2_container.specs.Handle.{Handle};
 ghost use Rattle.iox2_container.specs.State.{RegistryState};
-ghost use Rattle.iox2_container.specs.Steps.{RecoverStep, Stands};
+ghost use Rattle.iox2_container.specs.Steps.{RecoverStep, HasEntry};
 ghost use Rattle.iox2_container.specs.Histories.{Change, History, IsNew, IsRecoveryChange};
 ghost use Rattle.iox2_container.specs.Histories.{IsRefused, Remains, TakesOut, handles_given};
 ghost use Rattle.iox2_container.specs.Agreement.{IsSameReplyBy};
@@ -36,7 +36,7 @@ pub fn entries_are_what_remains<T>()
     ensures { (start now : RegistryState T) (changes : List (Change T))
         (handle : Handle) (details : T)
         → IsNew start → History start changes now
-        → Stands now handle details ↔ Remains changes handle details }
+        → HasEntry now handle details ↔ Remains changes handle details }
 {}
 
 /// No two adds give the same handle.
@@ -56,52 +56,21 @@ pub fn handles_go_by_fields(
     (one == other, one.clone())
 }
 
-/// Roles are equal exactly where they are the same, and a clone is the same.
-pub fn roles_go_by_variant(one: &Role, other: &Role) -> (bool, Result<Role, AllocError>)
-    ensures equal { IsTrue result.0 ↔ (one.now ≡ other.now) }
-    ensures cloned { IsOkAnd result.1 (λ copy. copy ≡ one.now) }
-{
-    (one == other, one.clone())
-}
+/// A role, a mode and a state of release, and a refusal of an add and of a removal.
+pub type Variants = (
+    Role,
+    ReleaseMode,
+    ReleaseState,
+    ContainerAddFailure,
+    ContainerRemoveError,
+);
 
-/// Modes of release are equal exactly where they are the same, and a clone is the same.
-pub fn release_modes_go_by_variant(
-    one: &ReleaseMode,
-    other: &ReleaseMode,
-) -> (bool, Result<ReleaseMode, AllocError>)
-    ensures equal { IsTrue result.0 ↔ (one.now ≡ other.now) }
-    ensures cloned { IsOkAnd result.1 (λ copy. copy ≡ one.now) }
-{
-    (one == other, one.clone())
-}
-
-/// States after a release are equal exactly where they are the same, and a clone is the same.
-pub fn release_states_go_by_variant(
-    one: &ReleaseState,
-    other: &ReleaseState,
-) -> (bool, Result<ReleaseState, AllocError>)
-    ensures equal { IsTrue result.0 ↔ (one.now ≡ other.now) }
-    ensures cloned { IsOkAnd result.1 (λ copy. copy ≡ one.now) }
-{
-    (one == other, one.clone())
-}
-
-/// Refusals of an add are equal exactly where they are the same, and a clone is the same.
-pub fn add_failures_go_by_variant(
-    one: &ContainerAddFailure,
-    other: &ContainerAddFailure,
-) -> (bool, Result<ContainerAddFailure, AllocError>)
-    ensures equal { IsTrue result.0 ↔ (one.now ≡ other.now) }
-    ensures cloned { IsOkAnd result.1 (λ copy. copy ≡ one.now) }
-{
-    (one == other, one.clone())
-}
-
-/// Refusals of a removal are equal, since there is but one, and a clone is the same.
-pub fn remove_errors_go_by_variant(
-    one: &ContainerRemoveError,
-    other: &ContainerRemoveError,
-) -> (bool, Result<ContainerRemoveError, AllocError>)
+/// Roles, modes, states and refusals are equal exactly where they are the same, and a clone of one
+/// is it and takes no memory.
+pub fn values_go_by_variant(
+    one: &Variants,
+    other: &Variants,
+) -> (bool, Result<Variants, AllocError>)
     ensures equal { IsTrue result.0 ↔ (one.now ≡ other.now) }
     ensures cloned { IsOkAnd result.1 (λ copy. copy ≡ one.now) }
 {

@@ -32,57 +32,115 @@ same true x = refl
 same false x = refl
 
 -- the ports that are left
-module _ {F : Type 0} (calls : F → UniquePortId → PortCleanupAction → F → Type 0) (dead : ℕ) (nodes : RegistryState ℕ) where
-  left : (role : Role) (old : ContainerState PortDetails) (f : F) (new : ContainerState PortDetails) (h : F) → RecoversPorts calls dead old f new h → IsPortRegistry nodes role old.registry → IsPortRegistry nodes role new.registry
+module _ {F : Type 0} (calls : F → UniquePortId → PortCleanupAction → F → Type 0) (dead : ℕ)
+    (nodes : RegistryState ℕ) where
+  left : (role : Role) (old : ContainerState PortDetails) (f : F) (new : ContainerState PortDetails)
+      (h : F) → RecoversPorts calls dead old f new h → IsPortRegistry nodes role old.registry
+      → IsPortRegistry nodes role new.registry
   left role old f new h r p =
-      let is : new.registry.entries ≡ staying (is_of node_of dead) old.registry.entries r.1.0.0 = ap (λ (r : RegistryState PortDetails). r.entries) r.1.0.2.0 in
+      let is : new.registry.entries ≡ staying (is_of node_of dead) old.registry.entries r.1.step.0 =
+      ap (λ (r : RegistryState PortDetails). r.entries) r.1.step.2.0 in
       record {
-        is_registry = r.1.1.0;
-        number_is = ap (λ (r : RegistryState PortDetails). r.service) r.1.0.2.0 ∙ p.number_is;
-        role_is = ap (λ (r : RegistryState PortDetails). r.role) r.1.0.2.0 ∙ p.role_is;
-        is_open = ap (λ (r : RegistryState PortDetails). r.locked) r.1.0.2.0 ∙ (same (list_any (λ goes. goes) r.1.0.0) old.registry.locked ∙ p.is_open);
-        registered = subst (Registered nodes) (sym is) (All-staying (λ e. 0 < counted (is_of (λ i. i) (node_of e.details)) nodes.entries) (is_of node_of dead) old.registry.entries r.1.0.0 p.registered);
+        is_registry = r.1.kept;
+        number_is = ap (λ (r : RegistryState PortDetails). r.service) r.1.step.2.0 ∙ p.number_is;
+        role_is = ap (λ (r : RegistryState PortDetails). r.role) r.1.step.2.0 ∙ p.role_is;
+        is_open = ap (λ (r : RegistryState PortDetails). r.locked) r.1.step.2.0
+            ∙ (same (list_any (λ goes. goes) r.1.step.0) old.registry.locked ∙ p.is_open);
+        registered =
+            subst (Registered nodes) (sym is)
+            (All-staying (λ e. 0 < counted (is_of (λ i. i) (node_of e.details)) nodes.entries)
+            (is_of node_of dead) old.registry.entries r.1.step.0 p.registered);
       }
 
-  all_left : (kind : PatternKind) (old : Ports) (f : F) (new : Ports) (h : F) → RecoversBoth calls dead old f new h → ArePorts nodes kind old → ArePorts nodes kind new
+  all_left : (kind : PatternKind) (old : Ports) (f : F) (new : Ports) (h : F)
+      → RecoversBoth calls dead old f new h → ArePorts nodes kind old → ArePorts nodes kind new
   all_left kind old f new h r p =
-      record { first = left (first_role kind) old.first f new.first r.0 r.1 p.first; second = left (second_role kind) old.second r.0 new.second h r.2 p.second }
+      record {
+        first = left (first_role kind) old.first f new.first r.0 r.1 p.first;
+        second = left (second_role kind) old.second r.0 new.second h r.2 p.second;
+      }
 
-others : (dead other : ℕ) → (other == dead) ≡ false → (d : ℕ) → (d == dead) ≡ true → (d == other) ≡ false
+others : (dead other : ℕ) → (other == dead) ≡ false → (d : ℕ) → (d == dead) ≡ true
+    → (d == other) ≡ false
 others dead other n d e =
-    ap (λ k. k == other) (eqb-true d dead e) ∙ ne_eqb dead other (λ k. not_false (sym (eq-eqb other dead (sym k)) ∙ n))
+    ap (λ k. k == other) (eqb-true d dead e)
+    ∙ ne_eqb dead other (λ k. not_false (sym (eq-eqb other dead (sym k)) ∙ n))
 
-still_there : (dead : ℕ) (nodes : List (Entry ℕ)) (answers : List Bool) (ports : List (Entry PortDetails)) → All (λ e. is_of node_of dead e.details ≡ false) ports
-    → All (λ e. 0 < counted (is_of (λ i. i) (node_of e.details)) nodes) ports → All (λ e. 0 < counted (is_of (λ i. i) (node_of e.details)) (staying (is_of (λ i. i) dead) nodes answers)) ports
-still_there dead nodes answers [] n h = All-nil (λ (e : Entry PortDetails). 0 < counted (is_of (λ i. i) (node_of e.details)) (staying (is_of (λ i. i) dead) nodes answers))
+still_there : (dead : ℕ) (nodes : List (Entry ℕ)) (answers : List Bool)
+    (ports : List (Entry PortDetails)) → All (λ e. is_of node_of dead e.details ≡ false) ports
+    → All (λ e. 0 < counted (is_of (λ i. i) (node_of e.details)) nodes) ports
+    → All (λ e. 0
+    < counted (is_of (λ i. i) (node_of e.details))
+    (staying (is_of (λ i. i) dead) nodes answers)) ports
+still_there dead nodes answers [] n h =
+    All-nil (λ (e : Entry PortDetails). 0
+    < counted (is_of (λ i. i) (node_of e.details)) (staying (is_of (λ i. i) dead) nodes answers))
 still_there dead nodes answers (e ∷ ports) n h =
-    let same = counted-staying (is_of (λ i. i) (node_of e.details)) (is_of (λ i. i) dead) (others dead (node_of e.details) (All-head (λ (e : Entry PortDetails). is_of node_of dead e.details ≡ false) e ports n)) nodes answers in
-    let was : 0 < counted (is_of (λ i. i) (node_of e.details)) nodes = All-head (λ (e : Entry PortDetails). 0 < counted (is_of (λ i. i) (node_of e.details)) nodes) e ports h in
-    All-cons (λ (e : Entry PortDetails). 0 < counted (is_of (λ i. i) (node_of e.details)) (staying (is_of (λ i. i) dead) nodes answers)) e ports
+    let same =
+    counted-staying (is_of (λ i. i) (node_of e.details)) (is_of (λ i. i) dead)
+    (others dead (node_of e.details)
+    (All-head (λ (e : Entry PortDetails). is_of node_of dead e.details ≡ false) e ports n))
+    nodes answers in
+    let was : 0 < counted (is_of (λ i. i) (node_of e.details)) nodes =
+    All-head (λ (e : Entry PortDetails). 0 < counted (is_of (λ i. i) (node_of e.details)) nodes)
+    e ports h in
+    All-cons (λ (e : Entry PortDetails). 0
+    < counted (is_of (λ i. i) (node_of e.details))
+    (staying (is_of (λ i. i) dead) nodes answers)) e ports
     (omega arith)
-    (still_there dead nodes answers ports (All-tail (λ (e : Entry PortDetails). is_of node_of dead e.details ≡ false) e ports n) (All-tail (λ (e : Entry PortDetails). 0 < counted (is_of (λ i. i) (node_of e.details)) nodes) e ports h))
+    (still_there dead nodes answers ports
+    (All-tail (λ (e : Entry PortDetails). is_of node_of dead e.details ≡ false) e ports n)
+    (All-tail
+    (λ (e : Entry PortDetails). 0 < counted (is_of (λ i. i) (node_of e.details)) nodes) e
+    ports h))
 
 -- the nodes stay, where a port of the dead node is left, since then they are not locked
-pub nodes_stay : (dead : ℕ) (b : Bool) (old : ContainerState ℕ) → b ≡ true → old.registry.locked ≡ false → NodesAfter dead b old (state_of HasOwners) old
+pub nodes_stay : (dead : ℕ) (b : Bool) (old : ContainerState ℕ) → b ≡ true
+    → old.registry.locked ≡ false → NodesAfter dead b old (state_of HasOwners) old
 nodes_stay dead b old e unlocked =
-    subst (λ k. NodesAfter dead k old (state_of HasOwners) old) (sym e) (sym (ap release_state unlocked), refl)
+    subst (λ k. NodesAfter dead k old (state_of HasOwners) old) (sym e)
+    (sym (ap release_state unlocked), refl)
 
-pub nodes_after : (dead : ℕ) (b : Bool) (old : ContainerState ℕ) (state : ReleaseState) (answer : DeregisterNodeState) (new : ContainerState ℕ) → b ≡ false → state ≡ state_of answer → RecoversNodes dead old state new → NodesAfter dead b old (state_of answer) new
+pub nodes_after : (dead : ℕ) (b : Bool) (old : ContainerState ℕ) (state : ReleaseState)
+    (answer : DeregisterNodeState) (new : ContainerState ℕ) → b ≡ false
+    → state ≡ state_of answer → RecoversNodes dead old state new
+    → NodesAfter dead b old (state_of answer) new
 nodes_after dead b old state answer new e f r =
-    subst (λ k. NodesAfter dead k old (state_of answer) new) (sym e) (subst (λ t. RecoversNodes dead old t new) f r)
+    subst (λ k. NodesAfter dead k old (state_of answer) new) (sym e)
+    (subst (λ t. RecoversNodes dead old t new) f r)
 
 -- where a port of the dead node is left
-pub skipped_kept : {F : Type 0} (calls : F → UniquePortId → PortCleanupAction → F → Type 0) (s : Service) (f : F) (dead : ℕ) (kind : PatternKind) (ports : Ports) (h : F) → kind ≡ s.pattern → RecoversBoth calls dead s.ports f ports h → IsService s → IsService (record s { pattern = kind; ports = ports })
+pub skipped_kept : {F : Type 0} (calls : F → UniquePortId → PortCleanupAction → F → Type 0)
+    (s : Service) (f : F) (dead : ℕ) (kind : PatternKind) (ports : Ports) (h : F)
+    → kind ≡ s.pattern → RecoversBoth calls dead s.ports f ports h → IsService s
+    → IsService (record s { pattern = kind; ports = ports })
 skipped_kept calls s f dead kind ports h k r i =
-    with_ports s kind ports k i (all_left calls dead s.nodes.registry s.pattern s.ports f ports h r i.ports_are)
+    with_ports s kind ports k i
+    (all_left calls dead s.nodes.registry s.pattern s.ports f ports h r i.ports_are)
 
 -- where none is left
-pub dead_kept : {F : Type 0} (calls : F → UniquePortId → PortCleanupAction → F → Type 0) (s : Service) (f : F) (dead : ℕ) (kind : PatternKind) (ports : Ports) (h : F) (state : ReleaseState) (nodes : ContainerState ℕ) → kind ≡ s.pattern → RecoversBoth calls dead s.ports f ports h → has_ports_of dead ports ≡ false → RecoversNodes dead s.nodes state nodes → IsService s → IsService (record s { pattern = kind; ports = ports; nodes = nodes })
+pub dead_kept : {F : Type 0} (calls : F → UniquePortId → PortCleanupAction → F → Type 0)
+    (s : Service) (f : F) (dead : ℕ) (kind : PatternKind) (ports : Ports) (h : F)
+    (state : ReleaseState) (nodes : ContainerState ℕ) → kind ≡ s.pattern
+    → RecoversBoth calls dead s.ports f ports h → has_ports_of dead ports ≡ false
+    → RecoversNodes dead s.nodes state nodes → IsService s
+    → IsService (record s { pattern = kind; ports = ports; nodes = nodes })
 dead_kept calls s f dead kind ports h state nodes k r none n i =
     let a = skipped_kept calls s f dead kind ports h k r i in
-    let z = both_none (counted (is_of node_of dead) ports.first.registry.entries) (counted (is_of node_of dead) ports.second.registry.entries) none in
-    let is : nodes.registry.entries ≡ staying (is_of (λ i. i) dead) s.nodes.registry.entries n.0.0 = ap (λ (r : RegistryState ℕ). r.entries) n.0.2.0 in
-    let stay : (l : List (Entry PortDetails)) → counted (is_of node_of dead) l ≡ 0 → Registered s.nodes.registry l → Registered nodes.registry l =
-    λ l none h. subst (λ (n : List (Entry ℕ)). All (λ e. 0 < counted (is_of (λ i. i) (node_of e.details)) n) l) (sym is) (still_there dead s.nodes.registry.entries n.0.0 l (All-other (is_of node_of dead) l none) h) in
-    with_nodes (record s { pattern = kind; ports = ports }) nodes n.1.0 (ap (λ (r : RegistryState ℕ). r.service) n.0.2.0) (ap (λ (r : RegistryState ℕ). r.role) n.0.2.0)
-    (stay ports.first.registry.entries z.0 a.ports_are.first.registered) (stay ports.second.registry.entries z.1 a.ports_are.second.registered) a
+    let z = both_none (counted (is_of node_of dead) ports.first.registry.entries)
+    (counted (is_of node_of dead) ports.second.registry.entries) none in
+    let is : nodes.registry.entries
+    ≡ staying (is_of (λ i. i) dead) s.nodes.registry.entries n.step.0 =
+    ap (λ (r : RegistryState ℕ). r.entries) n.step.2.0 in
+    let stay : (l : List (Entry PortDetails)) → counted (is_of node_of dead) l ≡ 0
+    → Registered s.nodes.registry l → Registered nodes.registry l =
+    λ l none h. subst
+    (λ (n : List (Entry ℕ)). All
+    (λ e. 0 < counted (is_of (λ i. i) (node_of e.details)) n) l) (sym is)
+    (still_there dead s.nodes.registry.entries n.step.0 l
+    (All-other (is_of node_of dead) l none) h) in
+    with_nodes (record s { pattern = kind; ports = ports }) nodes n.kept
+    (ap (λ (r : RegistryState ℕ). r.service) n.step.2.0)
+    (ap (λ (r : RegistryState ℕ). r.role) n.step.2.0)
+    (stay ports.first.registry.entries z.0 a.ports_are.first.registered)
+    (stay ports.second.registry.entries z.1 a.ports_are.second.registered) a

@@ -8,36 +8,60 @@ use Rattle.iox2_container.specs.declared.container.refusal.ContainerAddFailure.T
 use Rattle.iox2_container.specs.declared.container.release.ReleaseMode.TheVariants.{LockIfLastIndex}
 use Rattle.iox2_container.specs.declared.container.role.Role.{Role}
 use Rattle.iox2_container.specs.Handle.{Handle}
+use Rattle.iox2_container.specs.Changes.{Adds}
 use Rattle.iox2_container.specs.ContainerState.{ContainerState}
 use Rattle.iox2_container.specs.State.{Entry, RegistryState, IsRegistry}
-use Rattle.iox2_container.specs.Steps.{AddStep, Gains, Leaves, Stands, is_of}
+use Rattle.iox2_container.specs.Steps.{AddStep, InsertsOne, Leaves, HasEntry, is_of}
 use Rattle.iox2_container.proofs.Counting.{counted, one_if, counted-cons}
+use Rattle.iox2_container.proofs.Growing.{grows_add}
 use Rattle.iox2_container.proofs.Members.{one_by_ticket}
 use Rattle.iox2_dynamic.specs.declared.dynamic_config.port_details.PortDetails.{PortDetails}
 use Rattle.iox2_dynamic.specs.Details.{node_of}
 use Rattle.iox2_dynamic.specs.Service.{Service, IsService, IsPortRegistry, HasNoPort, Registered, entries_of_node, first_role, second_role}
 use Rattle.iox2_dynamic.specs.Ports.{has_ports_of}
 use Rattle.iox2_dynamic.specs.Steps.{is_last_of_ports}
-use Rattle.iox2_container.proofs.Counting.{counted-Gains}
+use Rattle.iox2_container.proofs.Counting.{counted-InsertsOne}
 
 pub not_false : true ≡ false → ⊥
 not_false e = (cc)
 
 -- registered nodes stay so when one is added
-registered_add : (old new : RegistryState ℕ) (d : ℕ) (answer : Result Handle ContainerAddFailure) (ports : List (Entry PortDetails)) → AddStep old d answer new → Registered old ports → Registered new ports
-registered_add old new d (Err IsLocked) ports a h = subst (λ (r : RegistryState ℕ). Registered r ports) (sym a.1) h
-registered_add old new d (Err OutOfSpace) ports a h = subst (λ (r : RegistryState ℕ). Registered r ports) (sym a.2) h
+registered_add : (old new : RegistryState ℕ) (d : ℕ) (answer : Result Handle ContainerAddFailure)
+    (ports : List (Entry PortDetails)) → AddStep old d answer new → Registered old ports
+    → Registered new ports
+registered_add old new d (Err IsLocked) ports a h =
+    subst (λ (r : RegistryState ℕ). Registered r ports) (sym a.1) h
+registered_add old new d (Err OutOfSpace) ports a h =
+    subst (λ (r : RegistryState ℕ). Registered r ports) (sym a.2) h
 registered_add old new d (Ok handle) ports a h =
     let x : Entry ℕ = record { slot = handle.slot; ticket = old.used; details = d } in
-    All-weaker (λ (e : Entry PortDetails). 0 < entries_of_node (node_of e.details) old) (λ (e : Entry PortDetails). 0 < entries_of_node (node_of e.details) new)
-    (λ e l. omega (arith, counted-Gains (is_of (λ i. i) (node_of e.details)) old.entries new.entries x a.2.2)) ports h
+    All-weaker (λ (e : Entry PortDetails). 0 < entries_of_node (node_of e.details) old)
+    (λ (e : Entry PortDetails). 0 < entries_of_node (node_of e.details) new)
+    (λ e l. omega (
+      arith,
+      counted-InsertsOne
+          (is_of (λ i. i) (node_of e.details)) old.entries new.entries x a.2.2,
+    )) ports h
 
 -- a service with other nodes
-pub with_nodes : (s : Service) (nodes : ContainerState ℕ) → IsRegistry nodes.registry → nodes.registry.service ≡ s.nodes.registry.service → nodes.registry.role ≡ s.nodes.registry.role
-    → Registered nodes.registry s.ports.first.registry.entries → Registered nodes.registry s.ports.second.registry.entries → IsService s → IsService (record s { nodes = nodes })
+pub with_nodes : (s : Service) (nodes : ContainerState ℕ) → IsRegistry nodes.registry
+    → nodes.registry.service ≡ s.nodes.registry.service
+    → nodes.registry.role ≡ s.nodes.registry.role
+    → Registered nodes.registry s.ports.first.registry.entries
+    → Registered nodes.registry s.ports.second.registry.entries → IsService s
+    → IsService (record s { nodes = nodes })
 with_nodes s nodes k number role first second i =
-    let beside : (r : Role) (ports : RegistryState PortDetails) → Registered nodes.registry ports.entries → IsPortRegistry s.nodes.registry r ports → IsPortRegistry nodes.registry r ports =
-    λ r ports registered p. record { is_registry = p.is_registry; number_is = p.number_is ∙ sym number; role_is = p.role_is; is_open = p.is_open; registered = registered } in
+    let beside : (r : Role) (ports : RegistryState PortDetails)
+    → Registered nodes.registry ports.entries → IsPortRegistry s.nodes.registry r ports
+    → IsPortRegistry nodes.registry r ports =
+    λ r ports registered p.
+    record {
+      is_registry = p.is_registry;
+      number_is = p.number_is ∙ sym number;
+      role_is = p.role_is;
+      is_open = p.is_open;
+      registered = registered;
+    } in
     record {
       nodes_are = k;
       role_is = role ∙ i.role_is;
@@ -47,37 +71,50 @@ with_nodes s nodes k number role first second i =
       };
     }
 
--- an added node changes neither the number nor the role
-added_place : (old new : RegistryState ℕ) (d : ℕ) (answer : Result Handle ContainerAddFailure) → AddStep old d answer new → (new.service ≡ old.service) × (new.role ≡ old.role)
-added_place old new d (Ok handle) a = (ap (λ (r : RegistryState ℕ). r.service) a.2.3, ap (λ (r : RegistryState ℕ). r.role) a.2.3)
-added_place old new d (Err IsLocked) a = (ap (λ (r : RegistryState ℕ). r.service) a.1, ap (λ (r : RegistryState ℕ). r.role) a.1)
-added_place old new d (Err OutOfSpace) a = (ap (λ (r : RegistryState ℕ). r.service) a.2, ap (λ (r : RegistryState ℕ). r.role) a.2)
-
-pub register_kept : (s : Service) (nodes : ContainerState ℕ) (d : ℕ) (answer : Result Handle ContainerAddFailure) → AddStep s.nodes.registry d answer nodes.registry → IsRegistry nodes.registry → IsService s → IsService (record s { nodes = nodes })
-register_kept s nodes d answer a k i =
-    let p = added_place s.nodes.registry nodes.registry d answer a in
-    let stay : (ports : List (Entry PortDetails)) → Registered s.nodes.registry ports → Registered nodes.registry ports = λ ports h. registered_add s.nodes.registry nodes.registry d answer ports a h in
-    with_nodes s nodes k p.0 p.1 (stay s.ports.first.registry.entries i.ports_are.first.registered) (stay s.ports.second.registry.entries i.ports_are.second.registered) i
+pub register_kept : (s : Service) (nodes : ContainerState ℕ) (d : ℕ)
+    (answer : Result Handle ContainerAddFailure) → Adds s.nodes d answer nodes → IsService s
+    → IsService (record s { nodes = nodes })
+register_kept s nodes d answer a i =
+    let g = grows_add s.nodes.registry d answer nodes.registry a.step in
+    let stay : (ports : List (Entry PortDetails)) → Registered s.nodes.registry ports
+    → Registered nodes.registry ports =
+    λ ports h. registered_add s.nodes.registry nodes.registry d answer ports a.step h in
+    with_nodes s nodes a.kept g.service g.role
+    (stay s.ports.first.registry.entries i.ports_are.first.registered)
+    (stay s.ports.second.registry.entries i.ports_are.second.registered) i
 
 apart : (a b : ℕ) → (a < b) ⊎ (b < a) → a ≢ b
 apart a b (inl l) = λ e. omega arith
 apart a b (inr l) = λ e. omega arith
 
 -- where the last entry of a node goes only if no port has it, the nodes of these ports stay
-still : (old new : List (Entry ℕ)) (x : Entry ℕ) → Gains new old x → (ports : List (Entry PortDetails)) → (counted (is_of (λ i. i) x.details) old ≡ 1 → counted (is_of node_of x.details) ports ≡ 0)
-    → All (λ e. 0 < counted (is_of (λ i. i) (node_of e.details)) old) ports → All (λ e. 0 < counted (is_of (λ i. i) (node_of e.details)) new) ports
-still old new x g [] last h = All-nil (λ (e : Entry PortDetails). 0 < counted (is_of (λ i. i) (node_of e.details)) new)
+still : (old new : List (Entry ℕ)) (x : Entry ℕ) → InsertsOne new old x
+    → (ports : List (Entry PortDetails))
+    → (counted (is_of (λ i. i) x.details) old ≡ 1 → counted (is_of node_of x.details) ports ≡ 0)
+    → All (λ e. 0 < counted (is_of (λ i. i) (node_of e.details)) old) ports
+    → All (λ e. 0 < counted (is_of (λ i. i) (node_of e.details)) new) ports
+still old new x g [] last h =
+    All-nil (λ (e : Entry PortDetails). 0 < counted (is_of (λ i. i) (node_of e.details)) new)
 still old new x g (e ∷ ports) last h =
     let c = counted-cons (is_of node_of x.details) e ports in
-    let n = counted-Gains (is_of (λ i. i) (node_of e.details)) new old x g in
-    let was : 0 < counted (is_of (λ i. i) (node_of e.details)) old = All-head (λ (e : Entry PortDetails). 0 < counted (is_of (λ i. i) (node_of e.details)) old) e ports h in
-    All-cons (λ (e : Entry PortDetails). 0 < counted (is_of (λ i. i) (node_of e.details)) new) e ports
-    (elim (cases_order x.details (node_of e.details)) as (λ _. 0 < counted (is_of (λ i. i) (node_of e.details)) new) [
+    let n = counted-InsertsOne (is_of (λ i. i) (node_of e.details)) new old x g in
+    let was : 0 < counted (is_of (λ i. i) (node_of e.details)) old =
+    All-head (λ (e : Entry PortDetails). 0 < counted (is_of (λ i. i) (node_of e.details)) old) e
+    ports h in
+    All-cons (λ (e : Entry PortDetails). 0 < counted (is_of (λ i. i) (node_of e.details)) new) e
+    ports
+    (elim (cases_order x.details (node_of e.details)) as
+    (λ _. 0 < counted (is_of (λ i. i) (node_of e.details)) new) [
       | inl v ↦
-          let same : counted (is_of (λ i. i) x.details) old ≡ counted (is_of (λ i. i) (node_of e.details)) old = ap (λ (k : ℕ). counted (λ (i : ℕ). i == k) old) v in
-          let one : one_if (is_of node_of x.details e.details) ≡ 1 = ap one_if (eq-eqb (node_of e.details) x.details (sym v)) in
-          let hit : one_if (is_of (λ i. i) (node_of e.details) x.details) ≡ 1 = ap one_if (eq-eqb x.details (node_of e.details) v) in
-          (elim (cases_order (counted (is_of (λ i. i) x.details) old) 1) as (λ _. 0 < counted (is_of (λ i. i) (node_of e.details)) new) [
+          let same : counted (is_of (λ i. i) x.details) old
+          ≡ counted (is_of (λ i. i) (node_of e.details)) old =
+          ap (λ (k : ℕ). counted (λ (i : ℕ). i == k) old) v in
+          let one : one_if (is_of node_of x.details e.details) ≡ 1 =
+          ap one_if (eq-eqb (node_of e.details) x.details (sym v)) in
+          let hit : one_if (is_of (λ i. i) (node_of e.details) x.details) ≡ 1 =
+          ap one_if (eq-eqb x.details (node_of e.details) v) in
+          (elim (cases_order (counted (is_of (λ i. i) x.details) old) 1) as
+          (λ _. 0 < counted (is_of (λ i. i) (node_of e.details)) new) [
             | inl k ↦ absurd (let z = last k in omega arith)
             | inr k ↦ (elim k as (λ _. 0 < counted (is_of (λ i. i) (node_of e.details)) new) [
               | inl l ↦ absurd (omega arith)
@@ -85,54 +122,88 @@ still old new x g (e ∷ ports) last h =
             ])
           ])
       | inr v ↦
-          let miss : one_if (is_of (λ i. i) (node_of e.details) x.details) ≡ 0 = ap one_if (ne_eqb x.details (node_of e.details) (apart x.details (node_of e.details) v)) in
+          let miss : one_if (is_of (λ i. i) (node_of e.details) x.details) ≡ 0 =
+          ap one_if
+          (ne_eqb x.details (node_of e.details) (apart x.details (node_of e.details) v)) in
           omega arith
     ])
-    (still old new x g ports (λ k. let z = last k in omega arith) (All-tail (λ (e : Entry PortDetails). 0 < counted (is_of (λ i. i) (node_of e.details)) old) e ports h))
+    (still old new x g ports (λ k. let z = last k in omega arith)
+    (All-tail
+    (λ (e : Entry PortDetails). 0 < counted (is_of (λ i. i) (node_of e.details)) old) e
+    ports h))
 
 pub both_none : (a b : ℕ) → (nat_lt 0 a || nat_lt 0 b) ≡ false → (a ≡ 0) × (b ≡ 0)
 both_none zero zero h = (refl, refl)
 both_none zero (suc b) h = absurd (not_false (sym (lt-ltb 0 (suc b) (omega arith)) ∙ h))
-both_none (suc a) b h = absurd (not_false (sym (ap (λ k. k || nat_lt 0 b) (lt-ltb 0 (suc a) (omega arith))) ∙ h))
+both_none (suc a) b h =
+    absurd (not_false (sym (ap (λ k. k || nat_lt 0 b) (lt-ltb 0 (suc a) (omega arith))) ∙ h))
 
-none_of : (n a b : ℕ) → (nat_eq n 1 && (nat_lt 0 a || nat_lt 0 b)) ≡ false → n ≡ 1 → (a ≡ 0) × (b ≡ 0)
+none_of : (n a b : ℕ) → (nat_eq n 1 && (nat_lt 0 a || nat_lt 0 b)) ≡ false → n ≡ 1 → (a ≡ 0)
+    × (b ≡ 0)
 none_of n a b h e =
-    let h' : (nat_lt 0 a || nat_lt 0 b) ≡ false = sym (ap (λ k. k && (nat_lt 0 a || nat_lt 0 b)) (eq-eqb n 1 e)) ∙ h in both_none a b h'
+    let h' : (nat_lt 0 a || nat_lt 0 b) ≡ false =
+    sym (ap (λ k. k && (nat_lt 0 a || nat_lt 0 b)) (eq-eqb n 1 e)) ∙ h in both_none a b h'
 
-pub leaving_kept : (s : Service) (nodes : ContainerState ℕ) (handle : Handle) (id : ℕ) → Stands s.nodes.registry handle id → is_last_of_ports id s ≡ false → Leaves s.nodes.registry handle LockIfLastIndex nodes.registry → IsRegistry nodes.registry → IsService s → IsService (record s { nodes = nodes })
+pub leaving_kept : (s : Service) (nodes : ContainerState ℕ) (handle : Handle) (id : ℕ)
+    → HasEntry s.nodes.registry handle id → is_last_of_ports id s ≡ false
+    → Leaves s.nodes.registry handle LockIfLastIndex nodes.registry → IsRegistry nodes.registry
+    → IsService s → IsService (record s { nodes = nodes })
 leaving_kept s nodes handle id stands last gone k i =
     let x : Entry ℕ = gone.0 in
     let y : Entry ℕ = stands.0 in
     let tickets : x.ticket ≡ y.ticket = ap (λ (h : Handle). h.ticket) (sym gone.1 ∙ stands.1) in
-    let same : y ≡ x = one_by_ticket s.nodes.registry.entries nodes.registry.entries stands.3.0 x y i.nodes_are.tickets_differ gone.2 stands.3.1 tickets in
+    let same : y ≡ x =
+    one_by_ticket s.nodes.registry.entries nodes.registry.entries stands.3.0 x y
+    i.nodes_are.tickets_differ gone.2 stands.3.1 tickets in
     let its : id ≡ x.details = sym stands.2 ∙ ap (λ (e : Entry ℕ). e.details) same in
-    let none = none_of (counted (is_of (λ i. i) x.details) s.nodes.registry.entries) (counted (is_of node_of x.details) s.ports.first.registry.entries) (counted (is_of node_of x.details) s.ports.second.registry.entries) (subst (λ d. is_last_of_ports d s ≡ false) its last) in
-    with_nodes s nodes k (ap (λ (r : RegistryState ℕ). r.service) gone.3) (ap (λ (r : RegistryState ℕ). r.role) gone.3)
-    (still s.nodes.registry.entries nodes.registry.entries x gone.2 s.ports.first.registry.entries (λ e. (none e).0) i.ports_are.first.registered)
-    (still s.nodes.registry.entries nodes.registry.entries x gone.2 s.ports.second.registry.entries (λ e. (none e).1) i.ports_are.second.registered) i
+    let none =
+    none_of (counted (is_of (λ i. i) x.details) s.nodes.registry.entries)
+    (counted (is_of node_of x.details) s.ports.first.registry.entries)
+    (counted (is_of node_of x.details) s.ports.second.registry.entries)
+    (subst (λ d. is_last_of_ports d s ≡ false) its last) in
+    with_nodes s nodes k (ap (λ (r : RegistryState ℕ). r.service) gone.3)
+    (ap (λ (r : RegistryState ℕ). r.role) gone.3)
+    (still s.nodes.registry.entries nodes.registry.entries x gone.2 s.ports.first.registry.entries
+    (λ e. (none e).0) i.ports_are.first.registered)
+    (still s.nodes.registry.entries nodes.registry.entries x gone.2 s.ports.second.registry.entries
+    (λ e. (none e).1) i.ports_are.second.registered) i
 
 -- where no node is left, no port is
-no_port : (nodes : RegistryState ℕ) (ports : List (Entry PortDetails)) → nodes.entries ≡ [] → Registered nodes ports → ports ≡ []
+no_port : (nodes : RegistryState ℕ) (ports : List (Entry PortDetails)) → nodes.entries ≡ []
+    → Registered nodes ports → ports ≡ []
 no_port nodes [] e h = refl
 no_port nodes (p ∷ ports) e h =
-    let one : 0 < entries_of_node (node_of p.details) nodes = All-head (λ (e : Entry PortDetails). 0 < entries_of_node (node_of e.details) nodes) p ports h in
-    let none : entries_of_node (node_of p.details) nodes ≡ 0 = ap (counted (is_of (λ i. i) (node_of p.details))) e in
+    let one : 0 < entries_of_node (node_of p.details) nodes =
+    All-head (λ (e : Entry PortDetails). 0 < entries_of_node (node_of e.details) nodes) p ports
+    h in
+    let none : entries_of_node (node_of p.details) nodes ≡ 0 =
+    ap (counted (is_of (λ i. i) (node_of p.details))) e in
     absurd (omega arith)
 
-pub locked_has_no_port : (s : Service) → IsService s → IsTrue s.nodes.registry.locked → HasNoPort s.ports
+pub locked_has_no_port : (s : Service) → IsService s → IsTrue s.nodes.registry.locked
+    → HasNoPort s.ports
 locked_has_no_port s i t =
-    let none = i.nodes_are.locked_is_empty t in
-    (no_port s.nodes.registry s.ports.first.registry.entries none i.ports_are.first.registered, no_port s.nodes.registry s.ports.second.registry.entries none i.ports_are.second.registered)
+    let none = i.nodes_are.locked_is_empty t in (
+      no_port s.nodes.registry s.ports.first.registry.entries none i.ports_are.first.registered,
+      no_port s.nodes.registry s.ports.second.registry.entries none i.ports_are.second.registered,
+    )
 
 unlocked : (b : Bool) → (IsTrue b → ⊥) → b ≡ false
 unlocked true n = absurd (n refl)
 unlocked false n = refl
 
 -- where some port has a node, the service is not locked
-pub ports_open : (s : Service) (id : ℕ) → IsService s → has_ports_of id s.ports ≡ true → s.nodes.registry.locked ≡ false
+pub ports_open : (s : Service) (id : ℕ) → IsService s → has_ports_of id s.ports ≡ true
+    → s.nodes.registry.locked ≡ false
 ports_open s id i h =
     unlocked s.nodes.registry.locked (λ t.
     let none = locked_has_no_port s i t in
-    let first : counted (is_of node_of id) s.ports.first.registry.entries ≡ 0 = ap (counted (is_of node_of id)) none.0 in
-    let second : counted (is_of node_of id) s.ports.second.registry.entries ≡ 0 = ap (counted (is_of node_of id)) none.1 in
-    not_false (sym h ∙ (ap (λ n. nat_lt 0 n || nat_lt 0 (counted (is_of node_of id) s.ports.second.registry.entries)) first ∙ ap (λ n. nat_lt 0 0 || nat_lt 0 n) second)))
+    let first : counted (is_of node_of id) s.ports.first.registry.entries ≡ 0 =
+    ap (counted (is_of node_of id)) none.0 in
+    let second : counted (is_of node_of id) s.ports.second.registry.entries ≡ 0 =
+    ap (counted (is_of node_of id)) none.1 in
+    not_false
+    (sym h ∙ (ap
+    (λ n. nat_lt 0 n || nat_lt 0
+    (counted (is_of node_of id) s.ports.second.registry.entries)) first
+    ∙ ap (λ n. nat_lt 0 0 || nat_lt 0 n) second)))

@@ -17,7 +17,10 @@ use Rattle.iox2_dynamic.specs.Ports.{Ports, AddsTo, RemovesFrom}
 use Rattle.iox2_dynamic.specs.Service.{Service, IsService, IsPortRegistry, ArePorts, entries_of_node, first_role, second_role}
 
 module _ (nodes : RegistryState ℕ) (role : Role) where
-  added : (old new : RegistryState PortDetails) (d : PortDetails) (answer : Result Handle ContainerAddFailure) → 0 < entries_of_node (node_of d) nodes → AddStep old d answer new → IsRegistry new → IsPortRegistry nodes role old → IsPortRegistry nodes role new
+  added : (old new : RegistryState PortDetails) (d : PortDetails)
+      (answer : Result Handle ContainerAddFailure) → 0 < entries_of_node (node_of d) nodes
+      → AddStep old d answer new → IsRegistry new → IsPortRegistry nodes role old
+      → IsPortRegistry nodes role new
   added old new d (Ok handle) l a k p =
       let x : Entry PortDetails = record { slot = handle.slot; ticket = old.used; details = d } in
       record {
@@ -25,45 +28,76 @@ module _ (nodes : RegistryState ℕ) (role : Role) where
         number_is = ap (λ (r : RegistryState PortDetails). r.service) a.2.3 ∙ p.number_is;
         role_is = ap (λ (r : RegistryState PortDetails). r.role) a.2.3 ∙ p.role_is;
         is_open = ap (λ (r : RegistryState PortDetails). r.locked) a.2.3 ∙ p.is_open;
-        registered = All-gain (λ e. 0 < entries_of_node (node_of e.details) nodes) old.entries new.entries x a.2.2 p.registered l;
+        registered =
+            All-gain (λ e. 0 < entries_of_node (node_of e.details) nodes) old.entries new.entries x
+            a.2.2 p.registered l;
       }
-  added old new d (Err IsLocked) l a k p = subst (λ (r : RegistryState PortDetails). IsPortRegistry nodes role r) (sym a.1) p
-  added old new d (Err OutOfSpace) l a k p = subst (λ (r : RegistryState PortDetails). IsPortRegistry nodes role r) (sym a.2) p
+  added old new d (Err IsLocked) l a k p =
+      subst (λ (r : RegistryState PortDetails). IsPortRegistry nodes role r) (sym a.1) p
+  added old new d (Err OutOfSpace) l a k p =
+      subst (λ (r : RegistryState PortDetails). IsPortRegistry nodes role r) (sym a.2) p
 
-  removed : (old new : RegistryState PortDetails) (handle : Handle) (answer : Result ReleaseState ContainerRemoveError) → RemoveStep old handle Default answer new → IsRegistry new → IsPortRegistry nodes role old → IsPortRegistry nodes role new
+  removed : (old new : RegistryState PortDetails) (handle : Handle)
+      (answer : Result ReleaseState ContainerRemoveError)
+      → RemoveStep old handle Default answer new → IsRegistry new → IsPortRegistry nodes role old
+      → IsPortRegistry nodes role new
   removed old new handle (Ok state) a k p = record {
     is_registry = k;
     number_is = ap (λ (r : RegistryState PortDetails). r.service) a.0.3 ∙ p.number_is;
     role_is = ap (λ (r : RegistryState PortDetails). r.role) a.0.3 ∙ p.role_is;
     is_open = ap (λ (r : RegistryState PortDetails). r.locked) a.0.3 ∙ p.is_open;
-    registered = All-loss (λ e. 0 < entries_of_node (node_of e.details) nodes) new.entries old.entries a.0.0 a.0.2 p.registered;
+    registered =
+        All-loss (λ e. 0 < entries_of_node (node_of e.details) nodes) new.entries old.entries a.0.0
+        a.0.2 p.registered;
   }
-  removed old new handle (Err why) a k p = subst (λ (r : RegistryState PortDetails). IsPortRegistry nodes role r) (sym a.1) p
+  removed old new handle (Err why) a k p =
+      subst (λ (r : RegistryState PortDetails). IsPortRegistry nodes role r) (sym a.1) p
 
 module _ (nodes : RegistryState ℕ) (kind : PatternKind) where
-  added_to : (old new : Ports) (d : PortDetails) (answer : Result Handle ContainerAddFailure) → 0 < entries_of_node (node_of d) nodes → AddsTo (first_role kind) (second_role kind) old d answer new → ArePorts nodes kind old → ArePorts nodes kind new
+  added_to : (old new : Ports) (d : PortDetails) (answer : Result Handle ContainerAddFailure)
+      → 0 < entries_of_node (node_of d) nodes
+      → AddsTo (first_role kind) (second_role kind) old d answer new → ArePorts nodes kind old
+      → ArePorts nodes kind new
   added_to old new d answer l (inl h) g = record {
-    first = added nodes (first_role kind) old.first.registry new.first.registry d answer l h.1.0 h.1.1.0 g.first;
-    second = subst (λ (p : Ports). IsPortRegistry nodes (second_role kind) p.second.registry) (sym h.2) g.second;
+    first = added nodes
+        (first_role kind) old.first.registry new.first.registry d answer l h.1.step h.1.kept
+        g.first;
+    second = subst (λ (p : Ports). IsPortRegistry nodes (second_role kind) p.second.registry)
+        (sym h.2) g.second;
   }
   added_to old new d answer l (inr h) g = record {
-    first = subst (λ (p : Ports). IsPortRegistry nodes (first_role kind) p.first.registry) (sym h.2) g.first;
-    second = added nodes (second_role kind) old.second.registry new.second.registry d answer l h.1.0 h.1.1.0 g.second;
+    first = subst (λ (p : Ports). IsPortRegistry nodes (first_role kind) p.first.registry)
+        (sym h.2) g.first;
+    second = added nodes
+        (second_role kind) old.second.registry new.second.registry d answer l h.1.step h.1.kept
+        g.second;
   }
 
-  removed_from : (old new : Ports) (handle : Handle) (answer : Result ReleaseState ContainerRemoveError) → RemovesFrom (first_role kind) (second_role kind) old handle answer new → ArePorts nodes kind old → ArePorts nodes kind new
+  removed_from : (old new : Ports) (handle : Handle)
+      (answer : Result ReleaseState ContainerRemoveError)
+      → RemovesFrom (first_role kind) (second_role kind) old handle answer new
+      → ArePorts nodes kind old → ArePorts nodes kind new
   removed_from old new handle answer (inl h) g = record {
-    first = removed nodes (first_role kind) old.first.registry new.first.registry handle answer h.1.0 h.1.1.0 g.first;
-    second = subst (λ (p : Ports). IsPortRegistry nodes (second_role kind) p.second.registry) (sym h.2) g.second;
+    first = removed nodes
+        (first_role kind) old.first.registry new.first.registry handle answer h.1.step h.1.kept
+        g.first;
+    second = subst (λ (p : Ports). IsPortRegistry nodes (second_role kind) p.second.registry)
+        (sym h.2) g.second;
   }
   removed_from old new handle answer (inr (inl h)) g = record {
-    first = subst (λ (p : Ports). IsPortRegistry nodes (first_role kind) p.first.registry) (sym h.2) g.first;
-    second = removed nodes (second_role kind) old.second.registry new.second.registry handle answer h.1.0 h.1.1.0 g.second;
+    first = subst (λ (p : Ports). IsPortRegistry nodes (first_role kind) p.first.registry)
+        (sym h.2) g.first;
+    second = removed nodes
+        (second_role kind) old.second.registry new.second.registry handle answer h.1.step h.1.kept
+        g.second;
   }
-  removed_from old new handle answer (inr (inr h)) g = subst (λ (p : Ports). ArePorts nodes kind p) (sym h.2) g
+  removed_from old new handle answer (inr (inr h)) g =
+      subst (λ (p : Ports). ArePorts nodes kind p) (sym h.2) g
 
 -- a service of the same pattern with other ports
-pub with_ports : (s : Service) (kind : PatternKind) (ports : Ports) → kind ≡ s.pattern → IsService s → ArePorts s.nodes.registry s.pattern ports → IsService (record s { pattern = kind; ports = ports })
+pub with_ports : (s : Service) (kind : PatternKind) (ports : Ports) → kind ≡ s.pattern → IsService s
+    → ArePorts s.nodes.registry s.pattern ports
+    → IsService (record s { pattern = kind; ports = ports })
 with_ports s kind ports k i p = record {
   nodes_are = i.nodes_are;
   role_is = i.role_is;
@@ -71,11 +105,20 @@ with_ports s kind ports k i p = record {
 }
 
 -- what attaching a port keeps
-pub attach_kept : (s : Service) (kind : PatternKind) (ports : Ports) (d : PortDetails) (answer : Result Handle ContainerAddFailure) → kind ≡ s.pattern → 0 < entries_of_node (node_of d) s.nodes.registry → AddsTo (first_role s.pattern) (second_role s.pattern) s.ports d answer ports → IsService s → IsService (record s { pattern = kind; ports = ports })
+pub attach_kept : (s : Service) (kind : PatternKind) (ports : Ports) (d : PortDetails)
+    (answer : Result Handle ContainerAddFailure) → kind ≡ s.pattern
+    → 0 < entries_of_node (node_of d) s.nodes.registry
+    → AddsTo (first_role s.pattern) (second_role s.pattern) s.ports d answer ports → IsService s
+    → IsService (record s { pattern = kind; ports = ports })
 attach_kept s kind ports d answer k l a i =
-    with_ports s kind ports k i (added_to s.nodes.registry s.pattern s.ports ports d answer l a i.ports_are)
+    with_ports s kind ports k i
+    (added_to s.nodes.registry s.pattern s.ports ports d answer l a i.ports_are)
 
 -- what releasing a port keeps
-pub release_kept : (s : Service) (kind : PatternKind) (ports : Ports) (handle : Handle) (answer : Result ReleaseState ContainerRemoveError) → kind ≡ s.pattern → RemovesFrom (first_role s.pattern) (second_role s.pattern) s.ports handle answer ports → IsService s → IsService (record s { pattern = kind; ports = ports })
+pub release_kept : (s : Service) (kind : PatternKind) (ports : Ports) (handle : Handle)
+    (answer : Result ReleaseState ContainerRemoveError) → kind ≡ s.pattern
+    → RemovesFrom (first_role s.pattern) (second_role s.pattern) s.ports handle answer ports
+    → IsService s → IsService (record s { pattern = kind; ports = ports })
 release_kept s kind ports handle answer k a i =
-    with_ports s kind ports k i (removed_from s.nodes.registry s.pattern s.ports ports handle answer a i.ports_are)
+    with_ports s kind ports k i
+    (removed_from s.nodes.registry s.pattern s.ports ports handle answer a i.ports_are)

@@ -24,7 +24,9 @@ roles_differ kind.Event e = (cc)
 roles_differ kind.RequestResponse e = (cc)
 roles_differ kind.Blackboard e = (cc)
 
-added_where : {T : Type 0} (old : RegistryState T) (details : T) (answer : Result Handle ContainerAddFailure) (new : RegistryState T) → AddStep old details answer new
+added_where : {T : Type 0} (old : RegistryState T) (details : T)
+    (answer : Result Handle ContainerAddFailure) (new : RegistryState T)
+    → AddStep old details answer new
     → (IsOk answer → TakesEntry old) × (TakesEntry old → IsOk answer)
 added_where old details (Ok handle) new s = (λ _. (s.0, s.1), λ _. refl)
 added_where old details (Err IsLocked) new s = (
@@ -39,28 +41,44 @@ added_where old details (Err OutOfSpace) new s = (
   ],
 )
 
-pub registered_where : (old : Service) (id : ℕ) (answer : Result Handle RegisterNodeResult) (new : Service) → RegisterStep old id answer new
+pub registered_where : (old : Service) (id : ℕ) (answer : Result Handle RegisterNodeResult)
+    (new : Service) → RegisterStep old id answer new
     → (IsOk answer → TakesEntry old.nodes.registry) × (TakesEntry old.nodes.registry → IsOk answer)
-registered_where old id (Ok handle) new s = added_where old.nodes.registry id (Ok handle) new.nodes.registry s.0.0
-registered_where old id (Err MarkedForDestruction) new s = added_where old.nodes.registry id (Err IsLocked) new.nodes.registry s.0.0
-registered_where old id (Err ExceedsMaxNumberOfNodes) new s = added_where old.nodes.registry id (Err OutOfSpace) new.nodes.registry s.0.0
+registered_where old id (Ok handle) new s =
+    added_where old.nodes.registry id (Ok handle) new.nodes.registry s.0.step
+registered_where old id (Err MarkedForDestruction) new s =
+    added_where old.nodes.registry id (Err IsLocked) new.nodes.registry s.0.step
+registered_where old id (Err ExceedsMaxNumberOfNodes) new s =
+    added_where old.nodes.registry id (Err OutOfSpace) new.nodes.registry s.0.step
 
 -- a port that was added, and one that was not
-taken : (pattern : PatternKind) (old new : Ports) (details : PortDetails) (handle : Handle) → AddsTo (first_role pattern) (second_role pattern) old details (Ok handle) new
+taken : (pattern : PatternKind) (old new : Ports) (details : PortDetails) (handle : Handle)
+    → AddsTo (first_role pattern) (second_role pattern) old details (Ok handle) new
     → TakesIn (first_role pattern) (second_role pattern) old (role_of details)
-taken pattern old new details handle (inl a) = inl (a.0, (a.1.0.0, a.1.0.1))
-taken pattern old new details handle (inr b) = inr (b.0, (b.1.0.0, b.1.0.1))
+taken pattern old new details handle (inl a) = inl (a.0, (a.1.step.0, a.1.step.1))
+taken pattern old new details handle (inr b) = inr (b.0, (b.1.step.0, b.1.step.1))
 
-not_taken : (pattern : PatternKind) (old new : Ports) (details : PortDetails) → AddsTo (first_role pattern) (second_role pattern) old details (Err OutOfSpace) new
+not_taken : (pattern : PatternKind) (old new : Ports) (details : PortDetails)
+    → AddsTo (first_role pattern) (second_role pattern) old details (Err OutOfSpace) new
     → TakesIn (first_role pattern) (second_role pattern) old (role_of details) → ⊥
-not_taken pattern old new details (inl a) (inl t) = (let z : false ≡ true = (added_where old.first.registry details (Err OutOfSpace) new.first.registry a.1.0).1 t.1 in cc)
+not_taken pattern old new details (inl a) (inl t) =
+    (let z : false ≡ true =
+    (added_where old.first.registry details (Err OutOfSpace) new.first.registry a.1.step).1
+    t.1 in cc)
 not_taken pattern old new details (inl a) (inr t) = roles_differ pattern (sym a.0 ∙ t.0)
 not_taken pattern old new details (inr b) (inl t) = roles_differ pattern (sym t.0 ∙ b.0)
-not_taken pattern old new details (inr b) (inr t) = (let z : false ≡ true = (added_where old.second.registry details (Err OutOfSpace) new.second.registry b.1.0).1 t.1 in cc)
+not_taken pattern old new details (inr b) (inr t) =
+    (let z : false ≡ true =
+    (added_where old.second.registry details (Err OutOfSpace) new.second.registry b.1.step).1
+    t.1 in cc)
 
-pub attached_where : (old : Service) (details : PortDetails) (answer : Result Handle AttachError) (new : Service) → 0 < entries_of_node (node_of details) old.nodes.registry → AttachStep old details answer new
-    → (IsOk answer → TakesPort old (role_of details)) × (TakesPort old (role_of details) → IsOk answer)
-attached_where old details (Ok handle) new there s = (λ _. (s.0.0, taken old.pattern old.ports new.ports details handle s.1.0), λ _. refl)
+pub attached_where : (old : Service) (details : PortDetails) (answer : Result Handle AttachError)
+    (new : Service) → 0 < entries_of_node (node_of details) old.nodes.registry
+    → AttachStep old details answer new
+    → (IsOk answer → TakesPort old (role_of details))
+    × (TakesPort old (role_of details) → IsOk answer)
+attached_where old details (Ok handle) new there s =
+    (λ _. (s.0.0, taken old.pattern old.ports new.ports details handle s.1.0), λ _. refl)
 attached_where old details (Err attach.ServiceIsLocked) new there s = (
   λ e. (let z : false ≡ true = e in cc),
   λ t. (let z : false ≡ true = sym t.0 ∙ s.0 in cc),

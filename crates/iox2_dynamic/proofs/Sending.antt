@@ -26,13 +26,47 @@ clones : (D : Type 0) → CloneGhosts D
 clones D = record { is_clone = λ _ _. Unit {0}; is_infallible = λ _. Unit {0} }
 
 server : IsSend Server.the_row
-server = declared_send Server.the_type (search sendable depth 20, (search sendable depth 20, (search sendable depth 20, (search sendable depth 20, (search sendable depth 20, (search sendable depth 20, (search sendable depth 20, tt)))))))
+server = declared_send Server.the_type (
+  search sendable depth 20,
+  (
+    search sendable depth 20,
+    (
+      search sendable depth 20,
+      (
+        search sendable depth 20,
+        (search sendable depth 20, (search sendable depth 20, (search sendable depth 20, tt))),
+      ),
+    ),
+  ),
+)
 
 client : IsSend Client.the_row
-client = declared_send Client.the_type (search sendable depth 20, (search sendable depth 20, (search sendable depth 20, (search sendable depth 20, (search sendable depth 20, (search sendable depth 20, (search sendable depth 20, tt)))))))
+client = declared_send Client.the_type (
+  search sendable depth 20,
+  (
+    search sendable depth 20,
+    (
+      search sendable depth 20,
+      (
+        search sendable depth 20,
+        (search sendable depth 20, (search sendable depth 20, (search sendable depth 20, tt))),
+      ),
+    ),
+  ),
+)
 
 publisher : IsSend Publisher.the_row
-publisher = declared_send Publisher.the_type (search sendable depth 20, (search sendable depth 20, (search sendable depth 20, (search sendable depth 20, (search sendable depth 20, (search sendable depth 20, tt))))))
+publisher =
+    declared_send Publisher.the_type (
+      search sendable depth 20,
+      (
+        search sendable depth 20,
+        (
+          search sendable depth 20,
+          (search sendable depth 20, (search sendable depth 20, (search sendable depth 20, tt))),
+        ),
+      ),
+    )
 
 subscriber : IsSend Subscriber.the_row
 subscriber = search sendable depth 20
@@ -52,19 +86,49 @@ writer = search sendable depth 20
 node : IsSend NodeId.the_row
 node = search sendable depth 20
 
-ports_send : (A B : RattleType) (a : CloneGhosts A.Denot) (b : CloneGhosts B.Denot) → IsSend A → IsSend B → IsSend (PortRegistries.the_row A B a b)
+ports_send : (A B : RattleType) (a : CloneGhosts A.Denot) (b : CloneGhosts B.Denot) → IsSend A
+    → IsSend B → IsSend (PortRegistries.the_row A B a b)
 ports_send A B a b s t =
-    view_send (PortsInside.the_row A B a b) _ _ _ _ (declared_send (PortsInside.the_type A B a b) (ListContainer-send A a s, (ListContainer-send B b t, tt)))
+    view_send (PortsInside.the_row A B a b) _ _ _ _
+    (declared_send (PortsInside.the_type A B a b)
+    (ListContainer-send A a s, (ListContainer-send B b t, tt)))
 
 pattern : IsSend MessagingPattern.the_row
 pattern =
-    recorded_send (Enum (enum.shape MessagingPattern.the_type)) _ _ MessagingPattern.the_type.to_one (enum_send (enum.shape MessagingPattern.the_type) (
-      (ports_send Server.the_row Client.the_row (clones (Server.the_row).Denot) (clones (Client.the_row).Denot) server client, tt),
-      ((ports_send Publisher.the_row Subscriber.the_row (clones (Publisher.the_row).Denot) (clones (Subscriber.the_row).Denot) publisher subscriber, tt), ((ports_send Listener.the_row Notifier.the_row (clones (Listener.the_row).Denot) (clones (Notifier.the_row).Denot) listener notifier, tt), ((ports_send Reader.the_row Writer.the_row (clones (Reader.the_row).Denot) (clones (Writer.the_row).Denot) reader writer, tt), tt))),
+    recorded_send (Enum (enum.shape MessagingPattern.the_type)) _ _ MessagingPattern.the_type.to_one
+    (enum_send (enum.shape MessagingPattern.the_type) (
+      (
+        ports_send Server.the_row Client.the_row (clones (Server.the_row).Denot)
+            (clones (Client.the_row).Denot) server client,
+        tt,
+      ),
+      (
+        (
+          ports_send Publisher.the_row Subscriber.the_row (clones (Publisher.the_row).Denot)
+              (clones (Subscriber.the_row).Denot) publisher subscriber,
+          tt,
+        ),
+        (
+          (
+            ports_send Listener.the_row Notifier.the_row (clones (Listener.the_row).Denot)
+                (clones (Notifier.the_row).Denot) listener notifier,
+            tt,
+          ),
+          (
+            (
+              ports_send Reader.the_row Writer.the_row (clones (Reader.the_row).Denot)
+                  (clones (Writer.the_row).Denot) reader writer,
+              tt,
+            ),
+            tt,
+          ),
+        ),
+      ),
     ))
 
 inside : IsSend Inside.the_row
-inside = declared_send Inside.the_type (pattern, (ListContainer-send NodeId.the_row (clones (NodeId.the_row).Denot) node, tt))
+inside = declared_send Inside.the_type
+    (pattern, (ListContainer-send NodeId.the_row (clones (NodeId.the_row).Denot) node, tt))
 
 pub DynamicConfig-send : IsSend DynamicConfig.the_row
 DynamicConfig-send = view_send Inside.the_row _ _ _ _ inside

@@ -1,6 +1,6 @@
 -- The ports of a service, and what the calls on them do.
 use Rattle.std.specs.Prelude.{◌≡◌, ◌≢◌, ℕ, nat_lt, ◌||◌, ◌⊎◌, Bool, true, false, Option, Some, None, Result, Err, List, ◌++◌, length}
-use Rattle.iox2_texts.specs.declared.bounded.CallbackProgression.{CallbackProgression}
+use Rattle.iox2_texts.specs.declared.bounded.callback_progression.CallbackProgression.{CallbackProgression}
 use Rattle.iox2_ids.specs.declared.identifiers.port_id.UniquePortId.{UniquePortId}
 use Rattle.iox2_container.specs.declared.container.refusal.ContainerAddFailure.{ContainerAddFailure}
 use Rattle.iox2_container.specs.declared.container.refusal.ContainerRemoveError.{ContainerRemoveError}
@@ -12,7 +12,7 @@ use Rattle.iox2_container.specs.Handle.{Handle}
 use Rattle.iox2_container.specs.ContainerState.{fresh}
 use Rattle.iox2_container.specs.Callbacks.{CanVisit}
 use Rattle.iox2_container.specs.State.{RegistryState}
-use Rattle.iox2_container.specs.Steps.{Visit, IsForeign, Stands, TakesEntry, asked_about, entries_of, is_of, listed}
+use Rattle.iox2_container.specs.Steps.{Visit, IsUnknownHandle, HasEntry, TakesEntry, asked_about, entries_of, is_of, listed}
 use Rattle.iox2_dynamic.specs.declared.dynamic_config.cleanup.PortCleanupAction.{PortCleanupAction}
 use Rattle.iox2_dynamic.specs.declared.dynamic_config.port_details.PortDetails.{PortDetails}
 use Rattle.iox2_container.specs.Changes.{Adds, Removes}
@@ -26,7 +26,8 @@ abbrev pub Ports : Type 0
 Ports = PortsState PortDetails PortDetails
 
 -- the same ports, as details of ports of any kind
-abbrev pub ports_as : {A B : Type 0} → (A → PortDetails) → (B → PortDetails) → PortsState A B → Ports
+abbrev pub ports_as : {A B : Type 0} → (A → PortDetails) → (B → PortDetails) → PortsState A B
+    → Ports
 ports_as f g p = record { first = container_as f p.first; second = container_as g p.second }
 
 -- no port yet, for this many of the first kind and this many of the second
@@ -47,19 +48,26 @@ IsNeither a b role = (role ≢ a) × (role ≢ b)
 -- whether some port has the node
 abbrev pub has_ports_of : ℕ → Ports → Bool
 has_ports_of id p =
-    nat_lt 0 (entries_of node_of id p.first.registry) || nat_lt 0 (entries_of node_of id p.second.registry)
+    nat_lt 0 (entries_of node_of id p.first.registry) || nat_lt 0
+    (entries_of node_of id p.second.registry)
 
 -- what adding a port does, where these are the roles of the ports
-abbrev pub AddsTo : Role → Role → Ports → PortDetails → Result Handle ContainerAddFailure → Ports → Type 0
+abbrev pub AddsTo : Role → Role → Ports → PortDetails → Result Handle ContainerAddFailure → Ports
+    → Type 0
 AddsTo a b old details answer new =
-    ((role_of details ≡ a) × Adds old.first details answer new.first × (new ≡ record old { first = new.first }))
-    ⊎ ((role_of details ≡ b) × Adds old.second details answer new.second × (new ≡ record old { second = new.second }))
+    ((role_of details ≡ a) × Adds old.first details answer new.first
+    × (new ≡ record old { first = new.first }))
+    ⊎ ((role_of details ≡ b) × Adds old.second details answer new.second
+    × (new ≡ record old { second = new.second }))
 
 -- what removing a port does, where these are the roles of the ports
-abbrev pub RemovesFrom : Role → Role → Ports → Handle → Result ReleaseState ContainerRemoveError → Ports → Type 0
+abbrev pub RemovesFrom : Role → Role → Ports → Handle → Result ReleaseState ContainerRemoveError
+    → Ports → Type 0
 RemovesFrom a b old handle answer new =
-    ((handle.role ≡ a) × Removes old.first handle Default answer new.first × (new ≡ record old { first = new.first }))
-    ⊎ ((handle.role ≡ b) × Removes old.second handle Default answer new.second × (new ≡ record old { second = new.second }))
+    ((handle.role ≡ a) × Removes old.first handle Default answer new.first
+    × (new ≡ record old { first = new.first }))
+    ⊎ ((handle.role ≡ b) × Removes old.second handle Default answer new.second
+    × (new ≡ record old { second = new.second }))
     ⊎ (IsNeither a b handle.role × (answer ≡ Err ContainerHandleNotOwnedByContainer) × (new ≡ old))
 
 -- the ids of the ports of a dead node, those of the first
@@ -68,14 +76,16 @@ abbrev pub ports_asked_about : ℕ → Ports → List UniquePortId
 ports_asked_about dead p = ids_asked_about dead p.first ++ ids_asked_about dead p.second
 
 -- the ports of a dead node, the first and then the second, by one callback on port ids
-abbrev pub RecoversBoth : {F : Type 0} → (F → UniquePortId → PortCleanupAction → F → Type 0) → ℕ → Ports → F → Ports → F → Type 0
+abbrev pub RecoversBoth : {F : Type 0} → (F → UniquePortId → PortCleanupAction → F → Type 0) → ℕ
+    → Ports → F → Ports → F → Type 0
 RecoversBoth {F} calls dead old f new f' =
     (between : F)
     × RecoversPorts calls dead old.first f new.first between
     × RecoversPorts calls dead old.second between new.second f'
 
 -- what is said of the ports of a role; for another role nothing is said
-abbrev pub OfRole : {A : Type 0} → (RegistryState PortDetails → A → Type 0) → Role → Role → Ports → Role → Option A → Type 0
+abbrev pub OfRole : {A : Type 0} → (RegistryState PortDetails → A → Type 0) → Role → Role → Ports
+    → Role → Option A → Type 0
 OfRole says a b p role None = IsNeither a b role
 OfRole says a b p role (Some x) =
     ((role ≡ a) × says p.first.registry x) ⊎ ((role ≡ b) × says p.second.registry x)
@@ -86,28 +96,35 @@ CountsIn = OfRole (λ r n. n ≡ length r.entries)
 
 -- a port of the role would be added
 abbrev pub TakesIn : Role → Role → Ports → Role → Type 0
-TakesIn a b p role = ((role ≡ a) × TakesEntry p.first.registry) ⊎ ((role ≡ b) × TakesEntry p.second.registry)
+TakesIn a b p role = ((role ≡ a) × TakesEntry p.first.registry)
+    ⊎ ((role ≡ b) × TakesEntry p.second.registry)
 
 -- no port has the handle
 abbrev pub IsNoPort : Ports → Handle → Type 0
-IsNoPort p handle = IsForeign p.first.registry handle × IsForeign p.second.registry handle
+IsNoPort p handle = IsUnknownHandle p.first.registry handle
+    × IsUnknownHandle p.second.registry handle
 
 -- the port of the handle has these details
 abbrev pub StandsAmong : Ports → Handle → PortDetails → Type 0
-StandsAmong p handle details = Stands p.first.registry handle details ⊎ Stands p.second.registry handle details
+StandsAmong p handle details = HasEntry p.first.registry handle details
+    ⊎ HasEntry p.second.registry handle details
 
 -- the ports of a node, those of the first kind before those of the second, each by rising slot
 abbrev pub ports_of_node : ℕ → Ports → List PortDetails
-ports_of_node id p = asked_about (is_of node_of id) p.first.registry ++ asked_about (is_of node_of id) p.second.registry
+ports_of_node id p = asked_about (is_of node_of id) p.first.registry
+    ++ asked_about (is_of node_of id) p.second.registry
 
 -- a callback may be shown the ports of a role, if there are such ports
-pub record CanListIn {F : Type 0} (takes : F → PortDetails → Type 0) (calls : F → PortDetails → CallbackProgression → F → Type 0)
+pub record CanListIn {F : Type 0} (takes : F → PortDetails → Type 0)
+    (calls : F → PortDetails → CallbackProgression → F → Type 0)
     (a b : Role) (p : Ports) (role : Role) (f : F) : Type 0 where
   pub first : role ≡ a → CanVisit takes calls f (listed p.first.registry)
   pub second : role ≡ b → CanVisit takes calls f (listed p.second.registry)
 
 -- a callback was shown the ports of a role, if there are such ports
-abbrev pub ListsIn : {F : Type 0} → (F → PortDetails → CallbackProgression → F → Type 0) → Role → Role → Ports → Role → F → Bool → F → Type 0
+abbrev pub ListsIn : {F : Type 0} → (F → PortDetails → CallbackProgression → F → Type 0) → Role
+    → Role → Ports → Role → F → Bool → F → Type 0
 ListsIn calls a b p role f false f' = IsNeither a b role × (f' ≡ f)
 ListsIn calls a b p role f true f' =
-    ((role ≡ a) × Visit calls f (listed p.first.registry) f') ⊎ ((role ≡ b) × Visit calls f (listed p.second.registry) f')
+    ((role ≡ a) × Visit calls f (listed p.first.registry) f')
+    ⊎ ((role ≡ b) × Visit calls f (listed p.second.registry) f')

@@ -17,7 +17,8 @@ removes RemovePort = true
 removes SkipPort = false
 
 -- a callback was asked about a port, and its answer says whether the port goes
-abbrev pub AskedToGo : {F : Type 0} → (F → UniquePortId → PortCleanupAction → F → Type 0) → F → UniquePortId → Bool → F → Type 0
+abbrev pub AskedToGo : {F : Type 0} → (F → UniquePortId → PortCleanupAction → F → Type 0) → F
+    → UniquePortId → Bool → F → Type 0
 AskedToGo calls f port goes f' =
     (action : PortCleanupAction) × calls f port action f' × (goes ≡ removes action)
 
@@ -27,11 +28,15 @@ ids_asked_about dead c = map port_of (asked_about (is_of node_of dead) c.registr
 
 -- a callback was asked once about each port of the dead
 -- node, by rising slot, and exactly those go that it removes
-abbrev pub RecoversPorts : {F : Type 0} → (F → UniquePortId → PortCleanupAction → F → Type 0) → ℕ → ContainerState PortDetails → F → ContainerState PortDetails → F → Type 0
+abbrev pub RecoversPorts : {F : Type 0} → (F → UniquePortId → PortCleanupAction → F → Type 0) → ℕ
+    → ContainerState PortDetails → F → ContainerState PortDetails → F → Type 0
 RecoversPorts calls dead old f new f' =
-    (state : ReleaseState) × RecoversBy (λ g d goes h. AskedToGo calls g (port_of d) goes h) (is_of node_of dead) old f Default state new f'
+    (state : ReleaseState)
+    × RecoversBy (λ g d goes h. AskedToGo calls g (port_of d) goes h)
+    (is_of node_of dead) old f Default state new f'
 
 -- all entries of the dead node go
 abbrev pub RecoversNodes : ℕ → ContainerState ℕ → ReleaseState → ContainerState ℕ → Type 0
 RecoversNodes dead old state new =
-    RecoversBy {F = Unit {0}} (λ _ _ goes _. goes ≡ true) (is_of (λ id. id) dead) old tt LockIfLastIndex state new tt
+    RecoversBy {F = Unit {0}} (λ _ _ goes _. goes ≡ true)
+    (is_of (λ id. id) dead) old tt LockIfLastIndex state new tt

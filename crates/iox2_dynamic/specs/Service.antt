@@ -37,29 +37,41 @@ second_role kind.Blackboard = role.Writer
 abbrev pub HasRole : PatternKind → Role → Type 0
 HasRole pattern role = IsEither (first_role pattern) (second_role pattern) role
 
--- the pattern of settings
-abbrev pub pattern_in : MessagingPatternSettings → PatternKind
-pattern_in (settings.PublishSubscribe s) = kind.PublishSubscribe
-pattern_in (settings.Event s) = kind.Event
-pattern_in (settings.RequestResponse s) = kind.RequestResponse
-pattern_in (settings.Blackboard s) = kind.Blackboard
+-- a pattern, and how many ports of its first and of its second kind there may be at a time
+pub record PatternCapacities : Type 0 where
+  pub pattern : PatternKind
+  pub first : ℕ
+  pub second : ℕ
 
--- no port yet, for as many as settings say
-abbrev pub fresh_ports : MessagingPatternSettings → ℕ → ℕ → Ports
-fresh_ports (settings.PublishSubscribe s) service tickets =
-    empty_ports role.Publisher role.Subscriber service s.number_of_publishers s.number_of_subscribers tickets
-fresh_ports (settings.Event s) service tickets =
-    empty_ports role.Listener role.Notifier service s.number_of_listeners s.number_of_notifiers tickets
-fresh_ports (settings.RequestResponse s) service tickets =
-    empty_ports role.Server role.Client service s.number_of_servers s.number_of_clients tickets
-fresh_ports (settings.Blackboard s) service tickets =
-    empty_ports role.Reader role.Writer service s.number_of_readers s.number_of_writers tickets
+-- what settings say
+abbrev pub capacities_in : MessagingPatternSettings → PatternCapacities
+capacities_in (settings.PublishSubscribe s) =
+    record {
+      pattern = kind.PublishSubscribe;
+      first = s.number_of_publishers;
+      second = s.number_of_subscribers;
+    }
+capacities_in (settings.Event s) =
+    record { pattern = kind.Event; first = s.number_of_listeners; second = s.number_of_notifiers }
+capacities_in (settings.RequestResponse s) =
+    record {
+      pattern = kind.RequestResponse;
+      first = s.number_of_servers;
+      second = s.number_of_clients;
+    }
+capacities_in (settings.Blackboard s) =
+    record { pattern = kind.Blackboard; first = s.number_of_readers; second = s.number_of_writers }
+
+-- no port yet, for as many as are said
+abbrev pub fresh_ports : PatternCapacities → ℕ → ℕ → Ports
+fresh_ports c service tickets =
+    empty_ports (first_role c.pattern) (second_role c.pattern) service c.first c.second tickets
 
 -- a new service
-abbrev pub fresh_service : MessagingPatternSettings → ℕ → ℕ → ℕ → Service
-fresh_service s max_nodes service tickets = record {
-  pattern = pattern_in s;
-  ports = fresh_ports s service tickets;
+abbrev pub fresh_service : PatternCapacities → ℕ → ℕ → ℕ → Service
+fresh_service c max_nodes service tickets = record {
+  pattern = c.pattern;
+  ports = fresh_ports c service tickets;
   nodes = fresh service role.Node max_nodes tickets;
 }
 
@@ -73,7 +85,8 @@ Registered nodes ports = All (λ e. 0 < entries_of_node (node_of e.details) node
 
 -- a registry of ports of this role: it has the number of the nodes' registry, it is not locked, and
 -- the node of each port is registered
-pub record IsPortRegistry (nodes : RegistryState ℕ) (role : Role) (ports : RegistryState PortDetails) : Type 0 where
+pub record IsPortRegistry (nodes : RegistryState ℕ) (role : Role)
+    (ports : RegistryState PortDetails) : Type 0 where
   pub is_registry : IsRegistry ports
   pub number_is : ports.service ≡ nodes.service
   pub role_is : ports.role ≡ role
@@ -94,7 +107,8 @@ pub record IsService (s : Service) : Type 0 where
 -- a port of the role is attached, if its node is registered
 abbrev pub TakesPort : Service → Role → Type 0
 TakesPort s role =
-    (s.nodes.registry.locked ≡ false) × TakesIn (first_role s.pattern) (second_role s.pattern) s.ports role
+    (s.nodes.registry.locked ≡ false)
+    × TakesIn (first_role s.pattern) (second_role s.pattern) s.ports role
 
 -- there is no port
 abbrev pub HasNoPort : Ports → Type 0

@@ -8,7 +8,7 @@ use Rattle.iox2_container.specs.declared.container.release.ReleaseMode.TheVarian
 use Rattle.iox2_container.specs.declared.container.release.ReleaseState.{ReleaseState}
 use Rattle.iox2_container.specs.Handle.{Handle}
 use Rattle.iox2_container.specs.ContainerState.{ContainerState}
-use Rattle.iox2_container.specs.Steps.{IsForeign, Stands, release_state}
+use Rattle.iox2_container.specs.Steps.{IsUnknownHandle, HasEntry, release_state}
 use Rattle.iox2_dynamic.specs.declared.dynamic_config.answers.AttachError.{AttachError}
 use Rattle.iox2_dynamic.specs.declared.dynamic_config.answers.AttachError.TheVariants.{ServiceIsLocked, NodeNotRegistered, OutOfSpace}
 use Rattle.iox2_dynamic.specs.declared.dynamic_config.answers.DeregisterError.{DeregisterError}
@@ -34,13 +34,15 @@ abbrev pub is_last_of_ports : ℕ → Service → Bool
 is_last_of_ports id s = nat_eq (entries_of_node id s.nodes.registry) 1 && has_ports_of id s.ports
 
 -- what deregistering a node does
-abbrev pub DeregisterStep : Service → Handle → Result DeregisterNodeState DeregisterError → Service → Type 0
+abbrev pub DeregisterStep : Service → Handle → Result DeregisterNodeState DeregisterError → Service
+    → Type 0
 DeregisterStep old handle (Err ContainerHandleNotOwnedByContainer) new =
-    IsForeign old.nodes.registry handle × (new ≡ old)
+    IsUnknownHandle old.nodes.registry handle × (new ≡ old)
 DeregisterStep old handle (Err PortsStillAttached) new =
-    (id : ℕ) × Stands old.nodes.registry handle id × (is_last_of_ports id old ≡ true) × (new ≡ old)
+    (id : ℕ) × HasEntry old.nodes.registry handle id × (is_last_of_ports id old ≡ true)
+    × (new ≡ old)
 DeregisterStep old handle (Ok state) new =
-    (id : ℕ) × Stands old.nodes.registry handle id × (is_last_of_ports id old ≡ false)
+    (id : ℕ) × HasEntry old.nodes.registry handle id × (is_last_of_ports id old ≡ false)
     × Removes old.nodes handle LockIfLastIndex (Ok (state_of state)) new.nodes
     × (new ≡ record old { nodes = new.nodes })
 
@@ -58,19 +60,23 @@ AddsPort old details answer new =
 abbrev pub AttachStep : Service → PortDetails → Result Handle AttachError → Service → Type 0
 AttachStep old details (Err ServiceIsLocked) new = (old.nodes.registry.locked ≡ true) × (new ≡ old)
 AttachStep old details (Err NodeNotRegistered) new =
-    (old.nodes.registry.locked ≡ false) × (entries_of_node (node_of details) old.nodes.registry ≡ 0) × (new ≡ old)
+    (old.nodes.registry.locked ≡ false) × (entries_of_node (node_of details) old.nodes.registry ≡ 0)
+    × (new ≡ old)
 AttachStep old details (Err OutOfSpace) new =
     IsOpenFor old (node_of details) × AddsPort old details (Err container.OutOfSpace) new
-AttachStep old details (Ok handle) new = IsOpenFor old (node_of details) × AddsPort old details (Ok handle) new
+AttachStep old details (Ok handle) new = IsOpenFor old (node_of details)
+    × AddsPort old details (Ok handle) new
 
 -- what removing a port does
-abbrev pub RemovesPort : Service → Handle → Result ReleaseState ContainerRemoveError → Service → Type 0
+abbrev pub RemovesPort : Service → Handle → Result ReleaseState ContainerRemoveError → Service
+    → Type 0
 RemovesPort old handle answer new =
     RemovesFrom (first_role old.pattern) (second_role old.pattern) old.ports handle answer new.ports
     × (new ≡ record old { ports = new.ports })
 
 -- what releasing a port does
-abbrev pub ReleaseStep : Service → Handle → Result (Unit {0}) ContainerRemoveError → Service → Type 0
+abbrev pub ReleaseStep : Service → Handle → Result (Unit {0}) ContainerRemoveError → Service
+    → Type 0
 ReleaseStep old handle (Ok _) new = (state : ReleaseState) × RemovesPort old handle (Ok state) new
 ReleaseStep old handle (Err why) new = RemovesPort old handle (Err why) new
 
@@ -82,7 +88,8 @@ NodesAfter dead false old state new = RecoversNodes dead old state new
 
 -- what the recovery of a dead node does: its ports of the first kind are asked about, then those of
 -- the second, and then all its entries go if none of its ports is left
-abbrev pub DeadStep : {F : Type 0} → (F → UniquePortId → PortCleanupAction → F → Type 0) → Service → F → ℕ → DeregisterNodeState → Service → F → Type 0
+abbrev pub DeadStep : {F : Type 0} → (F → UniquePortId → PortCleanupAction → F → Type 0) → Service
+    → F → ℕ → DeregisterNodeState → Service → F → Type 0
 DeadStep calls old f dead answer new f' =
     RecoversBoth calls dead old.ports f new.ports f'
     × NodesAfter dead (has_ports_of dead new.ports) old.nodes (state_of answer) new.nodes

@@ -78,74 +78,39 @@ pub fn answers_go_by_variant(one: &Answers, other: &Answers) -> (bool, Result<An
     (one == other, one.clone())
 }
 
+/// Settings of any pattern, and those of each.
+pub type Settings = (
+    MessagingPatternSettings,
+    publish_subscribe::DynamicConfigSettings,
+    event::DynamicConfigSettings,
+    request_response::DynamicConfigSettings,
+    blackboard::DynamicConfigSettings,
+);
+
 /// A clone of settings is equal and takes no memory.
-pub fn settings_are_cloned(
-    settings: &MessagingPatternSettings,
-) -> Result<MessagingPatternSettings, AllocError>
+pub fn settings_are_cloned(settings: &Settings) -> Result<Settings, AllocError>
     ensures { IsOkAnd result (λ copy. copy ≡ settings.now) }
 {
     settings.clone()
 }
 
-/// The clones of the settings of a pattern, and of the details of its two kinds of ports.
-pub type Clones<S, A, B> = (
-    Result<S, AllocError>,
-    Result<A, AllocError>,
-    Result<B, AllocError>,
+/// Details of each kind of port.
+pub type DetailsOfEachKind = (
+    PublisherDetails,
+    SubscriberDetails,
+    ListenerDetails,
+    NotifierDetails,
+    ServerDetails,
+    ClientDetails,
+    ReaderDetails,
+    WriterDetails,
 );
 
-/// A clone of publish-subscribe settings, or of details of a
-/// publisher or a subscriber, is equal and takes no memory.
-pub fn publish_subscribe_details_are_cloned(
-    settings: &publish_subscribe::DynamicConfigSettings,
-    publisher: &PublisherDetails,
-    subscriber: &SubscriberDetails,
-) -> Clones<publish_subscribe::DynamicConfigSettings, PublisherDetails, SubscriberDetails>
-    ensures settings { IsOkAnd result.0 (λ copy. copy ≡ settings.now) }
-    ensures publisher { IsOkAnd result.1 (λ copy. copy ≡ publisher.now) }
-    ensures subscriber { IsOkAnd result.2 (λ copy. copy ≡ subscriber.now) }
+/// A clone of the details of a port of any kind is equal and takes no memory.
+pub fn details_of_each_kind_are_cloned(
+    details: &DetailsOfEachKind,
+) -> Result<DetailsOfEachKind, AllocError>
+    ensures { IsOkAnd result (λ copy. copy ≡ details.now) }
 {
-    (settings.clone(), publisher.clone(), subscriber.clone())
-}
-
-/// A clone of event settings, or of details of a
-/// listener or a notifier, is equal and takes no memory.
-pub fn event_details_are_cloned(
-    settings: &event::DynamicConfigSettings,
-    listener: &ListenerDetails,
-    notifier: &NotifierDetails,
-) -> Clones<event::DynamicConfigSettings, ListenerDetails, NotifierDetails>
-    ensures settings { IsOkAnd result.0 (λ copy. copy ≡ settings.now) }
-    ensures listener { IsOkAnd result.1 (λ copy. copy ≡ listener.now) }
-    ensures notifier { IsOkAnd result.2 (λ copy. copy ≡ notifier.now) }
-{
-    (settings.clone(), listener.clone(), notifier.clone())
-}
-
-/// A clone of request-response settings, or of details of
-/// a server or a client, is equal and takes no memory.
-pub fn request_response_details_are_cloned(
-    settings: &request_response::DynamicConfigSettings,
-    server: &ServerDetails,
-    client: &ClientDetails,
-) -> Clones<request_response::DynamicConfigSettings, ServerDetails, ClientDetails>
-    ensures settings { IsOkAnd result.0 (λ copy. copy ≡ settings.now) }
-    ensures server { IsOkAnd result.1 (λ copy. copy ≡ server.now) }
-    ensures client { IsOkAnd result.2 (λ copy. copy ≡ client.now) }
-{
-    (settings.clone(), server.clone(), client.clone())
-}
-
-/// A clone of blackboard settings, or of details of a
-/// reader or a writer, is equal and takes no memory.
-pub fn blackboard_details_are_cloned(
-    settings: &blackboard::DynamicConfigSettings,
-    reader: &ReaderDetails,
-    writer: &WriterDetails,
-) -> Clones<blackboard::DynamicConfigSettings, ReaderDetails, WriterDetails>
-    ensures settings { IsOkAnd result.0 (λ copy. copy ≡ settings.now) }
-    ensures reader { IsOkAnd result.1 (λ copy. copy ≡ reader.now) }
-    ensures writer { IsOkAnd result.2 (λ copy. copy ≡ writer.now) }
-{
-    (settings.clone(), reader.clone(), writer.clone())
+    details.clone()
 }

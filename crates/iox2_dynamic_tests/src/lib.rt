@@ -6,7 +6,6 @@
 #[cfg(test)]
 mod attaching;
 #[cfg(test)]
-mod comparisons;
 #[cfg(test)]
 mod dead_nodes;
 #[cfg(test)]

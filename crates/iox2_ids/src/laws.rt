@@ -50,40 +50,23 @@ pub fn node_ids_go_by_value<H: Hasher>(
     (one == other, one.cmp(other), one.clone())
 }
 
-/// Ids of ports are equal by kind and number, and a clone is the same.
-pub fn port_ids_go_by_kind_and_value(
-    one: &UniquePortId,
-    other: &UniquePortId,
-) -> (bool, Result<UniquePortId, AllocError>)
+/// The id of a port of any kind, a process, and a time.
+pub type Values = (UniquePortId, ProcessId, Time);
+
+/// Ids of ports are equal by kind and number, processes by their number, times by seconds and
+/// nanoseconds, and a clone of one is the same and takes no memory.
+pub fn values_go_by_fields(one: &Values, other: &Values) -> (bool, Result<Values, AllocError>)
     ensures equal { IsTrue result.0 ↔ (one.now ≡ other.now) }
     ensures cloned { IsOkAnd result.1 (λ copy. copy ≡ one.now) }
 {
     (one == other, one.clone())
 }
 
-/// Processes are equal by their numbers, and a clone is the same.
-pub fn processes_go_by_number(
-    one: &ProcessId,
-    other: &ProcessId,
-) -> (bool, Result<ProcessId, AllocError>)
-    ensures equal { IsTrue result.0 ↔ (one.now ≡ other.now) }
-    ensures cloned { IsOkAnd result.1 (λ copy. copy ≡ one.now) }
+/// Times are hashed by seconds and nanoseconds.
+pub fn times_are_hashed_by_fields<H: Hasher>(time: &Time, state: &mut H)
+    ensures { state.new ≡ fold H.write state.old (moment_writes time.now) }
 {
-    (one == other, one.clone())
-}
-
-/// Times are equal and hashed by seconds and nanoseconds, and a clone is the same.
-pub fn times_go_by_fields<H: Hasher>(
-    one: &Time,
-    other: &Time,
-    state: &mut H,
-) -> (bool, Result<Time, AllocError>)
-    ensures equal { IsTrue result.0 ↔ (one.now ≡ other.now) }
-    ensures cloned { IsOkAnd result.1 (λ copy. copy ≡ one.now) }
-    ensures hashed { state.new ≡ fold H.write state.old (moment_writes one.now) }
-{
-    one.hash(state);
-    (one == other, one.clone())
+    time.hash(state);
 }
 
 /// The default time is 0 seconds and 0 nanoseconds.

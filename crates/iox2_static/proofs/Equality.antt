@@ -19,10 +19,12 @@ use Rattle.iox2_static.specs.declared.static_config.publish_subscribe.StaticConf
 use Rattle.iox2_static.specs.declared.static_config.request_response.StaticConfig.{StaticConfig as RequestResponse}
 use Rattle.iox2_static.specs.Description.{Description}
 
-pub publish_subscribes_decide : (a b : PublishSubscribe) → Decides (publish_subscribe.ghosts.eq a b) (a ≡ b)
+pub publish_subscribes_decide : (a b : PublishSubscribe)
+    → Decides (publish_subscribe.ghosts.eq a b) (a ≡ b)
 publish_subscribes_decide = decided (hlevel tests)
 
-pub request_responses_decide : (a b : RequestResponse) → Decides (request_response.ghosts.eq a b) (a ≡ b)
+pub request_responses_decide : (a b : RequestResponse)
+    → Decides (request_response.ghosts.eq a b) (a ≡ b)
 request_responses_decide = decided (hlevel tests)
 
 pub events_decide : (a b : Event) → Decides (event.ghosts.eq a b) (a ≡ b)
@@ -50,5 +52,11 @@ patterns = record { test = messaging_pattern.ghosts.eq; decides = patterns_decid
 
 pub descriptions_decide : (a b : Description) → Decides (description.ghosts.eq a b) (a ≡ b)
 descriptions_decide = decided (structs (λ d. (d.hash, (d.name, (d.id, (d.attributes, d.pattern)))))
-    (λ p. record { name = p.1.0; id = p.1.1.0; hash = p.0; attributes = p.1.1.1.0; pattern = p.1.1.1.1 }) (λ _. refl)
+    (λ p. record {
+      name = p.1.0;
+      id = p.1.1.0;
+      hash = p.0;
+      attributes = p.1.1.1.0;
+      pattern = p.1.1.1.1;
+    }) (λ _. refl)
     (pairs texts (pairs texts (pairs (marked numbers) (pairs (lists attributes) patterns)))))

@@ -46,7 +46,8 @@ numbered k (limit ∷ limits) = numbers k limit ∷ numbered (k + limit) limits
 numbered_is_holding : (k : ℕ) (limits : List ℕ) → IsHolding limits (numbered k limits)
 unfolding numbered
 numbered_is_holding k [] = tt
-numbered_is_holding k (limit ∷ limits) = (let e = length-numbers k limit in omega arith, numbered_is_holding (k + limit) limits)
+numbered_is_holding k (limit ∷ limits) =
+    (let e = length-numbers k limit in omega arith, numbered_is_holding (k + limit) limits)
 
 concat-numbered : (k : ℕ) (limits : List ℕ) → concat (numbered k limits) ≡ numbers k (sum limits)
 unfolding numbered numbers
@@ -57,17 +58,27 @@ concat-numbered k (limit ∷ limits) =
     ∙ ap (λ n. numbers k n) (sym (sum_by-cons (λ x. x) limit limits))
 
 -- a holding has no more places than the limits add up to
-length-concat : (limits : List ℕ) (holding : List (List ℕ)) → IsHolding limits holding → length (concat holding) ≤ sum limits
+length-concat : (limits : List ℕ) (holding : List (List ℕ)) → IsHolding limits holding
+    → length (concat holding) ≤ sum limits
 length-concat [] [] h = omega arith
 length-concat [] (chunks ∷ holding) h = absurd h
 length-concat (limit ∷ limits) [] h = absurd h
 length-concat (limit ∷ limits) (chunks ∷ holding) h =
-    omega (arith, h.0, length-append chunks (concat holding), sum_by-cons (λ x. x) limit limits, length-concat limits holding h.1)
+    omega (
+      arith,
+      h.0,
+      length-append chunks (concat holding),
+      sum_by-cons (λ x. x) limit limits,
+      length-concat limits holding h.1,
+    )
 
 -- different numbers that all stand in a list are no more than its length
-length-le_from_distinct : (xs ys : List ℕ) → IsDistinct nat_eq xs → ((x : ℕ) → Contains xs x → Contains ys x) → length xs ≤ length ys
+length-le_from_distinct : (xs ys : List ℕ) → IsDistinct nat_eq xs
+    → ((x : ℕ) → Contains xs x → Contains ys x) → length xs ≤ length ys
 length-le_from_distinct xs ys d h =
-    length-le_from_is_member nat_eq_equiv xs ys d (λ q m. (is_member-Decides Decides-eqb ys q).1 (h q ((is_member-Decides Decides-eqb xs q).0 m)))
+    length-le_from_is_member nat_eq_equiv xs ys d
+    (λ q m. (is_member-Decides Decides-eqb ys q).1
+    (h q ((is_member-Decides Decides-eqb xs q).0 m)))
 
 greatest_is_sum : (limits : List ℕ) → IsGreatest limits (sum limits)
 greatest_is_sum limits =
@@ -83,10 +94,16 @@ greatest_is_sum limits =
         ),
       ),
       λ holding d h used.
-          omega (arith, used.1, length-concat limits holding h, length-le_from_distinct used.0 (concat holding) used.2 (λ x. (used.3 x).0)),
+          omega (
+            arith,
+            used.1,
+            length-concat limits holding h,
+            length-le_from_distinct used.0 (concat holding) used.2 (λ x. (used.3 x).0),
+          ),
     )
 
 -- an answer that is the sum of the limits, or none where that passes 64 bits
-pub tells : (limits : List ℕ) (answer : Option ℕ) → MatchOption answer (2 ^ 64 ≤ sum limits) (λ c. c ≡ sum limits) → TellsGreatest limits answer
+pub tells : (limits : List ℕ) (answer : Option ℕ)
+    → MatchOption answer (2 ^ 64 ≤ sum limits) (λ c. c ≡ sum limits) → TellsGreatest limits answer
 tells limits None past = (sum limits, greatest_is_sum limits, past)
 tells limits (Some c) same = subst (λ n. IsGreatest limits n) (sym same) (greatest_is_sum limits)

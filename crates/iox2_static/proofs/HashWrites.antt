@@ -5,7 +5,8 @@ use Rattle.iox2_static.specs.contracts.static_config.messaging_pattern.Messaging
 use Rattle.iox2_static.specs.declared.static_config.messaging_pattern.MessagingPattern.{MessagingPattern}
 use Rattle.iox2_static.specs.declared.static_config.messaging_pattern.MessagingPattern.TheVariants as pattern
 
-pub patterns_written : (p : MessagingPattern) → messaging_pattern.ghosts.hash_input p ≡ pattern_writes p
+pub patterns_written : (p : MessagingPattern)
+    → messaging_pattern.ghosts.hash_input p ≡ pattern_writes p
 patterns_written (pattern.RequestResponse c) = search rules
 patterns_written (pattern.PublishSubscribe c) = search rules
 patterns_written (pattern.Event c) = refl

@@ -8,7 +8,8 @@ use Rattle.iox2_static.specs.declared.static_config.event.StaticConfig.{StaticCo
 -- a deadline made at the default time
 abbrev pub deadline_of : Option Duration → Option Deadline
 deadline_of None = None
-deadline_of (Some value) = Some (record { creation_time = record { seconds = 0; nanoseconds = 0 }; value = value })
+deadline_of (Some value) =
+    Some (record { creation_time = record { seconds = 0; nanoseconds = 0 }; value = value })
 
 -- the duration of a deadline
 abbrev pub duration_of : Option Deadline → Option Duration

@@ -14,16 +14,22 @@ use Rattle.iox2_static.specs.declared.static_config.request_response.StaticConfi
 
 -- what the configuration of a publish-subscribe service gives
 abbrev pub publish_subscribe_writes : PublishSubscribe → HashWrites
-publish_subscribe_writes c = usize c.max_subscribers ++ (usize c.max_publishers ++ (usize c.max_nodes ++ (usize c.history_size
-    ++ (usize c.subscriber_max_buffer_size ++ (usize c.subscriber_max_borrowed_samples ++ (bool c.enable_safe_overflow
+publish_subscribe_writes c = usize c.max_subscribers
+    ++ (usize c.max_publishers ++ (usize c.max_nodes ++ (usize c.history_size
+    ++ (usize c.subscriber_max_buffer_size
+    ++ (usize c.subscriber_max_borrowed_samples ++ (bool c.enable_safe_overflow
     ++ details_writes c.message_type_details))))))
 
 -- what the configuration of a request-response service gives
 abbrev pub request_response_writes : RequestResponse → HashWrites
-request_response_writes c = bool c.enable_safe_overflow_for_requests ++ (bool c.enable_safe_overflow_for_responses
-    ++ (bool c.enable_fire_and_forget_requests ++ (usize c.max_active_requests_per_client ++ (usize c.max_loaned_requests
-    ++ (usize c.max_response_buffer_size ++ (usize c.max_servers ++ (usize c.max_clients ++ (usize c.max_nodes
-    ++ (usize c.max_borrowed_responses_per_pending_response ++ (details_writes c.request_message_type_details
+request_response_writes c = bool c.enable_safe_overflow_for_requests
+    ++ (bool c.enable_safe_overflow_for_responses
+    ++ (bool c.enable_fire_and_forget_requests
+    ++ (usize c.max_active_requests_per_client ++ (usize c.max_loaned_requests
+    ++ (usize c.max_response_buffer_size
+    ++ (usize c.max_servers ++ (usize c.max_clients ++ (usize c.max_nodes
+    ++ (usize c.max_borrowed_responses_per_pending_response
+    ++ (details_writes c.request_message_type_details
     ++ details_writes c.response_message_type_details))))))))))
 
 -- what a time gives: its seconds and nanoseconds
@@ -40,13 +46,16 @@ deadline_writes d = moment_writes d.creation_time ++ duration_writes d.value
 
 -- what the configuration of an event service gives
 abbrev pub event_writes : Event → HashWrites
-event_writes c = usize c.max_notifiers ++ (usize c.max_listeners ++ (usize c.max_nodes ++ (usize c.event_id_max_value
-    ++ (option deadline_writes c.deadline ++ (option usize c.notifier_created_event ++ (option usize c.notifier_dropped_event
+event_writes c = usize c.max_notifiers
+    ++ (usize c.max_listeners ++ (usize c.max_nodes ++ (usize c.event_id_max_value
+    ++ (option deadline_writes c.deadline
+    ++ (option usize c.notifier_created_event ++ (option usize c.notifier_dropped_event
     ++ option usize c.notifier_dead_event))))))
 
 -- what the configuration of a blackboard service gives
 abbrev pub blackboard_writes : Blackboard → HashWrites
-blackboard_writes c = usize c.max_readers ++ (usize c.max_writers ++ (usize c.max_nodes ++ detail_writes c.type_details))
+blackboard_writes c = usize c.max_readers
+    ++ (usize c.max_writers ++ (usize c.max_nodes ++ detail_writes c.type_details))
 
 -- what a pattern gives: its place among the patterns, and then its configuration
 abbrev pub pattern_writes : MessagingPattern → HashWrites

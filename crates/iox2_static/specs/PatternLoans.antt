@@ -15,11 +15,13 @@ use Rattle.iox2_static.specs.contracts.static_config.blackboard.StaticConfig.{th
 
 -- a pattern once a borrow of its request-response configuration ends
 abbrev pub LendsRequestResponse : MutBor MessagingPattern → MutBor RequestResponseConfig → Fml
-LendsRequestResponse s r = Lends pattern_row request_response_row s r (λ config. pattern.RequestResponse config)
+LendsRequestResponse s r =
+    Lends pattern_row request_response_row s r (λ config. pattern.RequestResponse config)
 
 -- a pattern once a borrow of its publish-subscribe configuration ends
 abbrev pub LendsPublishSubscribe : MutBor MessagingPattern → MutBor PublishSubscribeConfig → Fml
-LendsPublishSubscribe s r = Lends pattern_row publish_subscribe_row s r (λ config. pattern.PublishSubscribe config)
+LendsPublishSubscribe s r =
+    Lends pattern_row publish_subscribe_row s r (λ config. pattern.PublishSubscribe config)
 
 -- a pattern once a borrow of its event configuration ends
 abbrev pub LendsEvent : MutBor MessagingPattern → MutBor EventConfig → Fml

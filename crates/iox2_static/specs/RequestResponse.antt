@@ -16,7 +16,8 @@ request_response_of defaults = record {
   max_servers = defaults.max_servers;
   max_clients = defaults.max_clients;
   max_nodes = defaults.max_nodes;
-  max_borrowed_responses_per_pending_response = defaults.max_borrowed_responses_per_pending_response;
+  max_borrowed_responses_per_pending_response =
+      defaults.max_borrowed_responses_per_pending_response;
   request_message_type_details = default_details;
   response_message_type_details = default_details;
 }

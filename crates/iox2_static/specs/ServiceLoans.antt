@@ -16,12 +16,14 @@ use Rattle.iox2_static.specs.contracts.static_config.blackboard.StaticConfig.{th
 -- a description once a borrow of its request-response configuration ends
 abbrev pub LendsRequestResponse : MutBor Description → MutBor RequestResponseConfig → Fml
 LendsRequestResponse s r =
-    Lends service_row request_response_row s r (λ config. record s.now { pattern = pattern.RequestResponse config })
+    Lends service_row request_response_row s r
+    (λ config. record s.now { pattern = pattern.RequestResponse config })
 
 -- a description once a borrow of its publish-subscribe configuration ends
 abbrev pub LendsPublishSubscribe : MutBor Description → MutBor PublishSubscribeConfig → Fml
 LendsPublishSubscribe s r =
-    Lends service_row publish_subscribe_row s r (λ config. record s.now { pattern = pattern.PublishSubscribe config })
+    Lends service_row publish_subscribe_row s r
+    (λ config. record s.now { pattern = pattern.PublishSubscribe config })
 
 -- a description once a borrow of its event configuration ends
 abbrev pub LendsEvent : MutBor Description → MutBor EventConfig → Fml
@@ -31,4 +33,5 @@ LendsEvent s r =
 -- a description once a borrow of its blackboard configuration ends
 abbrev pub LendsBlackboard : MutBor Description → MutBor BlackboardConfig → Fml
 LendsBlackboard s r =
-    Lends service_row blackboard_row s r (λ config. record s.now { pattern = pattern.Blackboard config })
+    Lends service_row blackboard_row s r
+    (λ config. record s.now { pattern = pattern.Blackboard config })

@@ -13,7 +13,8 @@ use Rattle.std.proofs.lemmas.List.Sums.{sum_by-cons}
 use Rattle.iox2_texts.specs.Pair.{Pair, pair_cmp, text_cmp}
 use Rattle.iox2_texts.proofs.VerifyLemmas.{pair_cmp_total}
 
-module _ {K : Type 0} (R : K → K → Ordering) (o : IsTotalOrder R) (tie : (x y : K) → R x y ≡ Equal → x ≡ y) where
+module _ {K : Type 0} (R : K → K → Ordering) (o : IsTotalOrder R)
+    (tie : (x y : K) → R x y ≡ Equal → x ≡ y) where
   -- how often a value stands in a list
   abbrev hit : K → K → ℕ
   hit z y = cond (eq_by_cmp R z y) 1 0
@@ -30,7 +31,8 @@ module _ {K : Type 0} (R : K → K → Ordering) (o : IsTotalOrder R) (tie : (x 
   abbrev Found : K → List K → Type 0
   Found z xs = (j : ℕ) × (j < length xs) × ((d : K) → R z (get_or xs j d) ≡ Equal)
 
-  found_in : (z x : K) (xs : List K) (b : Bool) → eq_by_cmp R z x ≡ b → 1 ≤ cond b 1 0 + sum_by (hit z) xs
+  found_in : (z x : K) (xs : List K) (b : Bool) → eq_by_cmp R z x ≡ b
+      → 1 ≤ cond b 1 0 + sum_by (hit z) xs
       → (1 ≤ sum_by (hit z) xs → Found z xs) → Found z (x ∷ xs)
   found_in z x xs true e h later = (0, omega arith, λ d. is_equal (R z x) e)
   found_in z x xs false e h later =
@@ -39,17 +41,22 @@ module _ {K : Type 0} (R : K → K → Ordering) (o : IsTotalOrder R) (tie : (x 
 
   found : (z : K) (xs : List K) → 1 ≤ sum_by (hit z) xs → Found z xs
   found z [] some = absurd (omega (arith, some))
-  found z (x ∷ xs) some = found_in z x xs (eq_by_cmp R z x) refl (omega (arith, some, sum_by-cons (hit z) x xs)) (found z xs)
+  found z (x ∷ xs) some =
+      found_in z x xs (eq_by_cmp R z x) refl (omega (arith, some, sum_by-cons (hit z) x xs))
+      (found z xs)
 
   -- the first of a rising list is not above what is counted in it
   not_above : (x y : K) (ys : List K) → IsSorted R (y ∷ ys) → 1 ≤ sum_by (hit x) (y ∷ ys)
       → is_lt (R x y) ≡ false
   not_above x y ys rises some =
       let at = found x (y ∷ ys) some in
-      let far = sorted_far (λ a b. is_lt (R a b)) (ranks_by o (λ k. k)) (y ∷ ys) rises 0 at.0 y (omega arith) at.1 in
+      let far =
+      sorted_far (λ a b. is_lt (R a b)) (ranks_by o (λ k. k)) (y ∷ ys) rises 0 at.0 y
+      (omega arith) at.1 in
       ap is_lt (o.congr x (get_or (y ∷ ys) at.0 y) y (at.2 y)) ∙ far
 
-  between : (r s : Ordering) → r ≡ ordering_reverse s → is_lt r ≡ false → is_lt s ≡ false → r ≡ Equal
+  between : (r s : Ordering) → r ≡ ordering_reverse s → is_lt r ≡ false → is_lt s ≡ false
+      → r ≡ Equal
   between Less s e h k = absurd (true≢false h)
   between Equal s e h k = refl
   between Greater Less e h k = absurd (true≢false k)
@@ -61,19 +68,27 @@ module _ {K : Type 0} (R : K → K → Ordering) (o : IsTotalOrder R) (tie : (x 
 
   rest_rises : (x : K) (xs : List K) → IsSorted R (x ∷ xs) → IsSorted R xs
   rest_rises x xs rises k d low high =
-      subst (λ j. is_lt (R (get_or (x ∷ xs) j d) (get_or xs k d)) ≡ false) (suc_add k) (rises (suc k) d (omega arith) (omega (arith, high)))
+      subst (λ j. is_lt (R (get_or (x ∷ xs) j d) (get_or xs k d)) ≡ false) (suc_add k)
+      (rises (suc k) d (omega arith) (omega (arith, high)))
 
   -- rising lists that count alike are one
   pub one_list : (xs ys : List K) → IsSorted R xs → IsSorted R ys
       → ((z : K) → sum_by (hit z) xs ≡ sum_by (hit z) ys) → xs ≡ ys
   one_list [] [] s t counts = refl
-  one_list [] (y ∷ ys) s t counts = absurd (omega (arith, counts y, hit_itself y, sum_by-cons (hit y) y ys))
-  one_list (x ∷ xs) [] s t counts = absurd (omega (arith, counts x, hit_itself x, sum_by-cons (hit x) x xs))
+  one_list [] (y ∷ ys) s t counts =
+      absurd (omega (arith, counts y, hit_itself y, sum_by-cons (hit y) y ys))
+  one_list (x ∷ xs) [] s t counts =
+      absurd (omega (arith, counts x, hit_itself x, sum_by-cons (hit x) x xs))
   one_list (x ∷ xs) (y ∷ ys) s t counts =
-      let first = not_above x y ys t (omega (arith, counts x, hit_itself x, sum_by-cons (hit x) x xs)) in
-      let second = not_above y x xs s (omega (arith, counts y, hit_itself y, sum_by-cons (hit y) y ys)) in
+      let first =
+      not_above x y ys t (omega (arith, counts x, hit_itself x, sum_by-cons (hit x) x xs)) in
+      let second =
+      not_above y x xs s (omega (arith, counts y, hit_itself y, sum_by-cons (hit y) y ys)) in
       let same = tie x y (between (R x y) (R y x) (o.antisymm x y) first second) in
-      let rest = one_list xs ys (rest_rises x xs s) (rest_rises y ys t) (λ z. let here = ap (hit z) same in omega (arith, counts z, here, sum_by-cons (hit z) x xs, sum_by-cons (hit z) y ys)) in
+      let rest =
+      one_list xs ys (rest_rises x xs s) (rest_rises y ys t)
+      (λ z. let here = ap (hit z) same in
+      omega (arith, counts z, here, sum_by-cons (hit z) x xs, sum_by-cons (hit z) y ys)) in
       λ j. same j ∷ rest j
 
 both_equal : (a b : Ordering) → ordering_then a b ≡ Equal → (a ≡ Equal) × (b ≡ Equal)
@@ -91,16 +106,20 @@ pair_tie p q e =
     λ j. record { key = text_tie p.key q.key parts.0 j; value = text_tie p.value q.value parts.1 j }
 
 -- rising lists with the same pairs are one
-pub listing_unique : (xs ys : List Pair) → IsSorted pair_cmp xs → IsSorted pair_cmp ys → IsPermutation xs ys
+pub listing_unique : (xs ys : List Pair) → IsSorted pair_cmp xs → IsSorted pair_cmp ys
+    → IsPermutation xs ys
     → xs ≡ ys
 listing_unique xs ys s t same =
-    one_list pair_cmp pair_cmp_total pair_tie xs ys s t (λ z. sym (sum_by-IsPermutation _ xs ys same))
+    one_list pair_cmp pair_cmp_total pair_tie xs ys s t
+    (λ z. sym (sum_by-IsPermutation _ xs ys same))
 
 -- `==` on keys and on values decides equality of pairs
 pub pairs-Decides : (p q : Pair)
     → Decides (pointwise nat_eq p.key q.key && pointwise nat_eq p.value q.value) (p ≡ q)
 pairs-Decides p q =
-    let both = Decides-and (pointwise nat_eq p.key q.key) (pointwise nat_eq p.value q.value) (bytes_decides p.key q.key) (bytes_decides p.value q.value) in (
+    let both =
+    Decides-and (pointwise nat_eq p.key q.key) (pointwise nat_eq p.value q.value)
+    (bytes_decides p.key q.key) (bytes_decides p.value q.value) in (
       λ holds. let parts = both.0 holds in λ j. record { key = parts.0 j; value = parts.1 j },
       λ same. both.1 (ap (λ r. r.key) same, ap (λ r. r.value) same),
     )

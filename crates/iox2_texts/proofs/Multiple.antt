@@ -16,8 +16,13 @@ least_multiple-lt x a h = omega (arith, mod_below (a - x % a) a h)
 
 -- what is added to reach a multiple, where x is q * a + r
 pub padded : (x a q r : ℕ) → 0 < a → r < a → x ≡ q * a + r → (k : ℕ) × (x + (a - r) % a ≡ k * a)
-padded x a q zero h below e = (q, let z : a - 0 ≡ a = omega arith in let k : (a - 0) % a ≡ 0 = ap (λ t. t % a) z ∙ mod_self a in omega arith)
-padded x a q (suc r) h below e = (q + 1, let l : a - suc r < a = omega arith in let k = mod-eq_of_lt l in omega arith)
+padded x a q zero h below e = (
+  q,
+  let z : a - 0 ≡ a = omega arith in let k : (a - 0) % a ≡ 0 = ap (λ t. t % a) z
+      ∙ mod_self a in omega arith,
+)
+padded x a q (suc r) h below e =
+    (q + 1, let l : a - suc r < a = omega arith in let k = mod-eq_of_lt l in omega arith)
 
 pub dvd_from_product : (a k n : ℕ) → n ≡ k * a → a ∣ n
 dvd_from_product a k n e = subst (λ m. a ∣ m) (sym e) (dvd-mul_left a k)
@@ -36,12 +41,17 @@ not_above a y z ay az near l =
 
 -- two multiples of a, the one less than a above the other, are in order
 pub multiples_apart : (a y z : ℕ) → a ∣ y → a ∣ z → y < z + a → y ≤ z
-multiples_apart a y z ay az near = elim (cases_lt z y) [ inl l ↦ not_above a y z ay az near l | inr l ↦ l ]
+multiples_apart a y z ay az near =
+    elim (cases_lt z y) [ inl l ↦ not_above a y z ay az near l | inr l ↦ l ]
 
 pub least_multiple-is : (x a : ℕ) → 0 < a → IsLeastMultiple x a (least_multiple x a)
 least_multiple-is x a h =
-    let l = least_multiple-lt x a h in
-    (least_multiple-ge x a, least_multiple-dvd x a h, λ z over az. multiples_apart a (least_multiple x a) z (least_multiple-dvd x a h) az (omega arith))
+    let l = least_multiple-lt x a h in (
+      least_multiple-ge x a,
+      least_multiple-dvd x a h,
+      λ z over az. multiples_apart a (least_multiple x a) z (least_multiple-dvd x a h) az
+          (omega arith),
+    )
 
 pub same_from_least : (x a y z : ℕ) → IsLeastMultiple x a y → IsLeastMultiple x a z → y ≡ z
 same_from_least x a y z p q = let l = p.2 z q.0 q.1 in let r = q.2 y p.0 p.1 in omega arith

@@ -45,8 +45,12 @@ last_part-after front file plain ends =
 last-pushed : (path : List ℕ) → 0 < length (path ++ 47 ∷ [])
     → is_slash (get_or (path ++ 47 ∷ []) (length (path ++ 47 ∷ []) - 1) 0) ≡ true
 last-pushed path some =
-    let e : length (path ++ 47 ∷ []) - 1 ≡ length path = omega (arith, length-append path (47 ∷ [])) in
-    ap (λ n. is_slash (get_or (path ++ 47 ∷ []) n 0)) e ∙ ap is_slash (get_or-append_right path (47 ∷ []) (length path) 0 (omega arith) ∙ ap (λ n. get_or (47 ∷ []) n 0) (let z : length path - length path ≡ 0 = omega arith in z))
+    let e : length (path ++ 47 ∷ []) - 1 ≡ length path =
+    omega (arith, length-append path (47 ∷ [])) in
+    ap (λ n. is_slash (get_or (path ++ 47 ∷ []) n 0)) e
+    ∙ ap is_slash
+    (get_or-append_right path (47 ∷ []) (length path) 0 (omega arith)
+    ∙ ap (λ n. get_or (47 ∷ []) n 0) (let z : length path - length path ≡ 0 = omega arith in z))
 
 closed : (a b : Bool) → (not a && not b) ≡ false → a ≡ false → b ≡ true
 closed a true h e = refl
@@ -62,7 +66,8 @@ not_empty path some =
 
 closed_path : (path : List ℕ) → needs_slash path ≡ false → 0 < length path
     → is_slash (get_or path (length path - 1) 0) ≡ true
-closed_path path is some = closed (length path == 0) (is_slash (get_or path (length path - 1) 0)) is (not_empty path some)
+closed_path path is some =
+    closed (length path == 0) (is_slash (get_or path (length path - 1) 0)) is (not_empty path some)
 
 -- what is joined before the file
 abbrev front_of : Bool → List ℕ → List ℕ
@@ -73,13 +78,16 @@ joined_by : (b : Bool) (path file : List ℕ) → needs_slash path ≡ b → ¬ 
 joined_by true path file is plain = last_part-after (path ++ 47 ∷ []) file plain (last-pushed path)
 joined_by false path file is plain =
     last_part-after (path ++ []) file plain
-    (subst (λ p. 0 < length p → is_slash (get_or p (length p - 1) 0) ≡ true) (sym (append-nil path)) (closed_path path is))
+    (subst (λ p. 0 < length p → is_slash (get_or p (length p - 1) 0) ≡ true) (sym (append-nil path))
+    (closed_path path is))
 
 -- the last part of a joined path
-pub last_part-join : (path file : List ℕ) → ¬ (Contains file 47) → after_last is_slash (join path file) ≡ file
+pub last_part-join : (path file : List ℕ) → ¬ (Contains file 47)
+    → after_last is_slash (join path file) ≡ file
 last_part-join path file plain = joined_by (needs_slash path) path file refl plain
 
 -- a plain file stands at the end of what it is joined to
-pub ends_plain_joined : (path file joined : List ℕ) → IsPlain file → joined ≡ join path file → EndsPlain joined
+pub ends_plain_joined : (path file joined : List ℕ) → IsPlain file → joined ≡ join path file
+    → EndsPlain joined
 ends_plain_joined path file joined plain is =
     subst IsPlain (sym (ap (after_last is_slash) is ∙ last_part-join path file plain.1)) plain

@@ -32,11 +32,15 @@ IsText-right xs ys legal =
     let e = drop-append_seam xs ys in rw (← e) (All-drop IsTextByte (length xs) (xs ++ ys) legal)
 
 -- a refused ending of a name refuses the whole
-pub prefixed_error : (prefix name old new : List ℕ) (e : StringModificationError) (r : Result (List ℕ) ServiceNameError)
+pub prefixed_error : (prefix name old new : List ℕ) (e : StringModificationError)
+    (r : Result (List ℕ) ServiceNameError)
     → old ≡ prefix → AppendsText 255 old name (Err e) new → IsErrAnd r (λ x. x ≡ name_error e)
     → MakesServiceName (prefix ++ name) r
 prefixed_error prefix name old new e (Ok text) same refused is = absurd is
 prefixed_error prefix name old new InsertWouldExceedCapacity (Err x) same refused is =
     rw is (omega (arith, refused.1, ap length same, length-append prefix name))
 prefixed_error prefix name old new InvalidCharacter (Err x) same refused is =
-    rw is (omega (arith, refused.1, ap length same, length-append prefix name), λ legal. refused.2 (IsText-right prefix name legal.0.1))
+    rw is (
+      omega (arith, refused.1, ap length same, length-append prefix name),
+      λ legal. refused.2 (IsText-right prefix name legal.0.1),
+    )

@@ -13,10 +13,13 @@ use Rattle.iox2_texts.specs.Verify.{IsLeastMissing}
 
 -- the order of pairs is total
 pub pair_cmp_total : IsTotalOrder pair_cmp
-pair_cmp_total = then_total (on_total (λ p. p.key) nat_list_cmp_total) (on_total (λ p. p.value) nat_list_cmp_total)
+pair_cmp_total =
+    then_total (on_total (λ p. p.key) nat_list_cmp_total)
+    (on_total (λ p. p.value) nat_list_cmp_total)
 
 -- where the first `i` are all of them
-pub all_of_take : {X : Type 0} (P : X → Type 0) (xs : List X) (i : ℕ) → length xs ≤ i → All P (take i xs)
+pub all_of_take : {X : Type 0} (P : X → Type 0) (xs : List X) (i : ℕ) → length xs ≤ i
+    → All P (take i xs)
     → All P xs
 all_of_take P xs i past all = subst (λ ys. All P ys) (take_all i xs past) all
 
@@ -34,21 +37,33 @@ least_missing required pairs i item rises inside is before missing = (
   λ other at not_in less.
       elim (cases_lt at.0 i) [
         | inl earlier ↦
-            let long : at.0 < length (take i required) = subst (λ n. at.0 < n) (sym (length-take-le i required (omega (arith, inside)))) earlier in
-            not_in (subst (λ p. Contains pairs p) (get_or-take i required at.0 other earlier ∙ at.2) (before at.0 other long))
+            let long : at.0 < length (take i required) =
+            subst (λ n. at.0 < n)
+            (sym (length-take-le i required (omega (arith, inside)))) earlier in
+            not_in (subst (λ p. Contains pairs p) (get_or-take i required at.0 other earlier ∙ at.2)
+            (before at.0 other long))
         | inr later ↦
-            let far = sorted_far (λ x y. is_lt (pair_cmp x y)) (ranks_by pair_cmp_total (λ p. p)) required rises i at.0 other later at.1 in
-            let here : get_or required i other ≡ item = get_or_from_slice_get required i item other (slice_get_read required (length required) i item refl inside is) in
+            let far =
+            sorted_far (λ x y. is_lt (pair_cmp x y))
+            (ranks_by pair_cmp_total (λ p. p)) required rises i at.0 other later at.1 in
+            let here : get_or required i other ≡ item =
+            get_or_from_slice_get required i item other
+            (slice_get_read required (length required) i item refl inside is) in
             let not_less : is_lt (pair_cmp other item) ≡ false =
-            subst (λ p. is_lt (pair_cmp p item) ≡ false) at.2 (subst (λ q. is_lt (pair_cmp (get_or required at.0 other) q) ≡ false) here far) in
+            subst (λ p. is_lt (pair_cmp p item) ≡ false) at.2
+            (subst (λ q. is_lt (pair_cmp (get_or required at.0 other) q) ≡ false) here far)
+            in
             true≢false (sym (ap is_lt less) ∙ not_less)
       ],
 )
 
 -- the same for copies of the pair's parts
-pub pair_fault : (required shown pairs : List Pair) (item : Pair) (key value : List ℕ) → shown ≡ required
+pub pair_fault : (required shown pairs : List Pair) (item : Pair) (key value : List ℕ)
+    → shown ≡ required
     → IsLeastMissing shown pairs item → key ≡ item.key → value ≡ item.value
     → IsLeastMissing required pairs (record { key = key; value = value })
 pair_fault required shown pairs item key value same missing key_is value_is =
-    let whole : item ≡ record { key = key; value = value } = λ j. record { key = sym key_is j; value = sym value_is j } in
-    subst (λ p. IsLeastMissing required pairs p) whole (subst (λ r. IsLeastMissing r pairs item) same missing)
+    let whole : item ≡ record { key = key; value = value } =
+    λ j. record { key = sym key_is j; value = sym value_is j } in
+    subst (λ p. IsLeastMissing required pairs p) whole
+    (subst (λ r. IsLeastMissing r pairs item) same missing)

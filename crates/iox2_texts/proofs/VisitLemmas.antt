@@ -3,29 +3,36 @@ use Rattle.std.proofs.Common.{◌≡◌, ℕ, ◌+◌, ◌<◌, Bool, true, fals
 use Rattle.std.specs.Cmp.Lexicographic.{pointwise}
 use Rattle.iox2_texts.specs.Pair.{Pair}
 use Rattle.iox2_texts.specs.Attribute.{has_key, values_of, Visits}
-use Rattle.iox2_texts.specs.declared.bounded.CallbackProgression.{CallbackProgression}
-use Rattle.iox2_texts.specs.declared.bounded.CallbackProgression.TheVariants.{Continue, Stop}
+use Rattle.iox2_texts.specs.declared.bounded.callback_progression.CallbackProgression.{CallbackProgression}
+use Rattle.iox2_texts.specs.declared.bounded.callback_progression.CallbackProgression.TheVariants.{Continue, Stop}
 use Rattle.iox2_texts.proofs.ValueLemmas.{values-here, values-later}
 
 -- what a test of a pair's key says of the pair at that place
-pub has_key-at : (key : List ℕ) (pairs : List Pair) (i : ℕ) (item : Pair) (shown : List ℕ) (b c : Bool)
+pub has_key-at : (key : List ℕ) (pairs : List Pair) (i : ℕ) (item : Pair) (shown : List ℕ)
+    (b c : Bool)
     → item ≡ get_or pairs i item → shown ≡ item.key → b ≡ pointwise nat_eq shown key → b ≡ c
     → has_key key (get_or pairs i item) ≡ c
 has_key-at key pairs i item shown b c is shows answers test =
-    ap (λ p. has_key key p) (sym is) ∙ ap (λ k. pointwise nat_eq k key) (sym shows) ∙ sym answers ∙ test
+    ap (λ p. has_key key p) (sym is) ∙ ap (λ k. pointwise nat_eq k key) (sym shows) ∙ sym answers
+    ∙ test
 
-module _ {F : Type 0} (step : F → List ℕ → CallbackProgression → F → Type 0) (key : List ℕ) (pairs : List Pair) (i : ℕ) (item : Pair) (inside : i < length pairs) (is : item ≡ get_or pairs i item) where
+module _ {F : Type 0} (step : F → List ℕ → CallbackProgression → F → Type 0) (key : List ℕ)
+    (pairs : List Pair) (i : ℕ) (item : Pair) (inside : i < length pairs)
+    (is : item ≡ get_or pairs i item) where
   values_at : has_key key (get_or pairs i item) ≡ true
       → item.value ∷ values_of (drop (i + 1) pairs) key ≡ values_of (drop i pairs) key
-  values_at has = ap (λ p. p.value ∷ values_of (drop (i + 1) pairs) key) is ∙ sym (values-here key pairs i item inside has)
+  values_at has = ap (λ p. p.value ∷ values_of (drop (i + 1) pairs) key) is
+      ∙ sym (values-here key pairs i item inside has)
 
   -- a call that stops ends the visit
   pub visits-stop : (before after : F) (shown : List ℕ) (r : CallbackProgression)
-      → has_key key (get_or pairs i item) ≡ true → shown ≡ item.value → r ≡ Stop → step before shown r after
+      → has_key key (get_or pairs i item) ≡ true → shown ≡ item.value → r ≡ Stop
+      → step before shown r after
       → Visits step before (values_of (drop i pairs) key) after
   visits-stop before after shown r has shows stops called =
       subst (λ vs. Visits step before vs after) (values_at has)
-      (inl (subst (λ v. step before v Stop after) shows (subst (λ q. step before shown q after) stops called)))
+      (inl (subst (λ v. step before v Stop after) shows
+      (subst (λ q. step before shown q after) stops called)))
 
   -- a call that goes on leaves the visit of the later values
   pub visits-continue : (before between last : F) (shown : List ℕ) (r : CallbackProgression)
@@ -34,11 +41,17 @@ module _ {F : Type 0} (step : F → List ℕ → CallbackProgression → F → T
       → Visits step before (values_of (drop i pairs) key) last
   visits-continue before between last shown r has shows goes called later =
       subst (λ vs. Visits step before vs last) (values_at has)
-      (inr (between, subst (λ v. step before v Continue between) shows (subst (λ q. step before shown q between) goes called), later))
+      (inr (
+        between,
+        subst (λ v. step before v Continue between) shows
+            (subst (λ q. step before shown q between) goes called),
+        later,
+      ))
 
   -- a pair with another key is passed over
   pub visits-pass : (before last : F) → has_key key (get_or pairs i item) ≡ false
       → Visits step before (values_of (drop (i + 1) pairs) key) last
       → Visits step before (values_of (drop i pairs) key) last
   visits-pass before last has later =
-      subst (λ vs. Visits step before vs last) (sym (values-later key pairs i item inside has)) later
+      subst (λ vs. Visits step before vs last)
+      (sym (values-later key pairs i item inside has)) later

@@ -2,8 +2,8 @@
 use Rattle.std.specs.Prelude.{◌≡◌, ℕ, List, [], ◌∷◌, ◌⊎◌, map, filter, Bool, nat_eq, Any, IsPermutation, IsSorted}
 use Rattle.std.specs.Cmp.Lexicographic.{pointwise}
 use Rattle.iox2_texts.specs.Pair.{Pair, pair_cmp}
-use Rattle.iox2_texts.specs.declared.bounded.CallbackProgression.{CallbackProgression}
-use Rattle.iox2_texts.specs.declared.bounded.CallbackProgression.TheVariants.{Continue, Stop}
+use Rattle.iox2_texts.specs.declared.bounded.callback_progression.CallbackProgression.{CallbackProgression}
+use Rattle.iox2_texts.specs.declared.bounded.callback_progression.CallbackProgression.TheVariants.{Continue, Stop}
 
 -- `listing` is the sorted list of the pairs `content`,
 -- which stand in any order and with their repeats
@@ -24,7 +24,9 @@ ContainsKey pairs key = Any (λ pair. pair.key ≡ key) pairs
 
 -- the callback, from the state `before`, was given the items in order, up to and with the first
 -- that it answered `Stop`, and was left in the state `after`
-abbrev pub Visits : {F X : Type 0} → (F → X → CallbackProgression → F → Type 0) → F → List X → F → Type 0
+abbrev pub Visits : {F X : Type 0} → (F → X → CallbackProgression → F → Type 0) → F → List X → F
+    → Type 0
 Visits step before [] after = after ≡ before
 Visits {F} step before (item ∷ items) after =
-    step before item Stop after ⊎ ((between : F) × step before item Continue between × Visits step between items after)
+    step before item Stop after
+    ⊎ ((between : F) × step before item Continue between × Visits step between items after)

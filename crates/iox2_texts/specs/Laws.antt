@@ -6,7 +6,8 @@ use Rattle.iox2_texts.specs.Multiple.{IsLeastMultiple, least_multiple}
 
 -- one content has one listing
 abbrev pub ListingsAreUnique : Type 0
-ListingsAreUnique = (content xs ys : List Pair) → IsListing content xs → IsListing content ys → xs ≡ ys
+ListingsAreUnique = (content xs ys : List Pair) → IsListing content xs → IsListing content ys
+    → xs ≡ ys
 
 -- a key has no value exactly from the number of its values on
 abbrev pub ValuesAreCounted : Type 0
@@ -18,5 +19,6 @@ ValuesAreCounted =
 pub record LeastMultiplesAreUnique : Type 0 where
   pub is_least : (value alignment : ℕ) → 0 < alignment
       → IsLeastMultiple value alignment (least_multiple value alignment)
-  pub only : (value alignment y z : ℕ) → IsLeastMultiple value alignment y → IsLeastMultiple value alignment z
+  pub only : (value alignment y z : ℕ) → IsLeastMultiple value alignment y
+      → IsLeastMultiple value alignment z
       → y ≡ z

@@ -20,7 +20,8 @@ IsName n bytes = IsAllowed (λ b. 1 ≤ length b) n bytes
 -- what making a text answers whose legal contents are `Legal`, none
 -- of them longer than `n`: too long is reported only of what is too
 -- long, and everything else that is not legal is an invalid content
-abbrev pub MakesLegal : (List ℕ → Type 0) → ℕ → List ℕ → Result (List ℕ) SemanticStringError → Type 0
+abbrev pub MakesLegal : (List ℕ → Type 0) → ℕ → List ℕ → Result (List ℕ) SemanticStringError
+    → Type 0
 MakesLegal Legal n bytes (Ok text) = (text ≡ bytes) × (length bytes ≤ n) × Legal bytes
 MakesLegal Legal n bytes (Err ExceedsMaximumLength) = n < length bytes
 MakesLegal Legal n bytes (Err InvalidContent) = (length bytes ≤ n) × (¬ (Legal bytes))
@@ -41,4 +42,5 @@ MakesServiceName bytes r = MakesName 255 bytes (result_map_both (λ text. text) 
 -- what making a service name from outside answers, which may not begin with `iox2://`
 abbrev pub MakesPublicName : List ℕ → Result (List ℕ) ServiceNameError → Type 0
 MakesPublicName bytes r =
-    MatchBool (starts_with nat_eq bytes (codes "iox2://")) (r ≡ Err name.InvalidContent) (MakesServiceName bytes r)
+    MatchBool (starts_with nat_eq bytes (codes "iox2://")) (r ≡ Err name.InvalidContent)
+    (MakesServiceName bytes r)

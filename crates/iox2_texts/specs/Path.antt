@@ -13,7 +13,8 @@ is_slash b = b == 47
 
 -- not empty, without `/`, and neither `.` nor `..`
 abbrev pub IsPlain : List ℕ → Type 0
-IsPlain bytes = (1 ≤ length bytes) × (¬ (Contains bytes 47)) × (bytes ≢ codes ".") × (bytes ≢ codes "..")
+IsPlain bytes = (1 ≤ length bytes) × (¬ (Contains bytes 47)) × (bytes ≢ codes ".")
+    × (bytes ≢ codes "..")
 
 -- what stands after the last `/` is plain; where there is no `/`, all is
 abbrev pub EndsPlain : List ℕ → Type 0
@@ -26,7 +27,8 @@ is_restricted b = is_ascii_alphanumeric b || list_any (nat_eq b) (codes "-.:_")
 -- such letters, digits and signs alone, at least one, and neither `.` nor `..`
 abbrev pub IsRestricted : List ℕ → Type 0
 IsRestricted bytes =
-    (1 ≤ length bytes) × All (λ b. IsTrue (is_restricted b)) bytes × (bytes ≢ codes ".") × (bytes ≢ codes "..")
+    (1 ≤ length bytes) × All (λ b. IsTrue (is_restricted b)) bytes × (bytes ≢ codes ".")
+    × (bytes ≢ codes "..")
 
 -- a text of at most `n` bytes that is a restricted name
 abbrev pub IsRestrictedName : ℕ → List ℕ → Type 0

@@ -11,13 +11,15 @@ pub record Requirements : Type 0 where
 
 -- each required pair is in the set, and each required key is the key of some pair of it
 abbrev pub IsSatisfied : Requirements → List Pair → Type 0
-IsSatisfied required pairs = All (Contains pairs) required.pairs × All (ContainsKey pairs) required.keys
+IsSatisfied required pairs = All (Contains pairs) required.pairs
+    × All (ContainsKey pairs) required.keys
 
 -- the least of the required pairs that are not in the set
 abbrev pub IsLeastMissing : List Pair → List Pair → Pair → Type 0
 IsLeastMissing required pairs missing =
     Contains required missing × (¬ (Contains pairs missing))
-    × ((other : Pair) → Contains required other → ¬ (Contains pairs other) → pair_cmp other missing ≢ Less)
+    × ((other : Pair) → Contains required other → ¬ (Contains pairs other)
+    → pair_cmp other missing ≢ Less)
 
 -- the first of the required keys that no pair has
 abbrev pub IsFirstMissing : List (List ℕ) → List Pair → List ℕ → Type 0

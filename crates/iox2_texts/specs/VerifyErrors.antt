@@ -8,7 +8,8 @@ use Rattle.iox2_texts.specs.declared.attribute.verifier.AttributeVerificationErr
 
 -- what verifying a set answers: yes where all is satisfied,
 -- else the least missing pair, else the first missing key
-abbrev pub Verifies : Requirements → List Pair → Result (Unit {0}) AttributeVerificationError → Type 0
+abbrev pub Verifies : Requirements → List Pair → Result (Unit {0}) AttributeVerificationError
+    → Type 0
 Verifies required pairs (Ok _) = IsSatisfied required pairs
 Verifies required pairs (Err (IncompatibleAttribute fault)) =
     IsLeastMissing required.pairs pairs (record { key = fault.0; value = fault.1 })
@@ -20,4 +21,5 @@ abbrev pub verification_error_text : AttributeVerificationError → List ℕ
 verification_error_text (NonExistingKey key) =
     codes "AttributeVerificationError::NonExistingKey(\"" ++ key ++ codes "\")"
 verification_error_text (IncompatibleAttribute fault) =
-    codes "AttributeVerificationError::IncompatibleAttribute((\"" ++ fault.0 ++ codes "\", \"" ++ fault.1 ++ codes "\"))"
+    codes "AttributeVerificationError::IncompatibleAttribute((\"" ++ fault.0 ++ codes "\", \""
+    ++ fault.1 ++ codes "\"))"

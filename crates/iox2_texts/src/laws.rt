@@ -144,56 +144,21 @@ pub fn attributes_go_by_bytes(one: &Attribute, other: &Attribute) -> (bool, Orde
     (one == other, one.cmp(other))
 }
 
-/// Answers of callbacks are equal exactly where they are the same, and a clone is the same.
-pub fn callback_progressions_go_by_variant(
-    one: &CallbackProgression,
-    other: &CallbackProgression,
-) -> (bool, Result<CallbackProgression, AllocError>)
-    ensures equal { IsTrue result.0 ↔ (one.now ≡ other.now) }
-    ensures cloned { IsOkAnd result.1 (λ copy. copy ≡ one.now) }
-{
-    (one == other, one.clone())
-}
+/// An answer of a callback, and an error of each type that has nothing but its variant.
+pub type Variants = (
+    CallbackProgression,
+    StringModificationError,
+    SemanticStringError,
+    ServiceNameError,
+    AttributeDefinitionError,
+);
 
-/// Errors of changing texts are equal exactly where they are the same, and a clone is the same.
-pub fn string_modification_errors_go_by_variant(
-    one: &StringModificationError,
-    other: &StringModificationError,
-) -> (bool, Result<StringModificationError, AllocError>)
-    ensures equal { IsTrue result.0 ↔ (one.now ≡ other.now) }
-    ensures cloned { IsOkAnd result.1 (λ copy. copy ≡ one.now) }
-{
-    (one == other, one.clone())
-}
-
-/// Errors of semantic strings are equal exactly where they are the same, and a clone is the same.
-pub fn semantic_string_errors_go_by_variant(
-    one: &SemanticStringError,
-    other: &SemanticStringError,
-) -> (bool, Result<SemanticStringError, AllocError>)
-    ensures equal { IsTrue result.0 ↔ (one.now ≡ other.now) }
-    ensures cloned { IsOkAnd result.1 (λ copy. copy ≡ one.now) }
-{
-    (one == other, one.clone())
-}
-
-/// Errors of service names are equal exactly where they are the same, and a clone is the same.
-pub fn service_name_errors_go_by_variant(
-    one: &ServiceNameError,
-    other: &ServiceNameError,
-) -> (bool, Result<ServiceNameError, AllocError>)
-    ensures equal { IsTrue result.0 ↔ (one.now ≡ other.now) }
-    ensures cloned { IsOkAnd result.1 (λ copy. copy ≡ one.now) }
-{
-    (one == other, one.clone())
-}
-
-/// Errors of defining attributes are equal exactly
-/// where they are the same, and a clone is the same.
-pub fn attribute_definition_errors_go_by_variant(
-    one: &AttributeDefinitionError,
-    other: &AttributeDefinitionError,
-) -> (bool, Result<AttributeDefinitionError, AllocError>)
+/// Answers of callbacks and errors are equal exactly where they are the same, and a clone of one is
+/// it and takes no memory.
+pub fn values_go_by_variant(
+    one: &Variants,
+    other: &Variants,
+) -> (bool, Result<Variants, AllocError>)
     ensures equal { IsTrue result.0 ↔ (one.now ≡ other.now) }
     ensures cloned { IsOkAnd result.1 (λ copy. copy ≡ one.now) }
 {

@@ -1,8 +1,5 @@
 //! Values that are printed whole, and into a writer that fails.
 
-use iox2_ids::identifiers::{
-    ProcessId, Time, UniqueNodeId, UniquePortId, UniquePublisherId, UniqueReaderId,
-};
 use iox2_texts::attribute::{
     Attribute, AttributeDefinitionError, AttributeKey, AttributeSet, AttributeSpecifier,
     AttributeValue, AttributeVerificationError, AttributeVerifier,
@@ -35,22 +32,6 @@ fn texts_fail_with_their_writer(rt: HostRuntime) {
             is_printed(&both) && is_shown(&both),
         ],
         [true; 7]
-    );
-}
-
-#[test]
-fn ids_fail_with_their_writer(rt: HostRuntime) {
-    let node = UniqueNodeId::new(1, 2, 3, 4).expect(&rt, "an id");
-    let port = UniquePublisherId::new(1, 2, 3, 4);
-    assert_eq!(rt;
-        [
-            is_printed(&node) && is_shown(&node),
-            is_printed(&port) && is_shown(&port),
-            is_shown(&UniquePortId::Reader(UniqueReaderId::new(1, 2, 3, 4))),
-            is_shown(&ProcessId::new(1)),
-            is_shown(&Time::new(1, 2)),
-        ],
-        [true; 5]
     );
 }
 

@@ -1,7 +1,6 @@
-//! What is printed at every length, of the longest faults, and of many ids.
+//! What is printed at every length, and of the longest faults.
 
-use crate::printing::shown;
-use iox2_ids::identifiers::{UniqueNodeId, UniquePublisherId};
+use crate::printing::text_of;
 use iox2_texts::attribute::{AttributeKey, AttributeValue, AttributeVerificationError};
 use iox2_texts::bounded::StaticString;
 use iox2_texts::paths::{FileName, FilePath, Path, RestrictedFileName};
@@ -21,7 +20,7 @@ fn is_printed_up_to<T: Display + Debug + Drop>(
 ) {
     assert_eq!(rt; made.is_some(), bytes.len() <= most);
     if let Some(value) = made {
-        assert_eq!(rt; shown(rt, &value).as_bytes(), bytes);
+        assert_eq!(rt; text_of(rt, &value).as_bytes(), bytes);
         assert!(rt; format!(in rt.alloc(); "{value:?}").is_ok());
     }
 }
@@ -62,7 +61,7 @@ fn faults_are_printed_at_every_length(rt: HostRuntime) {
     for length in 1..=LONGEST.len() {
         let key = AttributeKey::new(&LONGEST[..length.min(64)]).expect(&rt, "a key");
         let value = AttributeValue::new(&LONGEST[..length]).expect(&rt, "a value");
-        let (key_text, value_text) = (shown(&rt, &key), shown(&rt, &value));
+        let (key_text, value_text) = (text_of(&rt, &key), text_of(&rt, &value));
         let missing = AttributeVerificationError::NonExistingKey(key.copied());
         let other = AttributeVerificationError::IncompatibleAttribute((key, value));
         let missing_text = format!(in rt.alloc();
@@ -72,29 +71,11 @@ fn faults_are_printed_at_every_length(rt: HostRuntime) {
             "AttributeVerificationError::IncompatibleAttribute((\"{key_text}\", \"{value_text}\"))"
         );
         assert_eq!(rt;
-            (shown(&rt, &missing), shown(&rt, &other)),
+            (text_of(&rt, &missing), text_of(&rt, &other)),
             (
                 missing_text.expect(&rt, "memory"),
                 other_text.expect(&rt, "memory")
             )
-        );
-    }
-}
-
-#[test]
-fn ids_are_printed_of_many_processes(rt: HostRuntime) {
-    for process in 0..=300 {
-        let node = UniqueNodeId::new(process, 2, 3, 4).expect(&rt, "an id");
-        let port = UniquePublisherId::new(process, 2, 3, 4);
-        let front = if process == 0 {
-            String::new(rt.alloc())
-        } else {
-            format!(in rt.alloc(); "{process:x}0000000").expect(&rt, "memory")
-        };
-        let text = format!(in rt.alloc(); "{front}20000000300000004").expect(&rt, "memory");
-        assert_eq!(rt;
-            [shown(&rt, &node).as_str(), shown(&rt, &port).as_str()],
-            [text.as_str(); 2]
         );
     }
 }

@@ -1,11 +1,9 @@
-//! Worked examples of texts and ids. They are tests of what no contract says, with values from
+//! Worked examples of texts. They are tests of what no contract says, with values from
 //! outside: worked rows, printed texts, and each public call once.
 #![tactic(auto)]
 
 #[cfg(test)]
 mod failing;
-#[cfg(test)]
-mod ids;
 #[cfg(test)]
 mod lengths;
 #[cfg(test)]

@@ -3,6 +3,6 @@ use std::fmt::Display;
 use std::process::Abort;
 
 /// The text that a value prints.
-pub fn shown(rt: &(impl Abort + AllocGlobal), value: &impl Display) -> String {
+pub fn text_of(rt: &(impl Abort + AllocGlobal), value: &impl Display) -> String {
     format!(in rt.alloc(); "{value}").expect(rt, "memory for a text")
 }

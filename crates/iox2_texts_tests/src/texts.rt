@@ -2,6 +2,6 @@
 
 mod attributes;
 mod bounded;
-mod laws;
+mod errors;
 mod paths;
 mod service_names;

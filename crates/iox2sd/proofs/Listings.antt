@@ -4,49 +4,62 @@ use Rattle.std.specs.Prelude.{drop}
 use Rattle.std.proofs.lemmas.List.{append-nil, append_assoc, length-append, length-map}
 use Rattle.std.proofs.Math.Seq.{set-append_seam}
 use Rattle.iox2_texts.specs.Attribute.{Visits}
-use Rattle.iox2_texts.specs.declared.bounded.CallbackProgression.{CallbackProgression}
-use Rattle.iox2_texts.specs.declared.bounded.CallbackProgression.TheVariants.{Continue, Stop}
+use Rattle.iox2_texts.specs.declared.bounded.callback_progression.CallbackProgression.{CallbackProgression}
+use Rattle.iox2_texts.specs.declared.bounded.callback_progression.CallbackProgression.TheVariants.{Continue, Stop}
 use Rattle.iox2_container.specs.ContainerState.{ContainerState}
 use Rattle.iox2_container.specs.declared.container.role.Role.{Role}
 use Rattle.iox2_container.specs.Steps.{Visit, listed}
 use Rattle.iox2_dynamic.specs.declared.dynamic_config.port_details.PortDetails.{PortDetails}
 use Rattle.iox2_dynamic.specs.Ports.{CountsIn, ListsIn}
 use Rattle.iox2_dynamic.specs.Service.{Service, first_role, second_role}
-use Rattle.iox2sd.proofs.Roles.{roles_differ}
+use Rattle.iox2_dynamic.proofs.Rooms.{roles_differ}
 use Rattle.iox2sd.specs.Ids.{id_of}
 use Rattle.iox2sd.specs.Listings.{Puts, PutsAll, ListsAll, NeedsMore, ports_in, nodes_in, PortsOf}
 use Rattle.iox2sd.specs.declared.id.Id.{Id}
 use Rattle.iox2sd.specs.Ports.{told_port}
 use Rattle.iox2sd.specs.declared.port.Port.{Port}
 
-puts_all : {A : Type 0} (before : List A × ℕ) (items : List A) (after : List A × ℕ) → Visits Puts before items after → PutsAll items before after
-puts_all before [] after end done left is n fits = ap (λ p. p.0) end ∙ is ∙ ap (λ l. l ++ left) (sym (append-nil done))
+puts_all : {A : Type 0} (before : List A × ℕ) (items : List A) (after : List A × ℕ)
+    → Visits Puts before items after → PutsAll items before after
+puts_all before [] after end done left is n fits = ap (λ p. p.0) end ∙ is
+    ∙ ap (λ l. l ++ left) (sym (append-nil done))
 puts_all before (x ∷ xs) after steps done [] is n fits = absurd (omega (arith, fits))
 puts_all before (x ∷ xs) after (inl full) done (y ∷ left) is n fits =
     absurd (omega (arith, full, n, ap length is, length-append done (y ∷ left)))
 puts_all {A} before (x ∷ xs) after (inr goes) done (y ∷ left) is n fits =
     let between : goes.0.0 ≡ (done ++ x ∷ []) ++ left =
-    goes.1.1 ∙ ap (λ (l : List A). slice_set l before.1 x) is ∙ ap (λ i. slice_set (done ++ y ∷ left) i x) (sym n)
+    goes.1.1 ∙ ap (λ (l : List A). slice_set l before.1 x) is
+    ∙ ap (λ i. slice_set (done ++ y ∷ left) i x) (sym n)
     ∙ set-append_seam done y left x ∙ sym (append_assoc done (x ∷ []) left) in
-    puts_all goes.0 xs after goes.2 (done ++ x ∷ []) left between (length-append done (x ∷ []) ∙ omega (arith, n, goes.1.2)) (omega (arith, fits))
+    puts_all goes.0 xs after goes.2 (done ++ x ∷ []) left between
+    (length-append done (x ∷ []) ∙ omega (arith, n, goes.1.2)) (omega (arith, fits))
     ∙ ap (λ (l : List A). l ++ drop (length xs) left) (append_assoc done (x ∷ []) xs)
 
 -- a visit by a closure that holds the array, of which something stays true
-module _ {F T A : Type 0} (calls : F → T → CallbackProgression → F → Type 0) (k : F → List A × ℕ) (item : T → A) (I : F → Type 0)
-    (step : (f : F) (x : T) (r : CallbackProgression) (h : F) → I f → calls f x r h → I h × Puts (k f) (item x) r (k h)) where
-  visits_put : (f : F) (items : List T) (h : F) → I f → Visits calls f items h → I h × Visits Puts (k f) (map item items) (k h)
+module _ {F T A : Type 0} (calls : F → T → CallbackProgression → F → Type 0) (k : F → List A × ℕ)
+    (item : T → A) (I : F → Type 0)
+    (step : (f : F) (x : T) (r : CallbackProgression) (h : F) → I f → calls f x r h → I h
+    × Puts (k f) (item x) r (k h)) where
+  visits_put : (f : F) (items : List T) (h : F) → I f → Visits calls f items h → I h
+      × Visits Puts (k f) (map item items) (k h)
   visits_put f [] h i end = (subst I (sym end) i, ap k end)
   visits_put f (x ∷ xs) h i (inl stopped) = let s = step f x Stop h i stopped in (s.0, inl s.1)
   visits_put f (x ∷ xs) h i (inr goes) =
-      let s = step f x Continue goes.0 i goes.1 in let rest = visits_put goes.0 xs h s.0 goes.2 in (rest.0, inr (k goes.0, s.1, rest.1))
+      let s = step f x Continue goes.0 i goes.1 in let rest = visits_put goes.0 xs h s.0 goes.2 in
+      (rest.0, inr (k goes.0, s.1, rest.1))
 
-  pub all_put : (f : F) (items : List T) (h : F) → I f → Visit calls f items h → I h × PutsAll (map item items) (k f) (k h)
-  all_put f items h i visit = let v = visits_put f items h i visit.visits in (v.0, puts_all (k f) (map item items) (k h) v.1)
+  pub all_put : (f : F) (items : List T) (h : F) → I f → Visit calls f items h → I h
+      × PutsAll (map item items) (k f) (k h)
+  all_put f items h i visit = let v = visits_put f items h i visit.visits in
+      (v.0, puts_all (k f) (map item items) (k h) v.1)
 
 -- a listing of the ports of a role
-pub ports_put : {F : Type 0} (calls : F → PortDetails → CallbackProgression → F → Type 0) (k : F → List Port × ℕ) (I : F → Type 0)
-    → ((f : F) (x : PortDetails) (r : CallbackProgression) (h : F) → I f → calls f x r h → I h × Puts (k f) (told_port x) r (k h))
-    → (s : Service) (role : Role) (f : F) (found : Bool) (h : F) → I f → ListsIn calls (first_role s.pattern) (second_role s.pattern) s.ports role f found h
+pub ports_put : {F : Type 0} (calls : F → PortDetails → CallbackProgression → F → Type 0)
+    (k : F → List Port × ℕ) (I : F → Type 0)
+    → ((f : F) (x : PortDetails) (r : CallbackProgression) (h : F) → I f → calls f x r h → I h
+    × Puts (k f) (told_port x) r (k h))
+    → (s : Service) (role : Role) (f : F) (found : Bool) (h : F) → I f
+    → ListsIn calls (first_role s.pattern) (second_role s.pattern) s.ports role f found h
     → I h
     × (role ≡ first_role s.pattern → PutsAll (ports_in s.ports.first) (k f) (k h))
     × (role ≡ second_role s.pattern → PutsAll (ports_in s.ports.second) (k f) (k h))
@@ -59,38 +72,50 @@ ports_put calls k I step s role f true h i (inr shown) =
     let all = all_put calls k told_port I step f (listed s.ports.second.registry) h i shown.1 in
     (all.0, λ e. absurd (roles_differ s.pattern (sym e ∙ shown.0)), λ e. all.1)
 
-length_ports : (ports : ContainerState PortDetails) → length (ports_in ports) ≡ length ports.registry.entries
-length_ports ports = length-map (listed ports.registry) told_port ∙ length-map ports.registry.entries (λ e. e.details)
+length_ports : (ports : ContainerState PortDetails)
+    → length (ports_in ports) ≡ length ports.registry.entries
+length_ports ports = length-map (listed ports.registry) told_port
+    ∙ length-map ports.registry.entries (λ e. e.details)
 
 -- the ports of a role, as many as were counted
-pub counted : (s : Service) (role : Role) (n : ℕ) → CountsIn (first_role s.pattern) (second_role s.pattern) s.ports role (Some n)
+pub counted : (s : Service) (role : Role) (n : ℕ)
+    → CountsIn (first_role s.pattern) (second_role s.pattern) s.ports role (Some n)
     → (ports : List Port) × PortsOf s role ports × (n ≡ length ports)
-counted s role n (inl found) = (ports_in s.ports.first, inl (found.0, refl), found.1 ∙ sym (length_ports s.ports.first))
-counted s role n (inr found) = (ports_in s.ports.second, inr (found.0, refl), found.1 ∙ sym (length_ports s.ports.second))
+counted s role n (inl found) =
+    (ports_in s.ports.first, inl (found.0, refl), found.1 ∙ sym (length_ports s.ports.first))
+counted s role n (inr found) =
+    (ports_in s.ports.second, inr (found.0, refl), found.1 ∙ sym (length_ports s.ports.second))
 
 -- they stand at the front of an array that has room for them
 pub at_front : (s : Service) (role : Role) (before after : List Port) (used : ℕ)
     → (role ≡ first_role s.pattern → PutsAll (ports_in s.ports.first) (before, 0) (after, used))
     → (role ≡ second_role s.pattern → PutsAll (ports_in s.ports.second) (before, 0) (after, used))
-    → (ports : List Port) → PortsOf s role ports → length ports ≤ length before → after ≡ ports ++ drop (length ports) before
+    → (ports : List Port) → PortsOf s role ports → length ports ≤ length before → after ≡ ports
+    ++ drop (length ports) before
 at_front s role before after used first second ports (inl is) fits =
-    subst (λ (l : List Port). length l ≤ length before → after ≡ l ++ drop (length l) before) (sym is.1) (first is.0 [] before refl refl) fits
+    subst (λ (l : List Port). length l ≤ length before → after ≡ l ++ drop (length l) before)
+    (sym is.1) (first is.0 [] before refl refl) fits
 at_front s role before after used first second ports (inr is) fits =
-    subst (λ (l : List Port). length l ≤ length before → after ≡ l ++ drop (length l) before) (sym is.1) (second is.0 [] before refl refl) fits
+    subst (λ (l : List Port). length l ≤ length before → after ≡ l ++ drop (length l) before)
+    (sym is.1) (second is.0 [] before refl refl) fits
 
 length_nodes : (nodes : ContainerState ℕ) → length (nodes_in nodes) ≡ length nodes.registry.entries
-length_nodes nodes = length-map (listed nodes.registry) id_of ∙ length-map nodes.registry.entries (λ e. e.details)
+length_nodes nodes = length-map (listed nodes.registry) id_of
+    ∙ length-map nodes.registry.entries (λ e. e.details)
 
 -- the nodes, as many as were counted, stand at the front of an array that has room for them
-pub nodes_at_front : (nodes : ContainerState ℕ) (before after : List Id) (used n : ℕ) → n ≡ length nodes.registry.entries
-    → PutsAll (nodes_in nodes) (before, 0) (after, used) → n ≤ length before → ListsAll (nodes_in nodes) before n after
+pub nodes_at_front : (nodes : ContainerState ℕ) (before after : List Id) (used n : ℕ)
+    → n ≡ length nodes.registry.entries
+    → PutsAll (nodes_in nodes) (before, 0) (after, used) → n ≤ length before
+    → ListsAll (nodes_in nodes) before n after
 nodes_at_front nodes before after used n count puts fits =
     let is : n ≡ length (nodes_in nodes) = count ∙ sym (length_nodes nodes) in
     let room : length (nodes_in nodes) ≤ length before = subst (λ m. m ≤ length before) is fits in
     (room, puts [] before refl refl room, is)
 
 -- or there are more than it has room for
-pub nodes_too_many : (nodes : ContainerState ℕ) (before : List Id) (n : ℕ) → n ≡ length nodes.registry.entries
+pub nodes_too_many : (nodes : ContainerState ℕ) (before : List Id) (n : ℕ)
+    → n ≡ length nodes.registry.entries
     → length before < n → NeedsMore (nodes_in nodes) before n before
 nodes_too_many nodes before n count more =
     let is : n ≡ length (nodes_in nodes) = count ∙ sym (length_nodes nodes) in

@@ -1,23 +1,19 @@
--- The two kinds of ports of a pattern differ.
-use Rattle.std.proofs.Common.{◌≡◌, ◌≢◌, ◌∙◌, ℕ, Some, length, sym, inl, inr}
+-- How many ports of each of a pattern's two kinds there are.
+use Rattle.std.proofs.Common.{◌≡◌, ◌∙◌, ℕ, Some, length, sym, inl, inr}
 use Rattle.iox2_config.specs.declared.hash.input.PatternKind.{PatternKind}
-use Rattle.iox2_config.specs.declared.hash.input.PatternKind.TheVariants as kind
 use Rattle.iox2_container.specs.declared.container.role.Role.{Role}
 use Rattle.iox2_dynamic.specs.Ports.{Ports, CountsIn}
 use Rattle.iox2_dynamic.specs.Service.{first_role, second_role}
+use Rattle.iox2_dynamic.proofs.Rooms.{roles_differ}
 
-pub roles_differ : (pattern : PatternKind) → first_role pattern ≢ second_role pattern
-roles_differ kind.PublishSubscribe e = (cc)
-roles_differ kind.Event e = (cc)
-roles_differ kind.RequestResponse e = (cc)
-roles_differ kind.Blackboard e = (cc)
-
-pub first_count : (pattern : PatternKind) (p : Ports) (role : Role) (n : ℕ) → CountsIn (first_role pattern) (second_role pattern) p role (Some n)
+pub first_count : (pattern : PatternKind) (p : Ports) (role : Role) (n : ℕ)
+    → CountsIn (first_role pattern) (second_role pattern) p role (Some n)
     → role ≡ first_role pattern → n ≡ length p.first.registry.entries
 first_count pattern p role n (inl c) e = c.1
 first_count pattern p role n (inr c) e = absurd (roles_differ pattern (sym e ∙ c.0))
 
-pub second_count : (pattern : PatternKind) (p : Ports) (role : Role) (n : ℕ) → CountsIn (first_role pattern) (second_role pattern) p role (Some n)
+pub second_count : (pattern : PatternKind) (p : Ports) (role : Role) (n : ℕ)
+    → CountsIn (first_role pattern) (second_role pattern) p role (Some n)
     → role ≡ second_role pattern → n ≡ length p.second.registry.entries
 second_count pattern p role n (inl c) e = absurd (roles_differ pattern (sym c.0 ∙ e))
 second_count pattern p role n (inr c) e = c.1

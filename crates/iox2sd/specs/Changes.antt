@@ -10,7 +10,7 @@ use Rattle.iox2_dynamic.specs.Steps.{RegisterStep, DeregisterStep, ReleaseStep}
 use Rattle.iox2sd.specs.Handles.{told, no_handle, ReadsHandle}
 use Rattle.iox2sd.specs.Ids.{ReadsNode}
 use Rattle.iox2sd.specs.Places.{At, Nothing}
-use Rattle.iox2sd.specs.Ports.{Attaches}
+use Rattle.iox2sd.specs.Ports.{AttachesPort}
 use Rattle.iox2sd.specs.Status.{code}
 use Rattle.iox2sd.specs.declared.handle.Handle.{Handle}
 use Rattle.iox2sd.specs.declared.id.Id.{Id}
@@ -32,9 +32,11 @@ Registers id old (Ok handle) new =
     × (named : Named) × RegisterStep old node (Ok named) new × (handle ≡ told named)
 Registers id old (Err status.NoNode) new = ReadsNode id None × (new ≡ old)
 Registers id old (Err status.IsLocked) new =
-    (node : ℕ) × ReadsNode id (Some node) × RegisterStep old node (Err enter.MarkedForDestruction) new
+    (node : ℕ) × ReadsNode id (Some node)
+    × RegisterStep old node (Err enter.MarkedForDestruction) new
 Registers id old (Err status.OutOfSpace) new =
-    (node : ℕ) × ReadsNode id (Some node) × RegisterStep old node (Err enter.ExceedsMaxNumberOfNodes) new
+    (node : ℕ) × ReadsNode id (Some node)
+    × RegisterStep old node (Err enter.ExceedsMaxNumberOfNodes) new
 Registers id old (Err _) new = ⊥
 
 -- deregistering a node
@@ -42,13 +44,15 @@ abbrev pub Deregisters : Handle → Held → Status → Held → Type 0
 Deregisters handle old status.Done new =
     (named : Named) × ReadsHandle handle (Some named) × DeregisterStep old named (Ok HasOwners) new
 Deregisters handle old status.DoneLocked new =
-    (named : Named) × ReadsHandle handle (Some named) × DeregisterStep old named (Ok NoMoreOwners) new
+    (named : Named) × ReadsHandle handle (Some named)
+    × DeregisterStep old named (Ok NoMoreOwners) new
 Deregisters handle old status.UnknownRole new = ReadsHandle handle None × (new ≡ old)
 Deregisters handle old status.ForeignHandle new =
     (named : Named) × ReadsHandle handle (Some named)
     × DeregisterStep old named (Err leave.ContainerHandleNotOwnedByContainer) new
 Deregisters handle old status.PortsStillAttached new =
-    (named : Named) × ReadsHandle handle (Some named) × DeregisterStep old named (Err leave.PortsStillAttached) new
+    (named : Named) × ReadsHandle handle (Some named)
+    × DeregisterStep old named (Err leave.PortsStillAttached) new
 Deregisters handle old _ new = ⊥
 
 -- releasing a port
@@ -64,4 +68,5 @@ Releases handle old _ new = ⊥
 -- attaching a port that may be NULL, which is told before all else
 abbrev pub AttachesAt : List Port → List Service → HandleAnswer → List Service → Type 0
 AttachesAt [] old answer new = (answer ≡ handle_answer (Err status.Null)) × (new ≡ old)
-AttachesAt (port ∷ others) old answer new = At handle_answer Err Nothing (Attaches port) old answer new
+AttachesAt (port ∷ others) old answer new =
+    At handle_answer Err Nothing (AttachesPort port) old answer new

@@ -5,4 +5,8 @@ use Rattle.iox2sd.specs.declared.service.roles.Counts.{Counts}
 
 -- how many ports of each kind there are
 abbrev pub counted : Held → Counts
-counted s = record { first = length s.ports.first.registry.entries; second = length s.ports.second.registry.entries }
+counted s =
+    record {
+      first = length s.ports.first.registry.entries;
+      second = length s.ports.second.registry.entries;
+    }

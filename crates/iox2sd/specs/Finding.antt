@@ -1,7 +1,7 @@
 -- What a handle stands for.
 use Rattle.std.specs.Prelude.{◌≡◌, ℕ, Some, None, Result, Ok, Err}
 use Rattle.iox2_container.specs.Handle.{Handle as Named}
-use Rattle.iox2_container.specs.Steps.{IsForeign, Stands}
+use Rattle.iox2_container.specs.Steps.{IsUnknownHandle, HasEntry}
 use Rattle.iox2_dynamic.specs.declared.dynamic_config.port_details.PortDetails.{PortDetails}
 use Rattle.iox2_dynamic.specs.Ports.{IsNoPort, StandsAmong}
 use Rattle.iox2_dynamic.specs.Service.{Service as Held}
@@ -31,10 +31,10 @@ port_answer (Err s) = record { status = code s; port = no_port }
 abbrev pub FindsNode : Handle → Held → Result Id Status → Type 0
 FindsNode handle s (Ok id) =
     (named : Named) × ReadsHandle handle (Some named)
-    × (node : ℕ) × Stands s.nodes.registry named node × (id ≡ id_of node)
+    × (node : ℕ) × HasEntry s.nodes.registry named node × (id ≡ id_of node)
 FindsNode handle s (Err status.UnknownRole) = ReadsHandle handle None
 FindsNode handle s (Err status.ForeignHandle) =
-    (named : Named) × ReadsHandle handle (Some named) × IsForeign s.nodes.registry named
+    (named : Named) × ReadsHandle handle (Some named) × IsUnknownHandle s.nodes.registry named
 FindsNode handle s (Err _) = ⊥
 
 -- the port of a handle

@@ -9,7 +9,13 @@ number_of id = packed id.process id.seconds id.nanoseconds id.counter
 
 -- the parts of a number
 abbrev pub id_of : ℕ → Id
-id_of n = record { process = process_of n; seconds = seconds_of n; nanoseconds = nanoseconds_of n; counter = counter_of n }
+id_of n =
+    record {
+      process = process_of n;
+      seconds = seconds_of n;
+      nanoseconds = nanoseconds_of n;
+      counter = counter_of n;
+    }
 
 -- the parts are those of a node
 abbrev pub is_node : Id → Bool

@@ -1,7 +1,7 @@
 -- Listings into a caller's array.
 use Rattle.std.specs.Prelude.{◌≡◌, ℕ, ◌+◌, ◌<◌, ◌≤◌, List, ◌++◌, Some, None, map, drop, length, slice_set, ◌⊎◌}
-use Rattle.iox2_texts.specs.declared.bounded.CallbackProgression.{CallbackProgression}
-use Rattle.iox2_texts.specs.declared.bounded.CallbackProgression.TheVariants.{Continue, Stop}
+use Rattle.iox2_texts.specs.declared.bounded.callback_progression.CallbackProgression.{CallbackProgression}
+use Rattle.iox2_texts.specs.declared.bounded.callback_progression.CallbackProgression.TheVariants.{Continue, Stop}
 use Rattle.iox2_container.specs.ContainerState.{ContainerState}
 use Rattle.iox2_container.specs.Steps.{listed}
 use Rattle.iox2_container.specs.declared.container.role.Role.{Role}
@@ -28,23 +28,28 @@ listed_answer (Refused s) = count_answer s 0
 -- an item was put into the next place, or there is none
 abbrev pub Puts : {A : Type 0} → List A × ℕ → A → CallbackProgression → List A × ℕ → Type 0
 Puts before item Continue after =
-    (before.1 < length before.0) × (after.0 ≡ slice_set before.0 before.1 item) × (after.1 ≡ before.1 + 1)
+    (before.1 < length before.0) × (after.0 ≡ slice_set before.0 before.1 item)
+    × (after.1 ≡ before.1 + 1)
 Puts before item Stop after = length before.0 ≤ before.1
 
--- where they fit behind the places in use, all these items were put there, and the other places are as they were
+-- where they fit behind the places in use, all these items were put there, and the other places are
+-- as they were
 abbrev pub PutsAll : {A : Type 0} → List A → List A × ℕ → List A × ℕ → Type 0
 PutsAll {A} items before after =
-    (done left : List A) → before.0 ≡ done ++ left → length done ≡ before.1 → length items ≤ length left
+    (done left : List A) → before.0 ≡ done ++ left → length done ≡ before.1
+    → length items ≤ length left
     → after.0 ≡ done ++ items ++ drop (length items) left
 
 -- all these items stand at the front of the array, and its other places are as they were
 abbrev pub ListsAll : {A : Type 0} → List A → List A → ℕ → List A → Type 0
 ListsAll items before n after =
-    (length items ≤ length before) × (after ≡ items ++ drop (length items) before) × (n ≡ length items)
+    (length items ≤ length before) × (after ≡ items ++ drop (length items) before)
+    × (n ≡ length items)
 
 -- the array is as it was, since it is too short for all these items
 abbrev pub NeedsMore : {A : Type 0} → List A → List A → ℕ → List A → Type 0
-NeedsMore items before n after = (length before < length items) × (after ≡ before) × (n ≡ length items)
+NeedsMore items before n after = (length before < length items) × (after ≡ before)
+    × (n ≡ length items)
 
 -- these ports, by rising slot
 abbrev pub ports_in : ContainerState PortDetails → List Port
@@ -64,7 +69,8 @@ ListsPorts number before service (All n) after =
 ListsPorts number before service (TooShort n) after =
     (role : Role) × ReadsRole number (Some role) × (ports : List Port) × PortsOf service role ports
     × NeedsMore ports before n after
-ListsPorts number before service (Refused status.UnknownRole) after = ReadsRole number None × (after ≡ before)
+ListsPorts number before service (Refused status.UnknownRole) after = ReadsRole number None
+    × (after ≡ before)
 ListsPorts number before service (Refused status.RoleNotInPattern) after =
     (role : Role) × ReadsRole number (Some role)
     × IsNeither (first_role service.pattern) (second_role service.pattern) role × (after ≡ before)

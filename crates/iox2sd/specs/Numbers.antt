@@ -23,7 +23,8 @@ AsksNodeRoom s (Ok is_so) = IsTrue is_so ↔ TakesEntry s.nodes.registry
 AsksNodeRoom s (Err _) = ⊥
 
 -- what is said of the ports of a role: a number, or why none is told
-abbrev pub AsksPorts : (RegistryState PortDetails → ℕ → Type 0) → ℕ → Held → Result ℕ Status → Type 0
+abbrev pub AsksPorts : (RegistryState PortDetails → ℕ → Type 0) → ℕ → Held → Result ℕ Status
+    → Type 0
 AsksPorts says number s (Ok n) =
     (role : Role) × ReadsRole number (Some role)
     × OfRole says (first_role s.pattern) (second_role s.pattern) s.ports role (Some n)
@@ -36,7 +37,8 @@ AsksPorts says number s (Err _) = ⊥
 -- whether there is room for a port of a role
 abbrev pub AsksRoom : ℕ → Held → Result Bool Status → Type 0
 AsksRoom number s (Ok is_so) =
-    (role : Role) × ReadsRole number (Some role) × HasRole s.pattern role × (IsTrue is_so ↔ TakesPort s role)
+    (role : Role) × ReadsRole number (Some role) × HasRole s.pattern role
+    × (IsTrue is_so ↔ TakesPort s role)
 AsksRoom number s (Err status.UnknownRole) = ReadsRole number None
 AsksRoom number s (Err status.RoleNotInPattern) =
     (role : Role) × ReadsRole number (Some role) × (¬ (HasRole s.pattern role))

@@ -6,8 +6,8 @@ use Rattle.iox2sd.specs.declared.status.Status.{Status}
 use Rattle.iox2sd.specs.declared.status.Status.TheVariants as status
 
 -- the place says whether it holds a service
-abbrev pub IsSound : Service → Type 0
-IsSound place = place.full ≡ is_some place.slot.service
+abbrev pub IsSoundPlace : Service → Type 0
+IsSoundPlace place = place.full ≡ is_some place.slot.service
 
 -- what the place holds
 abbrev pub held : Service → Option Held
@@ -17,19 +17,22 @@ held place = place.slot.service
 abbrev pub Nothing : Type 0
 Nothing = Unit {0}
 
--- a call on the service that is held went by the table, and what it made was told; where none is held, that is told, and
+-- a call on the service that is held went by the table, and what it made was told; where none is
+-- held, that is told, and
 -- the rest of the caller's memory is as it was
 abbrev pub Called : {M R : Type 0} → (M → R) → (Status → M) → Type 0 → (Held → M → Held → Type 0)
     → Option Held → R → Option Held → Type 0
-Called tell refuse Rest Table None answer new = (answer ≡ tell (refuse status.NoService)) × (new ≡ None) × Rest
+Called tell refuse Rest Table None answer new = (answer ≡ tell (refuse status.NoService))
+    × (new ≡ None) × Rest
 Called {M} tell refuse Rest Table (Some old) answer new =
     (made : M) × (answer ≡ tell made) × (after : Held) × (new ≡ Some after) × Table old made after
 
--- the same at a place that may be NULL, which is told before all else. The place is sound afterwards, and no other place
+-- the same at a place that may be NULL, which is told before all else. The place is sound
+-- afterwards, and no other place
 -- has changed
 abbrev pub At : {M R : Type 0} → (M → R) → (Status → M) → Type 0 → (Held → M → Held → Type 0)
     → List Service → R → List Service → Type 0
 At tell refuse Rest Table [] answer new = (answer ≡ tell (refuse status.Null)) × (new ≡ []) × Rest
 At tell refuse Rest Table (place ∷ others) answer new =
-    (left : Service) × (new ≡ left ∷ others) × IsSound left
+    (left : Service) × (new ≡ left ∷ others) × IsSoundPlace left
     × Called tell refuse Rest Table (held place) answer (held left)

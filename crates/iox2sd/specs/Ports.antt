@@ -30,32 +30,45 @@ ReadsSegment number (Some s) = segment_number s ≡ number
 ReadsSegment number None = (s : DataSegmentType) → ¬ (segment_number s ≡ number)
 
 -- the port's kind and each field of its kind are those that the caller told
-abbrev pub Tells : Port → PortDetails → Type 0
-Tells p (of.Publisher d) =
-    ReadsRole p.role (Some role.Publisher) × (d.publisher_id ≡ number_of p.port) × ReadsNode p.node (Some d.node_id)
+abbrev pub ShowsDetails : Port → PortDetails → Type 0
+ShowsDetails p (of.Publisher d) =
+    ReadsRole p.role (Some role.Publisher) × (d.publisher_id ≡ number_of p.port)
+    × ReadsNode p.node (Some d.node_id)
     × (d.number_of_samples ≡ p.number_of_samples) × (d.max_slice_len ≡ p.max_slice_len)
-    × ReadsSegment p.data_segment (Some d.data_segment_type) × (d.max_number_of_segments ≡ p.max_number_of_segments)
-Tells p (of.Subscriber d) =
-    ReadsRole p.role (Some role.Subscriber) × (d.subscriber_id ≡ number_of p.port) × ReadsNode p.node (Some d.node_id)
+    × ReadsSegment p.data_segment (Some d.data_segment_type)
+    × (d.max_number_of_segments ≡ p.max_number_of_segments)
+ShowsDetails p (of.Subscriber d) =
+    ReadsRole p.role (Some role.Subscriber) × (d.subscriber_id ≡ number_of p.port)
+    × ReadsNode p.node (Some d.node_id)
     × (d.buffer_size ≡ p.buffer_size)
-Tells p (of.Listener d) =
-    ReadsRole p.role (Some role.Listener) × (d.listener_id ≡ number_of p.port) × ReadsNode p.node (Some d.node_id)
-Tells p (of.Notifier d) =
-    ReadsRole p.role (Some role.Notifier) × (d.notifier_id ≡ number_of p.port) × ReadsNode p.node (Some d.node_id)
-Tells p (of.Server d) =
-    ReadsRole p.role (Some role.Server) × (d.server_id ≡ number_of p.port) × ReadsNode p.node (Some d.node_id)
-    × (d.request_buffer_size ≡ p.request_buffer_size) × (d.number_of_responses ≡ p.number_of_responses)
+ShowsDetails p (of.Listener d) =
+    ReadsRole p.role (Some role.Listener) × (d.listener_id ≡ number_of p.port)
+    × ReadsNode p.node (Some d.node_id)
+ShowsDetails p (of.Notifier d) =
+    ReadsRole p.role (Some role.Notifier) × (d.notifier_id ≡ number_of p.port)
+    × ReadsNode p.node (Some d.node_id)
+ShowsDetails p (of.Server d) =
+    ReadsRole p.role (Some role.Server) × (d.server_id ≡ number_of p.port)
+    × ReadsNode p.node (Some d.node_id)
+    × (d.request_buffer_size ≡ p.request_buffer_size)
+    × (d.number_of_responses ≡ p.number_of_responses)
     × (d.max_slice_len ≡ p.max_slice_len)
-    × ReadsSegment p.data_segment (Some d.data_segment_type) × (d.max_number_of_segments ≡ p.max_number_of_segments)
-Tells p (of.Client d) =
-    ReadsRole p.role (Some role.Client) × (d.client_id ≡ number_of p.port) × ReadsNode p.node (Some d.node_id)
-    × (d.number_of_requests ≡ p.number_of_requests) × (d.response_buffer_size ≡ p.response_buffer_size)
+    × ReadsSegment p.data_segment (Some d.data_segment_type)
+    × (d.max_number_of_segments ≡ p.max_number_of_segments)
+ShowsDetails p (of.Client d) =
+    ReadsRole p.role (Some role.Client) × (d.client_id ≡ number_of p.port)
+    × ReadsNode p.node (Some d.node_id)
+    × (d.number_of_requests ≡ p.number_of_requests)
+    × (d.response_buffer_size ≡ p.response_buffer_size)
     × (d.max_slice_len ≡ p.max_slice_len)
-    × ReadsSegment p.data_segment (Some d.data_segment_type) × (d.max_number_of_segments ≡ p.max_number_of_segments)
-Tells p (of.Reader d) =
-    ReadsRole p.role (Some role.Reader) × (d.reader_id ≡ number_of p.port) × ReadsNode p.node (Some d.node_id)
-Tells p (of.Writer d) =
-    ReadsRole p.role (Some role.Writer) × (d.writer_id ≡ number_of p.port) × ReadsNode p.node (Some d.node_id)
+    × ReadsSegment p.data_segment (Some d.data_segment_type)
+    × (d.max_number_of_segments ≡ p.max_number_of_segments)
+ShowsDetails p (of.Reader d) =
+    ReadsRole p.role (Some role.Reader) × (d.reader_id ≡ number_of p.port)
+    × ReadsNode p.node (Some d.node_id)
+ShowsDetails p (of.Writer d) =
+    ReadsRole p.role (Some role.Writer) × (d.writer_id ≡ number_of p.port)
+    × ReadsNode p.node (Some d.node_id)
 
 -- the role is that of no port
 abbrev pub IsNoPortRole : ℕ → Type 0
@@ -74,7 +87,7 @@ HasNode p = (node : ℕ) × ReadsNode p.node (Some node)
 
 -- the details that a port tells, or why there are none
 abbrev pub ReadsPort : Port → Result PortDetails Status → Type 0
-ReadsPort p (Ok details) = Tells p details
+ReadsPort p (Ok details) = ShowsDetails p details
 ReadsPort p (Err status.NoNode) = ReadsNode p.node None
 ReadsPort p (Err status.UnknownRole) = HasNode p × IsNoPortRole p.role
 ReadsPort p (Err status.UnknownSegment) =
@@ -101,7 +114,12 @@ no_port = record {
 
 -- what the details of every kind tell; all other fields are 0
 abbrev pub blank : PortDetails → Port
-blank d = record no_port { role = role_number (role_of d); port = id_of (port_value (port_of d)); node = id_of (node_of d) }
+blank d =
+    record no_port {
+      role = role_number (role_of d);
+      port = id_of (port_value (port_of d));
+      node = id_of (node_of d);
+    }
 
 -- what the details tell
 abbrev pub told_port : PortDetails → Port
@@ -129,19 +147,23 @@ told_port (of.Client d) = record (blank (of.Client d)) {
 told_port other = blank other
 
 -- attaching a port to a service: the handle that C sees, or the refusal
-abbrev pub Attaches : Port → Held → Result Handle Status → Held → Type 0
-Attaches p old (Ok handle) new =
-    (d : PortDetails) × Tells p d × HasRole old.pattern (role_of d)
+abbrev pub AttachesPort : Port → Held → Result Handle Status → Held → Type 0
+AttachesPort p old (Ok handle) new =
+    (d : PortDetails) × ShowsDetails p d × HasRole old.pattern (role_of d)
     × (named : Named) × AttachStep old d (Ok named) new × (handle ≡ told named)
-Attaches p old (Err status.NoNode) new = ReadsPort p (Err status.NoNode) × (new ≡ old)
-Attaches p old (Err status.UnknownRole) new = ReadsPort p (Err status.UnknownRole) × (new ≡ old)
-Attaches p old (Err status.UnknownSegment) new = ReadsPort p (Err status.UnknownSegment) × (new ≡ old)
-Attaches p old (Err status.RoleNotInPattern) new =
-    (d : PortDetails) × Tells p d × (¬ (HasRole old.pattern (role_of d))) × (new ≡ old)
-Attaches p old (Err status.IsLocked) new =
-    (d : PortDetails) × Tells p d × HasRole old.pattern (role_of d) × AttachStep old d (Err attach.ServiceIsLocked) new
-Attaches p old (Err status.NodeNotRegistered) new =
-    (d : PortDetails) × Tells p d × HasRole old.pattern (role_of d) × AttachStep old d (Err attach.NodeNotRegistered) new
-Attaches p old (Err status.OutOfSpace) new =
-    (d : PortDetails) × Tells p d × HasRole old.pattern (role_of d) × AttachStep old d (Err attach.OutOfSpace) new
-Attaches p old (Err _) new = ⊥
+AttachesPort p old (Err status.NoNode) new = ReadsPort p (Err status.NoNode) × (new ≡ old)
+AttachesPort p old (Err status.UnknownRole) new = ReadsPort p (Err status.UnknownRole) × (new ≡ old)
+AttachesPort p old (Err status.UnknownSegment) new = ReadsPort p (Err status.UnknownSegment)
+    × (new ≡ old)
+AttachesPort p old (Err status.RoleNotInPattern) new =
+    (d : PortDetails) × ShowsDetails p d × (¬ (HasRole old.pattern (role_of d))) × (new ≡ old)
+AttachesPort p old (Err status.IsLocked) new =
+    (d : PortDetails) × ShowsDetails p d × HasRole old.pattern (role_of d)
+    × AttachStep old d (Err attach.ServiceIsLocked) new
+AttachesPort p old (Err status.NodeNotRegistered) new =
+    (d : PortDetails) × ShowsDetails p d × HasRole old.pattern (role_of d)
+    × AttachStep old d (Err attach.NodeNotRegistered) new
+AttachesPort p old (Err status.OutOfSpace) new =
+    (d : PortDetails) × ShowsDetails p d × HasRole old.pattern (role_of d)
+    × AttachStep old d (Err attach.OutOfSpace) new
+AttachesPort p old (Err _) new = ⊥

@@ -18,7 +18,8 @@ number_answer (Err s) = record { status = code s; number = 0 }
 
 -- two roles, or the status of a refusal
 abbrev pub roles_answer : Result Roles Status → RolesAnswer
-roles_answer (Ok roles) = record { status = code status.Done; first = roles.first; second = roles.second }
+roles_answer (Ok roles) =
+    record { status = code status.Done; first = roles.first; second = roles.second }
 roles_answer (Err s) = record { status = code s; first = 0; second = 0 }
 
 -- yes or no, or the status of a refusal
@@ -32,10 +33,15 @@ Gives f old made new = (made ≡ Ok (f old)) × (new ≡ old)
 
 -- the roles of the pattern's ports
 abbrev pub roles_in : Held → Roles
-roles_in s = record { first = role_number (first_role s.pattern); second = role_number (second_role s.pattern) }
+roles_in s =
+    record {
+      first = role_number (first_role s.pattern);
+      second = role_number (second_role s.pattern);
+    }
 
 -- whether the pattern has ports of a role
 abbrev pub AsksRole : ℕ → Held → Result Bool Status → Type 0
-AsksRole number s (Ok has_it) = (role : Role) × ReadsRole number (Some role) × (IsTrue has_it ↔ HasRole s.pattern role)
+AsksRole number s (Ok has_it) = (role : Role) × ReadsRole number (Some role)
+    × (IsTrue has_it ↔ HasRole s.pattern role)
 AsksRole number s (Err status.UnknownRole) = ReadsRole number None
 AsksRole number s (Err _) = ⊥

@@ -1,53 +1,34 @@
 -- Making and freeing services.
-use Rattle.std.specs.Prelude.{◌≡◌, ◌≢◌, ℕ, Option, Some, None, List, [], ◌∷◌}
-use Rattle.iox2_config.specs.Hashing.{pattern_number}
+use Rattle.std.specs.Prelude.{◌≡◌, ℕ, Option, Some, None, List, [], ◌∷◌}
+use Rattle.iox2_config.specs.Hashing.{ReadsPattern}
 use Rattle.iox2_config.specs.declared.hash.input.PatternKind.{PatternKind}
-use Rattle.iox2_config.specs.declared.hash.input.PatternKind.TheVariants as kind
-use Rattle.iox2_dynamic.specs.declared.dynamic_config.settings.MessagingPatternSettings.{MessagingPatternSettings}
-use Rattle.iox2_dynamic.specs.declared.dynamic_config.settings.MessagingPatternSettings.TheVariants as settings
-use Rattle.iox2_dynamic.specs.Service.{Service as Held, fresh_service}
-use Rattle.iox2sd.specs.Places.{IsSound, held}
+use Rattle.iox2_dynamic.specs.Service.{Service as Held, PatternCapacities, fresh_service}
+use Rattle.iox2sd.specs.Places.{IsSoundPlace, held}
 use Rattle.iox2sd.specs.Status.{code}
 use Rattle.iox2sd.specs.declared.service.Service.{Service}
 use Rattle.iox2sd.specs.declared.service.making.Capacities.{Capacities}
 use Rattle.iox2sd.specs.declared.status.Status.{Status}
 use Rattle.iox2sd.specs.declared.status.Status.TheVariants as status
 
--- the pattern of a number
-abbrev pub ReadsPattern : ℕ → Option PatternKind → Type 0
-ReadsPattern number (Some kind) = pattern_number kind ≡ number
-ReadsPattern number None = (kind : PatternKind) → pattern_number kind ≢ number
-
--- the settings of a pattern with these capacities, in the order of recovery
-abbrev pub settings_for : PatternKind → Capacities → MessagingPatternSettings
-settings_for kind.PublishSubscribe c =
-    settings.PublishSubscribe (record { number_of_subscribers = c.second; number_of_publishers = c.first })
-settings_for kind.Event c =
-    settings.Event (record { number_of_listeners = c.first; number_of_notifiers = c.second })
-settings_for kind.RequestResponse c =
-    settings.RequestResponse (record { number_of_servers = c.first; number_of_clients = c.second })
-settings_for kind.Blackboard c =
-    settings.Blackboard (record { number_of_readers = c.first; number_of_writers = c.second })
-
--- the settings of the pattern of a number
-abbrev pub ReadsSettings : ℕ → Capacities → Option MessagingPatternSettings → Type 0
-ReadsSettings pattern c (Some made) =
-    (kind : PatternKind) × ReadsPattern pattern (Some kind) × (made ≡ settings_for kind c)
-ReadsSettings pattern c None = ReadsPattern pattern None
+-- how many ports of the two kinds of a pattern there may be
+abbrev pub capacities_of : PatternKind → Capacities → PatternCapacities
+capacities_of kind c = record { pattern = kind; first = c.first; second = c.second }
 
 -- making a service of a pattern with a number, capacities and tickets where there is none
 abbrev pub MakesNew : ℕ → ℕ → Capacities → ℕ → Status → Option Held → Type 0
 MakesNew pattern number c tickets status.Done new =
-    (s : MessagingPatternSettings) × ReadsSettings pattern c (Some s)
-    × (new ≡ Some (fresh_service s c.nodes number tickets))
-MakesNew pattern number c tickets status.UnknownPattern new = ReadsSettings pattern c None × (new ≡ None)
+    (kind : PatternKind) × ReadsPattern pattern (Some kind)
+    × (new ≡ Some (fresh_service (capacities_of kind c) c.nodes number tickets))
+MakesNew pattern number c tickets status.UnknownPattern new = ReadsPattern pattern None
+    × (new ≡ None)
 MakesNew pattern number c tickets status.NoMemory new =
-    (s : MessagingPatternSettings) × ReadsSettings pattern c (Some s) × (new ≡ None)
+    (kind : PatternKind) × ReadsPattern pattern (Some kind) × (new ≡ None)
 MakesNew pattern number c tickets _ new = ⊥
 
 -- making a service at a place: one that holds a service keeps it
 abbrev pub Makes : ℕ → ℕ → Capacities → ℕ → Option Held → ℕ → Option Held → Type 0
-Makes pattern number c tickets (Some old) answer new = (answer ≡ code status.HasService) × (new ≡ Some old)
+Makes pattern number c tickets (Some old) answer new = (answer ≡ code status.HasService)
+    × (new ≡ Some old)
 Makes pattern number c tickets None answer new =
     (s : Status) × (answer ≡ code s) × MakesNew pattern number c tickets s new
 
@@ -55,7 +36,7 @@ Makes pattern number c tickets None answer new =
 abbrev pub MakesAt : ℕ → ℕ → Capacities → ℕ → List Service → ℕ → List Service → Type 0
 MakesAt pattern number c tickets [] answer new = (answer ≡ code status.Null) × (new ≡ [])
 MakesAt pattern number c tickets (place ∷ others) answer new =
-    (left : Service) × (new ≡ left ∷ others) × IsSound left
+    (left : Service) × (new ≡ left ∷ others) × IsSoundPlace left
     × Makes pattern number c tickets (held place) answer (held left)
 
 -- freeing what is held, and telling whether something was
@@ -67,4 +48,5 @@ Frees None answer new = (answer ≡ code status.NoService) × (new ≡ None)
 abbrev pub FreesAt : List Service → ℕ → List Service → Type 0
 FreesAt [] answer new = (answer ≡ code status.Null) × (new ≡ [])
 FreesAt (place ∷ others) answer new =
-    (left : Service) × (new ≡ left ∷ others) × IsSound left × Frees (held place) answer (held left)
+    (left : Service) × (new ≡ left ∷ others) × IsSoundPlace left
+    × Frees (held place) answer (held left)

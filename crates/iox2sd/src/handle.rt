@@ -4,7 +4,8 @@ ghost use Rattle.iox2sd.specs.Handles.{role_number, ReadsRole, told, no_handle, 
 
 use iox2_container::container::{ContainerHandle, Role};
 
-/// What registering and attaching give, and what a call by handle is given. It has no padding, so C may compare its bytes.
+/// What registering and attaching give, and what a call by handle is given. It has no padding, so C
+/// may compare its bytes.
 #[repr(C)]
 #[derive(Clone, Copy)]
 pub struct Handle {

@@ -77,7 +77,8 @@ pub extern "C" fn iox2sd_id_is_node(id: Id) -> bool
     id.of_node().is_some()
 }
 
-/// The process and the counter in one number, process * 2^32 + counter, which is 0 for an id of no node alone.
+/// The process and the counter in one number, process * 2^32 + counter, which is 0 for an id of no
+/// node alone.
 #[unsafe(no_mangle)]
 pub extern "C" fn iox2sd_id_owner(id: Id) -> u64
     ensures { result ≡ owner_of (number_of id) }
@@ -96,8 +97,8 @@ pub extern "C" fn iox2sd_id_is_before(id: Id, other: Id) -> bool
     id.number() < other.number()
 }
 
-/// Writes the text of an id: the number that its parts make, in lower-case hexadecimal digits without leading zeros, at
-/// most 32 bytes.
+/// Writes the text of an id: the number that its parts make, in lower-case hexadecimal digits
+/// without leading zeros, at most 32 bytes.
 #[unsafe(no_mangle)]
 pub extern "C" fn iox2sd_id_text(id: Id, out: &mut [u8]) -> TextAnswer
     ensures { Written (hexadecimal (number_of id)) out.old result out.new }

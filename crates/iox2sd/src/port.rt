@@ -13,7 +13,8 @@ use iox2_dynamic::dynamic_config::{
     ServerDetails, SubscriberDetails, WriterDetails,
 };
 
-/// What a port tells of itself. A field that its kind does not have is not looked at, and is told as 0.
+/// What a port tells of itself. A field that its kind does not have is not looked at, and is told
+/// as 0.
 #[repr(C)]
 #[derive(Clone, Copy)]
 pub struct Port {
@@ -37,7 +38,8 @@ pub struct Port {
     pub response_buffer_size: usize,
     /// Of publishers, servers and clients.
     pub max_slice_len: usize,
-    /// Of publishers, servers and clients. 0: it may be replaced by a larger one. 1: it keeps its size.
+    /// Of publishers, servers and clients. 0: it may be replaced by a larger one. 1: it keeps its
+    /// size.
     pub data_segment: u32,
     /// Of publishers, servers and clients.
     pub max_number_of_segments: u8,
@@ -86,6 +88,7 @@ impl Port {
     }
 
     /// What the details of every kind tell; all other fields are 0.
+    #[inline(always)]
     fn blank(details: &PortDetails) -> Port
         ensures { result ≡ blank details.now }
     {
@@ -98,6 +101,7 @@ impl Port {
     }
 
     /// What the details tell.
+    #[inline(always)]
     pub(super) fn of(details: &PortDetails) -> Port
         ensures { result ≡ told_port details.now }
     {

@@ -1,23 +1,23 @@
 //! Services that a caller from C keeps.
 ghost use Rattle.std.specs.Prelude.{◌≡◌, Some, None, IfSome, IfNone};
-ghost use Rattle.iox2sd.specs.Places.{IsSound, held};
+ghost use Rattle.iox2sd.specs.Places.{IsSoundPlace, held};
 
 pub mod changes;
 pub mod death;
 pub mod finding;
 pub mod listing;
 pub mod listing_of_node;
-mod loose;
 pub mod making;
 pub mod node_listing;
 pub mod numbers;
 pub mod queries;
+mod raw_box;
 mod roles;
 mod slot;
 mod steps;
 
 use iox2_dynamic::dynamic_config::DynamicConfig;
-use loose::Loose;
+use raw_box::RawBox;
 use slot::Slot;
 use std::alloc::Global;
 
@@ -31,11 +31,11 @@ pub struct Service {
 impl Service {
     /// Takes the service out, where there is one.
     pub(super) fn take(&mut self, alloc: Global) -> Option<Box<DynamicConfig>>
-        requires { IsSound self.old }
+        requires { IsSoundPlace self.old }
         ensures some { IfSome result (λ service. held self.old ≡ Some service.value) }
         ensures none { IfNone result (held self.old ≡ None) }
         ensures left { held self.new ≡ None }
-        ensures sound { IsSound self.new }
+        ensures sound { IsSoundPlace self.new }
     {
         if !self.full {
             return None;
@@ -46,13 +46,13 @@ impl Service {
 
     /// Puts a service in, where there is none.
     pub(super) fn put(&mut self, service: Box<DynamicConfig>)
-        requires sound { IsSound self.old }
+        requires sound { IsSoundPlace self.old }
         requires none { held self.old ≡ None }
         ensures service { held self.new ≡ Some service.value }
-        ensures sound { IsSound self.new }
+        ensures sound { IsSoundPlace self.new }
     {
         self.full = true;
-        self.slot.put(Loose::of(service));
+        self.slot.put(RawBox::of(service));
     }
 }
 

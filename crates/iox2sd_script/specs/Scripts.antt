@@ -1,8 +1,8 @@
 -- Whole scripts.
 use Rattle.std.specs.Prelude.{◌≡◌, ℕ, ◌<◌, ◌≤◌, Bool, true, false, List, ◌++◌, Result, Ok, Err, drop, length}
 use Rattle.service_descriptions.specs.Script.{Scripted}
-use Rattle.service_descriptions.specs.declared.replay.script.ScriptError.{ScriptError}
-use Rattle.service_descriptions.specs.declared.replay.script.ScriptError.TheVariants as error
+use Rattle.service_descriptions.specs.declared.replay.lines.script.ScriptError.{ScriptError}
+use Rattle.service_descriptions.specs.declared.replay.lines.script.ScriptError.TheVariants as error
 use Rattle.iox2sd_script.specs.Status.{code}
 use Rattle.iox2sd_script.specs.declared.script.ScriptAnswer.{ScriptAnswer}
 use Rattle.iox2sd_script.specs.declared.status.Status.{Status}

@@ -40,8 +40,8 @@ fn bad_line(end: &Result<(), ScriptError>) -> usize
     }
 }
 
-/// Writes the text to the front of the buffer, or nothing where it does not fit, and says whether it
-/// fits.
+/// Writes the text to the front of the buffer, or nothing where it does not fit, and says whether
+/// it fits.
 fn write(text: &[u8], out: &mut [u8]) -> bool
     ensures { Writes text.now out.old result out.new }
 {

@@ -1,2 +1,6 @@
-pub mod Required
+pub mod Faults
+pub mod Legal
+pub mod Listings
+pub mod Missing
 pub mod Sets
+pub mod Verdicts

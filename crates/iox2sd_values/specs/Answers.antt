@@ -41,6 +41,6 @@ Written text old answer new =
     (s : Status) × Writes text old s new × (answer ≡ text_answer s (length text))
 
 -- the text was written, or there is none for this cause and the buffer is as it was
-abbrev pub Tells : Result (List ℕ) Status → List ℕ → TextAnswer → List ℕ → Type 0
-Tells (Ok text) old answer new = Written text old answer new
-Tells (Err cause) old answer new = (answer ≡ text_answer cause 0) × (new ≡ old)
+abbrev pub TellsText : Result (List ℕ) Status → List ℕ → TextAnswer → List ℕ → Type 0
+TellsText (Ok text) old answer new = Written text old answer new
+TellsText (Err cause) old answer new = (answer ≡ text_answer cause 0) × (new ≡ old)

@@ -40,7 +40,8 @@ IsLegal a = HasKey a × HasValue a
 -- the pairs before the place are legal, at most sixteen, and the pair at it has this fault
 abbrev pub FailsAt : (Attribute → Type 0) → List Attribute → ℕ → Type 0
 FailsAt Fault pairs i =
-    (bad : Attribute) × (slice_get pairs i ≡ Some bad) × (i ≤ 16) × All IsLegal (take i pairs) × Fault bad
+    (bad : Attribute) × (slice_get pairs i ≡ Some bad) × (i ≤ 16) × All IsLegal (take i pairs)
+    × Fault bad
 
 -- what making a set of pairs answers: the place before, the set or the fault, the place after
 abbrev pub ReadsSet : List Attribute → ℕ → Result (List Pair) Status → ℕ → Type 0
@@ -63,7 +64,8 @@ TellsSet pairs answer =
 
 -- the caller's pairs after sorting: the same in rising order, or as they were where they are no set
 abbrev pub Sorts : Result (List Pair) Status → List Attribute → List Attribute → Type 0
-Sorts (Ok set) old new = IsPermutation old new × IsSorted (λ a b. pair_cmp (pair_of a) (pair_of b)) new
+Sorts (Ok set) old new = IsPermutation old new
+    × IsSorted (λ a b. pair_cmp (pair_of a) (pair_of b)) new
 Sorts (Err fault) old new = new ≡ old
 
 -- the same, with the answer that tells what making the set gives
@@ -80,13 +82,15 @@ counted_in set (Err error) = count_answer status.BadAskedKey 0
 -- how many values the key has, where there is a set
 abbrev pub CountsIn : Result (List Pair) Status → List ℕ → CountAnswer → Type 0
 CountsIn (Ok set) key answer =
-    (asked : Result (List ℕ) SemanticStringError) × MakesName 64 key asked × (answer ≡ counted_in set asked)
+    (asked : Result (List ℕ) SemanticStringError) × MakesName 64 key asked
+    × (answer ≡ counted_in set asked)
 CountsIn (Err fault) key answer = answer ≡ count_answer fault 0
 
 -- how many values the key has in the pairs
 abbrev pub CountsValues : List Attribute → List ℕ → CountAnswer → Type 0
 CountsValues pairs key answer =
-    (made : Result (List Pair) Status) × (at : ℕ) × MakesSet pairs made at × CountsIn made key answer
+    (made : Result (List Pair) Status) × (at : ℕ) × MakesSet pairs made at
+    × CountsIn made key answer
 
 -- a value that is there is written
 abbrev pub WritesValue : Option (List ℕ) → List ℕ → TextAnswer → List ℕ → Type 0
@@ -94,17 +98,22 @@ WritesValue (Some value) old answer new = Written value old answer new
 WritesValue None old answer new = (answer ≡ text_answer status.NoSuchValue 0) × (new ≡ old)
 
 -- the value at the index of a legal key is written
-abbrev pub WritesOf : List Pair → Result (List ℕ) SemanticStringError → ℕ → List ℕ → TextAnswer → List ℕ → Type 0
-WritesOf set (Ok key) index old answer new = WritesValue (slice_get (values_of set key) index) old answer new
-WritesOf set (Err error) index old answer new = (answer ≡ text_answer status.BadAskedKey 0) × (new ≡ old)
+abbrev pub WritesOf : List Pair → Result (List ℕ) SemanticStringError → ℕ → List ℕ → TextAnswer
+    → List ℕ → Type 0
+WritesOf set (Ok key) index old answer new =
+    WritesValue (slice_get (values_of set key) index) old answer new
+WritesOf set (Err error) index old answer new = (answer ≡ text_answer status.BadAskedKey 0)
+    × (new ≡ old)
 
 -- the value at the index of the key is written, where there is a set
 abbrev pub WritesIn : Result (List Pair) Status → List ℕ → ℕ → List ℕ → TextAnswer → List ℕ → Type 0
 WritesIn (Ok set) key index old answer new =
-    (asked : Result (List ℕ) SemanticStringError) × MakesName 64 key asked × WritesOf set asked index old answer new
+    (asked : Result (List ℕ) SemanticStringError) × MakesName 64 key asked
+    × WritesOf set asked index old answer new
 WritesIn (Err fault) key index old answer new = (answer ≡ text_answer fault 0) × (new ≡ old)
 
 -- the value at the index of those that the key has in the pairs is written
 abbrev pub TellsValue : List Attribute → List ℕ → ℕ → List ℕ → TextAnswer → List ℕ → Type 0
 TellsValue pairs key index old answer new =
-    (made : Result (List Pair) Status) × (at : ℕ) × MakesSet pairs made at × WritesIn made key index old answer new
+    (made : Result (List Pair) Status) × (at : ℕ) × MakesSet pairs made at
+    × WritesIn made key index old answer new

@@ -57,20 +57,24 @@ request_response servers clients requests buffer borrowed = record {
 abbrev pub CountsSamples : List PublishSubscribeSettings → CountAnswer → Type 0
 CountsSamples [] answer = answer ≡ count_answer status.Null 0
 CountsSamples (s ∷ others) answer = Counts (sample_limits
-    (publish_subscribe s.max_subscribers s.subscriber_max_buffer_size s.subscriber_max_borrowed_samples s.publisher_history_size)
+    (publish_subscribe s.max_subscribers s.subscriber_max_buffer_size
+    s.subscriber_max_borrowed_samples s.publisher_history_size)
     s.publisher_max_loaned_samples) answer
 
 -- the requests of one client, where there are settings
 abbrev pub CountsRequests : List RequestResponseSettings → CountAnswer → Type 0
 CountsRequests [] answer = answer ≡ count_answer status.Null 0
 CountsRequests (s ∷ others) answer =
-    Counts (client_limits (request_response s.max_servers 0 s.max_active_requests_per_client 0 0) s.max_loaned_requests) answer
+    Counts (client_limits
+    (request_response s.max_servers 0 s.max_active_requests_per_client 0 0)
+    s.max_loaned_requests) answer
 
 -- the responses of one server, where there are settings
 abbrev pub CountsResponses : List RequestResponseSettings → CountAnswer → Type 0
 CountsResponses [] answer = answer ≡ count_answer status.Null 0
 CountsResponses (s ∷ others) answer = Counts (server_limits
-    (request_response 0 s.max_clients s.max_active_requests_per_client s.max_response_buffer_size s.max_borrowed_responses_per_pending_response)
+    (request_response 0 s.max_clients s.max_active_requests_per_client s.max_response_buffer_size
+    s.max_borrowed_responses_per_pending_response)
     s.server_max_loaned_responses_per_request) answer
 
 -- the samples of one publisher that loans so many, where something is fixed

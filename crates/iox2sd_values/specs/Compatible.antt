@@ -21,20 +21,24 @@ part_number which.Payload = 2
 
 -- the answer on a fault of this side
 abbrev pub part_answer : Fault → ℕ → PartAnswer
-part_answer fault side = record { status = code fault.status; side = side; part = part_number fault.part }
+part_answer fault side =
+    record { status = code fault.status; side = side; part = part_number fault.part }
 
 -- the answer where there are no details of this side
 abbrev pub null_answer : ℕ → PartAnswer
 null_answer side = record { status = code status.Null; side = side; part = 0 }
 
--- in what a header is another: the name is looked at first, then the variant, the size and the alignment
+-- in what a header is another: the name is looked at first, then the variant, the size and the
+-- alignment
 abbrev pub IsOther : TypeDetailParts → TypeDetailParts → Option Status → Type 0
 IsOther o s None = o ≡ s
 IsOther o s (Some status.OtherName) = o.type_name ≢ s.type_name
 IsOther o s (Some status.OtherVariant) = (o.type_name ≡ s.type_name) × (o.variant ≢ s.variant)
-IsOther o s (Some status.OtherSize) = (o.type_name ≡ s.type_name) × (o.variant ≡ s.variant) × (o.size ≢ s.size)
+IsOther o s (Some status.OtherSize) = (o.type_name ≡ s.type_name) × (o.variant ≡ s.variant)
+    × (o.size ≢ s.size)
 IsOther o s (Some status.OtherAlignment) =
-    (o.type_name ≡ s.type_name) × (o.variant ≡ s.variant) × (o.size ≡ s.size) × (o.alignment ≢ s.alignment)
+    (o.type_name ≡ s.type_name) × (o.variant ≡ s.variant) × (o.size ≡ s.size)
+    × (o.alignment ≢ s.alignment)
 IsOther o s (Some _) = ⊥
 
 -- in what another part does not suit, in the same order
@@ -42,9 +46,11 @@ abbrev pub IsUnsuited : TypeDetailParts → TypeDetailParts → Option Status �
 IsUnsuited o s None = Suits o s
 IsUnsuited o s (Some status.OtherName) = o.type_name ≢ s.type_name
 IsUnsuited o s (Some status.OtherVariant) = (o.type_name ≡ s.type_name) × (o.variant ≢ s.variant)
-IsUnsuited o s (Some status.OtherSize) = (o.type_name ≡ s.type_name) × (o.variant ≡ s.variant) × (o.size ≢ s.size)
+IsUnsuited o s (Some status.OtherSize) = (o.type_name ≡ s.type_name) × (o.variant ≡ s.variant)
+    × (o.size ≢ s.size)
 IsUnsuited o s (Some status.GreaterAlignment) =
-    (o.type_name ≡ s.type_name) × (o.variant ≡ s.variant) × (o.size ≡ s.size) × (s.alignment < o.alignment)
+    (o.type_name ≡ s.type_name) × (o.variant ≡ s.variant) × (o.size ≡ s.size)
+    × (s.alignment < o.alignment)
 IsUnsuited o s (Some _) = ⊥
 
 -- the part is the first of which something is wrong
@@ -53,7 +59,8 @@ DiffersIn o s which.Header cause = IsOther o.header s.header (Some cause)
 DiffersIn o s which.UserHeader cause =
     (o.header ≡ s.header) × IsUnsuited o.user_header s.user_header (Some cause)
 DiffersIn o s which.Payload cause =
-    (o.header ≡ s.header) × Suits o.user_header s.user_header × IsUnsuited o.payload s.payload (Some cause)
+    (o.header ≡ s.header) × Suits o.user_header s.user_header
+    × IsUnsuited o.payload s.payload (Some cause)
 
 -- the opener is compatible, or this is wrong
 abbrev pub Compares : MessageTypeDetails → MessageTypeDetails → Result (Unit {0}) Fault → Type 0
@@ -74,7 +81,8 @@ ThenCompares opener (Err fault) answer = answer ≡ part_answer fault 1
 -- the answer on the details of the opener, before those of the service
 abbrev pub ThenService : Result MessageTypeDetails Fault → Details → PartAnswer → Type 0
 ThenService (Ok opener) s answer =
-    (service : Result MessageTypeDetails Fault) × ReadsDetails s service × ThenCompares opener service answer
+    (service : Result MessageTypeDetails Fault) × ReadsDetails s service
+    × ThenCompares opener service answer
 ThenService (Err fault) s answer = answer ≡ part_answer fault 0
 
 -- the answer on both

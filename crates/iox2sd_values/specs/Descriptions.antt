@@ -1,6 +1,6 @@
 -- What is fixed of a service, as plain values.
 use Rattle.std.specs.Prelude.{◌≡◌, ◌↔◌, ℕ, false, IsTrue, List, [], ◌∷◌, Option, Some, None, length}
-use Rattle.iox2_config.specs.Hashing.{pattern_number}
+use Rattle.iox2_config.specs.Hashing.{ReadsPattern, pattern_number}
 use Rattle.iox2_config.specs.declared.hash.input.PatternKind.{PatternKind}
 use Rattle.iox2_ids.specs.Packing.{packed}
 use Rattle.iox2_static.specs.Description.{Description}
@@ -9,7 +9,6 @@ use Rattle.iox2_static.specs.MessagingPattern.{kind_of}
 use Rattle.iox2_static.specs.declared.static_config.messaging_pattern.MessagingPattern.{MessagingPattern}
 use Rattle.iox2_static.specs.declared.static_config.messaging_pattern.MessagingPattern.TheVariants as pattern
 use Rattle.iox2sd_values.specs.Answers.{flag_answer, zero_padded}
-use Rattle.iox2sd_values.specs.Names.{ReadsPattern}
 use Rattle.iox2sd_values.specs.Settings.{told_duration, told_event_id}
 use Rattle.iox2sd_values.specs.Status.{code}
 use Rattle.iox2sd_values.specs.declared.answers.FlagAnswer.{FlagAnswer}

@@ -32,35 +32,44 @@ part_facts part variant = detail variant part.name.now part.size part.alignment
 
 -- the number is that of a variant, with which the rest holds
 abbrev pub WithVariant : Part → (TypeVariant → Type 0) → Type 0
-WithVariant part Rest = (variant : TypeVariant) × ReadsVariant part.variant (Some variant) × Rest variant
+WithVariant part Rest = (variant : TypeVariant) × ReadsVariant part.variant (Some variant)
+    × Rest variant
 
--- the type of a part, or why it has none: the variant is looked at first, then the name, and then the alignment
+-- the type of a part, or why it has none: the variant is looked at first, then the name, and then
+-- the alignment
 abbrev pub ReadsPart : Part → Result TypeDetailParts Status → Type 0
 ReadsPart part (Ok made) =
-    WithVariant part (λ variant. IsUtf8 part.name.now × MakesDetail (part_facts part variant) (Ok made))
+    WithVariant part
+    (λ variant. IsUtf8 part.name.now × MakesDetail (part_facts part variant) (Ok made))
 ReadsPart part (Err status.UnknownVariant) = ReadsVariant part.variant None
 ReadsPart part (Err status.NotUtf8) = WithVariant part (λ variant. ¬ (IsUtf8 part.name.now))
 ReadsPart part (Err status.TooLong) = WithVariant part
-    (λ variant. IsUtf8 part.name.now × MakesDetail (part_facts part variant) (Err (Name InsertWouldExceedCapacity)))
+    (λ variant. IsUtf8 part.name.now
+    × MakesDetail (part_facts part variant) (Err (Name InsertWouldExceedCapacity)))
 ReadsPart part (Err status.IllegalByte) = WithVariant part
-    (λ variant. IsUtf8 part.name.now × MakesDetail (part_facts part variant) (Err (Name InvalidCharacter)))
+    (λ variant. IsUtf8 part.name.now
+    × MakesDetail (part_facts part variant) (Err (Name InvalidCharacter)))
 ReadsPart part (Err status.BadAlignment) = WithVariant part
-    (λ variant. IsUtf8 part.name.now × MakesDetail (part_facts part variant) (Err AlignmentNotPowerOfTwo))
+    (λ variant. IsUtf8 part.name.now
+    × MakesDetail (part_facts part variant) (Err AlignmentNotPowerOfTwo))
 ReadsPart part (Err _) = ⊥
 
 -- the parts before the one that is wrong are types
 abbrev pub FailsIn : Details → Which → Status → Type 0
 FailsIn d which.Header cause = ReadsPart d.header (Err cause)
 FailsIn d which.UserHeader cause =
-    (header : TypeDetailParts) × ReadsPart d.header (Ok header) × ReadsPart d.user_header (Err cause)
+    (header : TypeDetailParts) × ReadsPart d.header (Ok header)
+    × ReadsPart d.user_header (Err cause)
 FailsIn d which.Payload cause =
-    (header user_header : TypeDetailParts) × ReadsPart d.header (Ok header) × ReadsPart d.user_header (Ok user_header)
+    (header user_header : TypeDetailParts) × ReadsPart d.header (Ok header)
+    × ReadsPart d.user_header (Ok user_header)
     × ReadsPart d.payload (Err cause)
 
 -- the types of all parts, or what is wrong with the first invalid one
 abbrev pub ReadsDetails : Details → Result MessageTypeDetails Fault → Type 0
 ReadsDetails d (Ok made) =
-    ReadsPart d.header (Ok made.header) × ReadsPart d.user_header (Ok made.user_header) × ReadsPart d.payload (Ok made.payload)
+    ReadsPart d.header (Ok made.header) × ReadsPart d.user_header (Ok made.user_header)
+    × ReadsPart d.payload (Ok made.payload)
 ReadsDetails d (Err fault) = FailsIn d fault.part fault.status
 
 -- a part without its name and its variant

@@ -5,7 +5,7 @@ use Rattle.iox2_config.specs.Defaults.{default_service, default_node}
 use Rattle.iox2_config.specs.GlobalSettings.{GlobalSettings}
 use Rattle.iox2_texts.specs.Path.{MakesJoined}
 use Rattle.iox2_texts.specs.declared.bounded.SemanticStringError.{SemanticStringError}
-use Rattle.iox2sd_values.specs.Answers.{text_answer, Tells, Written}
+use Rattle.iox2sd_values.specs.Answers.{text_answer, TellsText, Written}
 use Rattle.iox2sd_values.specs.Texts.{MakesPath}
 use Rattle.iox2sd_values.specs.declared.answers.TextAnswer.{TextAnswer}
 use Rattle.iox2sd_values.specs.declared.files.Named.{Named}
@@ -71,24 +71,29 @@ WritesNamed None old answer new = (answer ≡ text_answer status.UnknownText 0) 
 
 -- the text of the number is written
 abbrev pub TellsNamed : ℕ → List ℕ → TextAnswer → List ℕ → Type 0
-TellsNamed number old answer new = (text : Option Named) × ReadsNamed number text × WritesNamed text old answer new
+TellsNamed number old answer new = (text : Option Named) × ReadsNamed number text
+    × WritesNamed text old answer new
 
 -- the root path is the caller's, and the directories are the default ones
 abbrev pub Roots : List ℕ → Result GlobalSettings Status → Type 0
 Roots root (Ok global) =
-    MakesPath root (Ok global.root_path) × (global.service ≡ default_service) × (global.node ≡ default_node)
+    MakesPath root (Ok global.root_path) × (global.service ≡ default_service)
+    × (global.node ≡ default_node)
 Roots root (Err status.BadPath) = (error : SemanticStringError) × MakesPath root (Err error)
 Roots root (Err _) = ⊥
 
 -- the directory below the root path: the root path is looked at first, and then the length
 abbrev pub JoinsBelow : List ℕ → List ℕ → Result (List ℕ) Status → Type 0
-JoinsBelow root directory (Ok joined) = (r : List ℕ) × MakesPath root (Ok r) × MakesJoined r directory (Ok joined)
-JoinsBelow root directory (Err status.BadPath) = (error : SemanticStringError) × MakesPath root (Err error)
+JoinsBelow root directory (Ok joined) = (r : List ℕ) × MakesPath root (Ok r)
+    × MakesJoined r directory (Ok joined)
+JoinsBelow root directory (Err status.BadPath) = (error : SemanticStringError)
+    × MakesPath root (Err error)
 JoinsBelow root directory (Err status.TooLong) =
-    (r : List ℕ) × MakesPath root (Ok r) × (error : SemanticStringError) × MakesJoined r directory (Err error)
+    (r : List ℕ) × MakesPath root (Ok r) × (error : SemanticStringError)
+    × MakesJoined r directory (Err error)
 JoinsBelow root directory (Err _) = ⊥
 
 -- the directory is written, or the answer tells why there is none
 abbrev pub TellsBelow : List ℕ → List ℕ → List ℕ → TextAnswer → List ℕ → Type 0
 TellsBelow root directory old answer new =
-    (made : Result (List ℕ) Status) × JoinsBelow root directory made × Tells made old answer new
+    (made : Result (List ℕ) Status) × JoinsBelow root directory made × TellsText made old answer new

@@ -1,7 +1,7 @@
 -- Where the parts of a message lie, as a caller sees it.
 use Rattle.std.specs.Prelude.{◌≡◌, ℕ, ◌^◌, ◌<◌, ◌≤◌, List, [], ◌∷◌, Result, Ok, Err}
 use Rattle.iox2_config.specs.Blocks.{HoldsEverywhere}
-use Rattle.iox2_config.specs.Layout.{bound, user_header_place, payload_place}
+use Rattle.iox2_config.specs.Layout.{sample_size, user_header_place, payload_place}
 use Rattle.iox2_config.specs.SampleLayoutParts.{SampleLayoutParts}
 use Rattle.iox2sd_values.specs.Details.{HavePowers, shapes}
 use Rattle.iox2sd_values.specs.Status.{code}
@@ -14,17 +14,19 @@ use Rattle.iox2sd_values.specs.declared.status.Status.TheVariants as status
 
 -- the answer with this room, or with the cause for which there is none
 abbrev pub layout_answer : Result SampleLayoutParts Status → LayoutAnswer
-layout_answer (Ok room) = record { status = code status.Done; size = room.size; alignment = room.alignment }
+layout_answer (Ok room) =
+    record { status = code status.Done; size = room.size; alignment = room.alignment }
 layout_answer (Err cause) = record { status = code cause; size = 0; alignment = 0 }
 
--- the room for a message of n elements, which holds its parts for the service and each compatible opener; or why there
+-- the room for a message of n elements, which holds its parts for the service and each compatible
+-- opener; or why there
 -- is none
 abbrev pub LaysOut : Details → ℕ → Result SampleLayoutParts Status → Type 0
 LaysOut d n (Ok room) =
-    HavePowers d × (bound (shapes d) n < 2 ^ 63) × HoldsEverywhere (shapes d) n room.size
-    × (room ≡ record { size = bound (shapes d) n; alignment = d.header.alignment })
+    HavePowers d × (sample_size (shapes d) n < 2 ^ 63) × HoldsEverywhere (shapes d) n room.size
+    × (room ≡ record { size = sample_size (shapes d) n; alignment = d.header.alignment })
 LaysOut d n (Err status.BadAlignment) = ¬ (HavePowers d)
-LaysOut d n (Err status.TooLarge) = HavePowers d × (2 ^ 63 ≤ bound (shapes d) n)
+LaysOut d n (Err status.TooLarge) = HavePowers d × (2 ^ 63 ≤ sample_size (shapes d) n)
 LaysOut d n (Err _) = ⊥
 
 -- the answer with the room, where there are details
@@ -43,7 +45,11 @@ places_answer (Err cause) = record { status = code cause; user_header = 0; paylo
 abbrev pub PlacesOf : Details → ℕ → Result Places Status → Type 0
 PlacesOf d header (Ok places) =
     HavePowers d × (payload_place (shapes d) header < 2 ^ 64)
-    × (places ≡ record { user_header = user_header_place (shapes d) header; payload = payload_place (shapes d) header })
+    × (places
+    ≡ record {
+      user_header = user_header_place (shapes d) header;
+      payload = payload_place (shapes d) header;
+    })
 PlacesOf d header (Err status.BadAlignment) = ¬ (HavePowers d)
 PlacesOf d header (Err status.TooLarge) = HavePowers d × (2 ^ 64 ≤ payload_place (shapes d) header)
 PlacesOf d header (Err _) = ⊥

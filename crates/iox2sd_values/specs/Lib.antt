@@ -15,3 +15,6 @@ pub mod Requirements
 pub mod Settings
 pub mod Status
 pub mod Texts
+-- Inner facts: which pair is wrong, and what a set lacks, as loops over the caller's arrays find it
+pub mod Faults
+pub mod Missing

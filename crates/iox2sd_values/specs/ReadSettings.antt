@@ -52,7 +52,8 @@ no_field s = record { status = code s; field = 0 }
 -- the strategy of a number
 abbrev pub ReadsBackpressure : ℕ → Option BackpressureStrategy → Type 0
 ReadsBackpressure number (Some strategy) = backpressure_number strategy ≡ number
-ReadsBackpressure number None = (strategy : BackpressureStrategy) → backpressure_number strategy ≢ number
+ReadsBackpressure number None = (strategy : BackpressureStrategy)
+    → backpressure_number strategy ≢ number
 
 -- the same of how room grows
 abbrev pub ReadsAllocation : ℕ → Option AllocationStrategy → Type 0

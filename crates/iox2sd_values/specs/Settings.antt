@@ -34,7 +34,11 @@ allocation_number Static = 2
 -- a span of time, if there is one
 abbrev pub told_duration : Option Duration → OptionalDuration
 told_duration (Some d) =
-    record { seconds = as_nanos d / 1_000_000_000; nanoseconds = as_nanos d % 1_000_000_000; is_some = true }
+    record {
+      seconds = as_nanos d / 1_000_000_000;
+      nanoseconds = as_nanos d % 1_000_000_000;
+      is_some = true;
+    }
 told_duration None = record { seconds = 0; nanoseconds = 0; is_some = false }
 
 -- the number of an event, if there is one

@@ -62,17 +62,20 @@ Refused error bytes a most answer =
     (s : Status) × (at : ℕ) × Explains error bytes a most 0 s at × (answer ≡ place_answer s at)
 
 -- the answer on what the making gave
-abbrev pub TellsText : Result (List ℕ) SemanticStringError → List ℕ → Alphabet → ℕ → PlaceAnswer → Type 0
+abbrev pub TellsText : Result (List ℕ) SemanticStringError → List ℕ → Alphabet → ℕ → PlaceAnswer
+    → Type 0
 TellsText (Ok text) bytes a most answer = answer ≡ place_answer status.Done 0
 TellsText (Err error) bytes a most answer = Refused error bytes a most answer
 
 -- the answer tells what making a text of the bytes gives
-abbrev pub ChecksText : (Result (List ℕ) SemanticStringError → Type 0) → Alphabet → ℕ → List ℕ → PlaceAnswer → Type 0
+abbrev pub ChecksText : (Result (List ℕ) SemanticStringError → Type 0) → Alphabet → ℕ → List ℕ
+    → PlaceAnswer → Type 0
 ChecksText Makes a most bytes answer =
     (made : Result (List ℕ) SemanticStringError) × Makes made × TellsText made bytes a most answer
 
 -- the same for the name that a user gives to a service: the prefix is looked at first
 abbrev pub ChecksName : List ℕ → PlaceAnswer → Type 0
 ChecksName bytes answer =
-    MatchBool (starts_with nat_eq bytes (codes "iox2://")) (answer ≡ place_answer status.ReservedPrefix 0)
+    MatchBool (starts_with nat_eq bytes (codes "iox2://"))
+    (answer ≡ place_answer status.ReservedPrefix 0)
     (ChecksText (MakesName 255 bytes) alphabet.Text 255 bytes answer)

@@ -2,14 +2,15 @@
 ghost use Rattle.iox2sd_values.specs.Attributes.{TellsSet, SortsSet, CountsValues, TellsValue};
 ghost use Rattle.iox2sd_values.specs.Requirements.{VerifiesSet};
 
-mod finding;
-mod requirements;
+mod faults;
+mod missing;
 mod sets;
 
 use super::answers::{CountAnswer, PlaceAnswer, TextAnswer, count, no_text, place, write};
 use super::status::Status;
+use faults::{check_keys, check_required, check_set};
 use iox2_texts::attribute::AttributeKey;
-use requirements::{read_requirements, verify};
+use missing::verify;
 use sets::read_set;
 
 /// A key and its value, each in the caller's memory.
@@ -30,17 +31,18 @@ pub struct Key<'a> {
     pub text: &'a [u8],
 }
 
-/// Whether these pairs are a set: at most sixteen, each of legal texts, in any order and with repeats.
+/// Whether these pairs are a set: at most sixteen, each of legal texts, in any order and with
+/// repeats.
 ///
-/// Told is the first pair of the first seventeen that is wrong, with its place: of a wrong key (`BadKey`), of a right key
-/// and a wrong value (`BadValue`), or the seventeenth (`TooMany`).
+/// Told is the first pair of the first seventeen that is wrong, with its place: of a wrong key
+/// (`BadKey`), of a right key and a wrong value (`BadValue`), or the seventeenth (`TooMany`).
 #[unsafe(no_mangle)]
 pub extern "C" fn iox2sd_attributes_check(pairs: &[Attribute<'_>]) -> PlaceAnswer
     ensures { TellsSet pairs.now result }
 {
     let mut at = 0;
-    match read_set(pairs, &mut at) {
-        Ok(_) => place(Status::Done, at),
+    match check_set(pairs, &mut at) {
+        Ok(()) => place(Status::Done, at),
         Err(status) => place(status, at),
     }
 }
@@ -53,8 +55,8 @@ pub extern "C" fn iox2sd_attributes_sort(pairs: &mut [Attribute<'_>]) -> PlaceAn
     ensures { SortsSet pairs.old result pairs.new }
 {
     let mut at = 0;
-    match read_set(pairs, &mut at) {
-        Ok(_) => {
+    match check_set(pairs, &mut at) {
+        Ok(()) => {
             pairs.sort_unstable();
             place(Status::Done, at)
         }
@@ -64,8 +66,8 @@ pub extern "C" fn iox2sd_attributes_sort(pairs: &mut [Attribute<'_>]) -> PlaceAn
 
 /// How many values a key has in a set.
 ///
-/// Refused are, in this order, pairs that `iox2sd_attributes_check` refuses, with its status, and a wrong key
-/// (`BadAskedKey`).
+/// Refused are, in this order, pairs that `iox2sd_attributes_check` refuses, with its status, and a
+/// wrong key (`BadAskedKey`).
 #[unsafe(no_mangle)]
 pub extern "C" fn iox2sd_attribute_values(pairs: &[Attribute<'_>], key: &[u8]) -> CountAnswer
     ensures { CountsValues pairs.now key.now result }
@@ -80,10 +82,11 @@ pub extern "C" fn iox2sd_attribute_values(pairs: &[Attribute<'_>], key: &[u8]) -
     }
 }
 
-/// Writes the value at `index`, counted from 0, of the values that a key has in a set, by their bytes from the least.
+/// Writes the value at `index`, counted from 0, of the values that a key has in a set, by their
+/// bytes from the least.
 ///
-/// Refused are, in this order, pairs that `iox2sd_attributes_check` refuses, with its status, a wrong key
-/// (`BadAskedKey`), and an index that the key has no value for (`NoSuchValue`).
+/// Refused are, in this order, pairs that `iox2sd_attributes_check` refuses, with its status, a
+/// wrong key (`BadAskedKey`), and an index that the key has no value for (`NoSuchValue`).
 #[unsafe(no_mangle)]
 pub extern "C" fn iox2sd_attribute_value(
     pairs: &[Attribute<'_>],
@@ -109,11 +112,12 @@ pub extern "C" fn iox2sd_attribute_value(
 
 /// Whether a set has each required pair, and for each required key some pair with it.
 ///
-/// Refused are, in this order, pairs that `iox2sd_attributes_check` refuses, with its answer; required pairs that are
-/// wrong (`BadRequiredKey`, `BadRequiredValue`), required keys that are (`BadAskedKey`), and what is required beyond
-/// sixteen pairs and keys together (`TooManyRequired`), with the place in its array; the least required pair that the set
-/// lacks (`MissingPair`), and then the first required key that it lacks (`MissingKey`), with the first place in its
-/// array.
+/// Refused are, in this order, pairs that `iox2sd_attributes_check` refuses, with its answer;
+/// required pairs that are wrong (`BadRequiredKey`, `BadRequiredValue`), required keys that are
+/// (`BadAskedKey`), and what is required beyond sixteen pairs and keys together
+/// (`TooManyRequired`), with the place in its array; the least required pair that the set lacks
+/// (`MissingPair`), and then the first required key that it lacks (`MissingKey`), with the first
+/// place in its array.
 #[unsafe(no_mangle)]
 pub extern "C" fn iox2sd_attributes_verify(
     pairs: &[Attribute<'_>],
@@ -123,12 +127,14 @@ pub extern "C" fn iox2sd_attributes_verify(
     ensures { VerifiesSet pairs.now required.now keys.now result }
 {
     let mut at = 0;
-    let set = match read_set(pairs, &mut at) {
-        Ok(set) => set,
-        Err(status) => return place(status, at),
-    };
-    match read_requirements(required, keys, &mut at) {
-        Ok(wanted) => verify(&set, &wanted, required, keys),
-        Err(status) => place(status, at),
+    if let Err(status) = check_set(pairs, &mut at) {
+        return place(status, at);
     }
+    if let Err(status) = check_required(required, &mut at) {
+        return place(status, at);
+    }
+    if let Err(status) = check_keys(keys, required.len(), &mut at) {
+        return place(status, at);
+    }
+    verify(pairs, required, keys)
 }

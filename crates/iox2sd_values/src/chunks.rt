@@ -19,8 +19,8 @@ pub(super) fn chunks(number: Option<usize>) -> CountAnswer
     }
 }
 
-/// The greatest number of one publisher's samples that can be in use at once, where the publisher loans up to
-/// `loaned_samples` of them to be written.
+/// The greatest number of one publisher's samples that can be in use at once, where the publisher
+/// loans up to `loaned_samples` of them to be written.
 ///
 /// Refused is a number that would pass 2^64 - 1 (`TooLarge`).
 #[unsafe(no_mangle)]
@@ -74,8 +74,8 @@ fn request_response_of(
     }
 }
 
-/// The greatest number of one client's requests that can be in use at once, where the client loans up to
-/// `loaned_requests` of them to be written.
+/// The greatest number of one client's requests that can be in use at once, where the client loans
+/// up to `loaned_requests` of them to be written.
 ///
 /// Refused is a number that would pass 2^64 - 1 (`TooLarge`).
 #[unsafe(no_mangle)]
@@ -92,8 +92,8 @@ pub extern "C" fn iox2sd_client_chunks(
     chunks(config.required_amount_of_chunks_per_client_data_segment(loaned_requests))
 }
 
-/// The greatest number of one server's responses that can be in use at once, where the server loans up to
-/// `loaned_responses` of them to be written for each request.
+/// The greatest number of one server's responses that can be in use at once, where the server loans
+/// up to `loaned_responses` of them to be written for each request.
 ///
 /// Refused is a number that would pass 2^64 - 1 (`TooLarge`).
 #[unsafe(no_mangle)]

@@ -10,7 +10,8 @@ use super::descriptions::{PublishSubscribeConfig, RequestResponseConfig};
 use super::settings::{PublishSubscribeSettings, RequestResponseSettings};
 use super::status::Status;
 
-/// The greatest number of one publisher's samples that can be in use at once, in a service with these settings.
+/// The greatest number of one publisher's samples that can be in use at once, in a service with
+/// these settings.
 ///
 /// Refused are, in this order, NULL (`Null`), and a number that would pass 2^64 - 1 (`TooLarge`).
 #[unsafe(no_mangle)]
@@ -29,7 +30,8 @@ pub extern "C" fn iox2sd_samples_of_at(settings: &[PublishSubscribeSettings]) ->
     }
 }
 
-/// The greatest number of one client's requests that can be in use at once, in a service with these settings.
+/// The greatest number of one client's requests that can be in use at once, in a service with these
+/// settings.
 ///
 /// Refused are, in this order, NULL (`Null`), and a number that would pass 2^64 - 1 (`TooLarge`).
 #[unsafe(no_mangle)]
@@ -46,7 +48,8 @@ pub extern "C" fn iox2sd_requests_of_at(settings: &[RequestResponseSettings]) ->
     }
 }
 
-/// The greatest number of one server's responses that can be in use at once, in a service with these settings.
+/// The greatest number of one server's responses that can be in use at once, in a service with
+/// these settings.
 ///
 /// Refused are, in this order, NULL (`Null`), and a number that would pass 2^64 - 1 (`TooLarge`).
 #[unsafe(no_mangle)]

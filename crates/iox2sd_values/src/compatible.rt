@@ -119,16 +119,18 @@ fn judge(opener: &Details<'_>, service: &Details<'_>) -> PartAnswer
     }
 }
 
-/// Whether an opener with the details `opener` may use the messages of a service with the details `service`: the
-/// headers are equal, and user headers and payloads are equal but for their alignments, which are at most those of the
-/// service.
+/// Whether an opener with the details `opener` may use the messages of a service with the details
+/// `service`: the headers are equal, and user headers and payloads are equal but for their
+/// alignments, which are at most those of the service.
 ///
-/// Refused are, in this order, NULL (`Null`), the opener's before the service's; details that are none, the opener's first,
-/// and of these the first invalid part, for the first of its causes: a number that is not that of a variant
-/// (`UnknownVariant`), a name that is no UTF-8 (`NotUtf8`), has more than 256 bytes (`TooLong`) or a byte that is not from 1
-/// to 127 (`IllegalByte`), an alignment that is no power of two (`BadAlignment`); and an opener that may not, of which the
-/// first part and the first cause are told: another name (`OtherName`), another variant (`OtherVariant`), another size
-/// (`OtherSize`), another alignment of the header (`OtherAlignment`), a greater one of another part (`GreaterAlignment`).
+/// Refused are, in this order, NULL (`Null`), the opener's before the service's; details that are
+/// none, the opener's first, and of these the first invalid part, for the first of its causes: a
+/// number that is not that of a variant (`UnknownVariant`), a name that is no UTF-8 (`NotUtf8`),
+/// has more than 256 bytes (`TooLong`) or a byte that is not from 1 to 127 (`IllegalByte`), an
+/// alignment that is no power of two (`BadAlignment`); and an opener that may not, of which the
+/// first part and the first cause are told: another name (`OtherName`), another variant
+/// (`OtherVariant`), another size (`OtherSize`), another alignment of the header
+/// (`OtherAlignment`), a greater one of another part (`GreaterAlignment`).
 #[unsafe(no_mangle)]
 pub extern "C" fn iox2sd_message_compatible_at(
     opener: &[Details<'_>],

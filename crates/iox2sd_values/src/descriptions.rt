@@ -7,7 +7,6 @@ ghost use Rattle.iox2sd_values.specs.Descriptions.{publish_subscribe_config, eve
 ghost use Rattle.iox2sd_values.specs.Descriptions.{request_response_config, blackboard_config};
 
 use super::answers::{FlagAnswer, flag, zero_padded};
-use super::names::pattern_of;
 use super::settings::{OptionalDuration, OptionalEventId, duration_of, event_id_of};
 use super::status::Status;
 use iox2_config::hash::PatternKind;
@@ -134,8 +133,8 @@ pub struct ServiceDescription {
     pub hash_length: usize,
     /// The number of the pattern.
     pub pattern: u32,
-    /// What is fixed of a publish-subscribe service; all 0 for another pattern, as the next three are
-    /// for others than theirs.
+    /// What is fixed of a publish-subscribe service; all 0 for another pattern, as the next three
+    /// are for others than theirs.
     pub publish_subscribe: PublishSubscribeConfig,
     /// What is fixed of an event service.
     pub event: EventConfig,
@@ -149,12 +148,7 @@ pub struct ServiceDescription {
 fn kind_number(kind: PatternKind) -> u32
     ensures { result ≡ pattern_number kind }
 {
-    match kind {
-        PatternKind::PublishSubscribe => 0,
-        PatternKind::Event => 1,
-        PatternKind::RequestResponse => 2,
-        PatternKind::Blackboard => 3,
-    }
+    kind as u32
 }
 
 /// What is fixed of a publish-subscribe service, or zeros.
@@ -286,7 +280,7 @@ pub(super) fn told_description(described: &StaticConfig, id: Id) -> ServiceDescr
 fn compare_patterns(left: u32, right: u32) -> FlagAnswer
     ensures { ComparesPatterns left right result }
 {
-    match (pattern_of(left), pattern_of(right)) {
+    match (PatternKind::of_number(left), PatternKind::of_number(right)) {
         (Some(left), Some(right)) => flag(Status::Done, left == right),
         _ => flag(Status::UnknownPattern, false),
     }

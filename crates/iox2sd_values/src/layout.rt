@@ -105,10 +105,11 @@ fn places_of(details: &Details<'_>, header: usize) -> Result<Places, Status>
     })
 }
 
-/// The room for a message whose payload has so many elements. Sizes and alignments alone are looked at.
+/// The room for a message whose payload has so many elements. Sizes and alignments alone are looked
+/// at.
 ///
-/// Refused are, in this order, NULL (`Null`), an alignment that is no power of two (`BadAlignment`), and a message that
-/// would pass 2^63 - 1 bytes (`TooLarge`).
+/// Refused are, in this order, NULL (`Null`), an alignment that is no power of two
+/// (`BadAlignment`), and a message that would pass 2^63 - 1 bytes (`TooLarge`).
 #[unsafe(no_mangle)]
 pub extern "C" fn iox2sd_message_layout_at(details: &[Details<'_>], elements: usize) -> LayoutAnswer
     ensures { TellsLayout details.now elements result }
@@ -119,11 +120,11 @@ pub extern "C" fn iox2sd_message_layout_at(details: &[Details<'_>], elements: us
     }
 }
 
-/// The places of user header and payload in a message with its header at the place `header`. Sizes and alignments
-/// alone are looked at.
+/// The places of user header and payload in a message with its header at the place `header`. Sizes
+/// and alignments alone are looked at.
 ///
-/// Refused are, in this order, NULL (`Null`), an alignment that is no power of two (`BadAlignment`), and a payload whose
-/// place would pass 2^64 - 1 (`TooLarge`).
+/// Refused are, in this order, NULL (`Null`), an alignment that is no power of two
+/// (`BadAlignment`), and a payload whose place would pass 2^64 - 1 (`TooLarge`).
 #[unsafe(no_mangle)]
 pub extern "C" fn iox2sd_message_places_at(details: &[Details<'_>], header: usize) -> PlacesAnswer
     ensures { TellsPlaces details.now header result }

@@ -2,7 +2,7 @@
 ghost use Rattle.std.specs.Prelude.{◌≡◌, nat_eq};
 ghost use Rattle.std.specs.List.{starts_with};
 ghost use Rattle.iox2sd_values.specs.Names.{ReadsName, ReadsInternalName, Prefixes, TellsPrefixed};
-ghost use Rattle.iox2sd_values.specs.Names.{ReadsPattern, HashesName, HashesInternalName, MakesText};
+ghost use Rattle.iox2sd_values.specs.Names.{HashesName, HashesInternalName, MakesText};
 ghost use Rattle.iox2sd_values.specs.Names.{TellsHash, TellsInternalHash};
 ghost use lib.Chars.{codes};
 
@@ -62,8 +62,8 @@ pub extern "C" fn iox2sd_has_internal_prefix(text: &[u8]) -> bool
 
 /// Writes the name of one of the system's own services: `iox2://` and the text.
 ///
-/// Refused are, in this order, bytes that are no UTF-8 (`NotUtf8`), more than 248 bytes (`TooLong`), and a byte that is not
-/// from 1 to 127 (`IllegalByte`).
+/// Refused are, in this order, bytes that are no UTF-8 (`NotUtf8`), more than 248 bytes
+/// (`TooLong`), and a byte that is not from 1 to 127 (`IllegalByte`).
 #[unsafe(no_mangle)]
 pub extern "C" fn iox2sd_internal_service_name(text: &[u8], out: &mut [u8]) -> TextAnswer
     ensures { TellsPrefixed text.now out.old result out.new }
@@ -71,19 +71,6 @@ pub extern "C" fn iox2sd_internal_service_name(text: &[u8], out: &mut [u8]) -> T
     match prefixed_name(text) {
         Ok(name) => write(name.as_str().as_bytes(), out),
         Err(status) => no_text(status),
-    }
-}
-
-/// The pattern of this number.
-pub(super) fn pattern_of(number: u32) -> Option<PatternKind>
-    ensures { ReadsPattern number result }
-{
-    match number {
-        0 => Some(PatternKind::PublishSubscribe),
-        1 => Some(PatternKind::Event),
-        2 => Some(PatternKind::RequestResponse),
-        3 => Some(PatternKind::Blackboard),
-        _ => None,
     }
 }
 
@@ -102,7 +89,7 @@ fn hash_text(kind: PatternKind, name: &ServiceName) -> Result<ServiceHash, Statu
 fn hash_of(pattern: u32, name: &[u8]) -> Result<ServiceHash, Status>
     ensures { HashesName pattern name.now result }
 {
-    let Some(kind) = pattern_of(pattern) else {
+    let Some(kind) = PatternKind::of_number(pattern) else {
         return Err(Status::UnknownPattern);
     };
     match service_name(name) {
@@ -115,7 +102,7 @@ fn hash_of(pattern: u32, name: &[u8]) -> Result<ServiceHash, Status>
 fn internal_hash_of(pattern: u32, name: &[u8]) -> Result<ServiceHash, Status>
     ensures { HashesInternalName pattern name.now result }
 {
-    let Some(kind) = pattern_of(pattern) else {
+    let Some(kind) = PatternKind::of_number(pattern) else {
         return Err(Status::UnknownPattern);
     };
     match internal_service_name(name) {
@@ -126,9 +113,9 @@ fn internal_hash_of(pattern: u32, name: &[u8]) -> Result<ServiceHash, Status>
 
 /// Writes the hash text of a service's pattern and name, by SHA-1: 27 bytes.
 ///
-/// Refused are, in this order, a number that is not that of a pattern (`UnknownPattern`), bytes that are no UTF-8 (`NotUtf8`),
-/// what `iox2sd_service_name_check` refuses (`BadServiceName`), and a hash text that cannot be the name of a file
-/// (`IllegalHash`).
+/// Refused are, in this order, a number that is not that of a pattern (`UnknownPattern`), bytes
+/// that are no UTF-8 (`NotUtf8`), what `iox2sd_service_name_check` refuses (`BadServiceName`), and
+/// a hash text that cannot be the name of a file (`IllegalHash`).
 #[unsafe(no_mangle)]
 pub extern "C" fn iox2sd_hash_text(pattern: u32, name: &[u8], out: &mut [u8]) -> TextAnswer
     ensures { TellsHash pattern name.now out.old result out.new }

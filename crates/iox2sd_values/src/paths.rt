@@ -38,10 +38,11 @@ fn join_file(path: &[u8], file: &[u8]) -> Result<FilePath, Status>
     }
 }
 
-/// Writes an entry joined to a path, with one `/` between them unless the path is empty or ends in `/`.
+/// Writes an entry joined to a path, with one `/` between them unless the path is empty or ends in
+/// `/`.
 ///
-/// Refused are, in this order, a wrong path (`BadPath`), a wrong entry, which is a path too (`BadEntry`), and more than
-/// 255 bytes (`TooLong`).
+/// Refused are, in this order, a wrong path (`BadPath`), a wrong entry, which is a path too
+/// (`BadEntry`), and more than 255 bytes (`TooLong`).
 #[unsafe(no_mangle)]
 pub extern "C" fn iox2sd_path_join(path: &[u8], entry: &[u8], out: &mut [u8]) -> TextAnswer
     ensures { TellsPath path.now entry.now out.old result out.new }
@@ -52,10 +53,11 @@ pub extern "C" fn iox2sd_path_join(path: &[u8], entry: &[u8], out: &mut [u8]) ->
     }
 }
 
-/// Writes the path of a file in a directory, with one `/` between them unless the directory is empty or ends in `/`.
+/// Writes the path of a file in a directory, with one `/` between them unless the directory is
+/// empty or ends in `/`.
 ///
-/// Refused are, in this order, a wrong path of the directory (`BadPath`), a wrong name of the file (`BadEntry`), and more
-/// than 255 bytes (`TooLong`).
+/// Refused are, in this order, a wrong path of the directory (`BadPath`), a wrong name of the file
+/// (`BadEntry`), and more than 255 bytes (`TooLong`).
 #[unsafe(no_mangle)]
 pub extern "C" fn iox2sd_file_path_join(path: &[u8], file: &[u8], out: &mut [u8]) -> TextAnswer
     ensures { TellsFile path.now file.now out.old result out.new }

@@ -79,9 +79,11 @@ pub struct PublishSubscribeSettings {
     pub publisher_history_size: usize,
     /// How many connections of publishers that are gone a subscriber keeps.
     pub subscriber_expired_connection_buffer: usize,
-    /// What a publisher does where a buffer is full. 0: it tries again. 1: it leaves the receiver out.
+    /// What a publisher does where a buffer is full. 0: it tries again. 1: it leaves the receiver
+    /// out.
     pub backpressure_strategy: u32,
-    /// How a publisher's room grows. 0: by what is needed. 1: to the next power of two. 2: it does not.
+    /// How a publisher's room grows. 0: by what is needed. 1: to the next power of two. 2: it does
+    /// not.
     pub publisher_allocation_strategy: u32,
     /// Whether a new sample takes the oldest one's place where a buffer is full.
     pub enable_safe_overflow: bool,
@@ -137,7 +139,8 @@ pub struct RequestResponseSettings {
     pub client_backpressure_strategy: u32,
     /// The same of a server.
     pub server_backpressure_strategy: u32,
-    /// How a client's room grows. 0: by what is needed. 1: to the next power of two. 2: it does not.
+    /// How a client's room grows. 0: by what is needed. 1: to the next power of two. 2: it does
+    /// not.
     pub client_allocation_strategy: u32,
     /// The same of a server.
     pub server_allocation_strategy: u32,

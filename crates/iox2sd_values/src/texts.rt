@@ -1,4 +1,5 @@
-//! Whether texts are names, keys, values and paths; where they are not, which byte is wrong and why.
+//! Whether texts are names, keys, values and paths; where they are not, which byte is wrong and
+//! why.
 ghost use Rattle.std.specs.Prelude.{◌≡◌, ◌↔◌, IsTrue};
 ghost use Rattle.iox2_texts.specs.Name.{MakesName};
 ghost use Rattle.iox2sd_values.specs.Texts.{IsLegal, FindsIllegal, Explains, Refused, ChecksText};
@@ -91,10 +92,11 @@ fn refusal(error: SemanticStringError, text: &[u8], alphabet: Alphabet, most: us
     place(status, at)
 }
 
-/// Whether a text is the name of a service, which may be one of the system's own: 1 to 255 bytes, each from 1 to 127.
+/// Whether a text is the name of a service, which may be one of the system's own: 1 to 255 bytes,
+/// each from 1 to 127.
 ///
-/// Refused are, in this order, the empty text (`Empty`), more than 255 bytes (`TooLong`), and a byte that is not from 1
-/// to 127 (`IllegalByte`). The first byte that is wrong is told.
+/// Refused are, in this order, the empty text (`Empty`), more than 255 bytes (`TooLong`), and a
+/// byte that is not from 1 to 127 (`IllegalByte`). The first byte that is wrong is told.
 #[unsafe(no_mangle)]
 pub extern "C" fn iox2sd_internal_service_name_check(text: &[u8]) -> PlaceAnswer
     ensures { ChecksText (MakesName 255 text.now) Alphabet.Text 255 text.now result }
@@ -121,8 +123,8 @@ pub extern "C" fn iox2sd_service_name_check(text: &[u8]) -> PlaceAnswer
 
 /// Whether a text is the key of an attribute: 1 to 64 bytes, each from 1 to 127.
 ///
-/// Refused are, in this order, the empty text (`Empty`), more than 64 bytes (`TooLong`), and a byte that is not from 1
-/// to 127 (`IllegalByte`). The first byte that is wrong is told.
+/// Refused are, in this order, the empty text (`Empty`), more than 64 bytes (`TooLong`), and a byte
+/// that is not from 1 to 127 (`IllegalByte`). The first byte that is wrong is told.
 #[unsafe(no_mangle)]
 pub extern "C" fn iox2sd_attribute_key_check(text: &[u8]) -> PlaceAnswer
     ensures { ChecksText (MakesName 64 text.now) Alphabet.Text 64 text.now result }
@@ -133,7 +135,8 @@ pub extern "C" fn iox2sd_attribute_key_check(text: &[u8]) -> PlaceAnswer
     }
 }
 
-/// Whether a text is the value of an attribute: 1 to 256 bytes, each from 1 to 127. Refused as a key is.
+/// Whether a text is the value of an attribute: 1 to 256 bytes, each from 1 to 127. Refused as a
+/// key is.
 #[unsafe(no_mangle)]
 pub extern "C" fn iox2sd_attribute_value_check(text: &[u8]) -> PlaceAnswer
     ensures { ChecksText (MakesName 256 text.now) Alphabet.Text 256 text.now result }
@@ -146,7 +149,8 @@ pub extern "C" fn iox2sd_attribute_value_check(text: &[u8]) -> PlaceAnswer
 
 /// Whether a text is a path: at most 255 bytes, each from 1 to 127. It may be empty.
 ///
-/// Refused are, in this order, more than 255 bytes (`TooLong`), and a byte that is not from 1 to 127 (`IllegalByte`).
+/// Refused are, in this order, more than 255 bytes (`TooLong`), and a byte that is not from 1 to
+/// 127 (`IllegalByte`).
 #[unsafe(no_mangle)]
 pub extern "C" fn iox2sd_path_check(text: &[u8]) -> PlaceAnswer
     ensures { ChecksText (MakesPath text.now) Alphabet.Text 255 text.now result }
@@ -157,10 +161,11 @@ pub extern "C" fn iox2sd_path_check(text: &[u8]) -> PlaceAnswer
     }
 }
 
-/// Whether a text is the name of a file: 1 to 255 bytes, each from 1 to 127 and none a `/`, and neither `.` nor `..`.
+/// Whether a text is the name of a file: 1 to 255 bytes, each from 1 to 127 and none a `/`, and
+/// neither `.` nor `..`.
 ///
-/// Refused are, in this order, the empty text (`Empty`), more than 255 bytes (`TooLong`), a byte that may not stand there
-/// (`IllegalByte`), and `.` and `..` (`NoFileName`).
+/// Refused are, in this order, the empty text (`Empty`), more than 255 bytes (`TooLong`), a byte
+/// that may not stand there (`IllegalByte`), and `.` and `..` (`NoFileName`).
 #[unsafe(no_mangle)]
 pub extern "C" fn iox2sd_file_name_check(text: &[u8]) -> PlaceAnswer
     ensures { ChecksText (MakesFileName text.now) Alphabet.FileName 255 text.now result }
@@ -171,11 +176,12 @@ pub extern "C" fn iox2sd_file_name_check(text: &[u8]) -> PlaceAnswer
     }
 }
 
-/// Whether a text is the path of a file: 1 to 255 bytes, each from 1 to 127, of which those after the last `/` are the
-/// name of a file.
+/// Whether a text is the path of a file: 1 to 255 bytes, each from 1 to 127, of which those after
+/// the last `/` are the name of a file.
 ///
-/// Refused are, in this order, the empty text (`Empty`), more than 255 bytes (`TooLong`), a byte that is not from 1 to 127
-/// (`IllegalByte`), and a last part that is empty, `.` or `..` (`NoFileName`).
+/// Refused are, in this order, the empty text (`Empty`), more than 255 bytes (`TooLong`), a byte
+/// that is not from 1 to 127 (`IllegalByte`), and a last part that is empty, `.` or `..`
+/// (`NoFileName`).
 #[unsafe(no_mangle)]
 pub extern "C" fn iox2sd_file_path_check(text: &[u8]) -> PlaceAnswer
     ensures { ChecksText (MakesFilePath text.now) Alphabet.Text 255 text.now result }
@@ -186,8 +192,9 @@ pub extern "C" fn iox2sd_file_path_check(text: &[u8]) -> PlaceAnswer
     }
 }
 
-/// Whether a text is a restricted name of a file, as hash texts are: 1 to 64 letters `A` to `Z` and `a` to `z`, digits,
-/// `-`, `.`, `:` and `_`, and neither `.` nor `..`. Refused as the name of a file is.
+/// Whether a text is a restricted name of a file, as hash texts are: 1 to 64 letters `A` to `Z` and
+/// `a` to `z`, digits, `-`, `.`, `:` and `_`, and neither `.` nor `..`. Refused as the name of a
+/// file is.
 #[unsafe(no_mangle)]
 pub extern "C" fn iox2sd_restricted_name_check(text: &[u8]) -> PlaceAnswer
     ensures { ChecksText (MakesRestricted text.now) Alphabet.Restricted 64 text.now result }

@@ -2,7 +2,8 @@
 use Rattle.std.proofs.Common.{◌≡◌, ℕ, List, [], ◌∷◌, ◌++◌, length, take, ◌∙◌, ap, arith, refl}
 use Rattle.std.proofs.Math.Seq.{take-append_seam}
 
-short_take : (a b x : List ℕ) → take (length (a ++ b)) x ≡ a ++ b → take (length a) x ≡ take (length a) (a ++ b)
+short_take : (a b x : List ℕ) → take (length (a ++ b)) x ≡ a ++ b
+    → take (length a) x ≡ take (length a) (a ++ b)
 short_take [] b x e = refl
 short_take (y ∷ a) b [] e = let bad = ap (length {A = ℕ}) e in absurd (omega arith)
 short_take (y ∷ a) b (z ∷ x) e =

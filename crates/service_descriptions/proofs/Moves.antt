@@ -1,194 +1,295 @@
--- Each command moves the registries of a service on.
-use Rattle.std.proofs.Common.{◌≡◌, ℕ, Bool, true, false, Option, Some, None, Result, Ok, Err, List, ◌⊎◌, inl, inr, ap}
-use Rattle.iox2_ids.specs.declared.identifiers.port_id.UniquePortId.{UniquePortId}
+-- Each command moves a service on: it keeps its number, and gives each ticket once.
+use Rattle.std.proofs.Common.{◌≡◌, ℕ, ◌<◌, ◌≤◌, Bool, true, false, Option, Some, None, Result, Ok, Err, List, inl, inr, refl, sym, ◌∙◌, ap, subst}
+use Rattle.std.specs.Prelude.{IfSome, MatchResult, ok_or}
+use Rattle.iox2_texts.specs.Verify.{Requirements}
+use Rattle.iox2_config.specs.declared.hash.input.PatternKind.{PatternKind}
+use Rattle.iox2_config.specs.declared.hash.input.PatternKind.TheVariants as kind
+use Rattle.iox2_config.specs.declared.types.message_details.MessageTypeDetails.{MessageTypeDetails}
+use Rattle.iox2_container.specs.declared.container.refusal.ContainerAddFailure.{ContainerAddFailure}
 use Rattle.iox2_container.specs.declared.container.refusal.ContainerAddFailure.TheVariants as container
 use Rattle.iox2_container.specs.declared.container.refusal.ContainerRemoveError.{ContainerRemoveError}
 use Rattle.iox2_container.specs.declared.container.refusal.ContainerRemoveError.TheVariants as remove
 use Rattle.iox2_container.specs.declared.container.release.ReleaseMode.TheVariants.{Default, LockIfLastIndex}
 use Rattle.iox2_container.specs.declared.container.release.ReleaseState.{ReleaseState}
+use Rattle.iox2_container.specs.declared.container.role.Role.{Role}
+use Rattle.iox2_container.specs.declared.container.role.Role.TheVariants as role
 use Rattle.iox2_container.specs.Handle.{Handle}
 use Rattle.iox2_container.specs.ContainerState.{ContainerState}
+use Rattle.iox2_container.specs.State.{RegistryState}
 use Rattle.iox2_container.specs.Steps.{is_of}
-use Rattle.iox2_dynamic.specs.declared.dynamic_config.answers.AttachError.{AttachError}
-use Rattle.iox2_dynamic.specs.declared.dynamic_config.answers.AttachError.TheVariants.{ServiceIsLocked, NodeNotRegistered, OutOfSpace}
-use Rattle.iox2_dynamic.specs.declared.dynamic_config.answers.DeregisterError.{DeregisterError}
-use Rattle.iox2_dynamic.specs.declared.dynamic_config.answers.DeregisterError.TheVariants.{ContainerHandleNotOwnedByContainer, PortsStillAttached}
 use Rattle.iox2_dynamic.specs.declared.dynamic_config.answers.DeregisterNodeState.{DeregisterNodeState}
 use Rattle.iox2_dynamic.specs.declared.dynamic_config.answers.DeregisterNodeState.TheVariants as nodes
-use Rattle.iox2_dynamic.specs.declared.dynamic_config.answers.RegisterNodeResult.{RegisterNodeResult}
-use Rattle.iox2_dynamic.specs.declared.dynamic_config.answers.RegisterNodeResult.TheVariants.{MarkedForDestruction, ExceedsMaxNumberOfNodes}
-use Rattle.iox2_dynamic.specs.declared.dynamic_config.cleanup.PortCleanupAction.{PortCleanupAction}
 use Rattle.iox2_dynamic.specs.declared.dynamic_config.port_details.PortDetails.{PortDetails}
-use Rattle.iox2_dynamic.specs.Answers.{answer_of, state_of}
-use Rattle.iox2_dynamic.specs.Recoveries.{AskedToGo}
-use Rattle.iox2_dynamic.specs.Details.{node_of, port_of}
+use Rattle.iox2_dynamic.specs.Answers.{state_of}
+use Rattle.iox2_dynamic.specs.Details.{node_of}
 use Rattle.iox2_dynamic.specs.Ports.{has_ports_of}
-use Rattle.iox2_dynamic.specs.Service.{Service}
-use Rattle.iox2_dynamic.specs.Steps.{RegisterStep, DeregisterStep, AddsPort, RemovesPort, NodesAfter, DeadStep}
+use Rattle.iox2_dynamic.specs.Service.{Service, IsService, first_role, second_role}
+use Rattle.iox2_dynamic.specs.Steps.{AddsPort, RemovesPort, NodesAfter}
 use Rattle.iox2_static.specs.Description.{Description}
-use Rattle.service_descriptions.specs.declared.replay.command.Command.{Command}
-use Rattle.service_descriptions.specs.declared.replay.command.Command.TheVariants as command
-use Rattle.service_descriptions.specs.declared.replay.reply.Reply.{Reply}
-use Rattle.service_descriptions.specs.declared.replay.reply.Reply.TheVariants as reply
-use Rattle.service_descriptions.specs.Cleanups.{Cleans}
-use Rattle.service_descriptions.specs.Steps.{Acts, Attaches, Serves, Tells, handle_in}
-use Rattle.service_descriptions.proofs.Growing.{Grows, NewIn, grows_same, grows_add, new_add, grows_remove, grows_recover}
+use Rattle.service_descriptions.specs.declared.replay.machine.command.Cleanup.{Cleanup}
+use Rattle.service_descriptions.specs.declared.replay.machine.command.Command.{Command}
+use Rattle.service_descriptions.specs.declared.replay.machine.command.Command.TheVariants as command
+use Rattle.service_descriptions.specs.declared.replay.machine.command.MessagePart.{MessagePart}
+use Rattle.service_descriptions.specs.declared.replay.machine.reply.Reply.{Reply}
+use Rattle.service_descriptions.specs.declared.replay.machine.reply.Reply.TheVariants as reply
+use Rattle.service_descriptions.specs.Cleanups.{CleanedUp, ServesDead}
+use Rattle.service_descriptions.specs.Descriptions.{ServesVerify, ServesMessages, ServesLayout, ServesPlaces, ServesCompatible}
+use Rattle.service_descriptions.specs.Handles.{named, tickets_of}
+use Rattle.service_descriptions.specs.Listings.{ServesNodes, ServesList, ServesCount}
+use Rattle.service_descriptions.specs.Steps.{ServesRegister, ServesDeregister, ServesAdd, ServesRelease, Serves, handle_in}
+use Rattle.iox2_container.proofs.Growing.{Grows, grows_same, grows_add, grows_remove, grows_recover}
+use Rattle.service_descriptions.proofs.Growing.{NewIn, new_add}
 
--- one of the registries has given a new handle, if there is one
-abbrev pub IsNew : Service → Service → Option Handle → Type 0
-IsNew old new None = Unit {0}
-IsNew old new (Some h) =
-    NewIn old.nodes.registry new.nodes.registry h
-    ⊎ NewIn old.ports.first.registry new.ports.first.registry h
-    ⊎ NewIn old.ports.second.registry new.ports.second.registry h
+-- a handle is the next one of its role
+pub record IsNext (old new : Service) (h : Handle) : Type 0 where
+  pub service : h.service ≡ old.nodes.registry.service
+  pub ticket : h.ticket ≡ tickets_of old h.role
+  pub given : h.ticket < tickets_of new h.role
 
+-- a service goes on, and gives the next handle of a role, or none
 pub record Moves (old new : Service) (given : Option Handle) : Type 0 where
-  pub nodes : Grows old.nodes.registry new.nodes.registry
-  pub first : Grows old.ports.first.registry new.ports.first.registry
-  pub second : Grows old.ports.second.registry new.ports.second.registry
-  pub fresh : IsNew old new given
+  pub number : new.nodes.registry.service ≡ old.nodes.registry.service
+  pub tickets : (role : Role) → tickets_of old role ≤ tickets_of new role
+  pub next : IfSome given (IsNext old new)
+
+tickets_rise : (old new : Service) → Grows old.nodes.registry new.nodes.registry
+    → Grows old.ports.first.registry new.ports.first.registry
+    → Grows old.ports.second.registry new.ports.second.registry
+    → (role : Role) → tickets_of old role ≤ tickets_of new role
+tickets_rise old new n f s role.Node = n.used
+tickets_rise old new n f s role.Publisher = f.used
+tickets_rise old new n f s role.Listener = f.used
+tickets_rise old new n f s role.Server = f.used
+tickets_rise old new n f s role.Reader = f.used
+tickets_rise old new n f s _ = s.used
 
 still : (old new : Service) → new ≡ old → Moves old new None
 still old new e = record {
-  nodes = grows_same old.nodes.registry new.nodes.registry (ap (λ s. s.nodes.registry) e);
-  first = grows_same old.ports.first.registry new.ports.first.registry (ap (λ s. s.ports.first.registry) e);
-  second = grows_same old.ports.second.registry new.ports.second.registry (ap (λ s. s.ports.second.registry) e);
-  fresh = tt;
+  number = ap (λ s. s.nodes.registry.service) e;
+  tickets = tickets_rise old new (grows_same _ _ (ap (λ s. s.nodes.registry) e))
+      (grows_same _ _ (ap (λ s. s.ports.first.registry) e))
+      (grows_same _ _ (ap (λ s. s.ports.second.registry) e));
+  next = tt;
 }
 
 -- only the nodes change
-by_nodes : (old new : Service) (given : Option Handle) → new ≡ record old { nodes = new.nodes } → Grows old.nodes.registry new.nodes.registry → IsNew old new given → Moves old new given
-by_nodes old new given e g n = record {
-  nodes = g;
-  first = grows_same old.ports.first.registry new.ports.first.registry (ap (λ s. s.ports.first.registry) e);
-  second = grows_same old.ports.second.registry new.ports.second.registry (ap (λ s. s.ports.second.registry) e);
-  fresh = n;
+by_nodes : (old new : Service) (given : Option Handle) → new ≡ record old { nodes = new.nodes }
+    → Grows old.nodes.registry new.nodes.registry → IfSome given (IsNext old new)
+    → Moves old new given
+by_nodes old new given e g next = record {
+  number = g.service;
+  tickets = tickets_rise old new g (grows_same _ _ (ap (λ s. s.ports.first.registry) e))
+      (grows_same _ _ (ap (λ s. s.ports.second.registry) e));
+  next = next;
 }
 
--- only the first ports change
-by_first : (old new : Service) (given : Option Handle) → new ≡ record old { ports = new.ports } → new.ports ≡ record old.ports { first = new.ports.first } → Grows old.ports.first.registry new.ports.first.registry → IsNew old new given → Moves old new given
-by_first old new given e p g n = record {
-  nodes = grows_same old.nodes.registry new.nodes.registry (ap (λ s. s.nodes.registry) e);
-  first = g;
-  second = grows_same old.ports.second.registry new.ports.second.registry (ap (λ s. s.second.registry) p);
-  fresh = n;
+-- only the ports change
+by_ports : (old new : Service) (given : Option Handle) → new ≡ record old { ports = new.ports }
+    → Grows old.ports.first.registry new.ports.first.registry
+    → Grows old.ports.second.registry new.ports.second.registry
+    → IfSome given (IsNext old new) → Moves old new given
+by_ports old new given e f s next = record {
+  number = ap (λ s. s.nodes.registry.service) e;
+  tickets = tickets_rise old new (grows_same _ _ (ap (λ s. s.nodes.registry) e)) f s;
+  next = next;
 }
 
--- only the second ports change
-by_second : (old new : Service) (given : Option Handle) → new ≡ record old { ports = new.ports } → new.ports ≡ record old.ports { second = new.ports.second } → Grows old.ports.second.registry new.ports.second.registry → IsNew old new given → Moves old new given
-by_second old new given e p g n = record {
-  nodes = grows_same old.nodes.registry new.nodes.registry (ap (λ s. s.nodes.registry) e);
-  first = grows_same old.ports.first.registry new.ports.first.registry (ap (λ s. s.first.registry) p);
-  second = g;
-  fresh = n;
-}
+first_tickets : (s : Service) (k : PatternKind)
+    → tickets_of s (first_role k) ≡ s.ports.first.registry.used
+first_tickets s kind.PublishSubscribe = refl
+first_tickets s kind.Event = refl
+first_tickets s kind.RequestResponse = refl
+first_tickets s kind.Blackboard = refl
 
-by_neither : (old new : Service) → new ≡ record old { ports = new.ports } → new.ports ≡ old.ports → Moves old new None
-by_neither old new e p = record {
-  nodes = grows_same old.nodes.registry new.nodes.registry (ap (λ s. s.nodes.registry) e);
-  first = grows_same old.ports.first.registry new.ports.first.registry (ap (λ s. s.first.registry) p);
-  second = grows_same old.ports.second.registry new.ports.second.registry (ap (λ s. s.second.registry) p);
-  fresh = tt;
-}
+second_tickets : (s : Service) (k : PatternKind)
+    → tickets_of s (second_role k) ≡ s.ports.second.registry.used
+second_tickets s kind.PublishSubscribe = refl
+second_tickets s kind.Event = refl
+second_tickets s kind.RequestResponse = refl
+second_tickets s kind.Blackboard = refl
 
-registers : (old : Service) (id : ℕ) (handle : Handle) (new : Service) → RegisterStep old id (Ok handle) new → Moves old new (Some handle)
-registers old id handle new s =
-    by_nodes old new (Some handle) s.1 (grows_add old.nodes.registry id (Ok handle) new.nodes.registry s.0.0) (inl (new_add old.nodes.registry id handle new.nodes.registry s.0.0))
-
-refuses : (old : Service) (id : ℕ) (why : RegisterNodeResult) (new : Service) → RegisterStep old id (Err why) new → Moves old new None
-refuses old id why new s = by_nodes old new None s.1 (grows_add old.nodes.registry id (answer_of (Err why)) new.nodes.registry s.0.0) tt
-
-deregisters : (old : Service) (handle : Handle) (answer : Result DeregisterNodeState DeregisterError) (new : Service) → DeregisterStep old handle answer new → Moves old new None
-deregisters old handle (Ok state) new s = by_nodes old new None s.4 (grows_remove old.nodes.registry handle LockIfLastIndex (Ok (state_of state)) new.nodes.registry s.3.0) tt
-deregisters old handle (Err ContainerHandleNotOwnedByContainer) new s = still old new s.1
-deregisters old handle (Err PortsStillAttached) new s = still old new s.3
-
-adds : (old : Service) (details : PortDetails) (handle : Handle) (new : Service) → AddsPort old details (Ok handle) new → Moves old new (Some handle)
-adds old details handle new (inl a, e) =
-    by_first old new (Some handle) e a.2 (grows_add old.ports.first.registry details (Ok handle) new.ports.first.registry a.1.0) (inr (inl (new_add old.ports.first.registry details handle new.ports.first.registry a.1.0)))
-adds old details handle new (inr a, e) =
-    by_second old new (Some handle) e a.2 (grows_add old.ports.second.registry details (Ok handle) new.ports.second.registry a.1.0) (inr (inr (new_add old.ports.second.registry details handle new.ports.second.registry a.1.0)))
-
-full : (old : Service) (details : PortDetails) (new : Service) → AddsPort old details (Err container.OutOfSpace) new → Moves old new None
-full old details new (inl a, e) = by_first old new None e a.2 (grows_add old.ports.first.registry details (Err container.OutOfSpace) new.ports.first.registry a.1.0) tt
-full old details new (inr a, e) = by_second old new None e a.2 (grows_add old.ports.second.registry details (Err container.OutOfSpace) new.ports.second.registry a.1.0) tt
-
-unattached : (old : Service) (details : PortDetails) (why : AttachError) (new : Service) → Attaches old details (Err why) new → Moves old new None
-unattached old details ServiceIsLocked new s = still old new s.1.1
-unattached old details NodeNotRegistered new s = still old new s.1.2
-unattached old details OutOfSpace new s = full old details new s.1.1
-
-removes : (old : Service) (handle : Handle) (answer : Result ReleaseState ContainerRemoveError) (new : Service) → RemovesPort old handle answer new → Moves old new None
-removes old handle answer new (inl a, e) = by_first old new None e a.2 (grows_remove old.ports.first.registry handle Default answer new.ports.first.registry a.1.0) tt
-removes old handle answer new (inr (inl a), e) = by_second old new None e a.2 (grows_remove old.ports.second.registry handle Default answer new.ports.second.registry a.1.0) tt
-removes old handle answer new (inr (inr a), e) = by_neither old new e a.2
-
-after : (dead : ℕ) (left : Bool) (old : ContainerState ℕ) (state : ReleaseState) (new : ContainerState ℕ) → NodesAfter dead left old state new → Grows old.registry new.registry
-after dead true old state new s = grows_same old.registry new.registry (ap (λ h. h.registry) s.1)
-after dead false old state new s =
-    grows_recover {F = Unit {0}} (λ _ _ goes _. goes ≡ true) (is_of (λ id. id) dead) old.registry tt LockIfLastIndex state new.registry tt s.0
-
-dies : {F : Type 0} (calls : F → UniquePortId → PortCleanupAction → F → Type 0) (old : Service) (f : F) (dead : ℕ) (answer : DeregisterNodeState) (new : Service) (h : F) → DeadStep calls old f dead answer new h → Moves old new None
-dies {F} calls old f dead answer new h r =
-    let asks : F → PortDetails → Bool → F → Type 0 = λ i d goes j. AskedToGo calls i (port_of d) goes j in
-    let p = r.0 in
+-- the next handle of a registry is that of its role
+next_of : {T : Type 0} (old new : Service) (before after : RegistryState T) (role : Role)
+    (h : Handle) → before.service ≡ old.nodes.registry.service → before.role ≡ role
+    → tickets_of old role ≡ before.used → tickets_of new role ≡ after.used → NewIn before after h
+    → IsNext old new h
+next_of old new before after role h number is used used' n =
+    let of_role : h.role ≡ role = n.role ∙ is in
     record {
-      nodes = after dead (has_ports_of dead new.ports) old.nodes (state_of answer) new.nodes r.1;
-      first = grows_recover asks (is_of node_of dead) old.ports.first.registry f Default p.1.0 new.ports.first.registry p.0 p.1.1.0;
-      second = grows_recover asks (is_of node_of dead) old.ports.second.registry p.0 Default p.2.0 new.ports.second.registry h p.2.1.0;
-      fresh = tt;
+      service = n.service ∙ number;
+      ticket = n.ticket ∙ sym (ap (tickets_of old) of_role ∙ used);
+      given = subst (λ k. h.ticket < k) (sym (ap (tickets_of new) of_role ∙ used')) n.used;
     }
 
+registers : (old : Service) (id : ℕ) (r : Reply) (new : Service) → IsService old
+    → ServesRegister old id r new → Moves old new (handle_in r)
+registers old id (reply.Handle h) new i s =
+    by_nodes old new (Some h) s.1
+    (grows_add old.nodes.registry id (Ok h) new.nodes.registry s.0.step)
+    (next_of old new old.nodes.registry new.nodes.registry role.Node h refl i.role_is refl refl
+    (new_add id h s.0.step))
+registers old id reply.Locked new i s =
+    by_nodes old new None s.1
+    (grows_add old.nodes.registry id (Err container.IsLocked) new.nodes.registry s.0.step) tt
+registers old id reply.Full new i s =
+    by_nodes old new None s.1
+    (grows_add old.nodes.registry id (Err container.OutOfSpace) new.nodes.registry s.0.step) tt
+registers old id _ new i s = absurd s
+
+deregisters : (old : Service) (handle : Option Handle) (r : Reply) (new : Service)
+    → ServesDeregister old handle r new → Moves old new (handle_in r)
+deregisters old None reply.NoHandle new s = still old new s
+deregisters old (Some h) reply.HasOwners new s =
+    by_nodes old new None s.4
+    (grows_remove old.nodes.registry h LockIfLastIndex (Ok (state_of nodes.HasOwners))
+    new.nodes.registry s.3.step) tt
+deregisters old (Some h) reply.NoMoreOwners new s =
+    by_nodes old new None s.4
+    (grows_remove old.nodes.registry h LockIfLastIndex (Ok (state_of nodes.NoMoreOwners))
+    new.nodes.registry s.3.step) tt
+deregisters old (Some h) reply.PortsAttached new s = still old new s.3
+deregisters old (Some h) reply.NotOwned new s = still old new s.1
+deregisters old _ _ new s = absurd s
+
+-- a port was added to one of the registries, or to none
+adds_port : (old : Service) (details : PortDetails) (answer : Result Handle ContainerAddFailure)
+    (new : Service) (given : Option Handle) → AddsPort old details answer new
+    → IfSome given (IsNext old new) → Moves old new given
+adds_port old details answer new given (inl a, e) next =
+    by_ports old new given e
+    (grows_add old.ports.first.registry details answer new.ports.first.registry a.1.step)
+    (grows_same _ _ (ap (λ p. p.second.registry) a.2)) next
+adds_port old details answer new given (inr a, e) next =
+    by_ports old new given e (grows_same _ _ (ap (λ p. p.first.registry) a.2))
+    (grows_add old.ports.second.registry details answer new.ports.second.registry a.1.step) next
+
+next_port : (old : Service) (details : PortDetails) (h : Handle) (new : Service) → IsService old
+    → AddsPort old details (Ok h) new → IsNext old new h
+next_port old details h new i (inl a, e) =
+    let ports = i.ports_are.first in
+    next_of old new old.ports.first.registry new.ports.first.registry (first_role old.pattern) h
+    ports.number_is ports.role_is (first_tickets old old.pattern) (first_tickets new old.pattern)
+    (new_add details h a.1.step)
+next_port old details h new i (inr a, e) =
+    let ports = i.ports_are.second in
+    next_of old new old.ports.second.registry new.ports.second.registry (second_role old.pattern) h
+    ports.number_is ports.role_is (second_tickets old old.pattern) (second_tickets new old.pattern)
+    (new_add details h a.1.step)
+
+attaches : (old : Service) (details : PortDetails) (r : Reply) (new : Service) → IsService old
+    → ServesAdd old details r new → Moves old new (handle_in r)
+attaches old details (reply.Handle h) new i s =
+    adds_port old details (Ok h) new (Some h) s.1.1 (next_port old details h new i s.1.1)
+attaches old details reply.Locked new i s = still old new s.1.1
+attaches old details reply.NotRegistered new i s = still old new s.1.2
+attaches old details reply.Full new i s =
+    adds_port old details (Err container.OutOfSpace) new None s.1.1 tt
+attaches old details reply.WrongPattern new i s = still old new s.1
+attaches old details _ new i s = absurd s
+
+removes_port : (old : Service) (handle : Handle) (answer : Result ReleaseState ContainerRemoveError)
+    (new : Service) → RemovesPort old handle answer new → Moves old new None
+removes_port old handle answer new (inl a, e) =
+    by_ports old new None e
+    (grows_remove old.ports.first.registry handle Default answer new.ports.first.registry
+    a.1.step)
+    (grows_same _ _ (ap (λ p. p.second.registry) a.2)) tt
+removes_port old handle answer new (inr (inl a), e) =
+    by_ports old new None e (grows_same _ _ (ap (λ p. p.first.registry) a.2))
+    (grows_remove old.ports.second.registry handle Default answer new.ports.second.registry
+    a.1.step) tt
+removes_port old handle answer new (inr (inr a), e) =
+    by_ports old new None e (grows_same _ _ (ap (λ p. p.first.registry) a.2))
+    (grows_same _ _ (ap (λ p. p.second.registry) a.2)) tt
+
+releases : (old : Service) (handle : Option Handle) (r : Reply) (new : Service)
+    → ServesRelease old handle r new → Moves old new (handle_in r)
+releases old None reply.NoHandle new s = still old new s
+releases old (Some h) reply.Released new s = removes_port old h (Ok s.0) new s.1
+releases old (Some h) reply.NotOwned new s =
+    removes_port old h (Err remove.ContainerHandleNotOwnedByContainer) new s
+releases old _ _ new s = absurd s
+
+nodes_grow : (dead : ℕ) (left : Bool) (old : ContainerState ℕ) (state : ReleaseState)
+    (new : ContainerState ℕ) → NodesAfter dead left old state new
+    → Grows old.registry new.registry
+nodes_grow dead true old state new s =
+    grows_same old.registry new.registry (ap (λ h. h.registry) s.1)
+nodes_grow dead false old state new s =
+    grows_recover (is_of (λ id. id) dead) s.step.0 old.registry LockIfLastIndex state new.registry
+    s.step.2
+
+cleans_up : (old : Service) (dead : ℕ) (cleanup : Cleanup) (answer : DeregisterNodeState)
+    (new : Service) → CleanedUp old dead cleanup answer new → Moves old new None
+cleans_up old dead cleanup answer new (left, (ports, after, e)) =
+    let nodes = nodes_grow dead (has_ports_of dead new.ports) old.nodes (state_of answer) new.nodes
+    after in
+    record {
+      number = nodes.service;
+      tickets = tickets_rise old new nodes
+          (grows_recover (is_of node_of dead) ports.1.1.step.0 old.ports.first.registry Default
+          ports.1.0 new.ports.first.registry ports.1.1.step.2)
+          (grows_recover (is_of node_of dead) ports.2.1.step.0 old.ports.second.registry Default
+          ports.2.0 new.ports.second.registry ports.2.1.step.2);
+      next = tt;
+    }
+
+dies : (old : Service) (dead : ℕ) (cleanup : Cleanup) (r : Reply) (new : Service)
+    → ServesDead old dead cleanup r new → Moves old new (handle_in r)
+dies old dead cleanup reply.HasOwners new s = cleans_up old dead cleanup nodes.HasOwners new s
+dies old dead cleanup reply.NoMoreOwners new s = cleans_up old dead cleanup nodes.NoMoreOwners new s
+dies old dead cleanup _ new s = absurd s
+
+-- nothing changes, and no handle is told
+tells : (old new : Service) (Told : Reply → Type 0) (r : Reply)
+    → ((h : Handle) → Told (reply.Handle h) → ⊥) → Told r × (new ≡ old)
+    → Moves old new (handle_in r)
+tells old new Told (reply.Handle h) never s = absurd (never h s.0)
+tells old new Told _ never s = still old new s.1
+
+no_handle_of_part : (answered : MessageTypeDetails → Reply → Type 0) (h : Handle)
+    (found : Option MessageTypeDetails)
+    → ((d : MessageTypeDetails) → answered d (reply.Handle h) → ⊥)
+    → MatchResult (ok_or found reply.WrongPattern) (λ d. answered d (reply.Handle h))
+    (λ why. reply.Handle h ≡ why) → ⊥
+no_handle_of_part answered h None never s = (cc)
+no_handle_of_part answered h (Some d) never s = never d s
+
+no_handle : (answered : MessageTypeDetails → Reply → Type 0) (about : Option Description)
+    (part : MessagePart) → ((d : MessageTypeDetails) (h : Handle) → answered d (reply.Handle h) → ⊥)
+    → (h : Handle) → ServesMessages answered about part (reply.Handle h) → ⊥
+no_handle answered None part never h s = (cc)
+no_handle answered (Some description) part never h s =
+    no_handle_of_part answered h _ (λ d. never d h) s
+
+no_verdict : (required : Requirements) (about : Option Description) (h : Handle)
+    → ServesVerify required about (reply.Handle h) → ⊥
+no_verdict required None h s = (cc)
+no_verdict required (Some description) h s = s
+
 -- each reply gives its handle
-acts : (old : Service) (handles : List (Option Handle)) (c : Command) (r : Reply) (new : Service) → Acts old handles c r new → Moves old new (handle_in r)
-acts old handles (command.Register id) (reply.Handle handle) new s = registers old id handle new s
-acts old handles (command.Register id) reply.Locked new s = refuses old id MarkedForDestruction new s
-acts old handles (command.Register id) reply.Full new s = refuses old id ExceedsMaxNumberOfNodes new s
-acts old handles (command.Deregister k) reply.HasOwners new s = deregisters old s.0 (Ok nodes.HasOwners) new s.2
-acts old handles (command.Deregister k) reply.NoMoreOwners new s = deregisters old s.0 (Ok nodes.NoMoreOwners) new s.2
-acts old handles (command.Deregister k) reply.PortsAttached new s = deregisters old s.0 (Err PortsStillAttached) new s.2
-acts old handles (command.Deregister k) reply.NotOwned new s = deregisters old s.0 (Err ContainerHandleNotOwnedByContainer) new s.2
-acts old handles (command.Deregister k) reply.NoHandle new s = still old new s.1
-acts old handles command.Nodes (reply.Nodes ids) new s = still old new s.1
-acts old handles (command.Add details) (reply.Handle handle) new s = adds old details handle new s.1.1
-acts old handles (command.Add details) reply.Locked new s = unattached old details ServiceIsLocked new s
-acts old handles (command.Add details) reply.NotRegistered new s = unattached old details NodeNotRegistered new s
-acts old handles (command.Add details) reply.Full new s = unattached old details OutOfSpace new s
-acts old handles (command.Add details) reply.WrongPattern new s = still old new s.1
-acts old handles (command.Release k) reply.Released new s = removes old s.0 (Ok s.2.0) new s.2.1
-acts old handles (command.Release k) reply.NotOwned new s = removes old s.0 (Err remove.ContainerHandleNotOwnedByContainer) new s.2
-acts old handles (command.Release k) reply.NoHandle new s = still old new s.1
-acts old handles (command.List role) (reply.Ports ports) new s = still old new s.1
-acts old handles (command.List role) reply.WrongPattern new s = still old new s.1
-acts old handles (command.Count role) (reply.Count n) new s = still old new s.1
-acts old handles (command.Count role) reply.WrongPattern new s = still old new s.1
-acts old handles (command.Dead dead cleanup) reply.HasOwners new s = dies (Cleans cleanup) old _ dead nodes.HasOwners new s.0 s.1
-acts old handles (command.Dead dead cleanup) reply.NoMoreOwners new s = dies (Cleans cleanup) old _ dead nodes.NoMoreOwners new s.0 s.1
-acts old handles _ _ new s = absurd s
-
--- an answer about the description is not a handle
-told : (old : Service) (about : Option Description) (c : Command) (r : Reply) (new : Service) → Tells about c r → new ≡ old → Moves old new (handle_in r)
-told old about (command.Verify required) reply.Verified new t e = still old new e
-told old about (command.Verify required) (reply.Refused fault) new t e = still old new e
-told old about (command.Verify required) reply.NoDescription new t e = still old new e
-told old about (command.Layout part n) (reply.Layout room) new t e = still old new e
-told old about (command.Layout part n) reply.NoLayout new t e = still old new e
-told old about (command.Layout part n) reply.NoAlignments new t e = still old new e
-told old about (command.Layout part n) reply.WrongPattern new t e = still old new e
-told old about (command.Layout part n) reply.NoDescription new t e = still old new e
-told old about (command.Places part header) (reply.Places user_header payload) new t e = still old new e
-told old about (command.Places part header) reply.NoPlaces new t e = still old new e
-told old about (command.Places part header) reply.NoAlignments new t e = still old new e
-told old about (command.Places part header) reply.WrongPattern new t e = still old new e
-told old about (command.Places part header) reply.NoDescription new t e = still old new e
-told old about (command.Compatible part opener) (reply.Compatible fits) new t e = still old new e
-told old about (command.Compatible part opener) reply.WrongPattern new t e = still old new e
-told old about (command.Compatible part opener) reply.NoDescription new t e = still old new e
-told old about _ _ new t e = absurd t
-
-pub moves : (old : Service) (about : Option Description) (handles : List (Option Handle)) (c : Command) (r : Reply) (new : Service) → Serves old about handles c r new → Moves old new (handle_in r)
-moves old about handles (command.Verify required) r new s = told old about (command.Verify required) r new s.0 s.1
-moves old about handles (command.Layout part n) r new s = told old about (command.Layout part n) r new s.0 s.1
-moves old about handles (command.Places part header) r new s = told old about (command.Places part header) r new s.0 s.1
-moves old about handles (command.Compatible part opener) r new s = told old about (command.Compatible part opener) r new s.0 s.1
-moves old about handles c r new s = acts old handles c r new s
+pub moves : (old : Service) (about : Option Description) (handles : List (Option Handle))
+    (c : Command) (r : Reply) (new : Service) → IsService old → Serves old about handles c r new
+    → Moves old new (handle_in r)
+moves old about handles (command.Register id) r new i s = registers old id r new i s
+moves old about handles (command.Deregister k) r new i s =
+    deregisters old (named handles k) r new s
+moves old about handles command.Nodes r new i s = tells old new (ServesNodes old) r (λ h t. t) s
+moves old about handles (command.Add details) r new i s = attaches old details r new i s
+moves old about handles (command.Release k) r new i s = releases old (named handles k) r new s
+moves old about handles (command.List role) r new i s =
+    tells old new (ServesList old role) r (λ h t. t) s
+moves old about handles (command.Count role) r new i s =
+    tells old new (ServesCount old role) r (λ h t. t) s
+moves old about handles (command.Dead dead cleanup) r new i s = dies old dead cleanup r new s
+moves old about handles (command.Verify required) r new i s =
+    tells old new (ServesVerify required about) r (no_verdict required about) s
+moves old about handles (command.Layout part n) r new i s =
+    tells old new (ServesMessages (ServesLayout n) about part) r
+    (no_handle (ServesLayout n) about part (λ d h t. t)) s
+moves old about handles (command.Places part header) r new i s =
+    tells old new (ServesMessages (ServesPlaces header) about part) r
+    (no_handle (ServesPlaces header) about part (λ d h t. t)) s
+moves old about handles (command.Compatible part opener) r new i s =
+    tells old new (ServesMessages (ServesCompatible opener) about part) r
+    (no_handle (ServesCompatible opener) about part (λ d h t. t)) s

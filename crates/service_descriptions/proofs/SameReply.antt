@@ -16,9 +16,9 @@ use Rattle.iox2_container.specs.contracts.container.role.RolePartialEq.TheImpl a
 use Rattle.iox2_container.specs.declared.container.role.Role.{Role}
 use Rattle.iox2_dynamic.specs.contracts.dynamic_config.port_details.PortDetailsPartialEq.TheImpl as port
 use Rattle.iox2_dynamic.specs.declared.dynamic_config.port_details.PortDetails.{PortDetails}
-use Rattle.service_descriptions.specs.contracts.replay.reply.ReplyPartialEq.TheImpl as same
-use Rattle.service_descriptions.specs.declared.replay.reply.Reply.{Reply}
-use Rattle.service_descriptions.specs.declared.replay.reply.Reply.TheVariants as reply
+use Rattle.service_descriptions.specs.contracts.replay.machine.reply.ReplyPartialEq.TheImpl as same
+use Rattle.service_descriptions.specs.declared.replay.machine.reply.Reply.{Reply}
+use Rattle.service_descriptions.specs.declared.replay.machine.reply.Reply.TheVariants as reply
 use Rattle.service_descriptions.specs.Replies.{IsSameReply}
 
 ports_decide : (x y : PortDetails) → Decides (port.ghosts.eq x y) (x ≡ y)
@@ -46,14 +46,21 @@ faults_decide x y = search rules
 
 -- replies are compared by their variants and what is in them, lists item by item
 pub replies_decide : (x y : Reply) → Decides (same.ghosts.eq x y) (IsSameReply x y)
-replies_decide (reply.Nodes one) (reply.Nodes other) = slice_eq-Decides nodes_decide one.items other.items _ refl
-replies_decide (reply.Ports one) (reply.Ports other) = slice_eq-Decides ports_decide one.items other.items _ refl
-replies_decide (reply.Handle one) (reply.Handle other) = Decides-like _ (ap reply.Handle) (λ e. cc) (handles_decide one other)
-replies_decide (reply.Count one) (reply.Count other) = Decides-like _ (ap reply.Count) (λ e. cc) (unsigned_Decides one other)
-replies_decide (reply.Refused one) (reply.Refused other) = Decides-like _ (ap reply.Refused) (λ e. cc) (faults_decide one other)
-replies_decide (reply.Layout one) (reply.Layout other) = Decides-like _ (ap reply.Layout) (λ e. cc) (rooms_decide one other)
+replies_decide (reply.Nodes one) (reply.Nodes other) =
+    slice_eq-Decides nodes_decide one.items other.items _ refl
+replies_decide (reply.Ports one) (reply.Ports other) =
+    slice_eq-Decides ports_decide one.items other.items _ refl
+replies_decide (reply.Handle one) (reply.Handle other) =
+    Decides-like _ (ap reply.Handle) (λ e. cc) (handles_decide one other)
+replies_decide (reply.Count one) (reply.Count other) =
+    Decides-like _ (ap reply.Count) (λ e. cc) (unsigned_Decides one other)
+replies_decide (reply.Refused one) (reply.Refused other) =
+    Decides-like _ (ap reply.Refused) (λ e. cc) (faults_decide one other)
+replies_decide (reply.Layout one) (reply.Layout other) =
+    Decides-like _ (ap reply.Layout) (λ e. cc) (rooms_decide one other)
 replies_decide (reply.Places a b) (reply.Places c d) =
-    Decides-like _ (λ e i. reply.Places (e.0 i) (e.1 i)) (λ e. (cc, cc)) (Decides-and _ _ (unsigned_Decides a c) (unsigned_Decides b d))
+    Decides-like _ (λ e i. reply.Places (e.0 i) (e.1 i)) (λ e. (cc, cc))
+    (Decides-and _ _ (unsigned_Decides a c) (unsigned_Decides b d))
 replies_decide (reply.Compatible one) (reply.Compatible other) =
     Decides-like _ (ap reply.Compatible) (λ e. cc) (booleans_Decides one other)
 replies_decide _ _ = search rules

@@ -1,32 +1,35 @@
 -- The handles that a service has given.
-use Rattle.std.specs.Prelude.{◌≡◌, ◌≢◌, ℕ, ◌<◌, ◌⊎◌, List, Option, Some, None, All, AllPairs, map, slice_get}
+use Rattle.std.specs.Prelude.{◌≢◌, ℕ, ◌<◌, List, Option, Some, None, All, AllPairs, map, slice_get, unwrap_or}
+use Rattle.iox2_container.specs.declared.container.role.Role.{Role}
+use Rattle.iox2_container.specs.declared.container.role.Role.TheVariants as role
 use Rattle.iox2_container.specs.Handle.{Handle}
-use Rattle.iox2_container.specs.State.{RegistryState}
 use Rattle.iox2_dynamic.specs.Service.{Service}
-use Rattle.service_descriptions.specs.declared.replay.earlier.Earlier.{Earlier}
-use Rattle.service_descriptions.specs.declared.replay.earlier.Earlier.TheVariants as earlier
+use Rattle.service_descriptions.specs.declared.replay.machine.earlier.Earlier.{Earlier}
+use Rattle.service_descriptions.specs.declared.replay.machine.earlier.Earlier.TheVariants as earlier
 
--- the earlier command k was answered with the handle
-abbrev pub Gave : List (Option Handle) → ℕ → Handle → Type 0
-Gave handles k handle = slice_get handles k ≡ Some (Some handle)
-
--- k is not an earlier command, or one that was answered with no handle
-abbrev pub GaveNone : List (Option Handle) → ℕ → Type 0
-GaveNone handles k = (handle : Handle) → ¬ (Gave handles k handle)
+-- the handle that the earlier command k was answered with; none where
+-- there is no such command, or it was answered with no handle
+abbrev pub named : List (Option Handle) → ℕ → Option Handle
+named handles k = unwrap_or (slice_get handles k) None
 
 -- not the same handle twice
 abbrev pub Differ : Option Handle → Option Handle → Type 0
 Differ (Some a) (Some b) = a ≢ b
 Differ _ _ = Unit {0}
 
--- the registry has given the handle
-abbrev pub GivenBy : {T : Type 0} → RegistryState T → Handle → Type 0
-GivenBy r h = (h.service ≡ r.service) × (h.role ≡ r.role) × (h.ticket < r.used)
+-- how many tickets a service has given for nodes, or for ports of a role
+abbrev pub tickets_of : Service → Role → ℕ
+tickets_of s role.Node = s.nodes.registry.used
+tickets_of s role.Publisher = s.ports.first.registry.used
+tickets_of s role.Listener = s.ports.first.registry.used
+tickets_of s role.Server = s.ports.first.registry.used
+tickets_of s role.Reader = s.ports.first.registry.used
+tickets_of s _ = s.ports.second.registry.used
 
--- a registry of the service has given the handle, if there is one
+-- the service has given the ticket of the handle, if there is one
 abbrev pub IsGiven : Service → Option Handle → Type 0
 IsGiven s None = Unit {0}
-IsGiven s (Some h) = GivenBy s.nodes.registry h ⊎ GivenBy s.ports.first.registry h ⊎ GivenBy s.ports.second.registry h
+IsGiven s (Some h) = h.ticket < tickets_of s h.role
 
 -- the service has given these handles, and no two of them are equal
 pub record KeepsHandles (s : Service) (handles : List (Option Handle)) : Type 0 where
@@ -36,7 +39,8 @@ pub record KeepsHandles (s : Service) (handles : List (Option Handle)) : Type 0 
 -- the handle that is kept without the number of its service
 abbrev pub handle_at : ℕ → Earlier → Option Handle
 handle_at number earlier.Nothing = None
-handle_at number (earlier.Given role slot ticket) = Some (record { service = number; role = role; slot = slot; ticket = ticket })
+handle_at number (earlier.Given role slot ticket) =
+    Some (record { service = number; role = role; slot = slot; ticket = ticket })
 
 -- the handles that are kept without the number of their service
 abbrev pub handles_in : ℕ → List Earlier → List (Option Handle)

@@ -12,6 +12,5 @@ pub mod Script
 pub mod Streams
 -- Promises of no single call: what follows from those definitions.
 pub mod Laws
--- Inner facts: how private fields make a state, and the names of patterns.
+-- An inner fact: how private fields make a state.
 pub mod Fields
-pub mod Pattern

@@ -10,19 +10,21 @@ use Rattle.iox2_container.specs.declared.container.role.Role.TheVariants as role
 use Rattle.iox2_dynamic.specs.declared.dynamic_config.port_details.PortDetails.{PortDetails}
 use Rattle.iox2_dynamic.specs.declared.dynamic_config.port_details.PortDetails.TheVariants as of
 use Rattle.iox2_dynamic.specs.Details.{role_of, node_of, port_of}
-use Rattle.service_descriptions.specs.declared.replay.command.Cleanup.TheVariants.{ByPort}
-use Rattle.service_descriptions.specs.declared.replay.command.Command.{Command}
-use Rattle.service_descriptions.specs.declared.replay.command.Command.TheVariants as command
-use Rattle.service_descriptions.specs.declared.replay.id.Parts.{Parts}
-use Rattle.service_descriptions.specs.declared.replay.id.PlainPort.{PlainPort}
-use Rattle.service_descriptions.specs.declared.replay.line_command.LineCommand.{LineCommand}
-use Rattle.service_descriptions.specs.declared.replay.line_command.LineCommand.TheVariants as spelled
+use Rattle.service_descriptions.specs.declared.replay.machine.command.Cleanup.TheVariants.{ByPort}
+use Rattle.service_descriptions.specs.declared.replay.machine.command.Command.{Command}
+use Rattle.service_descriptions.specs.declared.replay.machine.command.Command.TheVariants as command
+use Rattle.service_descriptions.specs.declared.replay.lines.id.Parts.{Parts}
+use Rattle.service_descriptions.specs.declared.replay.lines.id.ScriptPort.{ScriptPort}
+use Rattle.service_descriptions.specs.declared.replay.machine.line_command.LineCommand.{LineCommand}
+use Rattle.service_descriptions.specs.declared.replay.machine.line_command.LineCommand.TheVariants as spelled
 use Rattle.service_descriptions.specs.Reading.{EndsNumber}
 
 -- the four parts of an id, joined by dots
 abbrev pub id_text : ℕ → List ℕ
 id_text id =
-    join_with_byte 46 (decimal (process_of id) ∷ decimal (seconds_of id) ∷ decimal (nanoseconds_of id) ∷ decimal (counter_of id) ∷ [])
+    join_with_byte 46
+    (decimal (process_of id) ∷ decimal (seconds_of id) ∷ decimal (nanoseconds_of id)
+    ∷ decimal (counter_of id) ∷ [])
 
 -- the number of an id: four parts of 32 bits
 abbrev pub IsId : ℕ → Type 0
@@ -54,7 +56,8 @@ plain role.Publisher port node = of.Publisher (record {
   data_segment_type = Static;
   max_number_of_segments = 1;
 })
-plain role.Subscriber port node = of.Subscriber (record { subscriber_id = port; node_id = node; buffer_size = 0 })
+plain role.Subscriber port node =
+    of.Subscriber (record { subscriber_id = port; node_id = node; buffer_size = 0 })
 plain role.Listener port node = of.Listener (record { listener_id = port; node_id = node })
 plain role.Notifier port node = of.Notifier (record { notifier_id = port; node_id = node })
 plain role.Server port node = of.Server (record {
@@ -94,7 +97,8 @@ abbrev pub words_of : Command → List (List ℕ)
 words_of (command.Register id) = codes "register" ∷ id_text id ∷ []
 words_of (command.Deregister k) = codes "deregister" ∷ decimal k ∷ []
 words_of command.Nodes = codes "nodes" ∷ []
-words_of (command.Add d) = codes "add" ∷ role_word (role_of d) ∷ id_text (port_value (port_of d)) ∷ id_text (node_of d) ∷ []
+words_of (command.Add d) = codes "add" ∷ role_word (role_of d) ∷ id_text (port_value (port_of d))
+    ∷ id_text (node_of d) ∷ []
 words_of (command.Release k) = codes "release" ∷ decimal k ∷ []
 words_of (command.List r) = codes "list" ∷ role_word r ∷ []
 words_of (command.Count r) = codes "count" ∷ role_word r ∷ []
@@ -106,17 +110,17 @@ abbrev pub line_of : Command → List ℕ
 line_of c = join_with_byte 32 (words_of c)
 
 -- a command that has a line
-abbrev pub IsCommand : Command → Type 0
-IsCommand (command.Register id) = IsNodeId id
-IsCommand (command.Deregister k) = k < 2 ^ 64
-IsCommand command.Nodes = Unit {0}
-IsCommand (command.Add d) = IsPlain d
-IsCommand (command.Release k) = k < 2 ^ 64
-IsCommand (command.List r) = r ≢ role.Node
-IsCommand (command.Count r) = r ≢ role.Node
-IsCommand (command.Dead id (ByPort kept)) = IsNodeId id × AllByRecursion IsId kept.items
+abbrev pub HasLine : Command → Type 0
+HasLine (command.Register id) = IsNodeId id
+HasLine (command.Deregister k) = k < 2 ^ 64
+HasLine command.Nodes = Unit {0}
+HasLine (command.Add d) = IsPlain d
+HasLine (command.Release k) = k < 2 ^ 64
+HasLine (command.List r) = r ≢ role.Node
+HasLine (command.Count r) = r ≢ role.Node
+HasLine (command.Dead id (ByPort kept)) = IsNodeId id × AllByRecursion IsId kept.items
 -- the others have none
-IsCommand _ = ⊥
+HasLine _ = ⊥
 
 -- an id, and what follows it
 abbrev pub IsIdFront : ℕ × List ℕ → Type 0
@@ -173,16 +177,18 @@ dead_front front = id_text front.0 ++ skip_front (front.1, front.2)
 -- answered, the bytes have no such ports at their front.
 abbrev pub GoesOn : List ℕ → List ℕ → Option (List ℕ) → List ℕ → Type 0
 GoesOn before bytes (Some rest) after =
-    (ports : List ℕ) × (after ≡ before ++ ports) × AllByRecursion IsId ports × (bytes ≡ ports_then ports rest) × (get_or rest 0 0 ≢ 32) × EndsNumber rest
+    (ports : List ℕ) × (after ≡ before ++ ports) × AllByRecursion IsId ports
+    × (bytes ≡ ports_then ports rest) × (get_or rest 0 0 ≢ 32) × EndsNumber rest
 GoesOn before bytes None after =
-    (ports : List ℕ) (rest : List ℕ) → AllByRecursion IsId ports → get_or rest 0 0 ≢ 32 → EndsNumber rest → bytes ≢ ports_then ports rest
+    (ports : List ℕ) (rest : List ℕ) → AllByRecursion IsId ports → get_or rest 0 0 ≢ 32
+    → EndsNumber rest → bytes ≢ ports_then ports rest
 
 -- the number that the parts of an id make
 abbrev pub value_of : Parts → ℕ
 value_of p = packed p.process p.seconds p.nanoseconds p.counter
 
 -- the details that a script gives a port
-abbrev pub plain_of : PlainPort → PortDetails
+abbrev pub plain_of : ScriptPort → PortDetails
 plain_of p = plain p.role (value_of p.port) p.node
 
 -- the details of a port, and what follows them
@@ -191,7 +197,8 @@ IsPlainFront front = IsPlain front.0 × EndsNumber front.1
 
 -- the text of the details of a port, and what follows it
 abbrev pub plain_front : PortDetails × List ℕ → List ℕ
-plain_front front = role_word (role_of front.0) ++ spaced (id_text (port_value (port_of front.0))) (spaced (id_text (node_of front.0)) front.1)
+plain_front front = role_word (role_of front.0)
+    ++ spaced (id_text (port_value (port_of front.0))) (spaced (id_text (node_of front.0)) front.1)
 
 -- what follows a command does not go on with it
 abbrev pub EndsCommand : Command → List ℕ → Type 0
@@ -204,12 +211,13 @@ EndsCommand _ rest = Unit {0}
 
 -- commands with one line: the same command, with the same list in it
 abbrev pub SameCommand : Command → Command → Type 0
-SameCommand (command.Dead a (ByPort kept)) (command.Dead b (ByPort other)) = (a ≡ b) × (kept.items ≡ other.items)
+SameCommand (command.Dead a (ByPort kept)) (command.Dead b (ByPort other)) = (a ≡ b)
+    × (kept.items ≡ other.items)
 SameCommand c d = c ≡ d
 
 -- a command, and what follows it
 abbrev pub IsCommandFront : Command × List ℕ → Type 0
-IsCommandFront front = IsCommand front.0 × EndsCommand front.0 front.1
+IsCommandFront front = HasLine front.0 × EndsCommand front.0 front.1
 
 -- the text of a command, and what follows it
 abbrev pub command_front : Command × List ℕ → List ℕ
@@ -217,7 +225,7 @@ command_front front = line_of front.0 ++ front.1
 
 -- a command, and what follows its newline
 abbrev pub IsLine : Command × List ℕ → Type 0
-IsLine line = IsCommand line.0
+IsLine line = HasLine line.0
 
 -- the text of a command, its newline and what follows it
 abbrev pub line_text : Command × List ℕ → List ℕ

@@ -1,17 +1,32 @@
--- Listings of nodes and ports.
-use Rattle.std.specs.Prelude.{◌≡◌, List, ◌⊎◌}
+-- How a service answers what is asked of its nodes and ports.
+use Rattle.std.specs.Prelude.{◌≡◌, Some}
 use Rattle.iox2_container.specs.declared.container.role.Role.{Role}
 use Rattle.iox2_container.specs.Steps.{listed}
-use Rattle.iox2_dynamic.specs.declared.dynamic_config.port_details.PortDetails.{PortDetails}
-use Rattle.iox2_dynamic.specs.Ports.{IsNeither}
+use Rattle.iox2_dynamic.specs.Ports.{CountsIn, IsNeither, OfRole}
 use Rattle.iox2_dynamic.specs.Service.{Service, first_role, second_role}
+use Rattle.service_descriptions.specs.declared.replay.machine.reply.Reply.{Reply}
+use Rattle.service_descriptions.specs.declared.replay.machine.reply.Reply.TheVariants as reply
 
 -- the pattern of the service has no ports of the role
 abbrev pub LacksRole : Service → Role → Type 0
 LacksRole s role = IsNeither (first_role s.pattern) (second_role s.pattern) role
 
--- these are the ports of the role
-abbrev pub ArePorts : Service → Role → List PortDetails → Type 0
-ArePorts s role ports =
-    ((role ≡ first_role s.pattern) × (ports ≡ listed s.ports.first.registry))
-    ⊎ ((role ≡ second_role s.pattern) × (ports ≡ listed s.ports.second.registry))
+-- how listing the nodes is answered
+abbrev pub ServesNodes : Service → Reply → Type 0
+ServesNodes s (reply.Nodes ids) = ids.items ≡ listed s.nodes.registry
+ServesNodes s _ = ⊥
+
+-- how listing the ports of a role is answered
+abbrev pub ServesList : Service → Role → Reply → Type 0
+ServesList s role (reply.Ports ports) =
+    OfRole (λ r items. items ≡ listed r) (first_role s.pattern) (second_role s.pattern) s.ports role
+    (Some ports.items)
+ServesList s role reply.WrongPattern = LacksRole s role
+ServesList s role _ = ⊥
+
+-- how counting the ports of a role is answered
+abbrev pub ServesCount : Service → Role → Reply → Type 0
+ServesCount s role (reply.Count n) =
+    CountsIn (first_role s.pattern) (second_role s.pattern) s.ports role (Some n)
+ServesCount s role reply.WrongPattern = LacksRole s role
+ServesCount s role _ = ⊥

@@ -7,10 +7,10 @@ use Rattle.iox2_ids.specs.PortId.{port_value}
 use Rattle.iox2_texts.specs.VerifyErrors.{verification_error_text}
 use Rattle.iox2_dynamic.specs.declared.dynamic_config.port_details.PortDetails.{PortDetails}
 use Rattle.iox2_dynamic.specs.Details.{port_of}
-use Rattle.service_descriptions.specs.declared.replay.line_reply.LineReply.{LineReply}
-use Rattle.service_descriptions.specs.declared.replay.line_reply.LineReply.TheVariants as line
-use Rattle.service_descriptions.specs.declared.replay.reply.Reply.{Reply}
-use Rattle.service_descriptions.specs.declared.replay.reply.Reply.TheVariants as reply
+use Rattle.service_descriptions.specs.declared.replay.machine.line_reply.LineReply.{LineReply}
+use Rattle.service_descriptions.specs.declared.replay.machine.line_reply.LineReply.TheVariants as line
+use Rattle.service_descriptions.specs.declared.replay.machine.reply.Reply.{Reply}
+use Rattle.service_descriptions.specs.declared.replay.machine.reply.Reply.TheVariants as reply
 
 -- a space and an id, as it prints
 abbrev pub id_word : ℕ → List ℕ
@@ -22,7 +22,8 @@ port_word details = id_word (port_value (port_of details))
 
 -- the words of a reply
 abbrev pub text_of : Reply → List ℕ
-text_of (reply.Handle handle) = codes "handle " ++ decimal handle.slot ++ codes " " ++ decimal handle.ticket
+text_of (reply.Handle handle) = codes "handle " ++ decimal handle.slot ++ codes " "
+    ++ decimal handle.ticket
 text_of reply.Locked = codes "locked"
 text_of reply.Full = codes "full"
 text_of reply.NotRegistered = codes "not-registered"
@@ -37,9 +38,11 @@ text_of (reply.Ports ports) = codes "list" ++ flat_map port_word ports.items
 text_of (reply.Count n) = codes "count " ++ decimal n
 text_of reply.Verified = codes "verified"
 text_of (reply.Refused fault) = codes "refused " ++ verification_error_text fault
-text_of (reply.Layout room) = codes "layout " ++ decimal room.size ++ codes " " ++ decimal room.alignment
+text_of (reply.Layout room) = codes "layout " ++ decimal room.size ++ codes " "
+    ++ decimal room.alignment
 text_of reply.NoLayout = codes "no-layout"
-text_of (reply.Places user_header payload) = codes "places " ++ decimal user_header ++ codes " " ++ decimal payload
+text_of (reply.Places user_header payload) = codes "places " ++ decimal user_header ++ codes " "
+    ++ decimal payload
 text_of reply.NoPlaces = codes "no-places"
 text_of (reply.Compatible true) = codes "compatible"
 text_of (reply.Compatible false) = codes "incompatible"

@@ -8,7 +8,6 @@ mod deaths;
 #[cfg(test)]
 mod descriptions;
 #[cfg(test)]
-mod laws;
 #[cfg(test)]
 mod line_runs;
 #[cfg(test)]

@@ -16,8 +16,8 @@ answered_at_zero (Err BadArgument) P h e = absurd (omega (arith, e))
 answered_at_zero (Err NoMemory) P h e = absurd (omega (arith, e))
 
 -- what is answered to this request
-pub answers_for : (asked : Result Asked Fault) (field wanted : Asked)
-    (end : Result (String Global) Fault) → asked ≡ Ok field → field ≡ wanted
-    → Answers (Ok wanted) end → Answers asked end
-answers_for asked field wanted end e f h =
+pub answers_for : (asked : Result Asked Fault) (field expected : Asked)
+    (end : Result (String Global) Fault) → asked ≡ Ok field → field ≡ expected
+    → Answers (Ok expected) end → Answers asked end
+answers_for asked field expected end e f h =
     subst (λ (q : Result Asked Fault). Answers q end) (sym (e ∙ ap Ok f)) h

@@ -8,20 +8,23 @@ use Rattle.iox2_config.specs.declared.types.message_details.MessageTypeDetails.{
 
 -- the parts of a message at the place 0 end within its room
 pub ends_inside : (d : MessageTypeDetails) (n size : ℕ) → HoldsEverywhere d n size → size < 2 ^ 63
-    → (user_header_place d 0 + d.user_header.size ≤ size) × (payload_place d 0 + d.payload.size * n ≤ size)
+    → (user_header_place d 0 + d.user_header.size ≤ size)
+    × (payload_place d 0 + d.payload.size * n ≤ size)
 ends_inside d n size h limit =
     let first : HoldsMessage d n size 0 = h.alone 0 (dvd-zero _) (omega arith) in
     (omega (arith, first.own.inside.1.0.1), omega (arith, first.own.inside.1.1.0.1))
 
 -- an element ends where the payload does, or before
-pub element_inside : (start element elements i end : ℕ) → end ≡ start + element * elements → i < elements
+pub element_inside : (start element elements i end : ℕ) → end ≡ start + element * elements
+    → i < elements
     → start + i * element + element ≤ end
 element_inside start element elements i end is there =
     let more : i + 1 ≤ elements = omega arith in
     omega (arith, is, mul-le-mul_right element more)
 
 -- elements begin where the payload ends, or before
-pub elements_inside : (start element elements i end : ℕ) → end ≡ start + element * elements → i ≤ elements
+pub elements_inside : (start element elements i end : ℕ) → end ≡ start + element * elements
+    → i ≤ elements
     → start + i * element ≤ end
 elements_inside start element elements i end is there =
     omega (arith, is, mul-le-mul_right element there)

@@ -1,5 +1,11 @@
 mod Answered
+mod AttributeLines
+mod Exchanges
 mod FirstLine
 mod Inside
+mod Messages
 mod Naming
+mod Pairs
+mod ServiceNames
+mod Words
 mod Writes

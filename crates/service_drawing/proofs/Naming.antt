@@ -1,10 +1,8 @@
 -- Settings that are found by their names, and patterns by their words.
-use Rattle.std.proofs.Common.{◌≡◌, ℕ, ◌<◌, ◌≤◌, List, ◌∷◌, ◌++◌, ◌⊎◌, Bool, false, length, get_or, ap, codes, Some, None, slice_get, inl, inr, subst, sym, ◌∙◌, arith}
+use Rattle.std.proofs.Common.{◌≡◌, ℕ, ◌<◌, ◌≤◌, List, ◌++◌, Bool, false, length, get_or, ap, codes, Some, None, slice_get, inl, inr, subst, sym, ◌∙◌, arith}
 use Rattle.std.proofs.lemmas.Option.{none-some, slice_get_within, slice_get_cases, slice_get-get_or}
-use Rattle.std.specs.List.{before_first}
-use Rattle.iox2_config.specs.declared.hash.input.PatternKind.{PatternKind}
 use Rattle.iox2_config.specs.declared.hash.input.PatternKind.TheVariants.{PublishSubscribe, Event, RequestResponse, Blackboard}
-use Rattle.service_drawing.specs.Lines.{pattern_word, HasNoPattern}
+use Rattle.service_drawing.specs.Lines.{HasNoPattern}
 use Rattle.service_drawing.specs.Settings.{HasName, IsNamed}
 
 -- the setting of this number has another name
@@ -15,16 +13,19 @@ not_named names i word name there other h =
     other (subst (λ (n : List ℕ). IsNamed word n) e h.named)
 
 past_end : (names : List (List ℕ)) (i : ℕ) → slice_get names i ≡ None → length names ≤ i
-past_end names i e = elim (slice_get_cases names i).1 [ inl w ↦ absurd (none-some w.0 (sym e ∙ w.2)) | inr w ↦ w.0 ]
+past_end names i e =
+    elim (slice_get_cases names i).1 [ inl w ↦ absurd (none-some w.0 (sym e ∙ w.2)) | inr w ↦ w.0 ]
 
 -- there is no setting from this number on
 pub none_named : (names : List (List ℕ)) (i : ℕ) (word : List ℕ) → None ≡ slice_get names i
     → ((k : ℕ) → k < i → HasName names k word → ⊥) → (k : ℕ) → HasName names k word → ⊥
 none_named names i word past before k h =
-    before k (omega (arith, slice_get_within names k h.name h.stands, past_end names i (sym past))) h
+    before k (omega (arith, slice_get_within names k h.name h.stands, past_end names i (sym past)))
+    h
 
 -- the name in another spelling of its text
-pub as_word : (names : List (List ℕ)) (i : ℕ) (word other : List ℕ) → word ≡ other → HasName names i word
+pub as_word : (names : List (List ℕ)) (i : ℕ) (word other : List ℕ) → word ≡ other
+    → HasName names i word
     → HasName names i other
 as_word names i word other e h = subst (λ (w : List ℕ). HasName names i w) e h
 

@@ -4,7 +4,8 @@ use Rattle.std.specs.Io.KnownBytes.{Appends}
 use Rattle.byte_streams.proofs.Written.{appends_more}
 
 -- one text was appended, and then another unless that failed
-pub appends_then : {E : Type 0} (a b c : Option (List ℕ)) (xs ys zs : List ℕ) (r : Result (Unit {0}) E)
+pub appends_then : {E : Type 0} (a b c : Option (List ℕ)) (xs ys zs : List ℕ)
+    (r : Result (Unit {0}) E)
     → Appends a b xs → OnOk r (Appends b c ys) → zs ≡ xs ++ ys → OnOk r (Appends a c zs)
 appends_then a b c xs ys zs (Ok done) first second is =
     subst (λ (text : List ℕ). Appends a c text) (sym is) (appends_more a b c xs ys first second)

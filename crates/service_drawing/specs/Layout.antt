@@ -1,14 +1,14 @@
 -- Where the parts of one message lie.
 use Rattle.std.specs.Prelude.{◌≡◌, ℕ, ◌+◌, ◌*◌, ◌^◌, ◌<◌, ◌≤◌}
 use Rattle.iox2_config.specs.Compatible.{Compatible}
-use Rattle.iox2_config.specs.Layout.{user_header_place, payload_place, bound}
+use Rattle.iox2_config.specs.Layout.{user_header_place, payload_place, sample_size}
 use Rattle.iox2_config.specs.declared.types.message_details.MessageTypeDetails.{MessageTypeDetails}
 use Rattle.service_drawing.specs.Extent.{Extent, InExtent}
 use Rattle.service_drawing.specs.declared.layout.MessageLayout.{MessageLayout}
 use Rattle.service_drawing.specs.declared.layout.Part.{Part}
 use Rattle.service_drawing.specs.declared.layout.Part.TheVariants as part
-use Rattle.service_drawing.specs.declared.layout.Clash.{Clash}
-use Rattle.service_drawing.specs.declared.layout.Clash.TheVariants as clash
+use Rattle.service_drawing.specs.declared.layout.Incompatibility.{Incompatibility}
+use Rattle.service_drawing.specs.declared.layout.Incompatibility.TheVariants as incompatibility
 
 -- the span of this many bytes from this place on
 abbrev pub span : ℕ → ℕ → Extent
@@ -21,7 +21,7 @@ pub record IsLayoutOf (l : MessageLayout) (d : MessageTypeDetails) (n : ℕ) : T
   pub payload : l.payload ≡ span (payload_place d 0) (d.payload.size * n)
   pub element : l.element ≡ d.payload.size
   pub elements : l.elements ≡ n
-  pub size : l.size ≡ bound d n
+  pub size : l.size ≡ sample_size d n
 
 -- the parts lie one behind the other, with the gaps between them, the payload is its elements, and
 -- the room is no larger than a block of memory can be
@@ -42,15 +42,19 @@ abbrev pub IsPartAt : MessageLayout → ℕ → Part → Type 0
 IsPartAt l offset part.Header = InExtent l.header offset
 IsPartAt l offset part.UserHeader = InExtent l.user_header offset
 IsPartAt l offset (part.Element i) =
-    (i < l.elements) × (l.payload.start + i * l.element ≤ offset) × (offset < l.payload.start + (i + 1) * l.element)
-IsPartAt l offset part.Gap = (¬ InExtent l.header offset) × (¬ InExtent l.user_header offset) × (offset < l.payload.start)
+    (i < l.elements) × (l.payload.start + i * l.element ≤ offset)
+    × (offset < l.payload.start + (i + 1) * l.element)
+IsPartAt l offset part.Gap = (¬ InExtent l.header offset) × (¬ InExtent l.user_header offset)
+    × (offset < l.payload.start)
 IsPartAt l offset part.Spare = l.payload.end ≤ offset
 
 -- this is the first cause for which the opener may not use the service's messages
-abbrev pub Clashes : Clash → MessageTypeDetails → MessageTypeDetails → Type 0
-Clashes clash.Header opener service = ¬ (opener.header ≡ service.header)
-Clashes clash.UserHeader opener service =
-    (opener.header ≡ service.header) × (service.user_header.alignment < opener.user_header.alignment)
-Clashes clash.Payload opener service =
-    (opener.header ≡ service.header) × (opener.user_header.alignment ≤ service.user_header.alignment)
+abbrev pub IsIncompatibleBy : Incompatibility → MessageTypeDetails → MessageTypeDetails → Type 0
+IsIncompatibleBy incompatibility.Header opener service = ¬ (opener.header ≡ service.header)
+IsIncompatibleBy incompatibility.UserHeader opener service =
+    (opener.header ≡ service.header)
+    × (service.user_header.alignment < opener.user_header.alignment)
+IsIncompatibleBy incompatibility.Payload opener service =
+    (opener.header ≡ service.header)
+    × (opener.user_header.alignment ≤ service.user_header.alignment)
     × (¬ Compatible opener service)

@@ -1,20 +1,51 @@
 -- How a description is spelled.
-use Rattle.std.specs.Prelude.{◌≡◌, ℕ, List, [], ◌∷◌, ◌++◌, codes, Option, Some, None, IsTrue, nat_eq}
-use Rattle.std.specs.List.{starts_with}
+use Rattle.std.specs.Prelude.{◌≡◌, ◌≢◌, ℕ, ◌<◌, ◌≤◌, ◌^◌, List, [], ◌∷◌, ◌++◌, codes, length, Option, Some, None, IfSome, IsTrue, nat_eq}
+use Rattle.std.specs.List.{starts_with, All, AllPass}
+use Rattle.std.specs.Int.{is_power_of_two}
 use Rattle.std.specs.Fmt.{decimal}
+use Rattle.iox2_texts.specs.Attribute.{IsListing}
+use Rattle.iox2_texts.specs.Name.{IsName}
+use Rattle.iox2_texts.specs.Pair.{Pair}
+use Rattle.iox2_texts.specs.Path.{IsRestrictedName}
 use Rattle.iox2_config.specs.Hashing.{hash_input, sha1_text}
 use Rattle.iox2_config.specs.TypeDetailParts.{TypeDetailParts}
+use Rattle.iox2_config.specs.TypeDetails.{IsTypeName}
 use Rattle.iox2_config.specs.declared.hash.input.PatternKind.{PatternKind}
 use Rattle.iox2_config.specs.declared.hash.input.PatternKind.TheVariants.{PublishSubscribe, Event, RequestResponse, Blackboard}
 use Rattle.iox2_config.specs.declared.types.message_details.MessageTypeDetails.{MessageTypeDetails}
 use Rattle.iox2_config.specs.declared.types.type_detail.TypeVariant.{TypeVariant}
 use Rattle.iox2_config.specs.declared.types.type_detail.TypeVariant.TheVariants.{FixedSize, Dynamic}
+use Rattle.service_drawing.specs.Causes.{is_plain}
 use Rattle.service_drawing.specs.declared.description.Exchange.{Exchange}
 use Rattle.service_drawing.specs.declared.description.Exchange.TheVariants as exchange
 use Rattle.service_drawing.specs.declared.description.Message.{Message}
 use Rattle.service_drawing.specs.declared.reading.cause.Reason.{Reason}
 use Rattle.service_drawing.specs.declared.reading.cause.Reason.TheVariants as reason
 use Rattle.service_drawing.specs.declared.reading.service.Service.{Service}
+
+-- a line may hold the text: each byte is from 32 to 126
+abbrev pub IsPlain : List ℕ → Type 0
+IsPlain text = AllPass is_plain text
+
+-- the bytes begin with a line that holds this text, and the rest follows its newline
+pub record IsLine (text rest bytes : List ℕ) : Type 0 where
+  pub spelled : bytes ≡ text ++ 10 ∷ rest
+  pub plain : IsPlain text
+
+-- the bytes begin with no line that begins so
+abbrev pub HasNoLine : List ℕ → List ℕ → Type 0
+HasNoLine begin bytes = (text rest : List ℕ) → ¬ IsLine (begin ++ text) rest bytes
+
+-- a line may give the alignment: a power of two that a number of 64 bits can be
+abbrev pub IsGiven : ℕ → Type 0
+IsGiven alignment = (alignment < 2 ^ 64) × IsTrue (is_power_of_two alignment)
+
+-- lines may describe the type
+pub record IsDescribed (t : TypeDetailParts) : Type 0 where
+  pub size : t.size < 2 ^ 64
+  pub alignment : IsGiven t.alignment
+  pub named : 1 ≤ length t.type_name
+  pub type_name : IsTypeName t.type_name
 
 -- the size, the alignment and the name of a type
 abbrev pub type_text : TypeDetailParts → List ℕ
@@ -32,55 +63,111 @@ payload_text t = variant_word t.variant ++ type_text t
 -- the alignments of a message's parts
 abbrev pub alignments_text : MessageTypeDetails → List ℕ
 alignments_text d =
-    decimal d.header.alignment ++ 32 ∷ (decimal d.user_header.alignment ++ 32 ∷ decimal d.payload.alignment)
+    decimal d.header.alignment ++ 32
+    ∷ (decimal d.user_header.alignment ++ 32 ∷ decimal d.payload.alignment)
+
+-- a line may give the alignments of a message's parts
+pub record AreAlignments (d : MessageTypeDetails) : Type 0 where
+  pub header : IsGiven d.header.alignment
+  pub user_header : IsGiven d.user_header.alignment
+  pub payload : IsGiven d.payload.alignment
 
 -- the opener's types are those of the service but for their alignments
 pub record IsOpenerOf (opener service : MessageTypeDetails) : Type 0 where
   pub header : opener.header ≡ record service.header { alignment = opener.header.alignment }
-  pub user_header : opener.user_header ≡ record service.user_header { alignment = opener.user_header.alignment }
+  pub user_header : opener.user_header
+      ≡ record service.user_header { alignment = opener.user_header.alignment }
   pub payload : opener.payload ≡ record service.payload { alignment = opener.payload.alignment }
 
--- the line of a type that begins so, and what follows its newline
-abbrev pub type_front : List ℕ → TypeDetailParts → List ℕ → List ℕ
-type_front begin t rest = begin ++ type_text t ++ 10 ∷ rest
+-- the bytes begin with the line of a type that has one value in a message: it begins so
+pub record HasType (begin : List ℕ) (t : TypeDetailParts) (rest bytes : List ℕ) : Type 0 where
+  pub line : IsLine (begin ++ type_text t) rest bytes
+  pub one_value : t.variant ≡ FixedSize
+  pub described : IsDescribed t
 
--- the line of a payload, and what follows its newline
-abbrev pub payload_front : List ℕ → TypeDetailParts → List ℕ → List ℕ
-payload_front prefix t rest = prefix ++ codes "payload " ++ payload_text t ++ 10 ∷ rest
+-- the bytes begin with the line of a payload
+pub record HasPayload (prefix : List ℕ) (t : TypeDetailParts) (rest bytes : List ℕ) : Type 0 where
+  pub line : IsLine (prefix ++ codes "payload " ++ payload_text t) rest bytes
+  pub described : IsDescribed t
 
--- the line of the number of elements, which a dynamic payload has, and what follows it
-abbrev pub elements_front : List ℕ → TypeVariant → ℕ → List ℕ → List ℕ
-elements_front prefix FixedSize n rest = rest
-elements_front prefix Dynamic n rest = prefix ++ codes "elements " ++ decimal n ++ 10 ∷ rest
+-- the bytes begin with the line of the number of elements, which a dynamic payload has
+abbrev pub HasElements : List ℕ → TypeVariant → ℕ → List ℕ → List ℕ → Type 0
+HasElements prefix FixedSize n rest bytes = (n ≡ 1) × (rest ≡ bytes)
+HasElements prefix Dynamic n rest bytes =
+    (n < 2 ^ 64) × IsLine (prefix ++ codes "elements " ++ decimal n) rest bytes
 
--- the line of an opener, if there is one, and what follows it
-abbrev pub opener_front : List ℕ → Option MessageTypeDetails → List ℕ → List ℕ
-opener_front prefix None rest = rest
-opener_front prefix (Some opener) rest = prefix ++ codes "opener " ++ alignments_text opener ++ 10 ∷ rest
+-- the bytes begin with the line of an opener, or with none
+abbrev pub HasOpener : List ℕ → Option MessageTypeDetails → List ℕ → List ℕ → Type 0
+HasOpener prefix None rest bytes = (rest ≡ bytes) × HasNoLine (prefix ++ codes "opener ") bytes
+HasOpener prefix (Some opener) rest bytes =
+    AreAlignments opener
+    × IsLine (prefix ++ codes "opener " ++ alignments_text opener) rest bytes
 
--- the lines of a message, and what follows them
-abbrev pub message_front : List ℕ → Message → List ℕ → List ℕ
-message_front prefix m rest =
-    type_front (prefix ++ codes "header ") m.details.header
-    (type_front (prefix ++ codes "user-header ") m.details.user_header
-    (payload_front prefix m.details.payload
-    (elements_front prefix m.details.payload.variant m.elements
-    (opener_front prefix m.opener rest))))
+-- the bytes begin with the lines of a message
+pub record HasMessage (prefix : List ℕ) (m : Message) (rest bytes : List ℕ) : Type 0 where
+  pub at_user_header : List ℕ
+  pub at_payload : List ℕ
+  pub at_elements : List ℕ
+  pub at_opener : List ℕ
+  pub header : HasType (prefix ++ codes "header ") m.details.header at_user_header bytes
+  pub user_header : HasType (prefix ++ codes "user-header ") m.details.user_header at_payload
+      at_user_header
+  pub payload : HasPayload prefix m.details.payload at_elements at_payload
+  pub elements : HasElements prefix m.details.payload.variant m.elements at_opener at_elements
+  pub opener : HasOpener prefix m.opener rest at_opener
+  pub opens : IfSome m.opener (λ opener. IsOpenerOf opener m.details)
 
--- what the lines say of messages and keys, and what follows them
-abbrev pub exchange_front : Exchange → List ℕ → List ℕ
-exchange_front (exchange.PublishSubscribe message) rest = message_front [] message rest
-exchange_front exchange.Event rest = rest
-exchange_front (exchange.RequestResponse request response) rest =
-    message_front (codes "request-") request (message_front (codes "response-") response rest)
-exchange_front (exchange.Blackboard key) rest = type_front (codes "key ") key rest
+-- the bytes begin with what the lines say of messages and keys
+abbrev pub HasExchange : Exchange → List ℕ → List ℕ → Type 0
+HasExchange (exchange.PublishSubscribe message) rest bytes = HasMessage [] message rest bytes
+HasExchange exchange.Event rest bytes = rest ≡ bytes
+HasExchange (exchange.RequestResponse request response) rest bytes =
+    (mid : List ℕ) × HasMessage (codes "request-") request mid bytes
+    × HasMessage (codes "response-") response rest mid
+HasExchange (exchange.Blackboard key) rest bytes = HasType (codes "key ") key rest bytes
 
 -- the pattern of a kind of exchange
-abbrev pub kind_of : Exchange → PatternKind
-kind_of (exchange.PublishSubscribe message) = PublishSubscribe
-kind_of exchange.Event = Event
-kind_of (exchange.RequestResponse request response) = RequestResponse
-kind_of (exchange.Blackboard key) = Blackboard
+abbrev pub kind_of_exchange : Exchange → PatternKind
+kind_of_exchange (exchange.PublishSubscribe message) = PublishSubscribe
+kind_of_exchange exchange.Event = Event
+kind_of_exchange (exchange.RequestResponse request response) = RequestResponse
+kind_of_exchange (exchange.Blackboard key) = Blackboard
+
+-- the text has no space
+abbrev pub HasNoSpace : List ℕ → Type 0
+HasNoSpace text = All (λ b. b ≢ 32) text
+
+-- a line may give the key of an attribute: 1 to 64 bytes, none of which is a space
+pub record IsKey (key : List ℕ) : Type 0 where
+  pub name : IsName 64 key
+  pub word : HasNoSpace key
+
+-- a line may give the key and the value, of 1 to 256 bytes
+pub record IsPair (pair : Pair) : Type 0 where
+  pub key : IsKey pair.key
+  pub value : IsName 256 pair.value
+
+-- a key and a value with a space between them
+abbrev pub pair_text : Pair → List ℕ
+pair_text pair = pair.key ++ 32 ∷ pair.value
+
+-- the bytes begin with the line of an attribute
+pub record HasAttribute (pair : Pair) (rest bytes : List ℕ) : Type 0 where
+  pub line : IsLine (codes "attribute " ++ pair_text pair) rest bytes
+  pub legal : IsPair pair
+
+-- the bytes begin with the lines of these attributes in this order, and no more follow
+abbrev pub HasAttributeLines : List Pair → List ℕ → List ℕ → Type 0
+HasAttributeLines [] rest bytes = (rest ≡ bytes) × HasNoLine (codes "attribute ") bytes
+HasAttributeLines (pair ∷ pairs) rest bytes =
+    (mid : List ℕ) × HasAttribute pair mid bytes × HasAttributeLines pairs rest mid
+
+-- the bytes begin with the lines of the attributes of this set
+pub record HasAttributes (set : List Pair) (rest bytes : List ℕ) : Type 0 where
+  pub pairs : List Pair
+  pub lines : HasAttributeLines pairs rest bytes
+  pub few : length pairs ≤ 16
+  pub listing : IsListing pairs set
 
 -- the word for a pattern
 abbrev pub pattern_word : PatternKind → List ℕ
@@ -89,9 +176,17 @@ pattern_word Event = codes "event "
 pattern_word RequestResponse = codes "request-response "
 pattern_word Blackboard = codes "blackboard "
 
--- the line of a service, and what follows its newline
-abbrev pub service_front : Service → List ℕ → List ℕ
-service_front s rest = pattern_word s.kind ++ s.name ++ 10 ∷ rest
+-- a service of this pattern may have the name: 1 to 255 bytes, not that of
+-- an internal service, and its hash text is one that a service can have
+pub record MayBeNamed (kind : PatternKind) (text : List ℕ) : Type 0 where
+  pub name : IsName 255 text
+  pub from_outside : ¬ IsTrue (starts_with nat_eq text (codes "iox2://"))
+  pub hashed : IsRestrictedName 64 (sha1_text (hash_input kind text))
+
+-- the bytes begin with the line of a service
+pub record HasService (kind : PatternKind) (name rest bytes : List ℕ) : Type 0 where
+  pub line : IsLine (pattern_word kind ++ name) rest bytes
+  pub named : MayBeNamed kind name
 
 -- the hash text is that of the pattern and the name
 abbrev pub IsHashed : Service → Type 0

@@ -32,29 +32,38 @@ value_text (Allocation Static) = codes "Static"
 -- the names of the settings of a publish-subscribe service
 abbrev pub publish_subscribe_names : List (List ℕ)
 publish_subscribe_names =
-    codes "max_subscribers" ∷ codes "max_publishers" ∷ codes "max_nodes" ∷ codes "subscriber_max_buffer_size"
-    ∷ codes "subscriber_max_borrowed_samples" ∷ codes "publisher_max_loaned_samples" ∷ codes "publisher_history_size"
-    ∷ codes "enable_safe_overflow" ∷ codes "backpressure_strategy" ∷ codes "subscriber_expired_connection_buffer"
+    codes "max_subscribers" ∷ codes "max_publishers" ∷ codes "max_nodes"
+    ∷ codes "subscriber_max_buffer_size"
+    ∷ codes "subscriber_max_borrowed_samples" ∷ codes "publisher_max_loaned_samples"
+    ∷ codes "publisher_history_size"
+    ∷ codes "enable_safe_overflow" ∷ codes "backpressure_strategy"
+    ∷ codes "subscriber_expired_connection_buffer"
     ∷ codes "publisher_allocation_strategy" ∷ []
 
 -- the values of a publish-subscribe service
 abbrev pub publish_subscribe_values : PublishSubscribe → List Value
 publish_subscribe_values s =
-    Number s.max_subscribers ∷ Number s.max_publishers ∷ Number s.max_nodes ∷ Number s.subscriber_max_buffer_size
-    ∷ Number s.subscriber_max_borrowed_samples ∷ Number s.publisher_max_loaned_samples ∷ Number s.publisher_history_size
-    ∷ Switch s.enable_safe_overflow ∷ Backpressure s.backpressure_strategy ∷ Number s.subscriber_expired_connection_buffer
+    Number s.max_subscribers ∷ Number s.max_publishers ∷ Number s.max_nodes
+    ∷ Number s.subscriber_max_buffer_size
+    ∷ Number s.subscriber_max_borrowed_samples ∷ Number s.publisher_max_loaned_samples
+    ∷ Number s.publisher_history_size
+    ∷ Switch s.enable_safe_overflow ∷ Backpressure s.backpressure_strategy
+    ∷ Number s.subscriber_expired_connection_buffer
     ∷ Allocation s.publisher_allocation_strategy ∷ []
 
 -- the names of the settings of an event service
 abbrev pub event_names : List (List ℕ)
 event_names =
-    codes "max_listeners" ∷ codes "max_notifiers" ∷ codes "max_nodes" ∷ codes "event_id_max_value" ∷ codes "deadline"
-    ∷ codes "notifier_created_event" ∷ codes "notifier_dropped_event" ∷ codes "notifier_dead_event" ∷ []
+    codes "max_listeners" ∷ codes "max_notifiers" ∷ codes "max_nodes" ∷ codes "event_id_max_value"
+    ∷ codes "deadline"
+    ∷ codes "notifier_created_event" ∷ codes "notifier_dropped_event" ∷ codes "notifier_dead_event"
+    ∷ []
 
 -- the values of an event service
 abbrev pub event_values : Event → List Value
 event_values s =
-    Number s.max_listeners ∷ Number s.max_notifiers ∷ Number s.max_nodes ∷ Number s.event_id_max_value
+    Number s.max_listeners ∷ Number s.max_notifiers ∷ Number s.max_nodes
+    ∷ Number s.event_id_max_value
     ∷ Deadline s.deadline ∷ Perhaps s.notifier_created_event ∷ Perhaps s.notifier_dropped_event
     ∷ Perhaps s.notifier_dead_event ∷ []
 
@@ -62,7 +71,8 @@ event_values s =
 abbrev pub request_response_names : List (List ℕ)
 request_response_names =
     codes "enable_safe_overflow_for_requests" ∷ codes "enable_safe_overflow_for_responses"
-    ∷ codes "max_active_requests_per_client" ∷ codes "max_response_buffer_size" ∷ codes "max_servers"
+    ∷ codes "max_active_requests_per_client" ∷ codes "max_response_buffer_size"
+    ∷ codes "max_servers"
     ∷ codes "max_clients" ∷ codes "max_nodes" ∷ codes "max_borrowed_responses_per_pending_response"
     ∷ codes "max_loaned_requests" ∷ codes "server_max_loaned_responses_per_request"
     ∷ codes "client_backpressure_strategy" ∷ codes "server_backpressure_strategy"
@@ -74,8 +84,10 @@ request_response_names =
 abbrev pub request_response_values : RequestResonse → List Value
 request_response_values s =
     Switch s.enable_safe_overflow_for_requests ∷ Switch s.enable_safe_overflow_for_responses
-    ∷ Number s.max_active_requests_per_client ∷ Number s.max_response_buffer_size ∷ Number s.max_servers
-    ∷ Number s.max_clients ∷ Number s.max_nodes ∷ Number s.max_borrowed_responses_per_pending_response
+    ∷ Number s.max_active_requests_per_client ∷ Number s.max_response_buffer_size
+    ∷ Number s.max_servers
+    ∷ Number s.max_clients ∷ Number s.max_nodes
+    ∷ Number s.max_borrowed_responses_per_pending_response
     ∷ Number s.max_loaned_requests ∷ Number s.server_max_loaned_responses_per_request
     ∷ Backpressure s.client_backpressure_strategy ∷ Backpressure s.server_backpressure_strategy
     ∷ Number s.client_expired_connection_buffer ∷ Number s.server_expired_connection_buffer
@@ -123,7 +135,8 @@ word_of text = before_first (λ b. b == 32) text
 
 -- the text names one of the settings, which no line before has set, and a value, and that setting
 -- alone has got that value and is marked as set
-pub record Sets (names : List (List ℕ)) (old : List Value) (given : List Bool) (text : List ℕ) (new : List Value)
+pub record Sets (names : List (List ℕ)) (old : List Value) (given : List Bool) (text : List ℕ)
+    (new : List Value)
     (marked : List Bool) : Type 0 where
   pub index : ℕ
   pub value : Value
@@ -134,7 +147,8 @@ pub record Sets (names : List (List ℕ)) (old : List Value) (given : List Bool)
   pub noted : marked ≡ slice_set given index true
 
 -- the text names a setting that is marked so
-pub record NamesMarked (names : List (List ℕ)) (given : List Bool) (text : List ℕ) (mark : Bool) : Type 0 where
+pub record NamesMarked (names : List (List ℕ)) (given : List Bool) (text : List ℕ)
+    (mark : Bool) : Type 0 where
   pub index : ℕ
   pub named : HasName names index (word_of text)
   pub marked : slice_get given index ≡ Some mark

@@ -13,44 +13,48 @@ use Rattle.service_drawing.specs.declared.fault.Fault.TheVariants.{BadArgument, 
 use Rattle.service_drawing.specs.declared.reading.cause.Cause.{Cause}
 use Rattle.service_drawing.specs.declared.reading.cause.Cause.TheVariants.{NoNewline, CarriageReturn, ForeignByte, TwoSpaces, Read}
 use Rattle.service_drawing.specs.declared.reading.cause.Reason.TheVariants.{InternalName, UnknownSetting, SetTwice, OtherForm}
-use Rattle.service_drawing.specs.declared.reading.wanted.Wanted.{Wanted}
+use Rattle.service_drawing.specs.declared.reading.expected.Expected.{Expected}
 
 -- why a line is bad
 abbrev pub cause_text : Cause → List ℕ
 cause_text NoNewline = codes ": no newline ends it; "
-cause_text CarriageReturn = codes ": it ends in a carriage return and a newline, and not in a newline alone; "
+cause_text CarriageReturn =
+    codes ": it ends in a carriage return and a newline, and not in a newline alone; "
 cause_text (ForeignByte byte) =
-    codes ": it holds the byte " ++ decimal byte ++ codes ", and a line holds bytes from 32 to 126; "
+    codes ": it holds the byte " ++ decimal byte
+    ++ codes ", and a line holds bytes from 32 to 126; "
 cause_text TwoSpaces = codes ": two spaces stand where one separates words; "
-cause_text (Read InternalName) = codes ": names that begin with iox2:// are those of internal services; "
+cause_text (Read InternalName) =
+    codes ": names that begin with iox2:// are those of internal services; "
 cause_text (Read UnknownSetting) = codes ": the pattern has no such setting; "
 cause_text (Read SetTwice) = codes ": the setting was set before; "
 cause_text (Read OtherForm) = codes ": "
 
 -- what was expected, and a newline
-abbrev pub expected : List ℕ → List ℕ → List ℕ
-expected prefix form = codes "expected " ++ prefix ++ (form ++ codes "\n")
+abbrev pub expected_text : List ℕ → List ℕ → List ℕ
+expected_text prefix form = codes "expected " ++ prefix ++ (form ++ codes "\n")
 
 -- the line that reports a bad line
 abbrev pub bad_line_text : ℕ → Cause → List ℕ → List ℕ → List ℕ
 bad_line_text line cause prefix form =
-    codes "bad line " ++ decimal line ++ (cause_text cause ++ expected prefix form)
+    codes "bad line " ++ decimal line ++ (cause_text cause ++ expected_text prefix form)
 
 -- the line that reports a fault
 abbrev pub fault_text : Fault → List ℕ
 fault_text (BadLine line cause prefix form) = bad_line_text line cause prefix.now form.now
-fault_text BadArgument = codes "bad argument: expected svg, --help, --version, or no argument" ++ 10 ∷ []
+fault_text BadArgument = codes "bad argument: expected svg, --help, --version, or no argument" ++ 10
+    ∷ []
 fault_text NoMemory = codes "no memory" ++ 10 ∷ []
 
 -- the fault of the line with which what is left
 -- begins: its number, the cause, and what was expected
-abbrev pub TellsBadLine : List ℕ → Wanted → Fault → Type 0
-TellsBadLine bytes wanted (BadLine line cause prefix form) =
-    ((read : List ℕ) → bytes ≡ read ++ wanted.rest.now → line ≡ count_by (λ b. b == 10) read + 1)
-    × IsCause wanted.rest.now wanted.reason cause
-    × (prefix.now ≡ wanted.prefix.now) × (form.now ≡ wanted.form.now)
-TellsBadLine bytes wanted BadArgument = ⊥
-TellsBadLine bytes wanted NoMemory = ⊥
+abbrev pub TellsBadLine : List ℕ → Expected → Fault → Type 0
+TellsBadLine bytes expected (BadLine line cause prefix form) =
+    ((read : List ℕ) → bytes ≡ read ++ expected.rest.now → line ≡ count_by (λ b. b == 10) read + 1)
+    × IsCause expected.rest.now expected.reason cause
+    × (prefix.now ≡ expected.prefix.now) × (form.now ≡ expected.form.now)
+TellsBadLine bytes expected BadArgument = ⊥
+TellsBadLine bytes expected NoMemory = ⊥
 
 -- what the output gets
 abbrev pub output_text : Result (String Global) Fault → List ℕ

@@ -1,11 +1,11 @@
 //! Why nothing was drawn, and how it is reported.
 ghost use Rattle.std.specs.Prelude.{◌≡◌, ℕ, List, ◌+◌, ◌++◌, ◌==◌, OnOk, count_by};
 ghost use Rattle.std.specs.Io.KnownBytes.{Appends};
-ghost use Rattle.service_drawing.specs.Streams.{expected, cause_text, bad_line_text, fault_text};
+ghost use Rattle.service_drawing.specs.Streams.{expected_text, cause_text, bad_line_text, fault_text};
 ghost use Rattle.service_drawing.specs.Streams.{TellsBadLine};
 ghost use Rattle.service_drawing.specs.declared.reading.cause.Cause.TheVariants.{ForeignByte};
 
-use crate::reading::Wanted;
+use crate::reading::Expected;
 use crate::reading::cause::{Cause, Reason, cause_of};
 use byte_streams::write_whole;
 use itoa::Buffer;
@@ -40,14 +40,14 @@ fn line_number(bytes: &[u8], rest: &[u8]) -> usize
 }
 
 /// The fault of a line in whose place something else was expected.
-pub(crate) fn bad_line(bytes: &[u8], wanted: Wanted<'_>) -> Fault
-    ensures { TellsBadLine bytes.now wanted.entry result }
+pub(crate) fn bad_line(bytes: &[u8], expected: Expected<'_>) -> Fault
+    ensures { TellsBadLine bytes.now expected.entry result }
 {
     Fault::BadLine {
-        line: line_number(bytes, wanted.rest),
-        cause: cause_of(wanted.rest, wanted.reason),
-        prefix: wanted.prefix,
-        form: wanted.form,
+        line: line_number(bytes, expected.rest),
+        cause: cause_of(expected.rest, expected.reason),
+        prefix: expected.prefix,
+        form: expected.form,
     }
 }
 
@@ -63,7 +63,8 @@ fn write_both<W: Write>(writer: &mut W, first: &[u8], second: &[u8]) -> io::Resu
 /// Writes what was expected in the place of a bad line, and a newline.
 fn write_expected<E: Write>(errors: &mut E, prefix: &str, form: &str) -> io::Result<()>
     ensures { OnOk result
-        (Appends (E.contents errors.old) (E.contents errors.new) (expected prefix.now form.now)) }
+        (Appends (E.contents errors.old) (E.contents errors.new)
+        (expected_text prefix.now form.now)) }
 {
     write_both(errors, b"expected ", prefix.as_bytes())?;
     write_both(errors, form.as_bytes(), b"\n")
@@ -127,7 +128,7 @@ fn write_bad_line<E: Write>(
 /// Writes why a line is bad, and what was expected.
 fn write_reason<E: Write>(errors: &mut E, cause: Cause, prefix: &str, form: &str) -> io::Result<()>
     ensures { OnOk result (Appends (E.contents errors.old) (E.contents errors.new)
-        (cause_text cause ++ expected prefix.now form.now)) }
+        (cause_text cause ++ expected_text prefix.now form.now)) }
 {
     write_cause(errors, cause)?;
     write_expected(errors, prefix, form)

@@ -1,8 +1,8 @@
 //! Where the parts of one message lie.
 ghost use Rattle.std.specs.Prelude.{◌≡◌, ◌^◌, ◌+◌, ◌*◌, ◌<◌, ◌≤◌, IfSome, IfNone, MatchOption};
 ghost use Rattle.iox2_config.specs.Compatible.{Compatible};
-ghost use Rattle.iox2_config.specs.Layout.{HaveAlignments, bound};
-ghost use Rattle.service_drawing.specs.Layout.{IsLayoutOf, IsWhole, IsPartAt, Clashes, span};
+ghost use Rattle.iox2_config.specs.Layout.{HaveAlignments, sample_size};
+ghost use Rattle.service_drawing.specs.Layout.{IsLayoutOf, IsWhole, IsPartAt, IsIncompatibleBy, span};
 
 use super::span::Span;
 use iox2_config::types::MessageTypeDetails;
@@ -47,7 +47,7 @@ impl MessageLayout {
         ensures some { IfSome result (λ layout. IsLayoutOf layout details.now elements) }
         ensures inside { IfSome result (λ layout. IsWhole layout) }
         ensures none { IfNone result
-            (HaveAlignments details.now → 2 ^ 63 ≤ bound details.now elements) }
+            (HaveAlignments details.now → 2 ^ 63 ≤ sample_size details.now elements) }
     {
         if !details.has_alignments() {
             return None;
@@ -127,7 +127,7 @@ impl MessageLayout {
 
 /// Why an opener may not use a service's messages.
 #[derive(Clone, Copy)]
-pub(crate) enum Clash {
+pub(crate) enum Incompatibility {
     /// The headers differ.
     Header,
     /// The user header of the opener has the greater alignment.
@@ -138,20 +138,20 @@ pub(crate) enum Clash {
 
 /// The first cause for which an opener may not use a
 /// service's messages, or `None` exactly where it may.
-pub(crate) fn first_clash(
+pub(crate) fn first_incompatibility(
     opener: &MessageTypeDetails,
     service: &MessageTypeDetails,
-) -> Option<Clash>
+) -> Option<Incompatibility>
     ensures { MatchOption result (Compatible opener.now service.now)
-        (λ why. Clashes why opener.now service.now) }
+        (λ why. IsIncompatibleBy why opener.now service.now) }
 {
     if opener.is_compatible_to(service) {
         None
     } else if opener.header != service.header {
-        Some(Clash::Header)
+        Some(Incompatibility::Header)
     } else if opener.user_header.alignment() > service.user_header.alignment() {
-        Some(Clash::UserHeader)
+        Some(Incompatibility::UserHeader)
     } else {
-        Some(Clash::Payload)
+        Some(Incompatibility::Payload)
     }
 }

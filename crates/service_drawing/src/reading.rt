@@ -1,27 +1,29 @@
 //! Descriptions as lines.
-ghost use Rattle.std.specs.Prelude.{◌≡◌, codes, IfOk};
-ghost use Rattle.service_drawing.specs.Lines.{type_front, exchange_front, kind_of};
+ghost use Rattle.std.specs.Prelude.{◌≡◌, ℕ, List, codes, IfOk, IfErr, MatchResult};
+ghost use Rattle.iox2_config.specs.TypeDetailParts.{TypeDetailParts};
+ghost use Rattle.service_drawing.specs.Lines.{HasType, HasExchange, kind_of_exchange};
+ghost use Rattle.service_drawing.specs.declared.description.Exchange.{Exchange};
 
 mod attributes;
 pub(crate) mod cause;
+mod expected;
 mod message;
 mod service;
 mod settings;
-mod wanted;
 pub(crate) mod words;
 
 use crate::description::{Description, Exchange};
 use attributes::{attributes_before, required_before};
+pub(crate) use expected::Expected;
 use iox2_config::config::Config;
 use iox2_config::hash::PatternKind;
 use iox2_config::types::TypeDetail;
 use message::{fixed_before, message_before};
 use service::service_before;
 use settings::settings_before;
-pub(crate) use wanted::Wanted;
 
 /// The lines of the settings, with which the configuration is changed.
-fn configuration_before(bytes: &[u8], kind: PatternKind) -> Result<(Config, &[u8]), Wanted<'_>> {
+fn configuration_before(bytes: &[u8], kind: PatternKind) -> Result<(Config, &[u8]), Expected<'_>> {
     let mut config = Config::default();
     let defaults = &mut config.defaults;
     let rest = match kind {
@@ -34,8 +36,10 @@ fn configuration_before(bytes: &[u8], kind: PatternKind) -> Result<(Config, &[u8
 }
 
 /// The line of a blackboard's keys.
-fn key_type_before(bytes: &[u8]) -> Result<(TypeDetail, &[u8]), Wanted<'_>>
-    ensures { IfOk result (λ found. bytes.now ≡ type_front (codes "key ") found.0 found.1.now) }
+fn key_type_before(bytes: &[u8]) -> Result<(TypeDetail, &[u8]), Expected<'_>>
+    ensures { MatchResult result (λ found. HasType (codes "key ") found.0 found.1.now bytes.now)
+        (λ expected. (t : TypeDetailParts) (rest : List ℕ)
+        → ¬ HasType (codes "key ") t rest bytes.now) }
 {
     fixed_before(
         bytes,
@@ -46,9 +50,11 @@ fn key_type_before(bytes: &[u8]) -> Result<(TypeDetail, &[u8]), Wanted<'_>>
 }
 
 /// The lines of what the ports exchange.
-fn exchange_before(bytes: &[u8], kind: PatternKind) -> Result<(Exchange, &[u8]), Wanted<'_>>
-    ensures spelled { IfOk result (λ found. bytes.now ≡ exchange_front found.0 found.1.now) }
-    ensures kind { IfOk result (λ found. kind_of found.0 ≡ kind) }
+fn exchange_before(bytes: &[u8], kind: PatternKind) -> Result<(Exchange, &[u8]), Expected<'_>>
+    ensures spelled { IfOk result (λ found. HasExchange found.0 found.1.now bytes.now) }
+    ensures kind { IfOk result (λ found. kind_of_exchange found.0 ≡ kind) }
+    ensures none { IfErr result (λ expected. (x : Exchange) (rest : List ℕ)
+        → kind_of_exchange x ≡ kind → ¬ HasExchange x rest bytes.now) }
 {
     match kind {
         PatternKind::PublishSubscribe => {
@@ -69,14 +75,14 @@ fn exchange_before(bytes: &[u8], kind: PatternKind) -> Result<(Exchange, &[u8]),
 }
 
 /// The service that the lines describe, or what was expected in the place of the first bad one.
-pub(crate) fn read_description(bytes: &[u8]) -> Result<Description, Wanted<'_>> {
+pub(crate) fn read_description(bytes: &[u8]) -> Result<Description, Expected<'_>> {
     let (service, rest) = service_before(bytes)?;
     let (config, rest) = configuration_before(rest, service.kind)?;
     let (exchange, rest) = exchange_before(rest, service.kind)?;
     let (attributes, rest) = attributes_before(rest)?;
     let (required, rest) = required_before(rest)?;
     if !rest.is_empty() {
-        return Err(Wanted::plain(rest, "the end, or a line that may follow the one before it"));
+        return Err(Expected::plain(rest, "the end, or a line that may follow the one before it"));
     }
     Ok(Description {
         name: service.name,

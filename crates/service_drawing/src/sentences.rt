@@ -3,7 +3,7 @@ ghost use Rattle.std.specs.Prelude.{Some};
 ghost use Rattle.service_drawing.specs.Sentences.{counted_text};
 
 use crate::description::Message;
-use crate::layout::{Clash, MessageLayout, first_clash};
+use crate::layout::{Incompatibility, MessageLayout, first_incompatibility};
 use crate::segments::Segment;
 use std::alloc::AllocError;
 use std::fmt;
@@ -40,13 +40,15 @@ pub(crate) fn opener_sentence(message: &Message) -> Option<&'static str> {
     let Some(opener) = &message.opener else {
         return None;
     };
-    Some(match first_clash(opener, &message.details) {
+    Some(match first_incompatibility(opener, &message.details) {
         None => "the opener is compatible",
-        Some(Clash::Header) => "the opener is not compatible: its header has another alignment",
-        Some(Clash::UserHeader) => {
+        Some(Incompatibility::Header) =>
+            "the opener is not compatible: its header has another alignment",
+        Some(Incompatibility::UserHeader) => {
             "the opener is not compatible: its user header has a greater alignment"
         }
-        Some(Clash::Payload) => "the opener is not compatible: its payload has a greater alignment",
+        Some(Incompatibility::Payload) =>
+            "the opener is not compatible: its payload has a greater alignment",
     })
 }
 

@@ -19,7 +19,7 @@ use std::io::{Read, Write};
 fn drawn(alloc: Global, form: Form, bytes: &[u8]) -> Result<String, Fault> {
     let service = match read_description(bytes) {
         Ok(service) => service,
-        Err(wanted) => return Err(bad_line(bytes, wanted)),
+        Err(expected) => return Err(bad_line(bytes, expected)),
     };
     let mut out = String::new(alloc);
     let done = match form {
@@ -118,8 +118,8 @@ fn run<R: Read, W: Write, E: Write>(
 /// the version. The first argument is the program's name.
 ///
 /// - 0: the whole input was read, the drawing was written, and nothing to `errors`.
-/// - 1: an argument or a line is bad. Nothing was written to `output`, and to `errors` the number of
-///   the line, why it is bad and what was expected.
+/// - 1: an argument or a line is bad. Nothing was written to `output`, and to `errors` the number
+///   of the line, why it is bad and what was expected.
 /// - 2: memory was refused. Nothing was written to `output`, and `no memory` to `errors`.
 /// - 3: a read, a write or a flush failed, for any cause. Nothing was written after it.
 pub fn describe_streams<R: Read, W: Write, E: Write>(

@@ -1,6 +1,6 @@
 //! The patterns of services, and what is hashed of a service.
 ghost use Rattle.std.specs.Prelude.{◌≡◌};
-ghost use Rattle.iox2_config.specs.Hashing.{hash_input};
+ghost use Rattle.iox2_config.specs.Hashing.{hash_input, pattern_word, ReadsPattern};
 
 use arrayvec::ArrayVec;
 use iox2_texts::bounded::StaticString;
@@ -18,6 +18,35 @@ pub enum PatternKind {
     RequestResponse = 2,
     /// A writer keeps values, which readers read.
     Blackboard = 3,
+}
+
+impl PatternKind {
+    /// All patterns, by their numbers.
+    pub const ALL: [PatternKind; 4] = [
+        PatternKind::PublishSubscribe,
+        PatternKind::Event,
+        PatternKind::RequestResponse,
+        PatternKind::Blackboard,
+    ];
+
+    /// The pattern of this number, if there is one.
+    pub fn of_number(number: u32) -> Option<PatternKind>
+        ensures { ReadsPattern number result }
+    {
+        PatternKind::ALL.get(number as usize).copied()
+    }
+
+    /// The word for the pattern.
+    pub fn word(self) -> &'static str
+        ensures { result.now ≡ pattern_word self }
+    {
+        match self {
+            PatternKind::PublishSubscribe => "publish-subscribe",
+            PatternKind::Event => "event",
+            PatternKind::RequestResponse => "request-response",
+            PatternKind::Blackboard => "blackboard",
+        }
+    }
 }
 
 /// What is hashed of a service: the number of its pattern as one digit, and then its name.

@@ -3,7 +3,7 @@ ghost use Rattle.std.specs.Prelude.{◌≡◌, ◌^◌, ◌<◌, ◌≤◌, ◌�
 ghost use Rattle.iox2_texts.specs.Multiple.{least_multiple};
 ghost use Rattle.iox2_config.specs.Blocks.{HoldsEverywhere};
 ghost use Rattle.iox2_config.specs.Compatible.{Compatible, Suits};
-ghost use Rattle.iox2_config.specs.Layout.{user_header_place, payload_place, bound, HaveAlignments};
+ghost use Rattle.iox2_config.specs.Layout.{user_header_place, payload_place, sample_size, HaveAlignments};
 ghost use Rattle.iox2_config.specs.Layout.{HasPlaces};
 
 use super::message_details::MessageTypeDetails;
@@ -78,9 +78,12 @@ impl MessageTypeDetails {
     pub fn sample_layout(&self, n: usize) -> Option<SampleLayout>
         requires { HaveAlignments self.now }
         ensures some { IfSome result (λ layout.
-            layout ≡ record { size = bound self.now n; alignment = self.now.header.alignment }) }
+            layout ≡ record {
+              size = sample_size self.now n;
+              alignment = self.now.header.alignment;
+            }) }
         ensures limit { IfSome result (λ layout. layout.size < 2 ^ 63) }
-        ensures none { IfNone result (2 ^ 63 ≤ bound self.now n) }
+        ensures none { IfNone result (2 ^ 63 ≤ sample_size self.now n) }
         ensures holds { IfSome result (λ layout. HoldsEverywhere self.now n layout.size) }
     {
         let elements = self.payload.size().checked_mul(n)?;

@@ -1,19 +1,21 @@
 //! One list of calls on two registries.
 ghost use Rattle.std.specs.Prelude.{◌≡◌, ◌<◌, [], IsTrue, IfOk, OnErr, OnOk, length};
-ghost use Rattle.iox2_container.specs.ContainerState.{container};
 ghost use Rattle.iox2_container.specs.State.{IsRegistry};
 ghost use Rattle.iox2_container.specs.Steps.{is_of, listed};
 ghost use Rattle.iox2_container.specs.Histories.{IsNew};
 ghost use Rattle.iox2_container.specs.Calls.{Answered, CallStep, Made, RecoversBut, SameKind};
 ghost use Rattle.iox2_container.specs.Calls.{handle_given};
 
-use super::agreement::is_same_kind;
+mod agreement;
+mod calls;
+
 use super::attached::Attached;
-use super::calls::{RegistryCall, RegistryReply};
 use super::handle::ContainerHandle;
 use super::listing::entries;
 use super::registry::Registry;
 use super::release::{ReleaseMode, ReleaseState};
+use agreement::is_same_kind;
+pub use calls::{RegistryCall, RegistryReply};
 use iox2_ids::identifiers::UniqueNodeId;
 use std::alloc::{AllocError, Global};
 
@@ -35,9 +37,8 @@ fn recover_but<T: Attached + Copy, R: Registry<T>>(
     mode: ReleaseMode,
 ) -> ReleaseState
     ensures step { RecoversBut (is_of T.node dead.now) T.number keys.now
-        (container (R.state registry.old) (R.touches registry.old)) mode result
-        (container (R.state registry.new) (R.touches registry.new)) }
-    ensures kept { IsRegistry (R.state registry.new) }
+        (R.state registry.old) mode result (R.state registry.new) }
+    ensures kept { IsRegistry (R.state registry.new).registry }
 {
     let mut goes = |details: &T| !keys.contains(&details.key());
     registry.recover(dead, &mut goes, mode)
@@ -50,14 +51,11 @@ fn serve<T: Attached + Copy, R: Registry<T>>(
     earlier: &[RegistryReply<T>],
     call: &RegistryCall<T>,
 ) -> Result<RegistryReply<T>, AllocError>
-    requires { IsRegistry (R.state registry.old) }
+    requires { IsRegistry (R.state registry.old).registry }
     ensures step { IfOk result (λ reply. CallStep T.node T.number
-        (container (R.state registry.old) (R.touches registry.old)) earlier.now call.now reply
-        (container (R.state registry.new) (R.touches registry.new))) }
-    ensures kept { IsRegistry (R.state registry.new) }
-    ensures err { OnErr result
-        ((container (R.state registry.new) (R.touches registry.new)
-        ≡ container (R.state registry.old) (R.touches registry.old))
+        (R.state registry.old) earlier.now call.now reply (R.state registry.new)) }
+    ensures kept { IsRegistry (R.state registry.new).registry }
+    ensures err { OnErr result ((R.state registry.new ≡ R.state registry.old)
         × (call.now ≡ RegistryCall.List)) }
 {
     match call {
@@ -93,20 +91,18 @@ fn serve_both<T: Attached + Copy, A: Registry<T>, B: Registry<T>>(
     replies_a: &mut Vec<RegistryReply<T>>,
     replies_b: &mut Vec<RegistryReply<T>>,
 ) -> Result<(), AllocError>
-    requires { IsRegistry (A.state a.old) × IsRegistry (B.state b.old) }
+    requires { IsRegistry (A.state a.old).registry × IsRegistry (B.state b.old).registry }
     ensures ok_a { OnOk result (Answered T.node T.number
-        (container (A.state a.old) (A.touches a.old)) replies_a.old.items call.now replies_a.new.items
-        (container (A.state a.new) (A.touches a.new))) }
+        (A.state a.old) replies_a.old.items call.now
+        replies_a.new.items (A.state a.new)) }
     ensures ok_b { OnOk result (Answered T.node T.number
-        (container (B.state b.old) (B.touches b.old)) replies_b.old.items call.now replies_b.new.items
-        (container (B.state b.new) (B.touches b.new))) }
+        (B.state b.old) replies_b.old.items call.now
+        replies_b.new.items (B.state b.new)) }
     ensures err_a { OnErr result
-        ((container (A.state a.new) (A.touches a.new)
-        ≡ container (A.state a.old) (A.touches a.old))
+        ((A.state a.new ≡ A.state a.old)
         × (replies_a.new.items ≡ replies_a.old.items)) }
     ensures err_b { OnErr result
-        ((container (B.state b.new) (B.touches b.new)
-        ≡ container (B.state b.old) (B.touches b.old))
+        ((B.state b.new ≡ B.state b.old)
         × (replies_b.new.items ≡ replies_b.old.items)) }
 {
     replies_a.reserve(1)?;
@@ -133,16 +129,14 @@ pub fn compare<T: Attached + Copy + Eq, A: Registry<T>, B: Registry<T>>(
     replies_a: &mut Vec<RegistryReply<T>>,
     replies_b: &mut Vec<RegistryReply<T>>,
 ) -> Result<bool, AllocError>
-    requires new { IsNew (A.state a.old) × IsNew (B.state b.old) }
-    requires same_capacity { (A.state a.old).capacity ≡ (B.state b.old).capacity }
-    requires same_budget { (A.state a.old).budget ≡ (B.state b.old).budget }
+    requires new { IsNew (A.state a.old).registry × IsNew (B.state b.old).registry }
+    requires same_capacity { (A.state a.old).registry.capacity ≡ (B.state b.old).registry.capacity }
+    requires same_budget { (A.state a.old).registry.budget ≡ (B.state b.old).registry.budget }
     requires empty { (replies_a.old.items ≡ []) × (replies_b.old.items ≡ []) }
     ensures made_a { Made T.node T.number
-        (container (A.state a.old) (A.touches a.old)) calls.now replies_a.new.items
-        (container (A.state a.new) (A.touches a.new)) }
+        (A.state a.old) calls.now replies_a.new.items (A.state a.new) }
     ensures made_b { Made T.node T.number
-        (container (B.state b.old) (B.touches b.old)) calls.now replies_b.new.items
-        (container (B.state b.new) (B.touches b.new)) }
+        (B.state b.old) calls.now replies_b.new.items (B.state b.new) }
     ensures same_kind { SameKind replies_a.new.items replies_b.new.items }
     ensures answer { IfOk result IsTrue }
     ensures all { OnOk result ((length replies_a.new.items ≡ length calls.now)

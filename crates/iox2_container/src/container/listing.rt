@@ -13,7 +13,7 @@ pub fn entries<T: Attached + Copy, R: Registry<T>>(
     alloc: Global,
     registry: &R,
 ) -> Result<Vec<T>, AllocError>
-    ensures listed { IfOk result (λ list. list.items ≡ listed (R.state registry.now)) }
+    ensures listed { IfOk result (λ list. list.items ≡ listed (R.state registry.now).registry) }
     ensures exact { IfOk result (λ list. vec_capacity list ≡ length list.items) }
 {
     let mut list = Vec::with_capacity(alloc, registry.len())?;

@@ -2,7 +2,7 @@
 ghost use Rattle.std.specs.Prelude.{◌≡◌, ◌+◌, ◌*◌, ◌≤◌, ◌<◌, ℕ, Option, Some, None, IsTrue, true, false, nat_lt};
 ghost use Rattle.std.specs.Prelude.{length, map, slice_get, slice_set};
 ghost use Rattle.std.specs.Fn.{CalledAt, TakesAt};
-ghost use Rattle.iox2_container.specs.declared.container.cell.Occupant.{Occupant};
+ghost use Rattle.iox2_container.specs.declared.container.slots.cell.Occupant.{Occupant};
 ghost use Rattle.iox2_container.specs.Cells.{shown};
 ghost use Rattle.iox2_container.specs.Places.{details_in, entries_from};
 ghost use Rattle.iox2_container.specs.Callbacks.{CanBeAsked, CanVisit};
@@ -11,9 +11,9 @@ ghost use Rattle.iox2_container.specs.Passes.{TakesCell, TakesDead};
 ghost use Rattle.iox2_container.specs.Steps.{Visit, candidates, is_of};
 
 use super::attached::Attached;
-use super::cell::Occupant;
-use super::free_slots::FreeSlots;
+use super::free::SlotAllocator;
 use super::places::Places;
+use super::slots::Occupant;
 use iox2_ids::identifiers::UniqueNodeId;
 use iox2_texts::bounded::CallbackProgression;
 
@@ -40,7 +40,7 @@ fn show<T: Copy, F: FnMut(&T) -> CallbackProgression>(
 }
 
 /// Asks the callback about each entry in turn, until it stops.
-pub(super) fn visit<T: Copy, S: FreeSlots<T>, F: FnMut(&T) -> CallbackProgression>(
+pub(super) fn visit<T: Copy, S: SlotAllocator<T>, F: FnMut(&T) -> CallbackProgression>(
     places: &Places<T, S::Next>,
     free: &S,
     f: &mut F,
@@ -58,7 +58,7 @@ pub(super) fn visit<T: Copy, S: FreeSlots<T>, F: FnMut(&T) -> CallbackProgressio
 }
 
 /// Whether what stands in a place is the node's.
-fn stands_for<T: Attached + Copy>(cell: Option<Occupant<T>>, node: &UniqueNodeId) -> bool
+fn belongs_to<T: Attached + Copy>(cell: Option<Occupant<T>>, node: &UniqueNodeId) -> bool
     ensures { result ≡ cell_is_of T.node node.now cell }
 {
     match cell {
@@ -76,7 +76,7 @@ pub(super) fn is_of_node<T: Attached + Copy, N: Copy>(
     requires { slot < length places.now.cells }
     ensures { PlaceIsOf T.node node.now (map shown places.now.cells) slot result }
 {
-    stands_for(places.peek_at(slot), node)
+    belongs_to(places.peek_at(slot), node)
 }
 
 /// The same as [`next_of`], one place after another.
@@ -159,21 +159,22 @@ fn next_of<T: Attached + Copy, N: Copy>(
 }
 
 /// Whether an entry of the node stands in some place.
-pub(super) fn has_of<T: Attached + Copy, S: FreeSlots<T>>(
+pub(super) fn has_of<T: Attached + Copy, S: SlotAllocator<T>>(
     places: &Places<T, S::Next>,
     free: &S,
     node: &UniqueNodeId,
 ) -> bool
     requires { S.fits free.now places.now.cells }
     ensures { result ≡ nat_lt 0
-        (length (candidates (is_of T.node node.now) (entries_from 0 (map shown places.now.cells)))) }
+        (length (candidates (is_of T.node node.now)
+        (entries_from 0 (map shown places.now.cells)))) }
 {
     let end = free.end(places);
     next_of(places, 0, end, node) < end
 }
 
 /// How many entries are those of the node.
-pub(super) fn count_of<T: Attached + Copy, S: FreeSlots<T>>(
+pub(super) fn count_of<T: Attached + Copy, S: SlotAllocator<T>>(
     places: &Places<T, S::Next>,
     free: &S,
     node: &UniqueNodeId,
@@ -184,7 +185,7 @@ pub(super) fn count_of<T: Attached + Copy, S: FreeSlots<T>>(
 {
     let mut count = 0;
     for slot in 0..free.end(places) {
-        if stands_for(places.peek_at(slot), node) {
+        if belongs_to(places.peek_at(slot), node) {
             count += 1;
         }
     }
@@ -213,7 +214,7 @@ fn asks_to_go<T: Attached + Copy, F: FnMut(&T) -> bool>(
 }
 
 /// Clears the place, if what stands there goes.
-fn sweep_place<T: Attached + Copy, S: FreeSlots<T>, F: FnMut(&T) -> bool>(
+fn sweep_place<T: Attached + Copy, S: SlotAllocator<T>, F: FnMut(&T) -> bool>(
     places: &mut Places<T, S::Next>,
     free: &mut S,
     slot: usize,
@@ -243,7 +244,7 @@ fn sweep_place<T: Attached + Copy, S: FreeSlots<T>, F: FnMut(&T) -> bool>(
 }
 
 /// Clears the places of the dead node's entries for which the callback says so, and counts them.
-pub(super) fn sweep<T: Attached + Copy, S: FreeSlots<T>, F: FnMut(&T) -> bool>(
+pub(super) fn sweep<T: Attached + Copy, S: SlotAllocator<T>, F: FnMut(&T) -> bool>(
     places: &mut Places<T, S::Next>,
     free: &mut S,
     dead: &UniqueNodeId,
@@ -251,7 +252,9 @@ pub(super) fn sweep<T: Attached + Copy, S: FreeSlots<T>, F: FnMut(&T) -> bool>(
 ) -> usize
     requires fits { S.fits free.old places.old.cells }
     requires callable { CanBeAsked (TakesAt F.FnMut) (CalledAt F.FnMut) f.old
-        (map (λ e. e.details) (candidates (is_of T.node dead.now) (entries_from 0 (map shown places.old.cells)))) }
+        (map (λ e. e.details)
+        (candidates (is_of T.node dead.now)
+        (entries_from 0 (map shown places.old.cells)))) }
     ensures fits { S.fits free.new places.new.cells }
     ensures swept { Swept (CalledAt F.FnMut) (is_of T.node dead.now)
         f.old (entries_from 0 (map shown places.old.cells))

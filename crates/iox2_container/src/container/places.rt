@@ -4,10 +4,9 @@ ghost use Rattle.std.specs.Prelude.{length, map, slice_get, slice_set};
 ghost use Rattle.iox2_container.specs.Cells.{occupant, shown};
 ghost use Rattle.iox2_container.specs.Places.{Finds};
 
-use super::cell::{Cell, Occupant};
-use super::free_slots::FreeSlots;
+use super::free::SlotAllocator;
 use super::handle::ContainerHandle;
-use super::slots::Slots;
+use super::slots::{Cell, Occupant, Slots};
 
 /// Places in which entries stand, each with its ticket. A free one's cell keeps an `N`.
 pub type Places<T, N> = Slots<Cell<T, N>>;
@@ -58,7 +57,7 @@ pub(super) fn find<T: Copy, N: Copy>(places: &Places<T, N>, handle: ContainerHan
 }
 
 /// Takes the entry out of the handle's place, if it has its ticket.
-pub(super) fn take_out<T: Copy, S: FreeSlots<T>>(
+pub(super) fn take_out<T: Copy, S: SlotAllocator<T>>(
     places: &mut Places<T, S::Next>,
     free: &mut S,
     handle: ContainerHandle,

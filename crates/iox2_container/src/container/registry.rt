@@ -1,10 +1,12 @@
 //! The contract of a registry, on which everything above rests.
-ghost use Rattle.std.specs.Prelude.{◌≡◌, ℕ, ◌+◌, ◌*◌, ◌≤◌, ◌↔◌, IsTrue, MatchOption, length, nat_lt};
+ghost use Rattle.std.specs.Prelude.{◌≡◌, ℕ, ◌+◌, ◌≤◌, ◌↔◌, IsTrue, MatchOption, length, nat_lt};
 ghost use Rattle.std.specs.Fn.{CalledAt, TakesAt};
 ghost use Rattle.iox2_container.specs.Callbacks.{CanBeAsked, CanVisit};
-ghost use Rattle.iox2_container.specs.State.{RegistryState, IsRegistry};
-ghost use Rattle.iox2_container.specs.Steps.{AddStep, RemoveStep, RecoverStep, TakesEntry, Visit};
-ghost use Rattle.iox2_container.specs.Steps.{IsForeign, Stands, asked_about, entries_of, is_of, listed};
+ghost use Rattle.iox2_container.specs.Changes.{Adds, Removes, RecoversBy};
+ghost use Rattle.iox2_container.specs.ContainerState.{ContainerState};
+ghost use Rattle.iox2_container.specs.State.{IsRegistry};
+ghost use Rattle.iox2_container.specs.Steps.{IsUnknownHandle, HasEntry, TakesEntry, Visit};
+ghost use Rattle.iox2_container.specs.Steps.{asked_about, entries_of, is_of, listed};
 
 use super::attached::Attached;
 use super::handle::ContainerHandle;
@@ -18,20 +20,22 @@ use iox2_texts::bounded::CallbackProgression;
 /// No change reads or writes its slots more than twice as often as it has slots. No call takes
 /// memory, and a refused one changes no entry, no lock and no ticket.
 pub trait Registry<T: Attached + Copy> {
-    /// What the registry holds.
-    ghost state: { Self → RegistryState T };
+    /// What the registry holds, and how often a change read or wrote one of its slots.
+    ghost state: { Self → ContainerState T };
 
-    /// How often a change read or wrote one of its slots.
-    ghost touches: { Self → ℕ };
+    /// The most touches of an add, by the capacity.
+    ghost most_for_add: { ℕ → ℕ };
+
+    /// The most touches of a removal.
+    ghost most_for_remove: { ℕ };
 
     /// Adds an entry in a free slot, with the next ticket. Refused where the registry is locked,
     /// and else where every slot is taken or every ticket was handed out.
     fn add(&mut self, details: T) -> Result<ContainerHandle, ContainerAddFailure>
-        ensures step { AddStep (state self.old) details result (state self.new) }
-        ensures known { IsRegistry (state self.old) }
-        ensures kept { IsRegistry (state self.new) }
-        ensures touched { touches self.new ≤ touches self.old + 2 * (state self.old).capacity }
-        ensures counted { touches self.old ≤ touches self.new };
+        ensures known { IsRegistry (state self.old).registry }
+        ensures adds { Adds (state self.old) details result (state self.new) }
+        ensures few { (state self.new).touches ≤
+            (state self.old).touches + most_for_add (state self.old).registry.capacity };
 
     /// Removes the entry of a handle, and says whether the registry is locked then. Refused for
     /// each handle that is not that of an entry.
@@ -40,11 +44,9 @@ pub trait Registry<T: Attached + Copy> {
         handle: ContainerHandle,
         mode: ReleaseMode,
     ) -> Result<ReleaseState, ContainerRemoveError>
-        ensures step { RemoveStep (state self.old) handle mode result (state self.new) }
-        ensures known { IsRegistry (state self.old) }
-        ensures kept { IsRegistry (state self.new) }
-        ensures touched { touches self.new ≤ touches self.old + 2 * (state self.old).capacity }
-        ensures counted { touches self.old ≤ touches self.new };
+        ensures known { IsRegistry (state self.old).registry }
+        ensures removes { Removes (state self.old) handle mode result (state self.new) }
+        ensures few { (state self.new).touches ≤ (state self.old).touches + most_for_remove };
 
     /// Asks the callback once about each entry of the dead node, by rising slot, and removes those
     /// that it answers with `true`. Says whether the registry is locked then. Where no entry goes,
@@ -57,59 +59,57 @@ pub trait Registry<T: Attached + Copy> {
         mode: ReleaseMode,
     ) -> ReleaseState
         requires { CanBeAsked (TakesAt F.FnMut) (CalledAt F.FnMut) f.old
-            (asked_about (is_of T.node dead.now) (state self.old)) }
-        ensures step { RecoverStep (CalledAt F.FnMut) (is_of T.node dead.now)
-            (state self.old) f.old mode result (state self.new) f.new }
-        ensures known { IsRegistry (state self.old) }
-        ensures kept { IsRegistry (state self.new) }
-        ensures touched { touches self.new ≤ touches self.old + 2 * (state self.old).capacity }
-        ensures counted { touches self.old ≤ touches self.new };
+            (asked_about (is_of T.node dead.now) (state self.old).registry) }
+        ensures known { IsRegistry (state self.old).registry }
+        ensures recovers { RecoversBy (CalledAt F.FnMut) (is_of T.node dead.now)
+            (state self.old) f.old mode result (state self.new) f.new };
 
     /// Calls the callback on the details by rising slot, each once, up to and with the first answer
     /// `Stop`. It must be callable on them in turn, each time as the call before left it.
     fn for_each<F: FnMut(&T) -> CallbackProgression>(&self, f: &mut F)
         requires { CanVisit (TakesAt F.FnMut) (CalledAt F.FnMut) f.old
-            (listed (state self.now)) }
-        ensures visit { Visit (CalledAt F.FnMut) f.old (listed (state self.now)) f.new }
-        ensures kept { IsRegistry (state self.now) };
+            (listed (state self.now).registry) }
+        ensures visit { Visit (CalledAt F.FnMut) f.old (listed (state self.now).registry) f.new }
+        ensures kept { IsRegistry (state self.now).registry };
 
     /// The details of the entry with this handle, or `None` where no entry has it.
     fn get(&self, handle: ContainerHandle) -> Option<T>
         ensures details { MatchOption result
-            (IsForeign (state self.now) handle) (Stands (state self.now) handle) }
-        ensures kept { IsRegistry (state self.now) };
+            (IsUnknownHandle (state self.now).registry handle)
+            (HasEntry (state self.now).registry handle) }
+        ensures kept { IsRegistry (state self.now).registry };
 
     /// Whether the node has an entry.
     fn has_entry_of(&self, node: &UniqueNodeId) -> bool
-        ensures { result ≡ nat_lt 0 (entries_of T.node node.now (state self.now)) };
+        ensures { result ≡ nat_lt 0 (entries_of T.node node.now (state self.now).registry) };
 
     /// How many entries are those of the node.
     fn entries_of(&self, node: &UniqueNodeId) -> usize
-        ensures count { result ≡ entries_of T.node node.now (state self.now) }
-        ensures kept { IsRegistry (state self.now) };
+        ensures count { result ≡ entries_of T.node node.now (state self.now).registry }
+        ensures kept { IsRegistry (state self.now).registry };
 
     /// How many entries there are.
     fn len(&self) -> usize
-        ensures count { result ≡ length (state self.now).entries }
-        ensures kept { IsRegistry (state self.now) };
+        ensures count { result ≡ length (state self.now).registry.entries }
+        ensures kept { IsRegistry (state self.now).registry };
 
     /// Whether an add would be taken: it is not locked, a slot is free and a ticket is left.
     fn has_room(&self) -> bool
-        ensures room { IsTrue result ↔ TakesEntry (state self.now) }
-        ensures kept { IsRegistry (state self.now) };
+        ensures room { IsTrue result ↔ TakesEntry (state self.now).registry }
+        ensures kept { IsRegistry (state self.now).registry };
 
     /// The number of the service whose registry it is.
     fn service(&self) -> u64
-        ensures number { result ≡ (state self.now).service }
-        ensures kept { IsRegistry (state self.now) };
+        ensures number { result ≡ (state self.now).registry.service }
+        ensures kept { IsRegistry (state self.now).registry };
 
     /// How many entries there may be.
     fn capacity(&self) -> usize
-        ensures capacity { result ≡ (state self.now).capacity }
-        ensures kept { IsRegistry (state self.now) };
+        ensures capacity { result ≡ (state self.now).registry.capacity }
+        ensures kept { IsRegistry (state self.now).registry };
 
     /// Whether it is locked: it is empty then, and takes no entry any more.
     fn is_locked(&self) -> bool
-        ensures locked { result ≡ (state self.now).locked }
-        ensures kept { IsRegistry (state self.now) };
+        ensures locked { result ≡ (state self.now).registry.locked }
+        ensures kept { IsRegistry (state self.now).registry };
 }

@@ -1,23 +1,18 @@
 //! The one container, whatever finds its free slots.
-ghost use Rattle.std.specs.Prelude.{◌≡◌, ◌+◌, ◌*◌, ◌≤◌, IfOk};
+ghost use Rattle.std.specs.Prelude.{◌≡◌, IfOk};
 ghost use Rattle.iox2_container.specs.ContainerState.{fresh};
-ghost use Rattle.iox2_container.specs.State.{IsRegistry};
-ghost use Rattle.iox2_container.specs.Steps.{AddStep, RemoveStep};
 
 use super::attached::Attached;
-use super::cell::Cell;
-use super::free_list::FreeList;
-use super::free_slots::FreeSlots;
+use super::free::{FreeList, LowestFree, SlotAllocator};
 use super::handle::ContainerHandle;
-use super::ledger::Ledger;
-use super::lowest_free::LowestFree;
 use super::passes::{count_of, has_of, is_of_node, sweep, visit};
 use super::places::{Places, find, take_out};
 use super::refusal::{ContainerAddFailure, ContainerRemoveError};
 use super::registry::Registry;
+use super::registry_header::RegistryHeader;
 use super::release::{ReleaseMode, ReleaseState};
 use super::role::Role;
-use super::slots::Slots;
+use super::slots::{Cell, Slots};
 use iox2_ids::identifiers::UniqueNodeId;
 use iox2_texts::bounded::CallbackProgression;
 use std::alloc::{AllocError, Global};
@@ -35,32 +30,32 @@ pub type ListContainer<T> = SlotMap<T, FreeList>;
 /// A registry, by what finds its free slots. An add touches slots at most as often as
 /// `most_for_put` of that says, a removal at most twice.
 #[derive(Debug, Drop)]
-pub struct SlotMap<T: Copy, S: FreeSlots<T>> {
-    ledger: Ledger,
+pub struct SlotMap<T: Copy, S: SlotAllocator<T>> {
+    header: RegistryHeader,
     places: Places<T, S::Next>,
     free: S,
     // Where the entry was put that came last, which is likely to be asked for next.
     recent: usize,
 }
 
-impl<T: Copy, S: FreeSlots<T>> Model for SlotMap<T, S> {
+impl<T: Copy, S: SlotAllocator<T>> Model for SlotMap<T, S> {
     ghost use Rattle.std.specs.Prelude.{map};
     ghost use Rattle.iox2_container.specs.Cells.{shown};
     ghost use Rattle.iox2_container.specs.ContainerState.{ContainerState};
-    ghost use Rattle.iox2_container.specs.LedgerAndPlaces.{registry_of, AreRegistry};
+    ghost use Rattle.iox2_container.specs.HeaderAndPlaces.{registry_of, AreRegistry};
 
     ghost Value = { ContainerState T };
 
     ghost view = { λ m. record {
-      registry = registry_of m.ledger (map shown m.places.cells);
+      registry = registry_of m.header (map shown m.places.cells);
       touches = m.places.touches;
     } };
 
     ghost invariant = { λ m.
-        AreRegistry m.ledger (map shown m.places.cells) × S.fits m.free m.places.cells };
+        AreRegistry m.header (map shown m.places.cells) × S.fits m.free m.places.cells };
 }
 
-impl<T: Copy, S: FreeSlots<T>> SlotMap<T, S> {
+impl<T: Copy, S: SlotAllocator<T>> SlotMap<T, S> {
     /// An empty container of a service, for this many entries at a time and this many in all.
     /// Refused where there is no memory for its slots; no call on it takes memory afterwards.
     pub fn new(
@@ -75,7 +70,7 @@ impl<T: Copy, S: FreeSlots<T>> SlotMap<T, S> {
         let (free, next) = S::all_free();
         let places = Slots::new(alloc, capacity, Cell::Free(next))?;
         Ok(SlotMap {
-            ledger: Ledger::new(service, role, tickets),
+            header: RegistryHeader::new(service, role, tickets),
             places,
             free,
             recent: 0,
@@ -83,50 +78,37 @@ impl<T: Copy, S: FreeSlots<T>> SlotMap<T, S> {
     }
 }
 
-impl<T: Attached + Copy, S: FreeSlots<T>> Registry<T> for SlotMap<T, S> {
-    ghost state = { λ m. m.registry };
+impl<T: Attached + Copy, S: SlotAllocator<T>> Registry<T> for SlotMap<T, S> {
+    ghost state = { λ m. m };
 
-    ghost touches = { λ m. m.touches };
+    ghost most_for_add = { S.most_for_put };
 
-    fn add(&mut self, details: T) -> Result<ContainerHandle, ContainerAddFailure>
-        ensures step { AddStep self.old.registry details result self.new.registry }
-        ensures known { IsRegistry self.old.registry }
-        ensures kept { IsRegistry self.new.registry }
-        ensures touched { self.new.touches ≤ self.old.touches + 2 * self.old.registry.capacity }
-        ensures few { self.new.touches ≤
-            self.old.touches + S.most_for_put self.old.registry.capacity }
-        ensures counted { self.old.touches ≤ self.new.touches }
-    {
-        if self.ledger.is_locked() {
+    ghost most_for_remove = { 2 };
+
+    fn add(&mut self, details: T) -> Result<ContainerHandle, ContainerAddFailure> {
+        if self.header.is_locked() {
             return Err(ContainerAddFailure::IsLocked);
         }
-        if !self.ledger.has_ticket() || self.ledger.count() == self.places.len() {
+        if !self.header.has_ticket() || self.header.count() == self.places.len() {
             return Err(ContainerAddFailure::OutOfSpace);
         }
-        let ticket = self.ledger.enter();
+        let ticket = self.header.enter();
         let slot = self.free.put(&mut self.places, ticket, details);
         self.recent = slot;
-        Ok(self.ledger.handle(slot, ticket))
+        Ok(self.header.handle(slot, ticket))
     }
 
     fn remove(
         &mut self,
         handle: ContainerHandle,
         mode: ReleaseMode,
-    ) -> Result<ReleaseState, ContainerRemoveError>
-        ensures step { RemoveStep self.old.registry handle mode result self.new.registry }
-        ensures known { IsRegistry self.old.registry }
-        ensures kept { IsRegistry self.new.registry }
-        ensures touched { self.new.touches ≤ self.old.touches + 2 * self.old.registry.capacity }
-        ensures few { self.new.touches ≤ self.old.touches + 2 }
-        ensures counted { self.old.touches ≤ self.new.touches }
-    {
+    ) -> Result<ReleaseState, ContainerRemoveError> {
         let refused = Err(ContainerRemoveError::ContainerHandleNotOwnedByContainer);
-        if !self.ledger.may_have(handle, self.places.len()) {
+        if !self.header.may_have(handle, self.places.len()) {
             return refused;
         }
         match take_out(&mut self.places, &mut self.free, handle) {
-            Some(_) => Ok(self.ledger.leave(1, mode)),
+            Some(_) => Ok(self.header.leave(1, mode)),
             None => refused,
         }
     }
@@ -137,35 +119,35 @@ impl<T: Attached + Copy, S: FreeSlots<T>> Registry<T> for SlotMap<T, S> {
         f: &mut F,
         mode: ReleaseMode,
     ) -> ReleaseState {
-        if self.ledger.count() == 0 {
-            return ReleaseState::of(self.ledger.is_locked());
+        if self.header.count() == 0 {
+            return ReleaseState::of(self.header.is_locked());
         }
         let gone = sweep(&mut self.places, &mut self.free, dead, f);
-        self.ledger.leave(gone, mode)
+        self.header.leave(gone, mode)
     }
 
     fn for_each<F: FnMut(&T) -> CallbackProgression>(&self, f: &mut F) {
-        if self.ledger.count() > 0 {
+        if self.header.count() > 0 {
             visit(&self.places, &self.free, f);
         }
     }
 
     fn get(&self, handle: ContainerHandle) -> Option<T> {
-        if !self.ledger.may_have(handle, self.places.len()) {
+        if !self.header.may_have(handle, self.places.len()) {
             return None;
         }
         find(&self.places, handle)
     }
 
     fn entries_of(&self, node: &UniqueNodeId) -> usize {
-        if self.ledger.count() == 0 {
+        if self.header.count() == 0 {
             return 0;
         }
         count_of(&self.places, &self.free, node)
     }
 
     fn has_entry_of(&self, node: &UniqueNodeId) -> bool {
-        if self.ledger.count() == 0 {
+        if self.header.count() == 0 {
             return false;
         }
         if self.recent < self.places.len() && is_of_node(&self.places, self.recent, node) {
@@ -175,17 +157,17 @@ impl<T: Attached + Copy, S: FreeSlots<T>> Registry<T> for SlotMap<T, S> {
     }
 
     fn len(&self) -> usize {
-        self.ledger.count()
+        self.header.count()
     }
 
     fn has_room(&self) -> bool {
-        !self.ledger.is_locked()
-            && self.ledger.has_ticket()
-            && self.ledger.count() < self.places.len()
+        !self.header.is_locked()
+            && self.header.has_ticket()
+            && self.header.count() < self.places.len()
     }
 
     fn service(&self) -> u64 {
-        self.ledger.service()
+        self.header.service()
     }
 
     fn capacity(&self) -> usize {
@@ -193,6 +175,6 @@ impl<T: Attached + Copy, S: FreeSlots<T>> Registry<T> for SlotMap<T, S> {
     }
 
     fn is_locked(&self) -> bool {
-        self.ledger.is_locked()
+        self.header.is_locked()
     }
 }

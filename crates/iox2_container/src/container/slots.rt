@@ -2,9 +2,13 @@
 ghost use Rattle.std.specs.Prelude.{◌≡◌, ◌+◌, ◌<◌, Some, IfOk};
 ghost use Rattle.std.specs.Prelude.{length, replicate, slice_get, slice_set};
 
-use super::touches::Touches;
+mod cell;
+mod touches;
+
+pub(crate) use cell::{Cell, Occupant};
 use std::alloc::{AllocError, Global};
 use std::marker::Model;
+use touches::Touches;
 
 /// A fixed number of slots, each with a cell in it.
 ///

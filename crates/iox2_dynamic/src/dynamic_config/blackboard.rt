@@ -47,7 +47,8 @@ impl DynamicConfig {
     /// Calls the callback on the details of the readers by
     /// rising slot, up to and with the first answer `Stop`.
     pub fn list_readers<F: FnMut(&ReaderDetails) -> CallbackProgression>(&self, f: &mut F)
-        requires { CanVisit (TakesAt F.FnMut) (CalledAt F.FnMut) f.old (listed self.now.first.registry) }
+        requires { CanVisit (TakesAt F.FnMut) (CalledAt F.FnMut) f.old
+            (listed self.now.first.registry) }
         ensures { Visit (CalledAt F.FnMut) f.old (listed self.now.first.registry) f.new }
     {
         self.list_first(f);
@@ -63,7 +64,8 @@ impl DynamicConfig {
     /// Calls the callback on the details of the writers by
     /// rising slot, up to and with the first answer `Stop`.
     pub fn list_writers<F: FnMut(&WriterDetails) -> CallbackProgression>(&self, f: &mut F)
-        requires { CanVisit (TakesAt F.FnMut) (CalledAt F.FnMut) f.old (listed self.now.second.registry) }
+        requires { CanVisit (TakesAt F.FnMut) (CalledAt F.FnMut) f.old
+            (listed self.now.second.registry) }
         ensures { Visit (CalledAt F.FnMut) f.old (listed self.now.second.registry) f.new }
     {
         self.list_second(f);

@@ -4,12 +4,12 @@ ghost use Rattle.std.specs.Fn.{CalledAt, TakesAt};
 ghost use Rattle.iox2_container.specs.Callbacks.{CanBeAsked};
 ghost use Rattle.iox2_container.specs.Steps.{listed};
 ghost use Rattle.iox2_dynamic.specs.Details.{role_of};
-ghost use Rattle.iox2_dynamic.specs.Patterns.{kind_of, ports_of};
+ghost use Rattle.iox2_dynamic.specs.Patterns.{kind_of_service, ports_of};
 ghost use Rattle.iox2_dynamic.specs.Ports.{AddsTo, RemovesFrom, RecoversBoth, CountsIn, ListsIn};
 ghost use Rattle.iox2_dynamic.specs.Ports.{IsNoPort, OfRole, StandsAmong, TakesIn, ports_of_node};
 ghost use Rattle.iox2_dynamic.specs.Ports.{CanListIn, has_ports_of, ports_asked_about};
-ghost use Rattle.iox2_dynamic.specs.Service.{HasRole, first_role, second_role, pattern_in};
-ghost use Rattle.iox2_dynamic.specs.Service.{fresh_ports};
+ghost use Rattle.iox2_dynamic.specs.Service.{HasRole, first_role, second_role};
+ghost use Rattle.iox2_dynamic.specs.Service.{capacities_in, fresh_ports};
 
 use super::blackboard::DynamicConfig as BlackboardPorts;
 use super::cleanup::PortCleanupAction;
@@ -48,9 +48,10 @@ impl MessagingPattern {
         service_number: u64,
         tickets: u64,
     ) -> Result<Self, AllocError>
-        ensures kind { IfOk result (λ p. kind_of p ≡ pattern_in settings.now) }
+        ensures kind { IfOk result (λ p.
+            kind_of_service p ≡ (capacities_in settings.now).pattern) }
         ensures ports { IfOk result (λ p.
-            ports_of p ≡ fresh_ports settings.now service_number tickets) }
+            ports_of p ≡ fresh_ports (capacities_in settings.now) service_number tickets) }
     {
         match settings {
             MessagingPatternSettings::RequestResponse(s) => Ok(MessagingPattern::RequestResponse(
@@ -94,7 +95,7 @@ impl MessagingPattern {
 
     /// Which pattern it is.
     pub(super) fn kind(&self) -> PatternKind
-        ensures { result ≡ kind_of self.now }
+        ensures { result ≡ kind_of_service self.now }
     {
         match self {
             MessagingPattern::RequestResponse(_) => PatternKind::RequestResponse,
@@ -106,7 +107,7 @@ impl MessagingPattern {
 
     /// Whether the pattern has ports of the role.
     pub(super) fn has_role(&self, role: Role) -> bool
-        ensures { IsTrue result ↔ HasRole (kind_of self.now) role }
+        ensures { IsTrue result ↔ HasRole (kind_of_service self.now) role }
     {
         match self {
             MessagingPattern::RequestResponse(ports) => ports.has_role(role),
@@ -133,10 +134,11 @@ impl MessagingPattern {
         &mut self,
         details: PortDetails,
     ) -> Result<ContainerHandle, ContainerAddFailure>
-        requires { HasRole (kind_of self.old) (role_of details) }
-        ensures added { AddsTo (first_role (kind_of self.old)) (second_role (kind_of self.old))
+        requires { HasRole (kind_of_service self.old) (role_of details) }
+        ensures added { AddsTo (first_role (kind_of_service self.old))
+            (second_role (kind_of_service self.old))
             (ports_of self.old) details result (ports_of self.new) }
-        ensures kind { kind_of self.new ≡ kind_of self.old }
+        ensures kind { kind_of_service self.new ≡ kind_of_service self.old }
     {
         match (self, details) {
             (MessagingPattern::RequestResponse(ports), PortDetails::Server(port)) =>
@@ -165,9 +167,9 @@ impl MessagingPattern {
         handle: ContainerHandle,
     ) -> Result<ReleaseState, ContainerRemoveError>
         ensures removed { RemovesFrom
-            (first_role (kind_of self.old)) (second_role (kind_of self.old))
+            (first_role (kind_of_service self.old)) (second_role (kind_of_service self.old))
             (ports_of self.old) handle result (ports_of self.new) }
-        ensures kind { kind_of self.new ≡ kind_of self.old }
+        ensures kind { kind_of_service self.new ≡ kind_of_service self.old }
     {
         match self {
             MessagingPattern::RequestResponse(ports) => ports.remove(handle),
@@ -187,7 +189,7 @@ impl MessagingPattern {
         ensures recovered { RecoversBoth F.step dead.now
             (ports_of self.old) f.old (ports_of self.new) f.new }
         ensures left { result ≡ has_ports_of dead.now (ports_of self.new) }
-        ensures kind { kind_of self.new ≡ kind_of self.old }
+        ensures kind { kind_of_service self.new ≡ kind_of_service self.old }
     {
         match self {
             MessagingPattern::RequestResponse(ports) => ports.recover(dead, f),
@@ -199,7 +201,8 @@ impl MessagingPattern {
 
     /// How many ports of the role there are; `None` where the pattern has no such ports.
     pub(super) fn count(&self, role: Role) -> Option<usize>
-        ensures { CountsIn (first_role (kind_of self.now)) (second_role (kind_of self.now))
+        ensures { CountsIn (first_role (kind_of_service self.now))
+            (second_role (kind_of_service self.now))
             (ports_of self.now) role result }
     {
         match self {
@@ -216,10 +219,11 @@ impl MessagingPattern {
         role: Role,
         f: &mut F,
     ) -> bool
-        requires { CanListIn (TakesAt F.FnMut) (CalledAt F.FnMut) (first_role (kind_of self.now))
-            (second_role (kind_of self.now)) (ports_of self.now) role f.old }
-        ensures { ListsIn (CalledAt F.FnMut) (first_role (kind_of self.now))
-            (second_role (kind_of self.now)) (ports_of self.now) role f.old result f.new }
+        requires { CanListIn (TakesAt F.FnMut) (CalledAt F.FnMut)
+            (first_role (kind_of_service self.now)) (second_role (kind_of_service self.now))
+            (ports_of self.now) role f.old }
+        ensures { ListsIn (CalledAt F.FnMut) (first_role (kind_of_service self.now))
+            (second_role (kind_of_service self.now)) (ports_of self.now) role f.old result f.new }
     {
         match self {
             MessagingPattern::RequestResponse(ports) => ports.list(role, f),
@@ -231,8 +235,8 @@ impl MessagingPattern {
 
     /// How many ports of the role there may be; `None` where the pattern has no such ports.
     pub(super) fn capacity(&self, role: Role) -> Option<usize>
-        ensures { OfRole (λ r n. n ≡ r.capacity) (first_role (kind_of self.now))
-            (second_role (kind_of self.now)) (ports_of self.now) role result }
+        ensures { OfRole (λ r n. n ≡ r.capacity) (first_role (kind_of_service self.now))
+            (second_role (kind_of_service self.now)) (ports_of self.now) role result }
     {
         match self {
             MessagingPattern::RequestResponse(ports) => ports.capacity(role),
@@ -244,8 +248,8 @@ impl MessagingPattern {
 
     /// Whether a port of the role would be added.
     pub(super) fn has_room(&self, role: Role) -> bool
-        ensures { IsTrue result ↔ TakesIn (first_role (kind_of self.now))
-            (second_role (kind_of self.now)) (ports_of self.now) role }
+        ensures { IsTrue result ↔ TakesIn (first_role (kind_of_service self.now))
+            (second_role (kind_of_service self.now)) (ports_of self.now) role }
     {
         match self {
             MessagingPattern::RequestResponse(ports) => ports.has_room(role),
@@ -275,7 +279,7 @@ impl MessagingPattern {
         role: Role,
     ) -> Result<Option<Vec<PortDetails>>, AllocError>
         ensures listed { IfOk result (OfRole (λ r list. list.items ≡ listed r)
-            (first_role (kind_of self.now)) (second_role (kind_of self.now))
+            (first_role (kind_of_service self.now)) (second_role (kind_of_service self.now))
             (ports_of self.now) role) }
         ensures exact { IfOk result (λ found.
             IfSome found (λ list. vec_capacity list ≡ length list.items)) }

@@ -59,7 +59,8 @@ impl<A: PortKind, B: PortKind> PortRegistries<A, B> {
 
     /// Shows the ports of the first kind.
     pub(super) fn list_first<F: FnMut(&A) -> CallbackProgression>(&self, f: &mut F)
-        requires { CanVisit (TakesAt F.FnMut) (CalledAt F.FnMut) f.old (listed self.now.first.registry) }
+        requires { CanVisit (TakesAt F.FnMut) (CalledAt F.FnMut) f.old
+            (listed self.now.first.registry) }
         ensures { Visit (CalledAt F.FnMut) f.old (listed self.now.first.registry) f.new }
     {
         self.first.for_each(f);
@@ -67,7 +68,8 @@ impl<A: PortKind, B: PortKind> PortRegistries<A, B> {
 
     /// Shows the ports of the second kind.
     pub(super) fn list_second<F: FnMut(&B) -> CallbackProgression>(&self, f: &mut F)
-        requires { CanVisit (TakesAt F.FnMut) (CalledAt F.FnMut) f.old (listed self.now.second.registry) }
+        requires { CanVisit (TakesAt F.FnMut) (CalledAt F.FnMut) f.old
+            (listed self.now.second.registry) }
         ensures { Visit (CalledAt F.FnMut) f.old (listed self.now.second.registry) f.new }
     {
         self.second.for_each(f);

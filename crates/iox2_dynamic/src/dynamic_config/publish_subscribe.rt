@@ -48,7 +48,8 @@ impl DynamicConfig {
     /// Calls the callback on the details of the publishers by
     /// rising slot, up to and with the first answer `Stop`.
     pub fn list_publishers<F: FnMut(&PublisherDetails) -> CallbackProgression>(&self, f: &mut F)
-        requires { CanVisit (TakesAt F.FnMut) (CalledAt F.FnMut) f.old (listed self.now.first.registry) }
+        requires { CanVisit (TakesAt F.FnMut) (CalledAt F.FnMut) f.old
+            (listed self.now.first.registry) }
         ensures { Visit (CalledAt F.FnMut) f.old (listed self.now.first.registry) f.new }
     {
         self.list_first(f);
@@ -64,7 +65,8 @@ impl DynamicConfig {
     /// Calls the callback on the details of the subscribers by
     /// rising slot, up to and with the first answer `Stop`.
     pub fn list_subscribers<F: FnMut(&SubscriberDetails) -> CallbackProgression>(&self, f: &mut F)
-        requires { CanVisit (TakesAt F.FnMut) (CalledAt F.FnMut) f.old (listed self.now.second.registry) }
+        requires { CanVisit (TakesAt F.FnMut) (CalledAt F.FnMut) f.old
+            (listed self.now.second.registry) }
         ensures { Visit (CalledAt F.FnMut) f.old (listed self.now.second.registry) f.new }
     {
         self.list_second(f);

@@ -1,6 +1,6 @@
 //! What a service answers to those who ask before they act.
 ghost use Rattle.std.specs.Prelude.{◌≡◌, ◌↔◌, IfOk, IfSome, IsTrue, MatchOption, length, map, vec_capacity};
-ghost use Rattle.iox2_container.specs.Steps.{IsForeign, Stands, TakesEntry, listed};
+ghost use Rattle.iox2_container.specs.Steps.{IsUnknownHandle, HasEntry, TakesEntry, listed};
 ghost use Rattle.iox2_dynamic.specs.Details.{port_of};
 ghost use Rattle.iox2_dynamic.specs.Ports.{IsNoPort, OfRole, StandsAmong};
 ghost use Rattle.iox2_dynamic.specs.Ports.{ports_asked_about, ports_of_node};
@@ -79,8 +79,8 @@ impl DynamicConfig {
     /// The node that was registered with this handle and
     /// is still there; `None` for each other handle.
     pub fn node(&self, handle: ContainerHandle) -> Option<UniqueNodeId>
-        ensures node { MatchOption result (IsForeign self.now.nodes.registry handle)
-            (Stands self.now.nodes.registry handle) }
+        ensures node { MatchOption result (IsUnknownHandle self.now.nodes.registry handle)
+            (HasEntry self.now.nodes.registry handle) }
         ensures kept { IsService self.now }
     {
         self.nodes.get(handle)

@@ -9,7 +9,7 @@ ghost use Rattle.iox2_dynamic.specs.Answers.{state_of};
 ghost use Rattle.iox2_dynamic.specs.Details.{role_of};
 ghost use Rattle.iox2_dynamic.specs.Ports.{ports_as, ports_asked_about, CountsIn, CanListIn, ListsIn};
 ghost use Rattle.iox2_dynamic.specs.Service.{IsService, HasRole, first_role, second_role};
-ghost use Rattle.iox2_dynamic.specs.Service.{entries_of_node, fresh_service};
+ghost use Rattle.iox2_dynamic.specs.Service.{capacities_in, entries_of_node, fresh_service};
 ghost use Rattle.iox2_dynamic.specs.Steps.{RegisterStep, DeregisterStep, AttachStep, ReleaseStep};
 ghost use Rattle.iox2_dynamic.specs.Steps.{DeadStep, is_last_of_ports};
 
@@ -64,7 +64,7 @@ impl DynamicConfig {
         service_number: u64,
     ) -> Result<Self, AllocError>
         ensures new { IfOk result (λ c.
-            c ≡ fresh_service settings.now max_nodes service_number u64.MAX) }
+            c ≡ fresh_service (capacities_in settings.now) max_nodes service_number u64.MAX) }
         ensures kept { IfOk result IsService }
     {
         DynamicConfig::with_tickets(alloc, settings, max_nodes, service_number, u64::MAX)
@@ -80,7 +80,7 @@ impl DynamicConfig {
         tickets: u64,
     ) -> Result<Self, AllocError>
         ensures new { IfOk result (λ c.
-            c ≡ fresh_service settings.now max_nodes service_number tickets) }
+            c ≡ fresh_service (capacities_in settings.now) max_nodes service_number tickets) }
         ensures kept { IfOk result IsService }
     {
         let pattern = MessagingPattern::with_tickets(alloc, settings, service_number, tickets)?;
@@ -138,7 +138,8 @@ impl DynamicConfig {
     /// Calls the callback on the nodes by rising slot, one time
     /// for each handle, up to and with the first answer `Stop`.
     pub fn list_node_ids<F: FnMut(&UniqueNodeId) -> CallbackProgression>(&self, f: &mut F)
-        requires { CanVisit (TakesAt F.FnMut) (CalledAt F.FnMut) f.old (listed self.now.nodes.registry) }
+        requires { CanVisit (TakesAt F.FnMut) (CalledAt F.FnMut) f.old
+            (listed self.now.nodes.registry) }
         ensures visit { Visit (CalledAt F.FnMut) f.old (listed self.now.nodes.registry) f.new }
         ensures kept { IsService self.now }
     {

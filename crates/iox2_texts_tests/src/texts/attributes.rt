@@ -1,4 +1,4 @@
-use crate::printing::shown;
+use crate::printing::text_of;
 use iox2_texts::attribute::{
     Attribute, AttributeDefinitionError, AttributeKey, AttributeSet, AttributeSpecifier,
     AttributeValue, AttributeVerifier, MAX_ATTRIBUTE_KEY_LENGTH, MAX_ATTRIBUTE_VALUE_LENGTH,
@@ -77,7 +77,7 @@ fn lengths_and_numbers_have_bounds(rt: HostRuntime) {
 fn key_is_its_text(rt: HostRuntime) {
     let b = key(&rt, "b");
     assert_eq!(rt;
-        (b.as_bytes(), b.len(), shown(&rt, &b).as_str()),
+        (b.as_bytes(), b.len(), text_of(&rt, &b).as_str()),
         (b"b".as_slice(), 1, "b")
     );
     assert!(rt; b.copied() == b);
@@ -278,7 +278,7 @@ fn refuses(
     let error = verifier
         .verify_requirements(set)
         .expect_err(rt, "a refusal");
-    assert_eq!(rt; shown(rt, &error).as_str(), text);
+    assert_eq!(rt; text_of(rt, &error).as_str(), text);
     assert!(rt; error.copied() == error);
 }
 
@@ -340,7 +340,7 @@ fn verifier_takes_sixteen_requirements(rt: HostRuntime) {
 #[test]
 fn too_many_pairs_print_their_path(rt: HostRuntime) {
     assert_eq!(rt;
-        shown(
+        text_of(
             &rt,
             &AttributeDefinitionError::ExceedsMaxSupportedAttributes
         )

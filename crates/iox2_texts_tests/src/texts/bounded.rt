@@ -1,4 +1,4 @@
-use crate::printing::shown;
+use crate::printing::text_of;
 use iox2_texts::bounded::{StaticString, StringModificationError, align};
 use iox2_texts::laws::texts_go_by_bytes;
 use std::cmp::Ordering;
@@ -33,7 +33,7 @@ fn text_tells_its_bytes(rt: HostRuntime) {
             text.as_str(),
             text.as_bytes(),
             text.len(),
-            shown(&rt, &text).as_str()
+            text_of(&rt, &text).as_str()
         ),
         ("ab", b"ab".as_slice(), 2, "ab")
     );

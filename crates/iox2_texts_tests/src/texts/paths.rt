@@ -1,4 +1,4 @@
-use crate::printing::shown;
+use crate::printing::text_of;
 use iox2_texts::bounded::{Content, SemanticString, SemanticStringError};
 use iox2_texts::laws::{
     file_names_have_up_to_255_bytes, file_paths_have_up_to_255_bytes, paths_have_up_to_255_bytes,
@@ -80,7 +80,7 @@ fn longest_names_and_paths_have_255_bytes(rt: HostRuntime) {
 #[test]
 fn longest_path_prints_whole(rt: HostRuntime) {
     let longest = path(&rt, &[b'a'; 255]);
-    assert_eq!(rt; shown(&rt, &longest).as_str(), longest.as_str());
+    assert_eq!(rt; text_of(&rt, &longest).as_str(), longest.as_str());
 }
 
 #[test]
@@ -137,7 +137,7 @@ fn tells<C: Content, const N: usize>(
             found.as_str(),
             found.as_bytes(),
             found.len(),
-            shown(rt, found).as_str()
+            text_of(rt, found).as_str()
         ),
         (text, text.as_bytes(), text.len(), text)
     );

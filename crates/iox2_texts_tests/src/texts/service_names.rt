@@ -1,4 +1,4 @@
-use crate::printing::shown;
+use crate::printing::text_of;
 use iox2_texts::bounded::StringModificationError;
 use iox2_texts::laws::service_names_go_by_bytes;
 use iox2_texts::service_name::{
@@ -88,7 +88,7 @@ fn other_bytes_than_ascii_are_refused(rt: HostRuntime) {
 fn longest_name_prints_whole(rt: HostRuntime) {
     let letters = [b'a'; 255];
     let longest = name(&rt, text(&rt, &letters));
-    assert_eq!(rt; shown(&rt, &longest).as_str(), text(&rt, &letters));
+    assert_eq!(rt; text_of(&rt, &longest).as_str(), text(&rt, &letters));
 }
 
 #[test]
@@ -114,7 +114,7 @@ fn name_is_its_text(rt: HostRuntime) {
         (
             name.equals_str("a"),
             name.equals_str("A"),
-            shown(&rt, &name).as_str()
+            text_of(&rt, &name).as_str()
         ),
         (true, false, "a")
     );
@@ -135,7 +135,10 @@ fn errors_print_their_path(rt: HostRuntime) {
     let content = ServiceNameError::from(StringModificationError::InvalidCharacter);
     let length = ServiceNameError::from(StringModificationError::InsertWouldExceedCapacity);
     assert_eq!(rt;
-        [shown(&rt, &content).as_str(), shown(&rt, &length).as_str()],
+        [
+            text_of(&rt, &content).as_str(),
+            text_of(&rt, &length).as_str()
+        ],
         [
             "ServiceNameError::InvalidContent",
             "ServiceNameError::ExceedsMaximumLength",

@@ -1,8 +1,8 @@
 //! Calls that change a service: nodes register and deregister, ports are attached and released.
 ghost use Rattle.std.specs.Prelude.{◌≡◌, All, Err};
 ghost use Rattle.iox2sd.specs.Changes.{handle_answer, Registers, Deregisters, Releases, AttachesAt};
-ghost use Rattle.iox2sd.specs.Places.{IsSound, At, Nothing};
-ghost use Rattle.iox2sd.specs.Ports.{Attaches};
+ghost use Rattle.iox2sd.specs.Places.{IsSoundPlace, At, Nothing};
+ghost use Rattle.iox2sd.specs.Ports.{AttachesPort};
 ghost use Rattle.iox2sd.specs.Status.{code};
 
 use super::Service;
@@ -43,15 +43,15 @@ impl HandleAnswer {
 
 /// Registers a node, which may have several handles.
 ///
-/// Refused are, in this order, NULL, a place that holds no service, an id of no node, a locked service, and want of a place
-/// or a ticket.
+/// Refused are, in this order, NULL, a place that holds no service, an id of no node, a locked
+/// service, and want of a place or a ticket.
 #[unsafe(no_mangle)]
 pub extern "C" fn iox2sd_register_at(
     alloc: Global,
     places: &mut [Service],
     node: Id,
 ) -> HandleAnswer
-    requires { All IsSound places.old }
+    requires { All IsSoundPlace places.old }
     ensures { At handle_answer Err Nothing (Registers node) places.old result places.new }
 {
     let [place, ..] = places else {
@@ -65,13 +65,15 @@ pub extern "C" fn iox2sd_register_at(
     HandleAnswer::of(made)
 }
 
-/// Deregisters the node with this handle, and tells whether the service is locked for good, as it was the last one.
+/// Deregisters the node with this handle, and tells whether the service is locked for good, as it
+/// was the last one.
 ///
-/// Refused are, in this order, NULL, a place that holds no service, a number of no role, a handle that is not that of a
-/// node here, and one that is the only one of its node while some port has that node.
+/// Refused are, in this order, NULL, a place that holds no service, a number of no role, a handle
+/// that is not that of a node here, and one that is the only one of its node while some port has
+/// that node.
 #[unsafe(no_mangle)]
 pub extern "C" fn iox2sd_deregister_at(alloc: Global, places: &mut [Service], handle: Handle) -> u32
-    requires { All IsSound places.old }
+    requires { All IsSoundPlace places.old }
     ensures { At code (λ s. s) Nothing (Deregisters handle) places.old result places.new }
 {
     let [place, ..] = places else {
@@ -87,8 +89,8 @@ pub extern "C" fn iox2sd_deregister_at(alloc: Global, places: &mut [Service], ha
 
 /// Attaches a port to the service in a place that may be NULL.
 fn attach_in(alloc: Global, places: &mut [Service], port: &Port) -> HandleAnswer
-    requires { All IsSound places.old }
-    ensures { At handle_answer Err Nothing (Attaches port.now) places.old result places.new }
+    requires { All IsSoundPlace places.old }
+    ensures { At handle_answer Err Nothing (AttachesPort port.now) places.old result places.new }
 {
     let [place, ..] = places else {
         return HandleAnswer::of(Err(Status::Null));
@@ -103,16 +105,17 @@ fn attach_in(alloc: Global, places: &mut [Service], port: &Port) -> HandleAnswer
 
 /// Attaches a port of one of the pattern's roles.
 ///
-/// Refused are, in this order, NULL for the port and for the place, a place that holds no service, an id that is not a node's,
-/// a role that is not that of a port, an unknown kind of data segment, a role that the pattern does not have, a locked
-/// service, a node that is not registered, by its whole id, and want of a place or a ticket.
+/// Refused are, in this order, NULL for the port and for the place, a place that holds no service,
+/// an id that is not a node's, a role that is not that of a port, an unknown kind of data segment,
+/// a role that the pattern does not have, a locked service, a node that is not registered, by its
+/// whole id, and want of a place or a ticket.
 #[unsafe(no_mangle)]
 pub extern "C" fn iox2sd_attach_at(
     alloc: Global,
     places: &mut [Service],
     ports: &[Port],
 ) -> HandleAnswer
-    requires { All IsSound places.old }
+    requires { All IsSoundPlace places.old }
     ensures { AttachesAt ports.now places.old result places.new }
 {
     match ports {
@@ -123,11 +126,11 @@ pub extern "C" fn iox2sd_attach_at(
 
 /// Releases the port with this handle.
 ///
-/// Refused are, in this order, NULL, a place that holds no service, a number of no role, and a handle that is not that of a
-/// port here.
+/// Refused are, in this order, NULL, a place that holds no service, a number of no role, and a
+/// handle that is not that of a port here.
 #[unsafe(no_mangle)]
 pub extern "C" fn iox2sd_release_at(alloc: Global, places: &mut [Service], handle: Handle) -> u32
-    requires { All IsSound places.old }
+    requires { All IsSoundPlace places.old }
     ensures { At code (λ s. s) Nothing (Releases handle) places.old result places.new }
 {
     let [place, ..] = places else {

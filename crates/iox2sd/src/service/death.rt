@@ -4,7 +4,7 @@ ghost use Rattle.iox2_dynamic.specs.Steps.{DeadStep};
 ghost use Rattle.iox2sd.specs.Counts.{counted};
 ghost use Rattle.iox2sd.specs.Deaths.{is_kept, action_for, Keeps, Dies, Went};
 ghost use Rattle.iox2sd.specs.Deaths.{told_death, death_answer};
-ghost use Rattle.iox2sd.specs.Places.{IsSound, At, Nothing};
+ghost use Rattle.iox2sd.specs.Places.{IsSoundPlace, At, Nothing};
 ghost use Rattle.iox2sd.specs.declared.service.death.Death.TheVariants as death;
 
 use super::Service;
@@ -123,9 +123,9 @@ fn die(service: &mut DynamicConfig, dead: Id, kept: &[Id]) -> Death
     }
 }
 
-/// Removes those ports of a dead node whose ids are not among `kept`, and tells how many went. Where none of its ports is
-/// left, the node goes too, with all its handles; where it was the last one, the service is locked for good, as it is told
-/// to be where it was before.
+/// Removes those ports of a dead node whose ids are not among `kept`, and tells how many went.
+/// Where none of its ports is left, the node goes too, with all its handles; where it was the last
+/// one, the service is locked for good, as it is told to be where it was before.
 ///
 /// Refused are, in this order, NULL, a place that holds no service, and an id of no node.
 #[unsafe(no_mangle)]
@@ -135,7 +135,7 @@ pub extern "C" fn iox2sd_dead_at(
     dead: Id,
     kept: &[Id],
 ) -> DeathAnswer
-    requires { All IsSound places.old }
+    requires { All IsSoundPlace places.old }
     ensures { At death_answer death.Refused Nothing (Dies dead kept.now)
         places.old result places.new }
 {

@@ -1,7 +1,7 @@
 //! What a handle stands for.
 ghost use Rattle.std.specs.Prelude.{◌≡◌, All, Err};
 ghost use Rattle.iox2sd.specs.Finding.{id_answer, port_answer, FindsNode, FindsPort};
-ghost use Rattle.iox2sd.specs.Places.{IsSound, At, Nothing};
+ghost use Rattle.iox2sd.specs.Places.{IsSoundPlace, At, Nothing};
 
 use super::Service;
 use crate::handle::Handle;
@@ -93,15 +93,15 @@ fn find_port(service: &DynamicConfig, handle: Handle) -> Result<Port, Status>
     }
 }
 
-/// The node that was registered with this handle. Refused are, in this order, NULL, a place that holds no service, a number
-/// of no role, and each handle that is not that of a node here.
+/// The node that was registered with this handle. Refused are, in this order, NULL, a place that
+/// holds no service, a number of no role, and each handle that is not that of a node here.
 #[unsafe(no_mangle)]
 pub extern "C" fn iox2sd_find_node_at(
     alloc: Global,
     places: &mut [Service],
     handle: Handle,
 ) -> IdAnswer
-    requires { All IsSound places.old }
+    requires { All IsSoundPlace places.old }
     ensures { At id_answer Err Nothing (λ old made new. FindsNode handle old made × (new ≡ old))
         places.old result places.new }
 {
@@ -116,15 +116,15 @@ pub extern "C" fn iox2sd_find_node_at(
     IdAnswer::of(found)
 }
 
-/// The port that was attached with this handle. Refused are, in this order, NULL, a place that holds no service, a number
-/// of no role, and each handle that is not that of a port here.
+/// The port that was attached with this handle. Refused are, in this order, NULL, a place that
+/// holds no service, a number of no role, and each handle that is not that of a port here.
 #[unsafe(no_mangle)]
 pub extern "C" fn iox2sd_find_port_at(
     alloc: Global,
     places: &mut [Service],
     handle: Handle,
 ) -> PortAnswer
-    requires { All IsSound places.old }
+    requires { All IsSoundPlace places.old }
     ensures { At port_answer Err Nothing (λ old made new. FindsPort handle old made × (new ≡ old))
         places.old result places.new }
 {

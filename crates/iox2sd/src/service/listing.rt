@@ -2,7 +2,7 @@
 ghost use Rattle.std.specs.Prelude.{◌≡◌, All};
 ghost use Rattle.iox2_dynamic.specs.Service.{first_role, second_role};
 ghost use Rattle.iox2sd.specs.Listings.{Puts, PutsAll, ports_in, ListsPorts, listed_answer};
-ghost use Rattle.iox2sd.specs.Places.{IsSound, At};
+ghost use Rattle.iox2sd.specs.Places.{IsSoundPlace, At};
 ghost use Rattle.iox2sd.specs.Ports.{told_port};
 ghost use Rattle.iox2sd.specs.declared.service.listing.Listed.TheVariants as listed;
 
@@ -40,6 +40,7 @@ impl Listed {
 }
 
 /// Puts an item into the next place, or stops where there is none.
+#[inline(always)]
 pub(super) fn put<T: Copy>(out: &mut [T], used: &mut usize, item: T) -> CallbackProgression
     ensures { Puts (out.old, used.old) item result (out.new, used.new) }
 {
@@ -85,11 +86,12 @@ fn list_ports(service: &DynamicConfig, role: u64, out: &mut [Port]) -> Listed
     Listed::All(number)
 }
 
-/// Lists the ports of a role by rising slot at the front of an array, whose other places stay as they were, and tells how
-/// many there are. Where the array is too short for all, it stays as it was, and the number that it needs is told.
+/// Lists the ports of a role by rising slot at the front of an array, whose other places stay as
+/// they were, and tells how many there are. Where the array is too short for all, it stays as it
+/// was, and the number that it needs is told.
 ///
-/// Refused are, in this order, NULL, a place that holds no service, a number of no role, a role that the pattern does not
-/// have, and too short an array.
+/// Refused are, in this order, NULL, a place that holds no service, a number of no role, a role
+/// that the pattern does not have, and too short an array.
 #[unsafe(no_mangle)]
 pub extern "C" fn iox2sd_ports_at(
     alloc: Global,
@@ -97,7 +99,7 @@ pub extern "C" fn iox2sd_ports_at(
     role: u64,
     out: &mut [Port],
 ) -> CountAnswer
-    requires { All IsSound places.old }
+    requires { All IsSoundPlace places.old }
     ensures { At listed_answer listed.Refused (out.new ≡ out.old)
         (λ old made new. ListsPorts role out.old old made out.new × (new ≡ old))
         places.old result places.new }

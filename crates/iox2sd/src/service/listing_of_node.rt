@@ -7,7 +7,7 @@ ghost use Rattle.iox2_dynamic.specs.Service.{first_role, second_role};
 ghost use Rattle.iox2sd.specs.Listings.{listed_answer};
 ghost use Rattle.iox2sd.specs.NodeListings.{Counts, PutsAt, Notes, NotesAll};
 ghost use Rattle.iox2sd.specs.NodeListings.{Stand, ports_of_in, ListsPortsOf};
-ghost use Rattle.iox2sd.specs.Places.{IsSound, At};
+ghost use Rattle.iox2sd.specs.Places.{IsSoundPlace, At};
 ghost use Rattle.iox2sd.specs.Ports.{told_port};
 ghost use Rattle.iox2sd.specs.declared.service.listing.Listed.TheVariants as listed;
 
@@ -128,7 +128,7 @@ pub extern "C" fn iox2sd_ports_of_at(
     node: Id,
     out: &mut [Port],
 ) -> CountAnswer
-    requires { All IsSound places.old }
+    requires { All IsSoundPlace places.old }
     ensures { At listed_answer listed.Refused (out.new ≡ out.old)
         (λ old made new. ListsPortsOf node out.old old made out.new × (new ≡ old))
         places.old result places.new }

@@ -1,13 +1,12 @@
 //! Making and freeing services.
 ghost use Rattle.std.specs.Prelude.{◌≡◌, All};
-ghost use Rattle.iox2sd.specs.Places.{IsSound, held};
-ghost use Rattle.iox2sd.specs.Services.{ReadsSettings, MakesAt, FreesAt, Makes};
+ghost use Rattle.iox2sd.specs.Places.{IsSoundPlace, held};
+ghost use Rattle.iox2sd.specs.Services.{MakesAt, FreesAt, Makes};
 
 use super::Service;
 use crate::status::Status;
-use iox2_dynamic::dynamic_config::{
-    DynamicConfig, MessagingPatternSettings, blackboard, event, publish_subscribe, request_response,
-};
+use iox2_config::hash::PatternKind;
+use iox2_dynamic::dynamic_config::{DynamicConfig, MessagingPatternSettings};
 use std::alloc::Global;
 
 /// For how many nodes and ports at a time a service has room.
@@ -22,36 +21,6 @@ pub struct Capacities {
     pub second: usize,
 }
 
-/// The settings of the pattern of this number, with these capacities.
-fn settings_of(pattern: u32, capacities: Capacities) -> Option<MessagingPatternSettings>
-    ensures { ReadsSettings pattern capacities result }
-{
-    let Capacities { first, second, .. } = capacities;
-    match pattern {
-        0 => Some(MessagingPatternSettings::PublishSubscribe(
-            publish_subscribe::DynamicConfigSettings {
-                number_of_subscribers: second,
-                number_of_publishers: first,
-            },
-        )),
-        1 => Some(MessagingPatternSettings::Event(event::DynamicConfigSettings {
-            number_of_listeners: first,
-            number_of_notifiers: second,
-        })),
-        2 => Some(MessagingPatternSettings::RequestResponse(
-            request_response::DynamicConfigSettings {
-                number_of_servers: first,
-                number_of_clients: second,
-            },
-        )),
-        3 => Some(MessagingPatternSettings::Blackboard(blackboard::DynamicConfigSettings {
-            number_of_readers: first,
-            number_of_writers: second,
-        })),
-        _ => None,
-    }
-}
-
 /// Makes a service in the place of none.
 fn make(
     alloc: Global,
@@ -61,8 +30,8 @@ fn make(
     capacities: Capacities,
     tickets: u64,
 ) -> u32
-    requires { IsSound place.old }
-    ensures sound { IsSound place.new }
+    requires { IsSoundPlace place.old }
+    ensures sound { IsSoundPlace place.new }
     ensures made { Makes pattern number capacities tickets (held place.old) result
         (held place.new) }
 {
@@ -70,9 +39,10 @@ fn make(
         place.put(held);
         return Status::HasService.code();
     }
-    let Some(settings) = settings_of(pattern, capacities) else {
+    let Some(kind) = PatternKind::of_number(pattern) else {
         return Status::UnknownPattern.code();
     };
+    let settings = MessagingPatternSettings::new(kind, capacities.first, capacities.second);
     let Ok(made) = DynamicConfig::with_tickets(alloc, &settings, capacities.nodes, number, tickets)
     else {
         return Status::NoMemory.code();
@@ -84,11 +54,11 @@ fn make(
     Status::Done.code()
 }
 
-/// Makes a service with nothing attached: its number is told in its handles, and so many tickets are given out for nodes
-/// and for each kind of ports.
+/// Makes a service with nothing attached: its number is told in its handles, and so many tickets
+/// are given out for nodes and for each kind of ports.
 ///
-/// Refused are, in this order, NULL, a place that holds a service, which it keeps, a number that is not that of a pattern, and
-/// want of memory.
+/// Refused are, in this order, NULL, a place that holds a service, which it keeps, a number that is
+/// not that of a pattern, and want of memory.
 #[unsafe(no_mangle)]
 pub extern "C" fn iox2sd_service_make_at(
     alloc: Global,
@@ -98,7 +68,7 @@ pub extern "C" fn iox2sd_service_make_at(
     capacities: Capacities,
     tickets: u64,
 ) -> u32
-    requires { All IsSound places.old }
+    requires { All IsSoundPlace places.old }
     ensures { MakesAt pattern number capacities tickets places.old result places.new }
 {
     match places {
@@ -107,10 +77,11 @@ pub extern "C" fn iox2sd_service_make_at(
     }
 }
 
-/// Frees the service, and leaves its place for another. Refused are NULL and a place that holds none.
+/// Frees the service, and leaves its place for another. Refused are NULL and a place that holds
+/// none.
 #[unsafe(no_mangle)]
 pub extern "C" fn iox2sd_service_free_at(alloc: Global, places: &mut [Service]) -> u32
-    requires { All IsSound places.old }
+    requires { All IsSoundPlace places.old }
     ensures { FreesAt places.old result places.new }
 {
     let [place, ..] = places else {

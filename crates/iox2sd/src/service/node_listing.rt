@@ -2,7 +2,7 @@
 ghost use Rattle.std.specs.Prelude.{◌≡◌, All};
 ghost use Rattle.iox2sd.specs.Ids.{id_of};
 ghost use Rattle.iox2sd.specs.Listings.{Puts, PutsAll, nodes_in, ListsNodes, listed_answer};
-ghost use Rattle.iox2sd.specs.Places.{IsSound, At};
+ghost use Rattle.iox2sd.specs.Places.{IsSoundPlace, At};
 ghost use Rattle.iox2sd.specs.declared.service.listing.Listed.TheVariants as listed;
 
 use super::Service;
@@ -40,9 +40,9 @@ fn list_nodes(service: &DynamicConfig, out: &mut [Id]) -> Listed
     Listed::All(number)
 }
 
-/// Lists the ids of the nodes by rising slot, one for each handle, at the front of an array, whose other places stay as they
-/// were, and tells how many there are. Where the array is too short for all, it stays as it was, and the number that it
-/// needs is told.
+/// Lists the ids of the nodes by rising slot, one for each handle, at the front of an array, whose
+/// other places stay as they were, and tells how many there are. Where the array is too short for
+/// all, it stays as it was, and the number that it needs is told.
 ///
 /// Refused are, in this order, NULL, a place that holds no service, and too short an array.
 #[unsafe(no_mangle)]
@@ -51,7 +51,7 @@ pub extern "C" fn iox2sd_nodes_at(
     places: &mut [Service],
     out: &mut [Id],
 ) -> CountAnswer
-    requires { All IsSound places.old }
+    requires { All IsSoundPlace places.old }
     ensures { At listed_answer listed.Refused (out.new ≡ out.old)
         (λ old made new. ListsNodes out.old old made out.new × (new ≡ old))
         places.old result places.new }

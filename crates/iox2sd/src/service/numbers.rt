@@ -1,7 +1,8 @@
-//! How many nodes and ports there are, how many there may be, and whether there is room for one more.
+//! How many nodes and ports there are, how many there may be, and whether there is room for one
+//! more.
 ghost use Rattle.std.specs.Prelude.{◌≡◌, All, Err, length};
 ghost use Rattle.iox2sd.specs.Numbers.{told_count, AsksPorts, AsksRoom, AsksNodeRoom};
-ghost use Rattle.iox2sd.specs.Places.{IsSound, At, Nothing};
+ghost use Rattle.iox2sd.specs.Places.{IsSoundPlace, At, Nothing};
 ghost use Rattle.iox2sd.specs.Queries.{Gives, flag_answer};
 
 use super::Service;
@@ -71,7 +72,7 @@ fn has_room_for_node(service: &DynamicConfig) -> Result<bool, Status>
 /// How many handles of nodes there are. Refused are NULL and a place that holds no service.
 #[unsafe(no_mangle)]
 pub extern "C" fn iox2sd_number_of_nodes_at(alloc: Global, places: &mut [Service]) -> CountAnswer
-    requires { All IsSound places.old }
+    requires { All IsSoundPlace places.old }
     ensures { At told_count Err Nothing (Gives (λ s. length s.nodes.registry.entries))
         places.old result places.new }
 {
@@ -86,10 +87,11 @@ pub extern "C" fn iox2sd_number_of_nodes_at(alloc: Global, places: &mut [Service
     told(Ok(number))
 }
 
-/// How many handles of nodes there may be at a time. Refused are NULL and a place that holds no service.
+/// How many handles of nodes there may be at a time. Refused are NULL and a place that holds no
+/// service.
 #[unsafe(no_mangle)]
 pub extern "C" fn iox2sd_max_nodes_at(alloc: Global, places: &mut [Service]) -> CountAnswer
-    requires { All IsSound places.old }
+    requires { All IsSoundPlace places.old }
     ensures { At told_count Err Nothing (Gives (λ s. s.nodes.registry.capacity))
         places.old result places.new }
 {
@@ -104,10 +106,11 @@ pub extern "C" fn iox2sd_max_nodes_at(alloc: Global, places: &mut [Service]) -> 
     told(Ok(number))
 }
 
-/// Whether `iox2sd_register` would register a node. Refused are NULL and a place that holds no service.
+/// Whether `iox2sd_register` would register a node. Refused are NULL and a place that holds no
+/// service.
 #[unsafe(no_mangle)]
 pub extern "C" fn iox2sd_has_room_for_node_at(alloc: Global, places: &mut [Service]) -> FlagAnswer
-    requires { All IsSound places.old }
+    requires { All IsSoundPlace places.old }
     ensures { At flag_answer Err Nothing (λ old made new. AsksNodeRoom old made × (new ≡ old))
         places.old result places.new }
 {
@@ -122,15 +125,15 @@ pub extern "C" fn iox2sd_has_room_for_node_at(alloc: Global, places: &mut [Servi
     FlagAnswer::of(made)
 }
 
-/// How many ports of the role there are. Refused are, in this order, NULL, a place that holds no service, a number of no
-/// role, and a role that the pattern does not have.
+/// How many ports of the role there are. Refused are, in this order, NULL, a place that holds no
+/// service, a number of no role, and a role that the pattern does not have.
 #[unsafe(no_mangle)]
 pub extern "C" fn iox2sd_count_ports_at(
     alloc: Global,
     places: &mut [Service],
     role: u64,
 ) -> CountAnswer
-    requires { All IsSound places.old }
+    requires { All IsSoundPlace places.old }
     ensures { At told_count Err Nothing
         (λ old made new. AsksPorts (λ r n. n ≡ length r.entries) role old made × (new ≡ old))
         places.old result places.new }
@@ -153,7 +156,7 @@ pub extern "C" fn iox2sd_max_ports_at(
     places: &mut [Service],
     role: u64,
 ) -> CountAnswer
-    requires { All IsSound places.old }
+    requires { All IsSoundPlace places.old }
     ensures { At told_count Err Nothing
         (λ old made new. AsksPorts (λ r n. n ≡ r.capacity) role old made × (new ≡ old))
         places.old result places.new }
@@ -169,10 +172,11 @@ pub extern "C" fn iox2sd_max_ports_at(
     told(made)
 }
 
-/// Whether `iox2sd_attach` would attach a port of the role, if its node is registered. Refused as `iox2sd_count_ports` is.
+/// Whether `iox2sd_attach` would attach a port of the role, if its node is registered. Refused as
+/// `iox2sd_count_ports` is.
 #[unsafe(no_mangle)]
 pub extern "C" fn iox2sd_has_room_at(alloc: Global, places: &mut [Service], role: u64) -> FlagAnswer
-    requires { All IsSound places.old }
+    requires { All IsSoundPlace places.old }
     ensures { At flag_answer Err Nothing (λ old made new. AsksRoom role old made × (new ≡ old))
         places.old result places.new }
 {

@@ -1,14 +1,13 @@
 //! Questions to a service: its pattern, its number, its lock, and what its ports are.
 ghost use Rattle.std.specs.Prelude.{◌≡◌, All, Ok, Err};
 ghost use Rattle.iox2_config.specs.Hashing.{pattern_number};
-ghost use Rattle.iox2sd.specs.Places.{IsSound, At, Nothing};
+ghost use Rattle.iox2sd.specs.Places.{IsSoundPlace, At, Nothing};
 ghost use Rattle.iox2sd.specs.Queries.{Gives, AsksRole, number_answer, roles_answer, flag_answer};
 ghost use Rattle.iox2sd.specs.Queries.{roles_in};
 
 use super::Service;
 use crate::handle::{role_number, role_of};
 use crate::status::Status;
-use iox2_config::hash::PatternKind;
 use iox2_dynamic::dynamic_config::{DynamicConfig, PortRoles};
 use std::alloc::Global;
 
@@ -28,9 +27,11 @@ pub struct NumberAnswer {
 pub struct RolesAnswer {
     /// The number of a [`Status`].
     pub status: u32,
-    /// The role of publishers, listeners, servers or readers; 0 where the status is not that of `Done`.
+    /// The role of publishers, listeners, servers or readers; 0 where the status is not that of
+    /// `Done`.
     pub first: u64,
-    /// The role of subscribers, notifiers, clients or writers; 0 where the status is not that of `Done`.
+    /// The role of subscribers, notifiers, clients or writers; 0 where the status is not that of
+    /// `Done`.
     pub second: u64,
 }
 
@@ -111,12 +112,7 @@ impl FlagAnswer {
 fn pattern(service: &DynamicConfig) -> u64
     ensures { result ≡ pattern_number service.now.pattern }
 {
-    match service.kind() {
-        PatternKind::PublishSubscribe => 0,
-        PatternKind::Event => 1,
-        PatternKind::RequestResponse => 2,
-        PatternKind::Blackboard => 3,
-    }
+    service.kind() as u64
 }
 
 /// The roles of the pattern's ports.
@@ -143,7 +139,7 @@ fn has_role(service: &DynamicConfig, role: u64) -> Result<bool, Status>
 /// The number of the pattern. Refused are NULL and a place that holds no service.
 #[unsafe(no_mangle)]
 pub extern "C" fn iox2sd_pattern_at(alloc: Global, places: &mut [Service]) -> NumberAnswer
-    requires { All IsSound places.old }
+    requires { All IsSoundPlace places.old }
     ensures { At number_answer Err Nothing (Gives (λ s. pattern_number s.pattern))
         places.old result places.new }
 {
@@ -158,10 +154,11 @@ pub extern "C" fn iox2sd_pattern_at(alloc: Global, places: &mut [Service]) -> Nu
     NumberAnswer::of(Ok(number))
 }
 
-/// The roles of the pattern's two kinds of ports. Refused are NULL and a place that holds no service.
+/// The roles of the pattern's two kinds of ports. Refused are NULL and a place that holds no
+/// service.
 #[unsafe(no_mangle)]
 pub extern "C" fn iox2sd_roles_at(alloc: Global, places: &mut [Service]) -> RolesAnswer
-    requires { All IsSound places.old }
+    requires { All IsSoundPlace places.old }
     ensures { At roles_answer Err Nothing (Gives roles_in) places.old result places.new }
 {
     let [place, ..] = places else {
@@ -175,10 +172,11 @@ pub extern "C" fn iox2sd_roles_at(alloc: Global, places: &mut [Service]) -> Role
     RolesAnswer::of(Ok(roles))
 }
 
-/// The service's number, which each of its handles has. Refused are NULL and a place that holds no service.
+/// The service's number, which each of its handles has. Refused are NULL and a place that holds no
+/// service.
 #[unsafe(no_mangle)]
 pub extern "C" fn iox2sd_service_number_at(alloc: Global, places: &mut [Service]) -> NumberAnswer
-    requires { All IsSound places.old }
+    requires { All IsSoundPlace places.old }
     ensures { At number_answer Err Nothing (Gives (λ s. s.nodes.registry.service))
         places.old result places.new }
 {
@@ -196,7 +194,7 @@ pub extern "C" fn iox2sd_service_number_at(alloc: Global, places: &mut [Service]
 /// Whether the service is locked for good. Refused are NULL and a place that holds no service.
 #[unsafe(no_mangle)]
 pub extern "C" fn iox2sd_is_locked_at(alloc: Global, places: &mut [Service]) -> FlagAnswer
-    requires { All IsSound places.old }
+    requires { All IsSoundPlace places.old }
     ensures { At flag_answer Err Nothing (Gives (λ s. s.nodes.registry.locked))
         places.old result places.new }
 {
@@ -211,11 +209,11 @@ pub extern "C" fn iox2sd_is_locked_at(alloc: Global, places: &mut [Service]) -> 
     FlagAnswer::of(Ok(locked))
 }
 
-/// Whether the pattern has ports of the role. Refused are, in this order, NULL, a place that holds no service, and a number
-/// of no role.
+/// Whether the pattern has ports of the role. Refused are, in this order, NULL, a place that holds
+/// no service, and a number of no role.
 #[unsafe(no_mangle)]
 pub extern "C" fn iox2sd_has_role_at(alloc: Global, places: &mut [Service], role: u64) -> FlagAnswer
-    requires { All IsSound places.old }
+    requires { All IsSoundPlace places.old }
     ensures { At flag_answer Err Nothing (λ old made new. AsksRole role old made × (new ≡ old))
         places.old result places.new }
 {

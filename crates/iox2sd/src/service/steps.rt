@@ -1,6 +1,6 @@
 //! The calls that change a service that is held.
 ghost use Rattle.iox2sd.specs.Changes.{Registers, Deregisters, Releases};
-ghost use Rattle.iox2sd.specs.Ports.{Attaches};
+ghost use Rattle.iox2sd.specs.Ports.{AttachesPort};
 
 use crate::handle::Handle;
 use crate::id::Id;
@@ -54,7 +54,7 @@ pub(super) fn release(service: &mut DynamicConfig, handle: Handle) -> Status
 
 /// Attaches a port.
 pub(super) fn attach(service: &mut DynamicConfig, port: &Port) -> Result<Handle, Status>
-    ensures { Attaches port.now service.old result service.new }
+    ensures { AttachesPort port.now service.old result service.new }
 {
     let details = match port.read() {
         Ok(details) => details,

@@ -1,14 +1,19 @@
 //! The lines of attributes.
-ghost use Rattle.std.specs.Prelude.{◌≡◌, ◌∷◌, ◌++◌, IfSome};
+ghost use Rattle.std.specs.Prelude.{◌≡◌, ℕ, List, MatchOption, MatchResult};
+ghost use Rattle.iox2_texts.specs.Pair.{Pair};
+ghost use Rattle.service_drawing.specs.Lines.{IsKey, IsPair, pair_text, HasAttributes};
 
+use super::expected::Expected;
 use super::message::line_after;
-use super::wanted::Wanted;
 use super::words::{after_word, split_word};
 use iox2_texts::attribute::{AttributeKey, AttributeSet, AttributeValue, AttributeVerifier};
 
 /// The key and the value that a text spells. The key has no space.
 fn pair_in(text: &str) -> Option<(AttributeKey, AttributeValue)>
-    ensures { IfSome result (λ pair. text.now ≡ pair.0 ++ 32 ∷ pair.1) }
+    ensures { MatchOption result
+        ((pair : Pair) → IsPair pair → ¬ (text.now ≡ pair_text pair))
+        (λ pair. IsPair (record { key = pair.0; value = pair.1 })
+        × (text.now ≡ pair_text (record { key = pair.0; value = pair.1 }))) }
 {
     let Some((key, value)) = split_word(text) else {
         return None;
@@ -24,9 +29,10 @@ fn pair_in(text: &str) -> Option<(AttributeKey, AttributeValue)>
 
 /// The key that a text spells. It has no space.
 fn key_in(text: &str) -> Option<AttributeKey>
-    ensures { IfSome result (λ key. text.now ≡ key) }
+    ensures { MatchOption result ((key : List ℕ) → IsKey key → ¬ (text.now ≡ key))
+        (λ key. IsKey key × (text.now ≡ key)) }
 {
-    if text.contains(' ') {
+    if let Some(_) = split_word(text) {
         return None;
     }
     match AttributeKey::try_from(text) {
@@ -36,36 +42,39 @@ fn key_in(text: &str) -> Option<AttributeKey>
 }
 
 /// The lines of the attributes that the service has, at most 16.
-pub(super) fn attributes_before(bytes: &[u8]) -> Result<(AttributeSet, &[u8]), Wanted<'_>> {
+pub(super) fn attributes_before(bytes: &[u8]) -> Result<(AttributeSet, &[u8]), Expected<'_>>
+    ensures { MatchResult result (λ found. HasAttributes found.0 found.1.now bytes.now)
+        (λ expected. (set : List Pair) (rest : List ℕ) → ¬ HasAttributes set rest bytes.now) }
+{
     let mut attributes = AttributeSet::new();
     let mut rest = bytes;
     while let Some((text, tail)) = line_after(rest, "", "attribute ") {
-        let wanted = Wanted::plain(
+        let expected = Expected::plain(
             rest,
             "attribute KEY VALUE: 1 to 64 bytes without a space, and 1 to 256 bytes, at most 16 times",
         );
         let Some((key, value)) = pair_in(text) else {
-            return Err(wanted);
+            return Err(expected);
         };
-        if attributes.add(&key, &value).is_err() {
-            return Err(wanted);
+        match attributes.add(&key, &value) {
+            Ok(()) => rest = tail,
+            Err(_) => return Err(expected),
         }
-        rest = tail;
     }
     Ok((attributes, rest))
 }
 
 /// The lines of the attributes that an opener requires, at most 16.
-pub(super) fn required_before(bytes: &[u8]) -> Result<(AttributeVerifier, &[u8]), Wanted<'_>> {
+pub(super) fn required_before(bytes: &[u8]) -> Result<(AttributeVerifier, &[u8]), Expected<'_>> {
     let mut required = AttributeVerifier::new();
     let mut rest = bytes;
     while let Some((text, tail)) = line_after(rest, "", "require") {
-        let wanted = Wanted::plain(
+        let expected = Expected::plain(
             rest,
             "require KEY VALUE or require-key KEY: 1 to 64 bytes without a space, and 1 to 256 bytes, at most 16 times",
         );
         let Some(more) = requiring(required, text) else {
-            return Err(wanted);
+            return Err(expected);
         };
         required = more;
         rest = tail;

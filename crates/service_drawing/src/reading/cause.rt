@@ -1,8 +1,10 @@
 //! Why a line is bad.
 ghost use Rattle.std.specs.Prelude.{◌≡◌, ◌==◌, ◌↔◌, ◌≤◌, length, not, IsTrue, MatchOption};
-ghost use Rattle.std.specs.List.{find, position};
+ghost use Rattle.std.specs.List.{find};
 ghost use Rattle.service_drawing.specs.Causes.{line_of, is_plain, HasTwoSpaces, IsMisspelled};
 ghost use Rattle.service_drawing.specs.Causes.{IsSpelled, IsCause};
+
+use super::words::newline_at;
 
 /// What was found out where a line was read.
 #[derive(Clone, Copy, PartialEq, Eq)]
@@ -30,13 +32,6 @@ pub(crate) enum Cause {
     TwoSpaces,
     /// It is a line, but another one was expected.
     Read(Reason),
-}
-
-/// Where the first newline stands.
-fn newline_at(bytes: &[u8]) -> Option<usize>
-    ensures { result ≡ position (λ b. b == 10) bytes.now }
-{
-    bytes.iter().position(|b| *b == b'\n')
 }
 
 /// What stands before the first newline.

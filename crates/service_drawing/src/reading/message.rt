@@ -1,12 +1,20 @@
 //! The lines of a message.
-ghost use Rattle.std.specs.Prelude.{◌≡◌, ◌∷◌, ◌++◌, ◌<◌, length, IfSome, IfOk};
-ghost use Rattle.service_drawing.specs.Lines.{type_text, payload_text, alignments_text, IsOpenerOf};
-ghost use Rattle.service_drawing.specs.Lines.{type_front, payload_front, elements_front};
-ghost use Rattle.service_drawing.specs.Lines.{opener_front, message_front};
-ghost use Rattle.iox2_config.specs.declared.types.type_detail.TypeVariant.TheVariants.{FixedSize};
+ghost use Rattle.std.specs.Prelude.{◌≡◌, ◌∷◌, ◌++◌, ◌<◌, ◌^◌, ℕ, List, length, IsTrue, decimal, codes};
+ghost use Rattle.std.specs.Prelude.{IfSome, IfOk, IfErr, Option, MatchOption, MatchResult};
+ghost use Rattle.std.specs.Int.{is_power_of_two};
+ghost use Rattle.iox2_config.specs.TypeDetailParts.{TypeDetailParts};
+ghost use Rattle.iox2_config.specs.declared.types.message_details.MessageTypeDetails.{
+  MessageTypeDetails,
+};
+ghost use Rattle.iox2_config.specs.declared.types.type_detail.TypeVariant.TheVariants.{Dynamic};
+ghost use Rattle.service_drawing.specs.Lines.{type_text, payload_text, alignments_text};
+ghost use Rattle.service_drawing.specs.Lines.{IsLine, HasNoLine, IsDescribed, IsOpenerOf};
+ghost use Rattle.service_drawing.specs.Lines.{AreAlignments, HasType, HasPayload, HasElements};
+ghost use Rattle.service_drawing.specs.Lines.{HasOpener, HasMessage};
+ghost use Rattle.service_drawing.specs.declared.description.Message.{Message};
 
-use super::wanted::Wanted;
-use super::words::{after_word, next_line, number, split_word};
+use super::expected::Expected;
+use super::words::{after_word, next_line, number, number_word};
 use crate::description::Message;
 use iox2_config::types::{MessageTypeDetails, TypeDetail, TypeVariant};
 
@@ -17,8 +25,8 @@ pub(super) fn line_after<'a>(
     prefix: &str,
     word: &str,
 ) -> Option<(&'a str, &'a [u8])>
-    ensures spelled { IfSome result (λ found.
-        bytes.now ≡ prefix.now ++ word.now ++ found.0.now ++ 10 ∷ found.1.now) }
+    ensures line { MatchOption result (HasNoLine (prefix.now ++ word.now) bytes.now)
+        (λ found. IsLine (prefix.now ++ word.now ++ found.0.now) found.1.now bytes.now) }
     ensures shorter { IfSome result (λ found. length found.1.now < length bytes.now) }
 {
     let Some((line, rest)) = next_line(bytes) else {
@@ -33,21 +41,29 @@ pub(super) fn line_after<'a>(
     Some((text, rest))
 }
 
+/// Two numbers with a space after each, and what follows that.
+fn numbers_in(text: &str) -> Option<(usize, usize, &str)>
+    ensures { MatchOption result
+        ((m n : ℕ) (rest : List ℕ) → m < 2 ^ 64 → n < 2 ^ 64
+        → ¬ (text.now ≡ decimal m ++ 32 ∷ (decimal n ++ 32 ∷ rest)))
+        (λ found. text.now ≡ decimal found.0 ++ 32 ∷ (decimal found.1 ++ 32 ∷ found.2.now)) }
+{
+    let Some((first, rest)) = number_word(text) else {
+        return None;
+    };
+    let Some((second, rest)) = number_word(rest) else {
+        return None;
+    };
+    Some((first, second, rest))
+}
+
 /// The type whose size, alignment and name the text spells.
 fn type_in(text: &str, variant: TypeVariant) -> Option<TypeDetail>
-    ensures spelled { IfSome result (λ detail. text.now ≡ type_text detail) }
-    ensures variant { IfSome result (λ detail. detail.variant ≡ variant) }
+    ensures { MatchOption result
+        ((t : TypeDetailParts) → t.variant ≡ variant → IsDescribed t → ¬ (text.now ≡ type_text t))
+        (λ t. (t.variant ≡ variant) × IsDescribed t × (text.now ≡ type_text t)) }
 {
-    let Some((size, rest)) = split_word(text) else {
-        return None;
-    };
-    let Some((alignment, name)) = split_word(rest) else {
-        return None;
-    };
-    let Some(size) = number(size) else {
-        return None;
-    };
-    let Some(alignment) = number(alignment) else {
+    let Some((size, alignment, name)) = numbers_in(text) else {
         return None;
     };
     if name.is_empty() {
@@ -61,7 +77,9 @@ fn type_in(text: &str, variant: TypeVariant) -> Option<TypeDetail>
 
 /// The payload's type, with its variant before it.
 fn payload_in(text: &str) -> Option<TypeDetail>
-    ensures { IfSome result (λ detail. text.now ≡ payload_text detail) }
+    ensures { MatchOption result
+        ((t : TypeDetailParts) → IsDescribed t → ¬ (text.now ≡ payload_text t))
+        (λ t. IsDescribed t × (text.now ≡ payload_text t)) }
 {
     if let Some(text) = after_word(text, "fixed ") {
         type_in(text, TypeVariant::FixedSize)
@@ -74,7 +92,9 @@ fn payload_in(text: &str) -> Option<TypeDetail>
 
 /// The same type with this alignment, which is refused where it is not a power of two.
 fn aligned(detail: &TypeDetail, alignment: usize) -> Option<TypeDetail>
-    ensures { IfSome result (λ other. other ≡ record detail.now { alignment = alignment }) }
+    ensures { MatchOption result (¬ IsTrue (is_power_of_two alignment))
+        (λ other. (other ≡ record detail.now { alignment = alignment })
+        × IsTrue (is_power_of_two alignment)) }
 {
     match TypeDetail::from_parts(
         detail.variant(),
@@ -89,19 +109,12 @@ fn aligned(detail: &TypeDetail, alignment: usize) -> Option<TypeDetail>
 
 /// The details of an opener with these alignments for header, user header and payload.
 fn opener_in(text: &str, service: &MessageTypeDetails) -> Option<MessageTypeDetails>
-    ensures spelled { IfSome result (λ opener. text.now ≡ alignments_text opener) }
+    ensures spelled { MatchOption result
+        ((d : MessageTypeDetails) → AreAlignments d → ¬ (text.now ≡ alignments_text d))
+        (λ opener. AreAlignments opener × (text.now ≡ alignments_text opener)) }
     ensures same { IfSome result (λ opener. IsOpenerOf opener service.now) }
 {
-    let Some((header, rest)) = split_word(text) else {
-        return None;
-    };
-    let Some((user_header, payload)) = split_word(rest) else {
-        return None;
-    };
-    let Some(header) = number(header) else {
-        return None;
-    };
-    let Some(user_header) = number(user_header) else {
+    let Some((header, user_header, payload)) = numbers_in(text) else {
         return None;
     };
     let Some(payload) = number(payload) else {
@@ -129,36 +142,63 @@ pub(super) fn fixed_before<'a>(
     prefix: &'static str,
     word: &'static str,
     form: &'static str,
-) -> Result<(TypeDetail, &'a [u8]), Wanted<'a>>
-    ensures spelled { IfOk result (λ found.
-        bytes.now ≡ type_front (prefix.now ++ word.now) found.0 found.1.now) }
-    ensures variant { IfOk result (λ found. found.0.variant ≡ FixedSize) }
+) -> Result<(TypeDetail, &'a [u8]), Expected<'a>>
+    ensures { MatchResult result
+        (λ found. HasType (prefix.now ++ word.now) found.0 found.1.now bytes.now)
+        (λ expected. (t : TypeDetailParts) (rest : List ℕ)
+        → ¬ HasType (prefix.now ++ word.now) t rest bytes.now) }
 {
-    if let Some((text, rest)) = line_after(bytes, prefix, word) {
-        if let Some(detail) = type_in(text, TypeVariant::FixedSize) {
-            return Ok((detail, rest));
-        }
+    let expected = Expected::prefixed(bytes, prefix, form);
+    let Some((text, rest)) = line_after(bytes, prefix, word) else {
+        return Err(expected);
+    };
+    match type_in(text, TypeVariant::FixedSize) {
+        Some(detail) => Ok((detail, rest)),
+        None => Err(expected),
     }
-    Err(Wanted::prefixed(bytes, prefix, form))
 }
 
 /// The line of the payload's type.
 fn payload_before<'a>(
     bytes: &'a [u8],
     prefix: &'static str,
-) -> Result<(TypeDetail, &'a [u8]), Wanted<'a>>
-    ensures { IfOk result (λ found. bytes.now ≡ payload_front prefix.now found.0 found.1.now) }
+) -> Result<(TypeDetail, &'a [u8]), Expected<'a>>
+    ensures { MatchResult result (λ found. HasPayload prefix.now found.0 found.1.now bytes.now)
+        (λ expected. (t : TypeDetailParts) (rest : List ℕ)
+        → ¬ HasPayload prefix.now t rest bytes.now) }
 {
-    if let Some((text, rest)) = line_after(bytes, prefix, "payload ") {
-        if let Some(detail) = payload_in(text) {
-            return Ok((detail, rest));
-        }
-    }
-    Err(Wanted::prefixed(
+    let expected = Expected::prefixed(
         bytes,
         prefix,
         "payload VARIANT SIZE ALIGNMENT NAME: fixed or dynamic, two numbers, the second a power of two, and 1 to 256 bytes",
-    ))
+    );
+    let Some((text, rest)) = line_after(bytes, prefix, "payload ") else {
+        return Err(expected);
+    };
+    match payload_in(text) {
+        Some(detail) => Ok((detail, rest)),
+        None => Err(expected),
+    }
+}
+
+/// The line of the number of elements of a dynamic payload.
+fn number_of_elements_before<'a>(
+    bytes: &'a [u8],
+    prefix: &'static str,
+) -> Result<(usize, &'a [u8]), Expected<'a>>
+    ensures { MatchResult result
+        (λ found. HasElements prefix.now Dynamic found.0 found.1.now bytes.now)
+        (λ expected. (n : ℕ) (rest : List ℕ)
+        → ¬ HasElements prefix.now Dynamic n rest bytes.now) }
+{
+    let expected = Expected::prefixed(bytes, prefix, "elements NUMBER");
+    let Some((text, rest)) = line_after(bytes, prefix, "elements ") else {
+        return Err(expected);
+    };
+    match number(text) {
+        Some(elements) => Ok((elements, rest)),
+        None => Err(expected),
+    }
 }
 
 /// The line of the number of elements, which a dynamic payload has and a fixed one has not.
@@ -166,20 +206,16 @@ fn elements_before<'a>(
     bytes: &'a [u8],
     prefix: &'static str,
     variant: TypeVariant,
-) -> Result<(usize, &'a [u8]), Wanted<'a>>
-    ensures spelled { IfOk result (λ found.
-        bytes.now ≡ elements_front prefix.now variant found.0 found.1.now) }
-    ensures one { IfOk result (λ found. variant ≡ FixedSize → found.0 ≡ 1) }
+) -> Result<(usize, &'a [u8]), Expected<'a>>
+    ensures { MatchResult result
+        (λ found. HasElements prefix.now variant found.0 found.1.now bytes.now)
+        (λ expected. (n : ℕ) (rest : List ℕ)
+        → ¬ HasElements prefix.now variant n rest bytes.now) }
 {
-    if variant == TypeVariant::FixedSize {
-        return Ok((1, bytes));
+    match variant {
+        TypeVariant::FixedSize => Ok((1, bytes)),
+        TypeVariant::Dynamic => number_of_elements_before(bytes, prefix),
     }
-    if let Some((text, rest)) = line_after(bytes, prefix, "elements ") {
-        if let Some(elements) = number(text) {
-            return Ok((elements, rest));
-        }
-    }
-    Err(Wanted::prefixed(bytes, prefix, "elements NUMBER"))
 }
 
 /// The line of an opener's alignments, if it stands there.
@@ -187,9 +223,11 @@ fn opener_before<'a>(
     bytes: &'a [u8],
     prefix: &'static str,
     service: &MessageTypeDetails,
-) -> Result<(Option<MessageTypeDetails>, &'a [u8]), Wanted<'a>>
-    ensures spelled { IfOk result (λ found.
-        bytes.now ≡ opener_front prefix.now found.0 found.1.now) }
+) -> Result<(Option<MessageTypeDetails>, &'a [u8]), Expected<'a>>
+    ensures spelled { MatchResult result
+        (λ found. HasOpener prefix.now found.0 found.1.now bytes.now)
+        (λ expected. (opener : Option MessageTypeDetails) (rest : List ℕ)
+        → ¬ HasOpener prefix.now opener rest bytes.now) }
     ensures same { IfOk result (λ found. IfSome found.0 (λ opener. IsOpenerOf opener service.now)) }
 {
     let Some((text, rest)) = line_after(bytes, prefix, "opener ") else {
@@ -197,7 +235,7 @@ fn opener_before<'a>(
     };
     match opener_in(text, service) {
         Some(opener) => Ok((Some(opener), rest)),
-        None => Err(Wanted::prefixed(
+        None => Err(Expected::prefixed(
             bytes,
             prefix,
             "opener HEADER USER-HEADER PAYLOAD: three alignments, each a power of two",
@@ -209,8 +247,9 @@ fn opener_before<'a>(
 pub(super) fn message_before<'a>(
     bytes: &'a [u8],
     prefix: &'static str,
-) -> Result<(Message, &'a [u8]), Wanted<'a>>
-    ensures { IfOk result (λ found. bytes.now ≡ message_front prefix.now found.0 found.1.now) }
+) -> Result<(Message, &'a [u8]), Expected<'a>>
+    ensures { MatchResult result (λ found. HasMessage prefix.now found.0 found.1.now bytes.now)
+        (λ expected. (m : Message) (rest : List ℕ) → ¬ HasMessage prefix.now m rest bytes.now) }
 {
     let (header, rest) = fixed_before(
         bytes,

@@ -1,10 +1,11 @@
 //! The first line.
-ghost use Rattle.std.specs.Prelude.{◌≡◌, ◌++◌, IfOk, IfErr, MatchOption};
-ghost use Rattle.service_drawing.specs.Lines.{pattern_word, service_front, IsHashed};
+ghost use Rattle.std.specs.Prelude.{◌≡◌, ◌++◌, ℕ, List, IfOk, IfErr, MatchOption, MatchResult};
+ghost use Rattle.iox2_config.specs.declared.hash.input.PatternKind.{PatternKind};
+ghost use Rattle.service_drawing.specs.Lines.{pattern_word, IsHashed, MayBeNamed, HasService};
 ghost use Rattle.service_drawing.specs.Lines.{HasNoPattern, IsNoService};
 
 use super::cause::Reason;
-use super::wanted::Wanted;
+use super::expected::Expected;
 use super::words::{after_word, next_line};
 use iox2_config::hash::{PatternKind, ServiceHash, Sha1Hasher};
 use iox2_texts::service_name::ServiceName;
@@ -39,6 +40,9 @@ pub(super) struct Service {
 fn service_in(line: &str) -> Result<Service, Reason>
     ensures spelled { IfOk result (λ service.
         line.now ≡ pattern_word service.kind ++ service.name) }
+    ensures named { IfOk result (λ service. MayBeNamed service.kind service.name) }
+    ensures none { IfErr result (λ reason. (kind : PatternKind) (name : List ℕ)
+        → MayBeNamed kind name → ¬ (line.now ≡ pattern_word kind ++ name)) }
     ensures hash { IfOk result IsHashed }
     ensures reason { IfErr result (λ reason. IsNoService line.now reason) }
 {
@@ -58,19 +62,22 @@ fn service_in(line: &str) -> Result<Service, Reason>
 }
 
 /// The line of a service.
-pub(super) fn service_before(bytes: &[u8]) -> Result<(Service, &[u8]), Wanted<'_>>
-    ensures spelled { IfOk result (λ found. bytes.now ≡ service_front found.0 found.1.now) }
+pub(super) fn service_before(bytes: &[u8]) -> Result<(Service, &[u8]), Expected<'_>>
+    ensures spelled { MatchResult result
+        (λ found. HasService found.0.kind found.0.name found.1.now bytes.now)
+        (λ expected. (kind : PatternKind) (name rest : List ℕ)
+        → ¬ HasService kind name rest bytes.now) }
     ensures hash { IfOk result (λ found. IsHashed found.0) }
 {
-    let wanted = Wanted::plain(
+    let expected = Expected::plain(
         bytes,
         "PATTERN NAME: publish-subscribe, event, request-response or blackboard, and the name of a service, 1 to 255 bytes",
     );
     let Some((line, rest)) = next_line(bytes) else {
-        return Err(wanted);
+        return Err(expected);
     };
     match service_in(line) {
         Ok(service) => Ok((service, rest)),
-        Err(reason) => Err(Wanted { reason, ..wanted }),
+        Err(reason) => Err(Expected { reason, ..expected }),
     }
 }

@@ -3,8 +3,8 @@ ghost use Rattle.std.specs.Prelude.{◌≡◌, ◌<◌, ◌↔◌, ℕ, IsTrue, 
 ghost use Rattle.service_drawing.specs.Settings.{HasName, IsDashed, IsNamed, IsNotSet, Sets, dash_for};
 
 use super::cause::Reason;
+use super::expected::Expected;
 use super::message::line_after;
-use super::wanted::Wanted;
 use super::words::split_word;
 use crate::settings::{Settings, Value};
 
@@ -82,13 +82,13 @@ fn set<S: Settings>(settings: &mut S, given: &mut [bool; 32], text: &str) -> Res
 }
 
 /// What was expected in the place of a line that sets nothing.
-fn expected<S: Settings>(bytes: &[u8], reason: Reason) -> Wanted<'_> {
+fn expected<S: Settings>(bytes: &[u8], reason: Reason) -> Expected<'_> {
     let (prefix, form) = match reason {
         Reason::UnknownSetting => ("set NAME VALUE with one of the names ", S::all_names()),
         Reason::SetTwice => ("each setting once", ""),
         _ => ("set NAME VALUE with a value that the setting may have", ""),
     };
-    Wanted {
+    Expected {
         rest: bytes,
         reason,
         prefix,
@@ -100,7 +100,7 @@ fn expected<S: Settings>(bytes: &[u8], reason: Reason) -> Wanted<'_> {
 pub(super) fn settings_before<'a, S: Settings>(
     bytes: &'a [u8],
     settings: &mut S,
-) -> Result<&'a [u8], Wanted<'a>> {
+) -> Result<&'a [u8], Expected<'a>> {
     let mut given = [false; 32];
     let mut rest = bytes;
     while let Some((text, tail)) = line_after(rest, "", "set ") {

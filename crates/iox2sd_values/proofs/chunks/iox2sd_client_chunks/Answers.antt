@@ -7,6 +7,7 @@ pub returns : goal.returns
 returns c =
     let count = c.required_amount_of_chunks_per_client_data_segment in (
       count.result,
-      subst (λ config. TellsGreatest (client_limits config c.args.loaned_requests) count.result) c.request_response_of-config.ensures count.ensures,
+      subst (λ config. TellsGreatest (client_limits config c.args.loaned_requests) count.result)
+          c.request_response_of-config.ensures count.ensures,
       c.chunks.ensures,
     )

@@ -7,6 +7,7 @@ pub returns : goal.returns
 returns c =
     let count = c.required_amount_of_chunks_per_server_data_segment in (
       count.result,
-      subst (λ config. TellsGreatest (server_limits config c.args.loaned_responses) count.result) c.request_response_of-config.ensures count.ensures,
+      subst (λ config. TellsGreatest (server_limits config c.args.loaned_responses) count.result)
+          c.request_response_of-config.ensures count.ensures,
       c.chunks.ensures,
     )

@@ -5,5 +5,7 @@ use Rattle.service_drawing.proofs.segments.requests.Goals as goal
 
 pub returns : goal.returns
 returns c =
-    subst (λ s. TellsGreatest (client_limits s c.args.config.now.defaults.request_response.max_loaned_requests) c.required_amount_of_chunks_per_client_data_segment.result)
+    subst (λ s. TellsGreatest
+    (client_limits s c.args.config.now.defaults.request_response.max_loaned_requests)
+    c.required_amount_of_chunks_per_client_data_segment.result)
     c.new.ensures c.required_amount_of_chunks_per_client_data_segment.ensures

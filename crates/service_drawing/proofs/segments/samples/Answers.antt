@@ -5,5 +5,8 @@ use Rattle.service_drawing.proofs.segments.samples.Goals as goal
 
 pub returns : goal.returns
 returns c =
-    subst (λ s. TellsGreatest (sample_limits s c.args.config.now.defaults.publish_subscribe.publisher_max_loaned_samples) c.required_amount_of_samples_per_data_segment.result)
+    subst (λ s. TellsGreatest
+    (sample_limits s
+    c.args.config.now.defaults.publish_subscribe.publisher_max_loaned_samples)
+    c.required_amount_of_samples_per_data_segment.result)
     c.new.ensures c.required_amount_of_samples_per_data_segment.ensures

@@ -4,12 +4,17 @@ use Rattle.service_drawing.proofs.streams.answer.Goals as goal
 
 pub returns-in-Ok-clause-told : goal.returns-in-Ok-clause-told
 returns-in-Ok-clause-told g c =
-    answers_for c.args.asked c.in-Ok-Drawing.field-0 (Drawing c.in-Ok-Drawing.form) c.drawn.result c.in-Ok-Drawing.is (rw c.in-Ok-Drawing.is at c.in-Ok-Drawing.field-0-is) tt
+    answers_for c.args.asked c.in-Ok-Drawing.field-0
+    (Drawing c.in-Ok-Drawing.form) c.drawn.result c.in-Ok-Drawing.is
+    (rw c.in-Ok-Drawing.is at c.in-Ok-Drawing.field-0-is) tt
 
 pub returns-in-Ok-Help-clause-told : goal.returns-in-Ok-Help-clause-told
 returns-in-Ok-Help-clause-told g c =
-    answers_for c.args.asked c.in-Ok-Help.field-0 Help c.text_of.result c.in-Ok-Help.is (rw c.in-Ok-Help.is at c.in-Ok-Help.field-0-is) c.text_of.ensures
+    answers_for c.args.asked c.in-Ok-Help.field-0 Help c.text_of.result c.in-Ok-Help.is
+    (rw c.in-Ok-Help.is at c.in-Ok-Help.field-0-is) c.text_of.ensures
 
 pub returns-in-Ok-Version-clause-told : goal.returns-in-Ok-Version-clause-told
 returns-in-Ok-Version-clause-told g c =
-    answers_for c.args.asked c.in-Ok-Version.field-0 Version c.text_of-in-Ok-Version.result c.in-Ok-Version.is (rw c.in-Ok-Version.is at c.in-Ok-Version.field-0-is) c.text_of-in-Ok-Version.ensures
+    answers_for c.args.asked c.in-Ok-Version.field-0 Version c.text_of-in-Ok-Version.result
+    c.in-Ok-Version.is
+    (rw c.in-Ok-Version.is at c.in-Ok-Version.field-0-is) c.text_of-in-Ok-Version.ensures

@@ -9,7 +9,8 @@ returns g c = record {
   asks = c.asked_by-asked.ensures;
   answered = c.in_ok-end.ensures.told;
   told = c.status.ensures;
-  read = λ e. answered_at_zero c.in_ok-end.end _ c.in_ok-end.ensures.read (sym c.status.ensures ∙ e);
+  read = λ e. answered_at_zero c.in_ok-end.end _ c.in_ok-end.ensures.read
+      (sym c.status.ensures ∙ e);
   output = c.in_ok-report.ensures.output;
   errors = c.in_ok-report.ensures.errors;
 }

@@ -5,21 +5,31 @@ use Rattle.iox2_container.proofs.CellEntries.{all_before}
 use Rattle.iox2_container.proofs.Counting.{counted, counted_more, few_more, one_if}
 use Rattle.iox2_container.proofs.Sweeping.{add_zero}
 use Rattle.iox2_container.proofs.container.passes.count_of.Goals as goal
-use Rattle.iox2_container.proofs.container.passes.count_of.Goals.{then-stands_for, else-stands_for}
+use Rattle.iox2_container.proofs.container.passes.count_of.Goals.{then-belongs_to, else-belongs_to}
 
 pub returns : goal.returns
 returns g c =
     let cells = map shown c.args.places.now.cells in
     c.loop-slot.invariant.count
-    ∙ ap (counted (is_of g.T.Attached.node c.args.node.now)) (all_before 0 c.loop-slot.slot cells (λ slot later. c.end-slot-end.ensures.free slot (omega arith)))
+    ∙ ap (counted (is_of g.T.Attached.node c.args.node.now))
+    (all_before 0 c.loop-slot.slot cells
+    (λ slot later. c.end-slot-end.ensures.free slot (omega arith)))
 
 pub loop-slot-preserved : goal.loop-slot-preserved
 loop-slot-preserved g c =
-    let by_is : c.if-stands_for.count ≡ c.loop-slot.count + one_if c.stands_for.result = elim c.if-stands_for.branch [
-      | then-stands_for w ↦ w.count-is ∙ ap (λ b. c.loop-slot.count + one_if b) (sym w.if-stands_for.true)
-      | else-stands_for w ↦ w.count-is ∙ (add_zero c.loop-slot.count ∙ ap (λ b. c.loop-slot.count + one_if b) (sym w.if-stands_for.false))
+    let by_is : c.if-belongs_to.count ≡ c.loop-slot.count + one_if c.belongs_to.result =
+    elim c.if-belongs_to.branch [
+      | then-belongs_to w ↦ w.count-is
+          ∙ ap (λ b. c.loop-slot.count + one_if b) (sym w.if-belongs_to.true)
+      | else-belongs_to w ↦ w.count-is
+          ∙ (add_zero c.loop-slot.count
+          ∙ ap (λ b. c.loop-slot.count + one_if b) (sym w.if-belongs_to.false))
     ] in
     record {
-      count = counted_more g.T.Attached.node c.args.node.now c.loop-slot.slot c.loop-slot.count c.if-stands_for.count (map shown c.args.places.now.cells) c.peek_at.result c.stands_for.result c.peek_at.ensures c.stands_for.ensures by_is c.loop-slot.invariant.count;
-      few = few_more c.loop-slot.count c.if-stands_for.count c.loop-slot.slot c.stands_for.result by_is c.loop-slot.invariant.few;
+      count = counted_more g.T.Attached.node c.args.node.now c.loop-slot.slot c.loop-slot.count
+          c.if-belongs_to.count
+          (map shown c.args.places.now.cells) c.peek_at.result c.belongs_to.result
+          c.peek_at.ensures c.belongs_to.ensures by_is c.loop-slot.invariant.count;
+      few = few_more c.loop-slot.count c.if-belongs_to.count c.loop-slot.slot c.belongs_to.result
+          by_is c.loop-slot.invariant.few;
     }

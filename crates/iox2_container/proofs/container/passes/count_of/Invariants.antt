@@ -6,6 +6,8 @@ use Rattle.iox2_container.proofs.container.passes.count_of.Given as goal
 
 abbrev pub invariant-loop-slot : goal.invariant-loop-slot
 invariant-loop-slot g l = record {
-  count : l.count ≡ length (candidates (is_of g.T.Attached.node l.node) (entries_from 0 (take l.slot (map shown l.places.cells))));
+  count : l.count
+      ≡ length (candidates (is_of g.T.Attached.node l.node)
+      (entries_from 0 (take l.slot (map shown l.places.cells))));
   few : l.count ≤ l.slot;
 }

@@ -4,4 +4,5 @@ use Rattle.iox2_container.specs.Passes.{AreOthers}
 use Rattle.iox2_container.proofs.container.passes.next_by_one.Given as goal
 
 abbrev pub invariant-loop-slot : goal.invariant-loop-slot
-invariant-loop-slot g l = AreOthers g.T.Attached.node l.node (map shown l.places.cells) l.start l.slot
+invariant-loop-slot g l =
+    AreOthers g.T.Attached.node l.node (map shown l.places.cells) l.start l.slot

@@ -12,26 +12,41 @@ loop-slot-init g c = record { callable = c.requires.callable.visits; asked = ref
 
 pub show-requires : goal.show-requires
 show-requires g c =
-    visit_comes_to (TakesAt g.F.FnMut) (CalledAt g.F.FnMut) c.loop-slot.f (map shown c.args.places.now.cells) c.loop-slot.slot c.peek_at.result c.peek_at.ensures c.loop-slot.invariant.callable
+    visit_comes_to (TakesAt g.F.FnMut) (CalledAt g.F.FnMut) c.loop-slot.f
+    (map shown c.args.places.now.cells) c.loop-slot.slot c.peek_at.result c.peek_at.ensures
+    c.loop-slot.invariant.callable
 
 pub returns-in-Stop : goal.returns-in-Stop
 returns-in-Stop g c =
-    stops (CalledAt g.F.FnMut) c.args.f.now c.loop-slot.f c.show.new.f (map shown c.args.places.now.cells) c.loop-slot.slot c.peek_at.result c.show.result c.peek_at.ensures c.show.ensures c.in-Stop.is c.loop-slot.invariant.asked
+    stops (CalledAt g.F.FnMut) c.args.f.now c.loop-slot.f c.show.new.f
+    (map shown c.args.places.now.cells) c.loop-slot.slot c.peek_at.result c.show.result
+    c.peek_at.ensures c.show.ensures c.in-Stop.is c.loop-slot.invariant.asked
 
 pub loop-slot-preserved : goal.loop-slot-preserved
 loop-slot-preserved g c =
     let cells = map shown c.args.places.now.cells in
     let goes = not_stop c.show.result c.in_default.not-Stop in
     record {
-      callable = visit_goes_on (TakesAt g.F.FnMut) (CalledAt g.F.FnMut) c.loop-slot.f c.show.new.f cells c.loop-slot.slot c.peek_at.result c.show.result c.peek_at.ensures c.show.ensures goes c.loop-slot.invariant.callable;
+      callable =
+          visit_goes_on (TakesAt g.F.FnMut)
+          (CalledAt g.F.FnMut) c.loop-slot.f c.show.new.f cells c.loop-slot.slot
+          c.peek_at.result c.show.result c.peek_at.ensures c.show.ensures goes
+          c.loop-slot.invariant.callable;
       asked =
-          subst (λ (n : ℕ). GoesOn (CalledAt g.F.FnMut) c.args.f.now (details_of (entries_from 0 (take n cells))) c.show.new.f) (sym (add-one c.loop-slot.slot))
-          (goes_on (CalledAt g.F.FnMut) c.args.f.now c.loop-slot.f c.show.new.f cells c.loop-slot.slot c.peek_at.result c.show.result c.peek_at.ensures c.show.ensures goes c.loop-slot.invariant.asked);
+          subst (λ (n : ℕ). GoesOn (CalledAt g.F.FnMut) c.args.f.now
+          (details_of (entries_from 0 (take n cells))) c.show.new.f)
+          (sym (add-one c.loop-slot.slot))
+          (goes_on (CalledAt g.F.FnMut) c.args.f.now c.loop-slot.f c.show.new.f cells
+          c.loop-slot.slot c.peek_at.result c.show.result c.peek_at.ensures c.show.ensures
+          goes c.loop-slot.invariant.asked);
     }
 
 pub returns : goal.returns
 returns g c =
     let cells = map shown c.args.places.now.cells in
-    let all : entries_from 0 (take c.loop-slot.slot cells) ≡ entries_from 0 cells = all_before 0 c.loop-slot.slot cells (λ slot later. c.end-slot-end.ensures.free slot (omega arith)) in
+    let all : entries_from 0 (take c.loop-slot.slot cells) ≡ entries_from 0 cells =
+    all_before 0 c.loop-slot.slot cells
+    (λ slot later. c.end-slot-end.ensures.free slot (omega arith)) in
     ends (CalledAt g.F.FnMut) c.args.f.now c.loop-slot.f (details_of (entries_from 0 cells))
-    (subst (λ es. GoesOn (CalledAt g.F.FnMut) c.args.f.now (details_of es) c.loop-slot.f) all c.loop-slot.invariant.asked)
+    (subst (λ es. GoesOn (CalledAt g.F.FnMut) c.args.f.now (details_of es) c.loop-slot.f) all
+    c.loop-slot.invariant.asked)

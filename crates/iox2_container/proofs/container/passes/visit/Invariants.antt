@@ -9,6 +9,8 @@ use Rattle.iox2_container.proofs.container.passes.visit.Given as goal
 
 abbrev pub invariant-loop-slot : goal.invariant-loop-slot
 invariant-loop-slot g l = record {
-  callable : MayVisit (TakesAt g.F.FnMut) (CalledAt g.F.FnMut) l.f (details_from l.slot (map shown l.places.cells));
-  asked : GoesOn (CalledAt g.F.FnMut) l.fn.f (details_of (entries_from 0 (take l.slot (map shown l.places.cells)))) l.f;
+  callable : MayVisit (TakesAt g.F.FnMut) (CalledAt g.F.FnMut) l.f
+      (details_from l.slot (map shown l.places.cells));
+  asked : GoesOn (CalledAt g.F.FnMut) l.fn.f
+      (details_of (entries_from 0 (take l.slot (map shown l.places.cells)))) l.f;
 }

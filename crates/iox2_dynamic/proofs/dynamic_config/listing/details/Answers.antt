@@ -10,25 +10,55 @@ use Rattle.iox2_dynamic.proofs.dynamic_config.listing.details.Goals as goal
 pub for_each-requires : goal.for_each-requires
 for_each-requires g c =
     let registry = c.args.ports.now.registry in
-    CanVisit-collecting _ (λ q. q.0.ghost_name) (λ _. Unit {0}) (λ q. q.0.now.items) (λ q. q.0.now.len) (λ q. q.0.now.cap) (λ _. true) g.T.PortKind.details (λ q x r v k e. search rules) _ (λ q x k i. λ y e. search rules) _ (listed registry)
-    (tt, omega (arith, c.in_ok-list.ensures.len, c.in_ok-list.ensures.exact, c.len.ensures.count, ap length (passes_all (listed registry)), length-map registry.entries (λ e. e.details)))
+    CanVisit-collecting _ (λ q. q.0.ghost_name) (λ _. Unit {0}) (λ q. q.0.now.items)
+    (λ q. q.0.now.len) (λ q. q.0.now.cap) (λ _. true) g.T.PortKind.details
+    (λ q x r v k e. search rules) _ (λ q x k i. λ y e. search rules) _ (listed registry) (
+      tt,
+      omega (
+        arith,
+        c.in_ok-list.ensures.len,
+        c.in_ok-list.ensures.exact,
+        c.len.ensures.count,
+        ap length (passes_all (listed registry)),
+        length-map registry.entries (λ e. e.details),
+      ),
+    )
 
 pub returns-clause-listed : goal.returns-clause-listed
 returns-clause-listed g c =
     let details = g.T.PortKind.details in
     let registry = c.args.ports.now.registry in
-    let t = collects _ (λ q. q.0.ghost_name) (λ _. Unit {0}) (λ q. q.0.now.items) (λ q. q.0.now.len) (λ q. q.0.now.cap) (λ _. true) details (λ q x r v k e. search rules) _ (listed registry) c.for_each.new.f tt c.for_each.ensures.visit in
+    let t = collects _ (λ q. q.0.ghost_name) (λ _. Unit {0}) (λ q. q.0.now.items) (λ q. q.0.now.len)
+    (λ q. q.0.now.cap) (λ _. true) details (λ q x r v k e. search rules) _
+    (listed registry) c.for_each.new.f tt c.for_each.ensures.visit in
     let all : c.for_each.new.f.0.now.items ≡ listed (registry_as details registry) =
-    t.1 ∙ (ap (λ l. l ++ map details (filter (λ _. true) (listed registry))) c.in_ok-list.ensures.items ∙ (all_pass details (listed registry) ∙ sym (listed-as details registry.entries))) in
+    t.1 ∙ (ap
+    (λ l. l ++ map details (filter (λ _. true) (listed registry)))
+    c.in_ok-list.ensures.items
+    ∙ (all_pass details (listed registry) ∙ sym (listed-as details registry.entries))) in
     search (rules, t.0, all)
 
 pub returns-clause-exact : goal.returns-clause-exact
 returns-clause-exact g c =
     let details = g.T.PortKind.details in
     let registry = c.args.ports.now.registry in
-    let t = collects _ (λ q. q.0.ghost_name) (λ _. Unit {0}) (λ q. q.0.now.items) (λ q. q.0.now.len) (λ q. q.0.now.cap) (λ _. true) details (λ q x r v k e. search rules) _ (listed registry) c.for_each.new.f tt c.for_each.ensures.visit in
+    let t = collects _ (λ q. q.0.ghost_name) (λ _. Unit {0}) (λ q. q.0.now.items) (λ q. q.0.now.len)
+    (λ q. q.0.now.cap) (λ _. true) details (λ q x r v k e. search rules) _
+    (listed registry) c.for_each.new.f tt c.for_each.ensures.visit in
     let all : c.for_each.new.f.0.now.items ≡ listed (registry_as details registry) =
-    t.1 ∙ (ap (λ l. l ++ map details (filter (λ _. true) (listed registry))) c.in_ok-list.ensures.items ∙ (all_pass details (listed registry) ∙ sym (listed-as details registry.entries))) in
+    t.1 ∙ (ap
+    (λ l. l ++ map details (filter (λ _. true) (listed registry)))
+    c.in_ok-list.ensures.items
+    ∙ (all_pass details (listed registry) ∙ sym (listed-as details registry.entries))) in
     let exact : c.for_each.new.f.0.now.cap ≡ length c.for_each.new.f.0.now.items =
-    omega (arith, t.3, c.in_ok-list.ensures.exact, c.len.ensures.count, length-map registry.entries (λ e. e.details), length-map registry.entries (entry_as details), length-map (registry_as details registry).entries (λ e. e.details), ap length all) in
+    omega (
+      arith,
+      t.3,
+      c.in_ok-list.ensures.exact,
+      c.len.ensures.count,
+      length-map registry.entries (λ e. e.details),
+      length-map registry.entries (entry_as details),
+      length-map (registry_as details registry).entries (λ e. e.details),
+      ap length all,
+    ) in
     search (rules, t.0, exact)

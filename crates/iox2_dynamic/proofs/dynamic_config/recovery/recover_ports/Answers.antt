@@ -5,38 +5,59 @@ use Rattle.iox2_container.specs.declared.container.release.ReleaseMode.TheVarian
 use Rattle.iox2_container.specs.Callbacks.{CanBeAsked}
 use Rattle.iox2_container.specs.Steps.{asked_about, is_of}
 use Rattle.iox2_container.proofs.Callable.{CanBeAsked-lent}
-use Rattle.iox2_container.proofs.LentCallbacks.{RecoverStep-lent, candidates-as}
+use Rattle.iox2_container.proofs.LentCallbacks.{RecoversBy-lent, candidates-as}
 use Rattle.iox2_dynamic.specs.Recoveries.{AskedToGo}
 use Rattle.iox2_dynamic.specs.Details.{node_of, port_of}
 use Rattle.iox2_dynamic.proofs.Recoveries.{RecoversPorts-as}
 use Rattle.iox2_dynamic.proofs.Skipping.{left_noted}
 use Rattle.iox2_dynamic.proofs.dynamic_config.recovery.recover_ports.Goals as goal
 
-map-after : {A B C : Type 0} (v : B → C) (u : A → B) (xs : List A) → map (λ x. v (u x)) xs ≡ map v (map u xs)
+map-after : {A B C : Type 0} (v : B → C) (u : A → B) (xs : List A)
+    → map (λ x. v (u x)) xs ≡ map v (map u xs)
 map-after v u [] = refl
 map-after {A} {B} {C} v u (x ∷ xs) = ap (λ (l : List C). v (u x) ∷ l) (map-after v u xs)
 
 pub recover-requires : goal.recover-requires
 recover-requires g c =
-    let calls : g.row.F.Denot → _ → _ → g.row.F.Denot → Type 0 = λ f x r h. Called g.F.FnMut f (x, tt) r h in
+    let calls : g.row.F.Denot → _ → _ → g.row.F.Denot → Type 0 =
+    λ f x r h. Called g.F.FnMut f (x, tt) r h in
     let takes : g.row.F.Denot → _ → Type 0 = λ f x. Takes g.F.FnMut f (x, tt) in
     let details = g.T.PortKind.details in
     let dead = c.args.dead.now in
     let entries = c.args.ports.now.registry.entries in
     let items = asked_about (is_of g.T.Attached.node dead) c.args.ports.now.registry in
-    let seen = ap (map port_of) (candidates-as details (is_of g.T.Attached.node dead) (is_of node_of dead) (λ x. ap (λ n. n == dead) (g.met.T.PortKind.same_node x)) entries) ∙ sym (map-after port_of details items) in
+    let seen =
+    ap (map port_of)
+    (candidates-as details (is_of g.T.Attached.node dead) (is_of node_of dead)
+    (λ x. ap (λ n. n == dead) (g.met.T.PortKind.same_node x)) entries)
+    ∙ sym (map-after port_of details items) in
     CanBeAsked-lent _ _ takes calls (λ s. s.0.now) (λ d. port_of (details d))
     (λ s x t y e. subst (λ d. takes s.0.now (port_of (details d))) (sym e) t)
-    (λ s x r h e. let a = subst (λ d. AskedToGo calls s.0.now (port_of (details d)) r h.0.now) e.shows e.called.met.1.0 in (a.0, a.1)) _ items
+    (λ s x r h e. let a = subst
+    (λ d. AskedToGo calls s.0.now (port_of (details d)) r h.0.now) e.shows e.called.met.1.0
+    in (a.0, a.1)) _ items
     (subst (λ l. CanBeAsked takes calls c.args.f.now l) seen c.requires)
 
 pub returns : goal.returns
 returns g c =
-    let calls : g.row.F.Denot → _ → _ → g.row.F.Denot → Type 0 = λ f x r h. Called g.F.FnMut f (x, tt) r h in
-    let asks : g.row.F.Denot → _ → _ → g.row.F.Denot → Type 0 = λ h d goes h'. AskedToGo calls h (port_of (g.T.PortKind.details d)) goes h' in
-    let t = RecoverStep-lent _ asks (λ s. s.0.now) (λ s. s.0.ghost_name) (λ _. Unit {0}) (λ s x b u e. (e.called.met.0.0, subst (λ d. asks s.0.now d b u.0.now) e.shows e.called.met.1.0, tt)) (is_of g.T.Attached.node c.args.dead.now) c.args.ports.now.registry _ Default c.recover.result c.recover.new.self.registry c.recover.new.f tt c.recover.ensures.step in
-    let n = left_noted _ (λ s. s.1.ghost_name) (λ s. s.1.now) (λ s x b u e. (e.called.met.0.1, e.called.met.1.1.0)) g.T.PortKind.details g.T.Attached.node g.met.T.PortKind.same_node c.args.dead.now c.args.ports.now.registry _ Default c.recover.result c.recover.new.self.registry c.recover.new.f refl c.recover.ensures.step in
+    let calls : g.row.F.Denot → _ → _ → g.row.F.Denot → Type 0 =
+    λ f x r h. Called g.F.FnMut f (x, tt) r h in
+    let asks : g.row.F.Denot → _ → _ → g.row.F.Denot → Type 0 =
+    λ h d goes h'. AskedToGo calls h (port_of (g.T.PortKind.details d)) goes h' in
+    let t = RecoversBy-lent _ asks (λ s. s.0.now) (λ s. s.0.ghost_name) (λ _. Unit {0})
+    (λ s x b u e.
+    (e.called.met.0.0, subst (λ d. asks s.0.now d b u.0.now) e.shows e.called.met.1.0, tt))
+    (is_of g.T.Attached.node c.args.dead.now) c.args.ports.now _ Default
+    c.recover.result c.recover.new.self c.recover.new.f tt c.recover.ensures.recovers in
+    let n = left_noted _ (λ s. s.1.ghost_name) (λ s. s.1.now)
+    (λ s x b u e. (e.called.met.0.1, e.called.met.1.1.0)) g.T.PortKind.details
+    g.T.Attached.node g.met.T.PortKind.same_node c.args.dead.now c.args.ports.now.registry _
+    Default c.recover.result c.recover.new.self.registry c.recover.new.f refl
+    c.recover.ensures.recovers.step in
     rw (c.f-1.given.1 (sym t.0)) (record {
-      recovered = RecoversPorts-as calls g.T.PortKind.details g.T.Attached.node g.met.T.PortKind.same_node c.args.dead.now c.args.ports.now c.args.f.now c.recover.result c.recover.new.self c.recover.new.f.0.now (t.1, (c.recover.ensures.kept, (c.recover.ensures.touched, c.recover.ensures.counted)));
+      recovered =
+          RecoversPorts-as calls g.T.PortKind.details g.T.Attached.node g.met.T.PortKind.same_node
+          c.args.dead.now c.args.ports.now c.args.f.now c.recover.result c.recover.new.self
+          c.recover.new.f.0.now t.1;
       left = search (rules, n.0, n.1);
     })

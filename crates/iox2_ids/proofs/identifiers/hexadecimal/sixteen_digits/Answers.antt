@@ -9,7 +9,9 @@ loop-i-init c = record { len = refl; same = λ n from. byte_none n }
 pub loop-i-preserved : goal.loop-i-preserved
 loop-i-preserved c = record {
   len = length-set _ _ _ ∙ length-set _ _ _ ∙ c.loop-i.invariant.len;
-  same = λ n from. byte_more c.loop-i.i n c.glyph-in-loop-i.result c.glyph.result c.args.bytes.now c.loop-i.digits c.loop-i-test.true c.loop-i.invariant.len from
+  same = λ n from.
+      byte_more c.loop-i.i n c.glyph-in-loop-i.result c.glyph.result c.args.bytes.now
+      c.loop-i.digits c.loop-i-test.true c.loop-i.invariant.len from
       (c.loop-i.invariant.same n from) c.glyph-in-loop-i.ensures c.glyph.ensures;
 }
 

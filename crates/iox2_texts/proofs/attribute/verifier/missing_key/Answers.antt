@@ -6,8 +6,13 @@ use Rattle.iox2_texts.proofs.attribute.verifier.missing_key.Goals as goal
 
 pub loop-key-preserved : goal.loop-key-preserved
 loop-key-preserved c =
-    All-more (ContainsKey c.args.attributes.now) c.args.required.now c.loop-key.key-index c.key-item.result c.loop-key-test.true c.loop-key.invariant
-    (subst (λ k. ContainsKey c.args.attributes.now k) c.key-item.is (c.contains_key.ensures.0 c.if-not-contains_key.false))
+    All-more (ContainsKey c.args.attributes.now) c.args.required.now c.loop-key.key-index
+    c.key-item.result c.loop-key-test.true c.loop-key.invariant
+    (subst (λ k. ContainsKey c.args.attributes.now k) c.key-item.is
+    (c.contains_key.ensures.0 c.if-not-contains_key.false))
 
 pub returns : goal.returns
-returns c = all_of_take (ContainsKey c.args.attributes.now) c.args.required.now c.loop-key.key-index c.loop-key-test.false c.loop-key.invariant
+returns c =
+    all_of_take
+    (ContainsKey c.args.attributes.now) c.args.required.now c.loop-key.key-index
+    c.loop-key-test.false c.loop-key.invariant

@@ -5,4 +5,7 @@ use Rattle.iox2sd.proofs.service.death.clean_up.Goals as goal
 
 pub returns : goal.returns
 returns c =
-    (DeadStep-called _ (Keeps c.args.kept.now) (λ _. tt) (λ s. s.0.now ≡ c.args.kept.now) c.args.service.now _ c.args.dead.now c.remove_dead_node_id.result c.remove_dead_node_id.new.self c.remove_dead_node_id.new.f c.remove_dead_node_id.ensures.step refl (λ f x r h i e. search rules)).0
+    (DeadStep-called _ (Keeps c.args.kept.now) (λ _. tt)
+    (λ s. s.0.now ≡ c.args.kept.now) c.args.service.now _ c.args.dead.now
+    c.remove_dead_node_id.result c.remove_dead_node_id.new.self c.remove_dead_node_id.new.f
+    c.remove_dead_node_id.ensures.step refl (λ f x r h i e. search rules)).0

@@ -8,4 +8,9 @@ pub returns : goal.returns
 returns c =
     let ports = c.args.service.now.ports in
     let of = is_of node_of c.args.node.now in
-    both_noted (asked_about of ports.first.registry) (asked_about of ports.second.registry) c.args.out.now (c.note_ports.new.out, c.note_ports.new.count) (c.note_ports-2.new.out, c.note_ports-2.new.count) (c.note_ports.ensures.first (search rules)) (c.note_ports-2.ensures.second (search rules))
+    both_noted (asked_about of ports.first.registry)
+    (asked_about of ports.second.registry) c.args.out.now
+    (c.note_ports.new.out, c.note_ports.new.count)
+    (c.note_ports-2.new.out, c.note_ports-2.new.count)
+    (c.note_ports.ensures.first (search rules))
+    (c.note_ports-2.ensures.second (search rules))

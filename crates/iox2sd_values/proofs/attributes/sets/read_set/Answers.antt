@@ -10,7 +10,8 @@ pub loop-i-preserved : goal.loop-i-preserved
 loop-i-preserved c =
     let set = c.loop-i.set in let kept = c.loop-i.invariant in
     let key = c.in-Ok.ensures in let value = c.in-Ok-new.ensures in
-    let m = more c.args.pairs.now c.loop-i.i _ set c.add.new.self c.loop-i-test.true kept.0 kept.1 ((c.in-Ok.key, key), (c.in-Ok-new.value, value))
+    let m = more c.args.pairs.now c.loop-i.i _ set c.add.new.self c.loop-i-test.true kept.0 kept.1
+    ((c.in-Ok.key, key), (c.in-Ok-new.value, value))
     c.in-Ok.key c.in-Ok-new.value key.0 value.0 c.in-Ok-add.ensures.added in
     let len = c.in-Ok-add.ensures.len ∙ ap (λ n. n + 1) kept.2 in
     (m.0, m.1, len, subst (λ n. n ≤ 16) len c.in-Ok-add.ensures.bound, kept.4)
@@ -18,7 +19,8 @@ loop-i-preserved c =
 pub returns : goal.returns
 returns c =
     let kept = c.loop-i.invariant in let pairs = c.args.pairs.now in
-    let whole : take c.loop-i.i pairs ≡ pairs = take_all c.loop-i.i pairs (omega (arith, c.loop-i-test.false)) in (
+    let whole : take c.loop-i.i pairs ≡ pairs =
+    take_all c.loop-i.i pairs (omega (arith, c.loop-i-test.false)) in (
       subst (All IsLegal) whole kept.0,
       omega (arith, c.loop-i-test.false, kept.3),
       subst (λ (l : List Attribute). IsListing (map pair_of l) c.loop-i.set) whole kept.1,

@@ -5,5 +5,6 @@ use Rattle.iox2sd_values.proofs.attributes.sets.read_set.Given as goal
 
 abbrev pub invariant-loop-i : goal.invariant-loop-i
 invariant-loop-i l =
-    All IsLegal (take l.i l.fn.pairs) × IsListing (map pair_of (take l.i l.fn.pairs)) l.set × (length l.set ≡ l.i)
+    All IsLegal (take l.i l.fn.pairs) × IsListing (map pair_of (take l.i l.fn.pairs)) l.set
+    × (length l.set ≡ l.i)
     × (l.i ≤ 16) × (l.at ≡ l.fn.at)

@@ -11,17 +11,21 @@ returns-in_default-find-clause-refused g c index h =
 pub returns-then-given-index-clause-refused : goal.returns-then-given-index-clause-refused
 returns-then-given-index-clause-refused g c = record {
   index = c.in-Some-find.index;
-  named = as_word g.S.Settings.names c.in-Some-find.index c.in-Some.word.now (word_of c.args.text.now) (search rules) (search rules);
-  marked = marked_at c.args.given.now c.in-Some-find.index true (search rules) c.if-given-index.true;
+  named = as_word g.S.Settings.names c.in-Some-find.index c.in-Some.word.now
+      (word_of c.args.text.now) (search rules) (search rules);
+  marked = marked_at c.args.given.now c.in-Some-find.index true
+      (search rules) c.if-given-index.true;
 }
 
 pub returns-in-Some-of_kind-clause-set : goal.returns-in-Some-of_kind-clause-set
 returns-in-Some-of_kind-clause-set g c = record {
   index = c.in-Some-find.index;
   value = c.in-Some-of_kind.value;
-  named = as_word g.S.Settings.names c.in-Some-find.index c.in-Some.word.now (word_of c.args.text.now) (search rules) (search rules);
+  named = as_word g.S.Settings.names c.in-Some-find.index c.in-Some.word.now
+      (word_of c.args.text.now) (search rules) (search rules);
   spelled = search rules;
-  first = marked_at c.args.given.now c.in-Some-find.index false (search rules) c.if-given-index.false;
+  first = marked_at c.args.given.now c.in-Some-find.index false
+      (search rules) c.if-given-index.false;
   changed = search rules;
   noted = refl;
 }
@@ -29,13 +33,17 @@ returns-in-Some-of_kind-clause-set g c = record {
 pub returns-in_default-of_kind-clause-refused : goal.returns-in_default-of_kind-clause-refused
 returns-in_default-of_kind-clause-refused g c = inr (record {
   index = c.in-Some-find.index;
-  named = as_word g.S.Settings.names c.in-Some-find.index c.in-Some.word.now (word_of c.args.text.now) (search rules) (search rules);
-  marked = marked_at c.args.given.now c.in-Some-find.index false (search rules) c.if-given-index.false;
+  named = as_word g.S.Settings.names c.in-Some-find.index c.in-Some.word.now
+      (word_of c.args.text.now) (search rules) (search rules);
+  marked = marked_at c.args.given.now c.in-Some-find.index false
+      (search rules) c.if-given-index.false;
 })
 
 pub returns-in_default-of_kind-2-clause-refused : goal.returns-in_default-of_kind-2-clause-refused
 returns-in_default-of_kind-2-clause-refused g c = inr (record {
   index = c.in-Some-find.index;
-  named = as_word g.S.Settings.names c.in-Some-find.index c.in-Some.word.now (word_of c.args.text.now) (search rules) (search rules);
-  marked = marked_at c.args.given.now c.in-Some-find.index false (search rules) c.if-given-index.false;
+  named = as_word g.S.Settings.names c.in-Some-find.index c.in-Some.word.now
+      (word_of c.args.text.now) (search rules) (search rules);
+  marked = marked_at c.args.given.now c.in-Some-find.index false
+      (search rules) c.if-given-index.false;
 })

@@ -1,20 +1,41 @@
-use Rattle.std.proofs.Common.{refl, sym, subst, map}
+use Rattle.std.proofs.Common.{rules, refl, sym, ap, subst, arith, map}
 use Rattle.std.specs.Fn.{CalledAt}
+use Rattle.std.proofs.lemmas.List.{length-map}
 use Rattle.iox2_container.specs.Cells.{shown}
-use Rattle.iox2_container.specs.declared.container.ledger.Ledger.{Ledger}
-use Rattle.iox2_container.specs.LedgerAndPlaces.{AreRegistry}
+use Rattle.iox2_container.specs.declared.container.registry_header.RegistryHeader.{RegistryHeader}
+use Rattle.iox2_container.specs.ContainerState.{ContainerState}
+use Rattle.iox2_container.specs.HeaderAndPlaces.{AreRegistry}
 use Rattle.iox2_container.specs.Steps.{is_of}
 use Rattle.iox2_container.proofs.Recovering.{kept_recover}
 use Rattle.iox2_container.proofs.container.slot_map.SlotMapRegistry.recover.Goals as goal
 
 pub invariant_of-self : goal.invariant_of-self
 invariant_of-self g c =
-    let old = c.self.inside.ledger in
+    let old = c.self.inside.header in
     let new = map shown c.sweep-gone.new.places.cells in (
-      subst (λ (a : Ledger). AreRegistry a new) (sym c.leave.ensures.left)
-          (kept_recover (CalledAt g.F.FnMut) (is_of g.T.Attached.node c.args.dead.now) c.args.f.now c.sweep-gone.new.f old (map shown c.self.inside.places.cells) new c.sweep-gone.result c.args.mode _ c.self.invariant.0 c.sweep-gone.ensures.swept refl),
+      subst (λ (a : RegistryHeader). AreRegistry a new) (sym c.leave.ensures.left)
+          (kept_recover (CalledAt g.F.FnMut)
+          (is_of g.T.Attached.node c.args.dead.now) c.args.f.now c.sweep-gone.new.f old
+          (map shown c.self.inside.places.cells) new c.sweep-gone.result c.args.mode _
+          c.self.invariant.0 c.sweep-gone.ensures.swept refl),
       c.sweep-gone.ensures.fits,
     )
 
-pub returns-clause-kept : goal.returns-clause-kept
-returns-clause-kept g c = (invariant_of-self g c).0.0
+pub returns-clause-recovers : goal.returns-clause-recovers
+returns-clause-recovers g c =
+    let touches = ap (λ (v : ContainerState g.row.T.Denot). v.touches) c.self.view_is in
+    let capacity = ap (λ (v : ContainerState g.row.T.Denot). v.registry.capacity) c.self.view_is in
+    record {
+      step = search rules;
+      kept = (invariant_of-self g c).0.0;
+      touched = (
+        omega (
+          arith,
+          c.sweep-gone.ensures.touched,
+          touches,
+          capacity,
+          length-map c.self.inside.places.cells shown,
+        ),
+        omega (arith, c.sweep-gone.ensures.counted, touches),
+      );
+    }

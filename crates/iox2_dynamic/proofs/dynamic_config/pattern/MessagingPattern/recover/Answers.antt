@@ -8,16 +8,24 @@ use Rattle.iox2_dynamic.proofs.dynamic_config.pattern.MessagingPattern.recover.G
 
 pub recover-requires : goal.recover-requires
 recover-requires g c =
-    subst (λ (p : MessagingPattern). CanBeAsked (λ f x. Takes g.F.FnMut f (x, tt)) (λ f x r h. Called g.F.FnMut f (x, tt) r h) c.args.f.now (ports_asked_about c.args.dead.now (ports_of p))) c.in-RequestResponse.is c.requires
+    subst (λ (p : MessagingPattern). CanBeAsked (λ f x. Takes g.F.FnMut f (x, tt))
+    (λ f x r h. Called g.F.FnMut f (x, tt) r h) c.args.f.now
+    (ports_asked_about c.args.dead.now (ports_of p))) c.in-RequestResponse.is c.requires
 
 pub recover-requires-in-PublishSubscribe : goal.recover-requires-in-PublishSubscribe
 recover-requires-in-PublishSubscribe g c =
-    subst (λ (p : MessagingPattern). CanBeAsked (λ f x. Takes g.F.FnMut f (x, tt)) (λ f x r h. Called g.F.FnMut f (x, tt) r h) c.args.f.now (ports_asked_about c.args.dead.now (ports_of p))) c.in-PublishSubscribe.is c.requires
+    subst (λ (p : MessagingPattern). CanBeAsked (λ f x. Takes g.F.FnMut f (x, tt))
+    (λ f x r h. Called g.F.FnMut f (x, tt) r h) c.args.f.now
+    (ports_asked_about c.args.dead.now (ports_of p))) c.in-PublishSubscribe.is c.requires
 
 pub recover-requires-in-Event : goal.recover-requires-in-Event
 recover-requires-in-Event g c =
-    subst (λ (p : MessagingPattern). CanBeAsked (λ f x. Takes g.F.FnMut f (x, tt)) (λ f x r h. Called g.F.FnMut f (x, tt) r h) c.args.f.now (ports_asked_about c.args.dead.now (ports_of p))) c.in-Event.is c.requires
+    subst (λ (p : MessagingPattern). CanBeAsked (λ f x. Takes g.F.FnMut f (x, tt))
+    (λ f x r h. Called g.F.FnMut f (x, tt) r h) c.args.f.now
+    (ports_asked_about c.args.dead.now (ports_of p))) c.in-Event.is c.requires
 
 pub recover-requires-in-Blackboard : goal.recover-requires-in-Blackboard
 recover-requires-in-Blackboard g c =
-    subst (λ (p : MessagingPattern). CanBeAsked (λ f x. Takes g.F.FnMut f (x, tt)) (λ f x r h. Called g.F.FnMut f (x, tt) r h) c.args.f.now (ports_asked_about c.args.dead.now (ports_of p))) c.in-Blackboard.is c.requires
+    subst (λ (p : MessagingPattern). CanBeAsked (λ f x. Takes g.F.FnMut f (x, tt))
+    (λ f x r h. Called g.F.FnMut f (x, tt) r h) c.args.f.now
+    (ports_asked_about c.args.dead.now (ports_of p))) c.in-Blackboard.is c.requires

@@ -6,8 +6,15 @@ use Rattle.iox2_dynamic.proofs.dynamic_config.port_registries.PortRegistries.add
 
 pub returns : goal.returns
 returns g c =
-    let e = c.add.ensures in
-    let old : PortsState g.row.A.Denot g.row.B.Denot = record { first = c.self.inside.first; second = c.self.inside.second } in
-    let new : PortsState g.row.A.Denot g.row.B.Denot = record { first = c.self.inside.first; second = c.add.new.self } in
-    subst (λ (v : PortsState g.row.A.Denot g.row.B.Denot). AddsTo g.A.PortKind.ROLE g.B.PortKind.ROLE (ports_as g.A.PortKind.details g.B.PortKind.details v) (g.B.PortKind.details c.args.port) c.add.result (ports_as g.A.PortKind.details g.B.PortKind.details new)) c.self.view_is
-    (adds_second g.A.PortKind.ROLE g.A.PortKind.details g.B.PortKind.ROLE g.B.PortKind.details old c.args.port c.add.result c.add.new.self (g.met.B.PortKind.same_role c.args.port) (e.step, (e.kept, (e.touched, e.counted))))
+    let old : PortsState g.row.A.Denot g.row.B.Denot =
+    record { first = c.self.inside.first; second = c.self.inside.second } in
+    let new : PortsState g.row.A.Denot g.row.B.Denot =
+    record { first = c.self.inside.first; second = c.add.new.self } in
+    subst (λ (v : PortsState g.row.A.Denot g.row.B.Denot).
+    AddsTo g.A.PortKind.ROLE g.B.PortKind.ROLE
+    (ports_as g.A.PortKind.details g.B.PortKind.details v)
+    (g.B.PortKind.details c.args.port) c.add.result
+    (ports_as g.A.PortKind.details g.B.PortKind.details new)) c.self.view_is
+    (adds_second g.A.PortKind.ROLE g.A.PortKind.details g.B.PortKind.ROLE g.B.PortKind.details old
+    c.args.port c.add.result c.add.new.self (g.met.B.PortKind.same_role c.args.port)
+    c.add.ensures.adds)

@@ -13,15 +13,28 @@ returns-then-has_entry_of g c =
     let id = c.args.node.now in
     let first = c.self.inside.first.registry in
     let second = c.self.inside.second.registry in
-    subst (λ (v : PortsState g.row.A.Denot g.row.B.Denot). c.has_entry_of.result ≡ has_ports_of id (ports_as g.A.PortKind.details g.B.PortKind.details v)) c.self.view_is
-    (has_first c.has_entry_of.result (entries_of g.A.Attached.node id first) (entries_of node_of id (registry_as g.A.PortKind.details first)) (entries_of node_of id (registry_as g.B.PortKind.details second))
-    c.has_entry_of.ensures (entries_of-as g.A.PortKind.details g.A.Attached.node node_of g.met.A.PortKind.same_node id first) c.if-has_entry_of.true)
+    subst (λ (v : PortsState g.row.A.Denot g.row.B.Denot). c.has_entry_of.result
+    ≡ has_ports_of id (ports_as g.A.PortKind.details g.B.PortKind.details v)) c.self.view_is
+    (has_first c.has_entry_of.result (entries_of g.A.Attached.node id first)
+    (entries_of node_of id (registry_as g.A.PortKind.details first))
+    (entries_of node_of id (registry_as g.B.PortKind.details second))
+    c.has_entry_of.ensures
+    (entries_of-as g.A.PortKind.details g.A.Attached.node node_of g.met.A.PortKind.same_node
+    id first) c.if-has_entry_of.true)
 
 pub returns-else-has_entry_of : goal.returns-else-has_entry_of
 returns-else-has_entry_of g c =
     let id = c.args.node.now in
     let first = c.self.inside.first.registry in
     let second = c.self.inside.second.registry in
-    subst (λ (v : PortsState g.row.A.Denot g.row.B.Denot). c.has_entry_of-else-has_entry_of.result ≡ has_ports_of id (ports_as g.A.PortKind.details g.B.PortKind.details v)) c.self.view_is
-    (has_second c.has_entry_of.result c.has_entry_of-else-has_entry_of.result (entries_of g.A.Attached.node id first) (entries_of g.B.Attached.node id second) (entries_of node_of id (registry_as g.A.PortKind.details first)) (entries_of node_of id (registry_as g.B.PortKind.details second))
-    c.has_entry_of.ensures c.has_entry_of-else-has_entry_of.ensures (entries_of-as g.A.PortKind.details g.A.Attached.node node_of g.met.A.PortKind.same_node id first) (entries_of-as g.B.PortKind.details g.B.Attached.node node_of g.met.B.PortKind.same_node id second) c.if-has_entry_of.false)
+    subst (λ (v : PortsState g.row.A.Denot g.row.B.Denot). c.has_entry_of-else-has_entry_of.result
+    ≡ has_ports_of id (ports_as g.A.PortKind.details g.B.PortKind.details v)) c.self.view_is
+    (has_second c.has_entry_of.result c.has_entry_of-else-has_entry_of.result
+    (entries_of g.A.Attached.node id first) (entries_of g.B.Attached.node id second)
+    (entries_of node_of id (registry_as g.A.PortKind.details first))
+    (entries_of node_of id (registry_as g.B.PortKind.details second))
+    c.has_entry_of.ensures c.has_entry_of-else-has_entry_of.ensures
+    (entries_of-as g.A.PortKind.details g.A.Attached.node node_of g.met.A.PortKind.same_node
+    id first)
+    (entries_of-as g.B.PortKind.details g.B.Attached.node node_of g.met.B.PortKind.same_node
+    id second) c.if-has_entry_of.false)

@@ -7,8 +7,11 @@ use Rattle.iox2_dynamic.proofs.dynamic_config.port_registries.PortRegistries.lis
 
 pub for_each-requires : goal.for_each-requires
 for_each-requires g c =
-    subst (λ (p : PortsState g.row.A.Denot g.row.B.Denot). CanVisit (TakesAt g.F.FnMut) (CalledAt g.F.FnMut) c.args.f.now (listed p.first.registry)) (sym c.self.view_is) c.requires
+    subst (λ (p : PortsState g.row.A.Denot g.row.B.Denot). CanVisit (TakesAt g.F.FnMut)
+    (CalledAt g.F.FnMut) c.args.f.now (listed p.first.registry))
+    (sym c.self.view_is) c.requires
 
 pub returns : goal.returns
 returns g c =
-    subst (λ (p : PortsState g.row.A.Denot g.row.B.Denot). Visit (CalledAt g.F.FnMut) c.args.f.now (listed p.first.registry) c.for_each.new.f) c.self.view_is c.for_each.ensures.visit
+    subst (λ (p : PortsState g.row.A.Denot g.row.B.Denot). Visit (CalledAt g.F.FnMut) c.args.f.now
+    (listed p.first.registry) c.for_each.new.f) c.self.view_is c.for_each.ensures.visit

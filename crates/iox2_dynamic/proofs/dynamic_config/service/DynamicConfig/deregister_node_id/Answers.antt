@@ -7,12 +7,16 @@ use Rattle.iox2_dynamic.proofs.dynamic_config.service.DynamicConfig.deregister_n
 
 pub unreachable-requires : goal.unreachable-requires
 unreachable-requires c =
-    not_foreign c.self.inside.nodes.registry c.args.handle c.in-Some.id c.in-Some.ensures.details c.in-Err.ensures.step.0
+    not_foreign c.self.inside.nodes.registry c.args.handle c.in-Some.id c.in-Some.ensures.details
+    c.in-Err.ensures.removes.step.0
 
 pub invariant_of-self : goal.invariant_of-self
 invariant_of-self c =
     let last : is_last_of_ports c.in-Some.id (service_in c.self.inside) ≡ false = search rules in
-    leaving_kept (service_in c.self.inside) c.remove.new.self c.args.handle c.in-Some.id c.in-Some.ensures.details last c.in-Ok.ensures.step.0 c.remove.ensures.kept c.self.invariant
+    leaving_kept
+    (service_in c.self.inside) c.remove.new.self c.args.handle c.in-Some.id
+    c.in-Some.ensures.details last c.in-Ok.ensures.removes.step.0 c.in-Ok.ensures.removes.kept
+    c.self.invariant
 
 pub returns-clause-kept : goal.returns-clause-kept
 returns-clause-kept c = invariant_of-self c

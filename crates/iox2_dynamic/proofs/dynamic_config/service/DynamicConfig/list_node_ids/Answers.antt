@@ -7,8 +7,10 @@ use Rattle.iox2_dynamic.proofs.dynamic_config.service.DynamicConfig.list_node_id
 
 pub for_each-requires : goal.for_each-requires
 for_each-requires g c =
-    subst (λ (s : Service). CanVisit (TakesAt g.F.FnMut) (CalledAt g.F.FnMut) c.args.f.now (listed s.nodes.registry)) (sym c.self.view_is) c.requires
+    subst (λ (s : Service). CanVisit (TakesAt g.F.FnMut) (CalledAt g.F.FnMut) c.args.f.now
+    (listed s.nodes.registry)) (sym c.self.view_is) c.requires
 
 pub returns-clause-visit : goal.returns-clause-visit
 returns-clause-visit g c =
-    subst (λ (s : Service). Visit (CalledAt g.F.FnMut) c.args.f.now (listed s.nodes.registry) c.for_each.new.f) c.self.view_is c.for_each.ensures.visit
+    subst (λ (s : Service). Visit (CalledAt g.F.FnMut) c.args.f.now
+    (listed s.nodes.registry) c.for_each.new.f) c.self.view_is c.for_each.ensures.visit

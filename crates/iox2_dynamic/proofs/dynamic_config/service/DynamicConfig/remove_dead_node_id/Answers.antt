@@ -14,13 +14,18 @@ use Rattle.iox2_dynamic.proofs.dynamic_config.service.DynamicConfig.remove_dead_
 
 pub recover-requires : goal.recover-requires
 recover-requires g c =
-    subst (λ (s : Service). CanBeAsked (λ f x. Takes g.F.FnMut f (x, tt)) (λ f x r h. Called g.F.FnMut f (x, tt) r h) c.args.f.now (ports_asked_about c.args.dead.now s.ports)) (sym c.self.view_is) c.requires
+    subst (λ (s : Service). CanBeAsked (λ f x. Takes g.F.FnMut f (x, tt))
+    (λ f x r h. Called g.F.FnMut f (x, tt) r h) c.args.f.now
+    (ports_asked_about c.args.dead.now s.ports)) (sym c.self.view_is) c.requires
 
 pub invariant_of-self : goal.invariant_of-self
 invariant_of-self g c =
-    let calls : g.row.F.Denot → _ → _ → g.row.F.Denot → Type 0 = λ f x r h. Called g.F.FnMut f (x, tt) r h in
+    let calls : g.row.F.Denot → _ → _ → g.row.F.Denot → Type 0 =
+    λ f x r h. Called g.F.FnMut f (x, tt) r h in
     let new : Service = service_in (record c.self.inside { pattern = c.recover.new.self }) in
-    skipped_kept calls (service_in c.self.inside) c.args.f.now c.args.dead.now new.pattern new.ports c.recover.new.f c.recover.ensures.kind c.recover.ensures.recovered c.self.invariant
+    skipped_kept calls
+    (service_in c.self.inside) c.args.f.now c.args.dead.now new.pattern new.ports
+    c.recover.new.f c.recover.ensures.kind c.recover.ensures.recovered c.self.invariant
 
 pub returns-then-recover-clause-kept : goal.returns-then-recover-clause-kept
 returns-then-recover-clause-kept g c = invariant_of-self g c
@@ -33,27 +38,58 @@ returns-then-recover-clause-lock g c =
 
 pub returns-then-recover-clause-step : goal.returns-then-recover-clause-step
 returns-then-recover-clause-step g c =
-    let calls : g.row.F.Denot → _ → _ → g.row.F.Denot → Type 0 = λ f x r h. Called g.F.FnMut f (x, tt) r h in
+    let calls : g.row.F.Denot → _ → _ → g.row.F.Denot → Type 0 =
+    λ f x r h. Called g.F.FnMut f (x, tt) r h in
     let old : Service = service_in c.self.inside in
     let new : Service = service_in (record c.self.inside { pattern = c.recover.new.self }) in
     let some : has_ports_of c.args.dead.now new.ports ≡ true = search rules in
-    subst (λ (v : Service). DeadStep calls v c.args.f.now c.args.dead.now HasOwners new c.recover.new.f) c.self.view_is
-    (c.recover.ensures.recovered, nodes_stay c.args.dead.now (has_ports_of c.args.dead.now new.ports) old.nodes some (ports_open new c.args.dead.now (invariant_of-self g c) some), ap (λ (k : PatternKind). record old { pattern = k; ports = new.ports }) c.recover.ensures.kind)
+    subst (λ (v : Service).
+    DeadStep calls v c.args.f.now c.args.dead.now HasOwners new c.recover.new.f)
+    c.self.view_is (
+      c.recover.ensures.recovered,
+      nodes_stay c.args.dead.now (has_ports_of c.args.dead.now new.ports) old.nodes some
+          (ports_open new c.args.dead.now (invariant_of-self g c) some),
+      ap (λ (k : PatternKind). record old { pattern = k; ports = new.ports })
+          c.recover.ensures.kind,
+    )
 
 pub invariant_of-self-2 : goal.invariant_of-self-2
 invariant_of-self-2 g c =
-    let calls : g.row.F.Denot → _ → _ → g.row.F.Denot → Type 0 = λ f x r h. Called g.F.FnMut f (x, tt) r h in
-    let new : Service = service_in (record c.self.inside { pattern = c.recover.new.self; nodes = c.recover_nodes.new.nodes }) in
-    dead_kept calls (service_in c.self.inside) c.args.f.now c.args.dead.now new.pattern new.ports c.recover.new.f c.recover_nodes.result c.recover_nodes.new.nodes c.recover.ensures.kind c.recover.ensures.recovered (search rules) c.recover_nodes.ensures c.self.invariant
+    let calls : g.row.F.Denot → _ → _ → g.row.F.Denot → Type 0 =
+    λ f x r h. Called g.F.FnMut f (x, tt) r h in
+    let new : Service =
+    service_in
+    (record c.self.inside {
+      pattern = c.recover.new.self;
+      nodes = c.recover_nodes.new.nodes;
+    }) in
+    dead_kept calls
+    (service_in c.self.inside) c.args.f.now c.args.dead.now new.pattern new.ports
+    c.recover.new.f c.recover_nodes.result c.recover_nodes.new.nodes c.recover.ensures.kind
+    c.recover.ensures.recovered (search rules) c.recover_nodes.ensures c.self.invariant
 
 pub returns-clause-kept : goal.returns-clause-kept
 returns-clause-kept g c = invariant_of-self-2 g c
 
 pub returns-clause-step : goal.returns-clause-step
 returns-clause-step g c =
-    let calls : g.row.F.Denot → _ → _ → g.row.F.Denot → Type 0 = λ f x r h. Called g.F.FnMut f (x, tt) r h in
+    let calls : g.row.F.Denot → _ → _ → g.row.F.Denot → Type 0 =
+    λ f x r h. Called g.F.FnMut f (x, tt) r h in
     let old : Service = service_in c.self.inside in
-    let new : Service = service_in (record c.self.inside { pattern = c.recover.new.self; nodes = c.recover_nodes.new.nodes }) in
+    let new : Service =
+    service_in
+    (record c.self.inside {
+      pattern = c.recover.new.self;
+      nodes = c.recover_nodes.new.nodes;
+    }) in
     let none : has_ports_of c.args.dead.now new.ports ≡ false = search rules in
-    subst (λ (v : Service). DeadStep calls v c.args.f.now c.args.dead.now c.of.result new c.recover.new.f) c.self.view_is
-    (c.recover.ensures.recovered, nodes_after c.args.dead.now (has_ports_of c.args.dead.now new.ports) old.nodes c.recover_nodes.result c.of.result new.nodes none c.of.ensures c.recover_nodes.ensures, ap (λ (k : PatternKind). record old { pattern = k; ports = new.ports; nodes = new.nodes }) c.recover.ensures.kind)
+    subst (λ (v : Service).
+    DeadStep calls v c.args.f.now c.args.dead.now c.of.result new c.recover.new.f)
+    c.self.view_is (
+      c.recover.ensures.recovered,
+      nodes_after c.args.dead.now
+          (has_ports_of c.args.dead.now new.ports) old.nodes c.recover_nodes.result c.of.result
+          new.nodes none c.of.ensures c.recover_nodes.ensures,
+      ap (λ (k : PatternKind). record old { pattern = k; ports = new.ports; nodes = new.nodes })
+          c.recover.ensures.kind,
+    )

@@ -11,9 +11,13 @@ returns-in-Stop-clause-visit g c =
     let i = c.loop-attribute.attribute-index in
     rw (← c.self.view_is, ← c.as_slice-attribute-items.ensures.value)
     (c.loop-attribute.invariant.1 _
-    (visits-stop (CalledAt g.F.FnMut) c.args.key.now pairs i c.attribute-item.result c.loop-attribute-test.true c.attribute-item.is _ _ c.value.result.now c.callback.result
-    (has_key-at c.args.key.now pairs i _ _ _ _ c.attribute-item.is c.key.ensures c.eq.ensures c.if-eq.true)
-    c.value.ensures c.in-Stop.is (record { shown = c.value.result; shows = refl; called = c.callback.ensures })))
+    (visits-stop
+    (CalledAt g.F.FnMut) c.args.key.now pairs i c.attribute-item.result
+    c.loop-attribute-test.true c.attribute-item.is _ _ c.value.result.now c.callback.result
+    (has_key-at c.args.key.now pairs i _ _ _ _ c.attribute-item.is c.key.ensures c.eq.ensures
+    c.if-eq.true)
+    c.value.ensures c.in-Stop.is
+    (record { shown = c.value.result; shows = refl; called = c.callback.ensures })))
 
 -- one step of the visit
 pub loop-attribute-preserved : goal.loop-attribute-preserved
@@ -24,14 +28,23 @@ loop-attribute-preserved g c =
       | then-eq+in-Continue w ↦ rw w.callback-is (
         (λ may. let before = c.loop-attribute.invariant.0 may in search of_calls),
         λ last later. c.loop-attribute.invariant.1 last
-            (visits-continue (CalledAt g.F.FnMut) c.args.key.now pairs i c.attribute-item.result c.loop-attribute-test.true c.attribute-item.is _ _ last w.value.result.now w.callback.result
-            (has_key-at c.args.key.now pairs i _ _ _ _ c.attribute-item.is c.key.ensures c.eq.ensures w.if-eq.true)
-            w.value.ensures w.in-Continue.is (record { shown = w.value.result; shows = refl; called = w.callback.ensures }) later),
+            (visits-continue
+            (CalledAt g.F.FnMut) c.args.key.now pairs i c.attribute-item.result
+            c.loop-attribute-test.true c.attribute-item.is _ _ last w.value.result.now
+            w.callback.result
+            (has_key-at c.args.key.now pairs i _ _ _ _ c.attribute-item.is c.key.ensures
+            c.eq.ensures w.if-eq.true)
+            w.value.ensures w.in-Continue.is
+            (record { shown = w.value.result; shows = refl; called = w.callback.ensures })
+            later),
       )
       | else-eq w ↦ rw w.callback-is (
         c.loop-attribute.invariant.0,
         λ last later. c.loop-attribute.invariant.1 last
-            (visits-pass (CalledAt g.F.FnMut) c.args.key.now pairs i c.attribute-item.result c.loop-attribute-test.true c.attribute-item.is _ last
-            (has_key-at c.args.key.now pairs i _ _ _ _ c.attribute-item.is c.key.ensures c.eq.ensures w.if-eq.false) later),
+            (visits-pass
+            (CalledAt g.F.FnMut) c.args.key.now pairs i c.attribute-item.result
+            c.loop-attribute-test.true c.attribute-item.is _ last
+            (has_key-at c.args.key.now pairs i _ _ _ _ c.attribute-item.is c.key.ensures
+            c.eq.ensures w.if-eq.false) later),
       )
     ]

@@ -8,5 +8,7 @@ use Rattle.iox2_texts.proofs.attribute.set.AttributeSet.iter_key_values.Given as
 abbrev pub invariant-loop-attribute : goal.invariant-loop-attribute
 invariant-loop-attribute g l =
     (always_mut g.F.FnMut l.initial.callback → always_mut g.F.FnMut l.callback)
-    × ((last : _) → Visits (CalledAt g.F.FnMut) l.callback (values_of (drop l.attribute-index l.attribute-items) l.key) last
+    × ((last : _)
+    → Visits (CalledAt g.F.FnMut) l.callback
+    (values_of (drop l.attribute-index l.attribute-items) l.key) last
     → Visits (CalledAt g.F.FnMut) l.initial.callback (values_of l.attribute-items l.key) last)

@@ -1,4 +1,5 @@
--- A slot may go to another thread: what it owns is a box, of what may go there, which any thread may free.
+-- A slot may go to another thread: what it owns is a box, of what may go there, which any thread
+-- may free.
 use Rattle.std.specs.Prelude.{Option, Some, None}
 use mir.Raw.{raw}
 use base.Shift.{Keyless}
@@ -16,11 +17,16 @@ use Rattle.iox2sd.specs.Slots.{slot_owns}
 use Rattle.iox2sd.specs.contracts.service.slot.Slot.{the_row, the_type}
 
 crosses : (at : Ptr) (service : Option Service) → Keyless (slot_owns at service)
-crosses at (Some service) = (lies DynamicConfig.the_row DynamicConfig-send at service, heap.frees.frees (record { memory = record { seal = tt } }) (raw (lone DynamicConfig.the_row.mir)) at)
+crosses at (Some service) = (
+  lies DynamicConfig.the_row DynamicConfig-send at service,
+  heap.frees.frees (record { memory = record { seal = tt } })
+      (raw (lone DynamicConfig.the_row.mir)) at,
+)
 crosses at None = tt
 
 pub send : IsSend the_row
 send =
     let all : AllSend (fields the_type) = (search sendable, tt) in
     owning_send the_type all (λ d. crosses d.at d.service)
-    (λ k. quiet (to the_type) (exits_of k (fields the_type)) ((struct_send (shape the_type) all).leaving k))
+    (λ k. quiet (to the_type) (exits_of k (fields the_type))
+    ((struct_send (shape the_type) all).leaving k))

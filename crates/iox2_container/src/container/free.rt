@@ -1,0 +1,9 @@
+//! How free places are found: by a list of them, or by the lowest.
+
+mod free_list;
+mod lowest_free;
+mod slot_allocator;
+
+pub(crate) use free_list::FreeList;
+pub(crate) use lowest_free::LowestFree;
+pub(crate) use slot_allocator::SlotAllocator;

@@ -1,0 +1,55 @@
+//! What finds the free ones among places.
+ghost use Rattle.std.specs.Prelude.{◌≡◌, ◌+◌, ◌*◌, ◌≤◌, ◌<◌, ℕ, Some, None, List};
+ghost use Rattle.std.specs.Prelude.{length, map, replicate, slice_get, slice_set};
+ghost use Rattle.iox2_container.specs.declared.container.slots.cell.Cell.{Cell};
+ghost use Rattle.iox2_container.specs.declared.container.slots.cell.Cell.TheVariants.{Free};
+ghost use Rattle.iox2_container.specs.Cells.{occupant, shown};
+ghost use Rattle.iox2_container.specs.Places.{IsTakenAt, NoneFrom, entries_from};
+
+use crate::container::places::Places;
+use std::fmt::Debug;
+
+/// Finds the free ones among places, by what it keeps and what their cells keep.
+pub trait SlotAllocator<T: Copy>: Drop {
+    /// What the cell of a free place keeps.
+    type Next: Copy + Debug;
+
+    /// It goes with these cells.
+    ghost fits: { Self → List (Cell T Self.Next) → Type 0 };
+
+    /// The most touches of a put, by the number of places.
+    ghost most_for_put: { ℕ → ℕ };
+
+    /// What goes with any number of free places, and what each of their cells keeps.
+    fn all_free() -> (Self, Self::Next)
+        ensures { (n : ℕ) → fits result.0 (replicate n (Free result.1)) };
+
+    /// A place from which on none is taken, so that a pass may end there.
+    fn end(&self, places: &Places<T, Self::Next>) -> usize
+        requires { fits self.now places.now.cells }
+        ensures within { result ≤ length places.now.cells }
+        ensures free { NoneFrom (map shown places.now.cells) result };
+
+    /// Puts an entry into a free place of its choice.
+    fn put(&mut self, places: &mut Places<T, Self::Next>, ticket: u64, details: T) -> usize
+        requires fits { fits self.old places.old.cells }
+        requires room { length (entries_from 0 (map shown places.old.cells))
+            < length places.old.cells }
+        ensures fits { fits self.new places.new.cells }
+        ensures free { slice_get (map shown places.old.cells) result ≡ Some None }
+        ensures cells { map shown places.new.cells ≡
+            slice_set (map shown places.old.cells) result (Some (occupant ticket details)) }
+        ensures touched { places.new.touches ≤ places.old.touches + 2 * length places.old.cells }
+        ensures few { places.new.touches ≤
+            places.old.touches + most_for_put (length places.old.cells) }
+        ensures counted { places.old.touches ≤ places.new.touches };
+
+    /// Takes the entry out of a place.
+    fn clear(&mut self, places: &mut Places<T, Self::Next>, slot: usize)
+        requires fits { fits self.old places.old.cells }
+        requires taken { IsTakenAt (map shown places.old.cells) slot }
+        ensures fits { fits self.new places.new.cells }
+        ensures cells { map shown places.new.cells ≡
+            slice_set (map shown places.old.cells) slot None }
+        ensures touched { places.new.touches ≡ places.old.touches + 1 };
+}

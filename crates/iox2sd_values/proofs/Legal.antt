@@ -1,0 +1,59 @@
+-- Texts that are legal, by a test of each byte.
+use Rattle.std.proofs.Common.{◌≡◌, ◌∙◌, ℕ, ◌≤◌, Bool, List, length, take, ap, sym, inl}
+use Rattle.std.proofs.Common.{inr, arith, true≢false}
+use Rattle.std.specs.Prelude.{IsTrue, ◌↔◌, ◌&&◌, Ok, Err}
+use Rattle.std.specs.Bool.{Decides}
+use Rattle.std.specs.List.{list_all}
+use Rattle.std.proofs.Math.Dec.{leb}
+use Rattle.std.proofs.lemmas.Bool.{cases_lt}
+use Rattle.std.proofs.lemmas.Bool.Decides.{Decides-and, leb_tells}
+use Rattle.std.proofs.lemmas.List.{take_all}
+use Rattle.std.proofs.lemmas.List.Sums.{AllPass-from_list_all, list_all-from_AllPass}
+use Rattle.iox2_texts.specs.Name.{IsName, MakesName}
+use Rattle.iox2_texts.specs.Text.{IsText, IsTextByte}
+use Rattle.iox2_texts.specs.declared.bounded.SemanticStringError.{SemanticStringError}
+use Rattle.iox2_texts.specs.declared.bounded.SemanticStringError.TheVariants.{InvalidContent}
+use Rattle.iox2_texts.specs.declared.bounded.SemanticStringError.TheVariants.{ExceedsMaximumLength}
+
+-- whether a text may hold the byte
+abbrev pub is_legal : ℕ → Bool
+is_legal b = leb 1 b && leb b 127
+
+leb-Decides : (a b : ℕ) → Decides (leb a b) (a ≤ b)
+leb-Decides a b =
+    elim (leb_tells a b) [
+      | inl h ↦ (λ _. h.1, λ _. h.0)
+      | inr h ↦ (
+        λ holds. absurd (true≢false (sym holds ∙ h.0)),
+        λ low. absurd
+            (omega (arith, low, h.1)),
+      )
+    ]
+
+legal-Decides : (b : ℕ) → Decides (is_legal b) (IsTextByte b)
+legal-Decides b = Decides-and (leb 1 b) (leb b 127) (leb-Decides 1 b) (leb-Decides b 127)
+
+-- a loop over all bytes tells whether they are a text
+pub tells_text : (legal : Bool) (bytes : List ℕ) (i : ℕ) → length bytes ≤ i
+    → legal ≡ list_all is_legal (take i bytes) → IsTrue legal ↔ IsText bytes
+tells_text legal bytes i past is =
+    let all : legal ≡ list_all is_legal bytes = is ∙ ap (list_all is_legal) (take_all i bytes past)
+    in (
+      λ holds k d inside.
+          (legal-Decides _).0 (AllPass-from_list_all is_legal bytes (sym all ∙ holds) k d inside),
+      λ text. all ∙ list_all-from_AllPass is_legal bytes
+          (λ k d inside. (legal-Decides _).1 (text k d inside)),
+    )
+
+-- a name is made
+pub made : (n : ℕ) (bytes : List ℕ) → IsName n bytes → (text : List ℕ) × MakesName n bytes (Ok text)
+made n bytes name = (bytes, (λ _. bytes, name.0.0, name))
+
+-- what is no name is refused
+pub refused : (n : ℕ) (bytes : List ℕ) → ¬ (IsName n bytes)
+    → (error : SemanticStringError) × MakesName n bytes (Err error)
+refused n bytes none =
+    elim (cases_lt n (length bytes)) [
+      | inl longer ↦ (ExceedsMaximumLength, longer)
+      | inr fits ↦ (InvalidContent, (fits, none))
+    ]

@@ -1,0 +1,83 @@
+//! Recoveries that answer as a cleanup says.
+ghost use Rattle.std.specs.Prelude.{◌≡◌};
+ghost use Rattle.iox2_dynamic.specs.Service.{IsService};
+ghost use Rattle.iox2_ids.specs.PortId.{port_value};
+ghost use Rattle.service_descriptions.specs.Cleanups.{CleanedUp, action_for};
+ghost use Rattle.service_descriptions.specs.Cleanups.{first_action, other_actions};
+ghost use Rattle.service_descriptions.specs.declared.replay.machine.command.Cleanup.TheVariants as cleanups;
+
+use super::command::Cleanup;
+use iox2_dynamic::dynamic_config::{DeregisterNodeState, DynamicConfig, PortCleanupAction};
+use iox2_ids::identifiers::{UniqueNodeId, UniquePortId};
+
+/// The answer on a port, where ports of these values stay.
+fn answer_by_port(kept: &[u128], port: &UniquePortId) -> PortCleanupAction
+    ensures { result ≡ action_for kept.now (port_value port.now) }
+{
+    if kept.contains(&port.value()) {
+        PortCleanupAction::SkipPort
+    } else {
+        PortCleanupAction::RemovePort
+    }
+}
+
+/// Removes a dead node, with answers in order.
+#[inline(always)]
+fn by_order(
+    service: &mut DynamicConfig,
+    dead: &UniqueNodeId,
+    actions: &Vec<PortCleanupAction>,
+) -> DeregisterNodeState
+    ensures cleaned { CleanedUp service.old dead.now
+        (cleanups.ByOrder actions.now) result service.new }
+    ensures kept { IsService service.new }
+{
+    let mut left = actions.as_slice();
+    let mut answer = move |_port: UniquePortId| -> PortCleanupAction
+        ensures first { result ≡ first_action left.entry.now }
+        ensures rest { left.exit.now ≡ other_actions left.entry.now }
+    {
+        match left.split_first() {
+            Some((action, rest)) => {
+                left = rest;
+                *action
+            }
+            None => PortCleanupAction::RemovePort,
+        }
+    };
+    service.remove_dead_node_id(dead, &mut answer)
+}
+
+/// Removes a dead node, with answers by the value of the port.
+#[inline(always)]
+fn by_port(
+    service: &mut DynamicConfig,
+    dead: &UniqueNodeId,
+    kept: &Vec<u128>,
+) -> DeregisterNodeState
+    ensures cleaned { CleanedUp service.old dead.now (cleanups.ByPort kept.now) result service.new }
+    ensures kept { IsService service.new }
+{
+    let kept = kept.as_slice();
+    let mut answer = move |port: UniquePortId| -> PortCleanupAction
+        ensures first { result ≡ action_for kept.entry.now (port_value port) }
+        ensures same { kept.exit.now ≡ kept.entry.now }
+    { answer_by_port(kept, &port) };
+    service.remove_dead_node_id(dead, &mut answer)
+}
+
+/// Removes a dead node, and those of its ports that the cleanup lets go.
+#[inline(always)]
+pub(super) fn clean_up(
+    service: &mut DynamicConfig,
+    dead: &UniqueNodeId,
+    cleanup: &Cleanup,
+) -> DeregisterNodeState
+    ensures cleaned { CleanedUp service.old dead.now cleanup.now result service.new }
+    ensures kept { IsService service.new }
+{
+    match cleanup {
+        Cleanup::ByOrder(actions) => by_order(service, dead, actions),
+        Cleanup::ByPort(kept) => by_port(service, dead, kept),
+    }
+}

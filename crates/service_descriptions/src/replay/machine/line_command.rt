@@ -1,0 +1,40 @@
+//! Commands that have a line.
+ghost use Rattle.std.specs.Prelude.{◌≡◌};
+ghost use Rattle.service_descriptions.specs.Lines.{command_of};
+
+use super::command::{Cleanup, Command};
+use crate::replay::lines::ScriptPort;
+use iox2_container::container::Role;
+use iox2_ids::identifiers::UniqueNodeId;
+
+/// A command that a line can spell. It is small, where
+/// a [`Command`] has room for what a verifier requires.
+#[derive(Drop)]
+pub(crate) enum LineCommand {
+    Register(UniqueNodeId),
+    Deregister(usize),
+    Nodes,
+    Add(ScriptPort),
+    Release(usize),
+    List(Role),
+    Count(Role),
+    Dead(UniqueNodeId, Cleanup),
+}
+
+impl LineCommand {
+    /// The command itself.
+    pub(crate) fn command(self) -> Command
+        ensures { result ≡ command_of self }
+    {
+        match self {
+            LineCommand::Register(id) => Command::Register(id),
+            LineCommand::Deregister(k) => Command::Deregister(k),
+            LineCommand::Nodes => Command::Nodes,
+            LineCommand::Add(port) => Command::Add(port.details()),
+            LineCommand::Release(k) => Command::Release(k),
+            LineCommand::List(role) => Command::List(role),
+            LineCommand::Count(role) => Command::Count(role),
+            LineCommand::Dead(node, cleanup) => Command::Dead(node, cleanup),
+        }
+    }
+}

@@ -1,0 +1,159 @@
+//! The state of a service under commands.
+ghost use Rattle.std.specs.Prelude.{◌≡◌, ◌+◌, ◌<◌, Some, IfOk, IsTrue};
+ghost use Rattle.std.specs.Prelude.{OnOk, OnErr, length, vec_len};
+ghost use Rattle.iox2_dynamic.specs.Service.{HasNoPort, capacities_in};
+ghost use Rattle.iox2_static.specs.MessagingPattern.{kind_of};
+ghost use Rattle.service_descriptions.specs.Lines.{command_of};
+ghost use Rattle.service_descriptions.specs.Replies.{reply_of};
+ghost use Rattle.service_descriptions.specs.Steps.{ServiceStep, IsState, Did, new_state};
+
+use super::command::Command;
+use super::earlier::Earlier;
+use super::line_command::LineCommand;
+use super::line_reply::LineReply;
+use super::reply::Reply;
+use super::serve::{serve_command, serve_line};
+use iox2_config::hash::PatternKind;
+use iox2_dynamic::dynamic_config::{DynamicConfig, MessagingPatternSettings};
+use iox2_static::static_config::StaticConfig;
+use std::alloc::{AllocError, Global};
+use std::marker::Model;
+
+/// A service, its description or none, and for each earlier command the handle that it was answered
+/// with. No two of these handles are equal.
+#[derive(Drop)]
+pub struct ServiceState {
+    service: DynamicConfig,
+    description: Option<StaticConfig>,
+    number: u64,
+    earlier: Vec<Earlier>,
+}
+
+impl Model for ServiceState {
+    ghost use Rattle.service_descriptions.specs.Fields.{state_of, IsSound};
+    ghost use Rattle.service_descriptions.specs.Steps.{State};
+
+    ghost Value = { State };
+
+    ghost view = { state_of };
+
+    ghost invariant = { IsSound };
+}
+
+impl ServiceState {
+    /// A service without nodes, ports and description, for at most `max_nodes` entries of nodes at
+    /// a time, and for 2^64 - 1 entries of each kind in all. Its handles carry the number. Takes
+    /// all the memory of the service itself, or is refused.
+    pub fn new(
+        alloc: Global,
+        settings: &MessagingPatternSettings,
+        max_nodes: usize,
+        service_number: u64,
+    ) -> Result<Self, AllocError>
+        ensures { IfOk result (λ s.
+            s ≡ new_state (capacities_in settings.now) max_nodes service_number) }
+    {
+        Ok(ServiceState {
+            service: DynamicConfig::new(alloc, settings, max_nodes, service_number)?,
+            description: None,
+            number: service_number,
+            earlier: Vec::new(alloc),
+        })
+    }
+
+    /// Which pattern the service has.
+    pub fn kind(&self) -> PatternKind
+        ensures { result ≡ self.now.service.pattern }
+    {
+        self.service.kind()
+    }
+
+    /// Describes the service, in place of what described it before. The description is one of a
+    /// service of this [`kind`](ServiceState::kind).
+    pub fn describe(&mut self, description: StaticConfig)
+        requires { kind_of description.pattern ≡ self.old.service.pattern }
+        ensures { self.new ≡ record self.old { description = Some description } }
+    {
+        self.description = Some(description);
+    }
+
+    /// Takes the room for what is kept of this many more commands, or is refused.
+    pub(crate) fn reserve(&mut self, commands: usize) -> Result<(), AllocError>
+        ensures { self.new ≡ self.old }
+    {
+        self.earlier.reserve(commands)
+    }
+
+    /// One command. All its memory is taken before anything changes.
+    pub(super) fn serve(&mut self, alloc: Global, command: &Command) -> Result<Reply, AllocError>
+        ensures ok { IfOk result (λ reply. ServiceStep self.old command.now reply self.new) }
+        ensures err { OnErr result (self.new ≡ self.old) }
+        ensures state { IsState self.new }
+    {
+        self.earlier.reserve(1)?;
+        let reply = serve_command(
+            alloc,
+            &mut self.service,
+            &self.description,
+            self.number,
+            &self.earlier,
+            command,
+        )?;
+        self.earlier.push_reserved(Earlier::of(reply.handle()));
+        Ok(reply)
+    }
+
+    /// The same for a command that has a line.
+    #[inline(always)]
+    pub(crate) fn serve_line(
+        &mut self,
+        alloc: Global,
+        command: &LineCommand,
+    ) -> Result<LineReply, AllocError>
+        ensures ok { IfOk result
+            (λ reply. ServiceStep self.old (command_of command.now) (reply_of reply) self.new) }
+        ensures err { OnErr result (self.new ≡ self.old) }
+        ensures state { IsState self.new }
+    {
+        self.earlier.reserve(1)?;
+        let reply = serve_line(
+            alloc,
+            &mut self.service,
+            self.number,
+            &self.earlier,
+            command,
+        )?;
+        self.earlier.push_reserved(Earlier::of(reply.handle()));
+        Ok(reply)
+    }
+}
+
+#[tactic(auto, using(iox2_dynamic::proofs::Keeping::locked_has_no_port))]
+/// Gives the commands to the service in turn, and appends a reply for each.
+///
+/// Commands of one state are numbered from 0 over all calls. Where memory is refused, the state is
+/// after exactly as many of the commands as replies were appended, and fewer than all were: the
+/// rest may be given again.
+pub fn replay(
+    alloc: Global,
+    state: &mut ServiceState,
+    commands: &[Command],
+    replies: &mut Vec<Reply>,
+) -> Result<(), AllocError>
+    ensures did { Did state.old state.new commands.now replies.old.items replies.new.items }
+    ensures ok { OnOk result (vec_len replies.new ≡ vec_len replies.old + length commands.now) }
+    ensures err { OnErr result (vec_len replies.new < vec_len replies.old + length commands.now) }
+    // The node of every port is registered, and no two handles are equal.
+    ensures state { IsState state.new }
+    ensures no_port { IsTrue state.new.service.nodes.registry.locked
+        → HasNoPort state.new.service.ports }
+{
+    // For the proof: what is true of every state.
+    let _service = &state.service;
+    for command in commands {
+        replies.reserve(1)?;
+        let reply = state.serve(alloc, command)?;
+        replies.push_reserved(reply);
+    }
+    Ok(())
+}

@@ -1,0 +1,277 @@
+-- The lines of a message, in one way.
+use Rattle.std.proofs.Common.{◌≡◌, ℕ, ◌<◌, ◌^◌, List, [], ◌∷◌, ◌++◌, cond, codes, length, Option, Some, None, Err, refl, sym, ◌∙◌, ap, subst, arith, IsTrue}
+use Rattle.std.specs.Prelude.{◌==◌}
+use Rattle.std.specs.Fmt.{decimal}
+use Rattle.std.specs.Int.{is_power_of_two}
+use Rattle.std.proofs.lemmas.Fmt.{decimal_injective}
+use Rattle.std.proofs.lemmas.List.{append_cancel_left}
+use Rattle.iox2_texts.specs.declared.bounded.StringModificationError.TheVariants.{InsertWouldExceedCapacity, InvalidCharacter}
+use Rattle.iox2_config.specs.TypeDetailParts.{TypeDetailParts}
+use Rattle.iox2_config.specs.TypeDetails.{detail, IsTypeName, MakesDetail}
+use Rattle.iox2_config.specs.declared.types.message_details.MessageTypeDetails.{MessageTypeDetails}
+use Rattle.iox2_config.specs.declared.types.type_detail.TypeDetailError.{TypeDetailError}
+use Rattle.iox2_config.specs.declared.types.type_detail.TypeDetailError.TheVariants.{Name, AlignmentNotPowerOfTwo}
+use Rattle.iox2_config.specs.declared.types.type_detail.TypeVariant.{TypeVariant}
+use Rattle.iox2_config.specs.declared.types.type_detail.TypeVariant.TheVariants.{FixedSize, Dynamic}
+use Rattle.service_drawing.specs.Lines.{IsLine, IsDescribed, AreAlignments, type_text, payload_text, alignments_text, variant_word, HasType, HasPayload, HasElements, HasOpener, HasMessage}
+use Rattle.service_drawing.specs.declared.description.Message.{Message}
+use Rattle.service_drawing.proofs.Words.{same_number, line_one}
+
+-- no second number
+pub no_second : (text rest : List ℕ) (size : ℕ) → size < 2 ^ 64 → text ≡ decimal size ++ 32 ∷ rest
+    → ((n : ℕ) (x : List ℕ) → n < 2 ^ 64 → ¬ (rest ≡ decimal n ++ 32 ∷ x)) → (m n : ℕ)
+    (x : List ℕ) → m < 2 ^ 64 → n < 2 ^ 64 → ¬ (text ≡ decimal m ++ 32 ∷ (decimal n ++ 32 ∷ x))
+no_second text rest size fits e bad m n x p q is =
+    bad n x q (same_number text size m rest (decimal n ++ 32 ∷ x) fits p e is).1
+
+-- two numbers, of one text
+pub same_numbers : (text : List ℕ) (a b m n : ℕ) (x y : List ℕ) → a < 2 ^ 64 → b < 2 ^ 64
+    → m < 2 ^ 64 → n < 2 ^ 64 → text ≡ decimal a ++ 32 ∷ (decimal b ++ 32 ∷ x)
+    → text ≡ decimal m ++ 32 ∷ (decimal n ++ 32 ∷ y) → (a ≡ m) × (b ≡ n) × (x ≡ y)
+same_numbers text a b m n x y pa pb pm pn e f =
+    let first = same_number text a m (decimal b ++ 32 ∷ x) (decimal n ++ 32 ∷ y) pa pm e f in
+    let second = same_number (decimal b ++ 32 ∷ x) b n x y pb pn refl first.1 in
+    (first.0, second.0, second.1)
+
+-- an empty name
+pub no_name : (text name : List ℕ) (a b : ℕ) → a < 2 ^ 64 → b < 2 ^ 64
+    → text ≡ decimal a ++ 32 ∷ (decimal b ++ 32 ∷ name) → length name ≡ 0 → (t : TypeDetailParts)
+    → IsDescribed t → ¬ (text ≡ type_text t)
+no_name text name a b pa pb e empty t d is =
+    let same = same_numbers text a b t.size t.alignment name t.type_name pa pb d.size d.alignment.0
+    e is in
+    omega (arith, d.named, ap length same.2, empty)
+
+not_made : (parts : TypeDetailParts) (why : TypeDetailError) → MakesDetail parts (Err why)
+    → IsTypeName parts.type_name → IsTrue (is_power_of_two parts.alignment) → ⊥
+not_made parts (Name InsertWouldExceedCapacity) h name power = omega (arith, h, name.0)
+not_made parts (Name InvalidCharacter) h name power = h.1 name.1
+not_made parts AlignmentNotPowerOfTwo h name power = h.1 power
+
+-- a type that is refused
+pub no_type : (text name : List ℕ) (a b : ℕ) (v : TypeVariant) (why : TypeDetailError) → a < 2 ^ 64
+    → b < 2 ^ 64
+    → text ≡ decimal a ++ 32 ∷ (decimal b ++ 32 ∷ name) → MakesDetail (detail v name a b) (Err why)
+    → (t : TypeDetailParts) → IsDescribed t → ¬ (text ≡ type_text t)
+no_type text name a b v why pa pb e made t d is =
+    let same = same_numbers text a b t.size t.alignment name t.type_name pa pb d.size d.alignment.0
+    e is in
+    not_made (detail v name a b) why made (subst IsTypeName (sym same.2) d.type_name)
+    (subst (λ n. IsTrue (is_power_of_two n)) (sym same.1) d.alignment.1)
+
+abbrev variant_at : List ℕ → TypeVariant
+variant_at [] = FixedSize
+variant_at (b ∷ bs) = cond (b == 102) FixedSize Dynamic
+
+variant_front : (v : TypeVariant) (x : List ℕ) → variant_at (variant_word v ++ x) ≡ v
+variant_front FixedSize x = refl
+variant_front Dynamic x = refl
+
+-- the variant, of one text
+pub same_variant : (v w : TypeVariant) (x y : List ℕ) → variant_word v ++ x ≡ variant_word w ++ y
+    → v ≡ w
+same_variant v w x y e = sym (variant_front v x) ∙ ap variant_at e ∙ variant_front w y
+
+-- a payload of this variant that is refused
+pub no_payload_of : (v : TypeVariant) (text rest : List ℕ) → text ≡ variant_word v ++ rest
+    → ((t : TypeDetailParts) → t.variant ≡ v → IsDescribed t → ¬ (rest ≡ type_text t))
+    → (t : TypeDetailParts) → IsDescribed t → ¬ (text ≡ payload_text t)
+no_payload_of v text rest e bad t d is =
+    let same = same_variant v t.variant rest (type_text t) (sym e ∙ is) in
+    bad t (sym same) d
+    (append_cancel_left (variant_word v) rest (type_text t)
+    (sym e ∙ is ∙ ap (λ w. variant_word w ++ type_text t) (sym same)))
+
+-- a payload of no variant
+pub no_variant : (text : List ℕ) → ((x : List ℕ) → ¬ (text ≡ codes "fixed " ++ x))
+    → ((x : List ℕ) → ¬ (text ≡ codes "dynamic " ++ x)) → (t : TypeDetailParts)
+    → ¬ (text ≡ payload_text t)
+no_variant text fixed dynamic t is = go t.variant is
+  where
+    go : (v : TypeVariant) → ¬ (text ≡ variant_word v ++ type_text t)
+    go FixedSize e = fixed (type_text t) e
+    go Dynamic e = dynamic (type_text t) e
+
+pub found_payload : (v : TypeVariant) (text rest : List ℕ) (t : TypeDetailParts)
+    → text ≡ variant_word v ++ rest → t.variant ≡ v → rest ≡ type_text t → text ≡ payload_text t
+found_payload v text rest t e same is =
+    e ∙ ap (λ (x : List ℕ). variant_word v ++ x) is
+    ∙ ap (λ w. variant_word w ++ type_text t) (sym same)
+
+-- the last of three alignments is no number
+pub no_third : (text payload : List ℕ) (a b : ℕ) → a < 2 ^ 64 → b < 2 ^ 64
+    → text ≡ decimal a ++ 32 ∷ (decimal b ++ 32 ∷ payload)
+    → ((n : ℕ) → n < 2 ^ 64 → ¬ (payload ≡ decimal n)) → (d : MessageTypeDetails)
+    → AreAlignments d → ¬ (text ≡ alignments_text d)
+no_third text payload a b pa pb e bad d are is =
+    bad d.payload.alignment are.payload.0
+    (same_numbers text a b d.header.alignment d.user_header.alignment payload _ pa pb are.header.0
+    are.user_header.0 e is).2
+
+-- three numbers, not all of which are powers of two
+pub no_alignments : (text payload : List ℕ) (a b k : ℕ) → a < 2 ^ 64 → b < 2 ^ 64 → k < 2 ^ 64
+    → text ≡ decimal a ++ 32 ∷ (decimal b ++ 32 ∷ payload) → payload ≡ decimal k
+    → ¬ (IsTrue (is_power_of_two a) × IsTrue (is_power_of_two b) × IsTrue (is_power_of_two k))
+    → (d : MessageTypeDetails) → AreAlignments d → ¬ (text ≡ alignments_text d)
+no_alignments text payload a b k pa pb pk e third bad d are is =
+    let same = same_numbers text a b d.header.alignment d.user_header.alignment payload _ pa pb
+    are.header.0 are.user_header.0 e is in
+    let last : k ≡ d.payload.alignment =
+    decimal_injective k d.payload.alignment pk are.payload.0 (sym third ∙ same.2) in
+    bad (
+      subst (λ n. IsTrue (is_power_of_two n)) (sym same.0) are.header.1,
+      subst (λ n. IsTrue (is_power_of_two n)) (sym same.1) are.user_header.1,
+      subst (λ n. IsTrue (is_power_of_two n)) (sym last) are.payload.1,
+    )
+
+-- what one line says after the same beginning
+pub same_text : (begin text rest bytes : List ℕ) → IsLine (begin ++ text) rest bytes
+    → (t x : List ℕ) → IsLine (begin ++ t) x bytes → text ≡ t
+same_text begin text rest bytes l t x m =
+    append_cancel_left begin text t (line_one _ _ rest x bytes l m).0
+
+-- the line of an opener that is refused
+pub no_opener_line : (prefix text rest bytes : List ℕ)
+    → IsLine (prefix ++ codes "opener " ++ text) rest bytes
+    → ((d : MessageTypeDetails) → AreAlignments d → ¬ (text ≡ alignments_text d))
+    → (o : Option MessageTypeDetails) (x : List ℕ) → ¬ HasOpener prefix o x bytes
+no_opener_line prefix text rest bytes l bad None x h = h.1 text rest l
+no_opener_line prefix text rest bytes l bad (Some d) x h =
+    bad d h.0 (same_text (prefix ++ codes "opener ") text rest bytes l (alignments_text d) x h.1)
+
+-- the lines of a type are followed by one rest
+pub type_rest : (begin : List ℕ) (t u : TypeDetailParts) (x y bytes : List ℕ)
+    → HasType begin t x bytes → HasType begin u y bytes → x ≡ y
+type_rest begin t u x y bytes p q = (line_one _ _ x y bytes p.line q.line).1
+
+-- the line of a payload tells its variant
+pub payload_same : (prefix : List ℕ) (t u : TypeDetailParts) (x y bytes : List ℕ)
+    → HasPayload prefix t x bytes → HasPayload prefix u y bytes
+    → (t.variant ≡ u.variant) × (x ≡ y)
+payload_same prefix t u x y bytes p q =
+    let begin : List ℕ = prefix ++ codes "payload " in
+    let same = line_one _ _ x y bytes p.line q.line in (
+      same_variant t.variant u.variant (type_text t) (type_text u)
+          (append_cancel_left begin (payload_text t) (payload_text u) same.0),
+      same.1,
+    )
+
+pub elements_rest : (prefix : List ℕ) (v : TypeVariant) (m n : ℕ) (x y bytes : List ℕ)
+    → HasElements prefix v m x bytes → HasElements prefix v n y bytes → x ≡ y
+elements_rest prefix FixedSize m n x y bytes p q = p.1 ∙ sym q.1
+elements_rest prefix Dynamic m n x y bytes p q = (line_one _ _ x y bytes p.1 q.1).1
+
+opener_rest : (prefix : List ℕ) (o q : Option MessageTypeDetails) (x y bytes : List ℕ)
+    → HasOpener prefix o x bytes → HasOpener prefix q y bytes → x ≡ y
+opener_rest prefix None None x y bytes p q = p.0 ∙ sym q.0
+opener_rest prefix None (Some d) x y bytes p q = absurd (p.1 (alignments_text d) y q.1)
+opener_rest prefix (Some d) None x y bytes p q = absurd (q.1 (alignments_text d) x p.1)
+opener_rest prefix (Some d) (Some e) x y bytes p q = (line_one _ _ x y bytes p.1 q.1).1
+
+-- the same line from where the rest is
+pub type_at : (begin : List ℕ) (t : TypeDetailParts) (x a b : List ℕ) → a ≡ b → HasType begin t x a
+    → HasType begin t x b
+type_at begin t x a b e h = subst (λ (m : List ℕ). HasType begin t x m) e h
+
+payload_at : (prefix : List ℕ) (t : TypeDetailParts) (x a b : List ℕ) → a ≡ b
+    → HasPayload prefix t x a → HasPayload prefix t x b
+payload_at prefix t x a b e h = subst (λ (m : List ℕ). HasPayload prefix t x m) e h
+
+pub elements_at : (prefix : List ℕ) (v w : TypeVariant) (n : ℕ) (x a b : List ℕ) → v ≡ w → a ≡ b
+    → HasElements prefix v n x a → HasElements prefix w n x b
+elements_at prefix v w n x a b e f h =
+    subst (λ u. HasElements prefix u n x b) e
+    (subst (λ (m : List ℕ). HasElements prefix v n x m) f h)
+
+opener_at : (prefix : List ℕ) (o : Option MessageTypeDetails) (x a b : List ℕ) → a ≡ b
+    → HasOpener prefix o x a → HasOpener prefix o x b
+opener_at prefix o x a b e h = subst (λ (m : List ℕ). HasOpener prefix o x m) e h
+
+-- where the payload's line begins
+at_payload_is : (prefix : List ℕ) (h u : TypeDetailParts) (x y bytes : List ℕ)
+    → HasType (prefix ++ codes "header ") h x bytes → HasType (prefix ++ codes "user-header ") u y x
+    → (m : Message) (rest : List ℕ) (l : HasMessage prefix m rest bytes) → l.at_payload ≡ y
+at_payload_is prefix h u x y bytes first second m rest l =
+    type_rest _ m.details.user_header u l.at_payload y x
+    (type_at _ m.details.user_header l.at_payload l.at_user_header x
+    (type_rest _ m.details.header h l.at_user_header x bytes l.header first) l.user_header) second
+
+-- where the line of the elements begins, and which variant the payload has
+at_elements_is : (prefix : List ℕ) (h u t : TypeDetailParts) (x y z bytes : List ℕ)
+    → HasType (prefix ++ codes "header ") h x bytes → HasType (prefix ++ codes "user-header ") u y x
+    → HasPayload prefix t z y → (m : Message) (rest : List ℕ) (l : HasMessage prefix m rest bytes)
+    → (m.details.payload.variant ≡ t.variant) × (l.at_elements ≡ z)
+at_elements_is prefix h u t x y z bytes first second third m rest l =
+    payload_same prefix m.details.payload t l.at_elements z y
+    (payload_at prefix m.details.payload l.at_elements l.at_payload y
+    (at_payload_is prefix h u x y bytes first second m rest l) l.payload) third
+
+-- where the opener's line begins
+at_opener_is : (prefix : List ℕ) (h u t : TypeDetailParts) (n : ℕ) (x y z w bytes : List ℕ)
+    → HasType (prefix ++ codes "header ") h x bytes → HasType (prefix ++ codes "user-header ") u y x
+    → HasPayload prefix t z y → HasElements prefix t.variant n w z → (m : Message) (rest : List ℕ)
+    (l : HasMessage prefix m rest bytes) → l.at_opener ≡ w
+at_opener_is prefix h u t n x y z w bytes first second third fourth m rest l =
+    let at = at_elements_is prefix h u t x y z bytes first second third m rest l in
+    elements_rest prefix t.variant m.elements n l.at_opener w z
+    (elements_at prefix m.details.payload.variant t.variant m.elements l.at_opener l.at_elements z
+    at.0 at.1 l.elements) fourth
+
+-- where one of its lines is missing or bad, no message begins the bytes
+pub no_header : (prefix bytes : List ℕ)
+    → ((t : TypeDetailParts) (r : List ℕ) → ¬ HasType (prefix ++ codes "header ") t r bytes)
+    → (m : Message) (rest : List ℕ) → ¬ HasMessage prefix m rest bytes
+no_header prefix bytes bad m rest l = bad m.details.header l.at_user_header l.header
+
+pub no_user_header : (prefix : List ℕ) (h : TypeDetailParts) (x bytes : List ℕ)
+    → HasType (prefix ++ codes "header ") h x bytes
+    → ((t : TypeDetailParts) (r : List ℕ) → ¬ HasType (prefix ++ codes "user-header ") t r x)
+    → (m : Message) (rest : List ℕ) → ¬ HasMessage prefix m rest bytes
+no_user_header prefix h x bytes first bad m rest l =
+    bad m.details.user_header l.at_payload
+    (type_at _ m.details.user_header l.at_payload l.at_user_header x
+    (type_rest _ m.details.header h l.at_user_header x bytes l.header first) l.user_header)
+
+pub no_payload : (prefix : List ℕ) (h u : TypeDetailParts) (x y bytes : List ℕ)
+    → HasType (prefix ++ codes "header ") h x bytes → HasType (prefix ++ codes "user-header ") u y x
+    → ((t : TypeDetailParts) (r : List ℕ) → ¬ HasPayload prefix t r y) → (m : Message)
+    (rest : List ℕ) → ¬ HasMessage prefix m rest bytes
+no_payload prefix h u x y bytes first second bad m rest l =
+    bad m.details.payload l.at_elements
+    (payload_at prefix m.details.payload l.at_elements l.at_payload y
+    (at_payload_is prefix h u x y bytes first second m rest l) l.payload)
+
+pub no_elements : (prefix : List ℕ) (h u t : TypeDetailParts) (x y z bytes : List ℕ)
+    → HasType (prefix ++ codes "header ") h x bytes → HasType (prefix ++ codes "user-header ") u y x
+    → HasPayload prefix t z y
+    → ((n : ℕ) (r : List ℕ) → ¬ HasElements prefix t.variant n r z) → (m : Message)
+    (rest : List ℕ) → ¬ HasMessage prefix m rest bytes
+no_elements prefix h u t x y z bytes first second third bad m rest l =
+    let at = at_elements_is prefix h u t x y z bytes first second third m rest l in
+    bad m.elements l.at_opener
+    (elements_at prefix m.details.payload.variant t.variant m.elements l.at_opener l.at_elements z
+    at.0 at.1 l.elements)
+
+pub no_opener : (prefix : List ℕ) (h u t : TypeDetailParts) (n : ℕ) (x y z w bytes : List ℕ)
+    → HasType (prefix ++ codes "header ") h x bytes → HasType (prefix ++ codes "user-header ") u y x
+    → HasPayload prefix t z y → HasElements prefix t.variant n w z
+    → ((o : Option MessageTypeDetails) (r : List ℕ) → ¬ HasOpener prefix o r w) → (m : Message)
+    (rest : List ℕ) → ¬ HasMessage prefix m rest bytes
+no_opener prefix h u t n x y z w bytes first second third fourth bad m rest l =
+    bad m.opener rest
+    (opener_at prefix m.opener rest l.at_opener w
+    (at_opener_is prefix h u t n x y z w bytes first second third fourth m rest l) l.opener)
+
+-- what follows a message
+pub message_rest : (prefix : List ℕ) (m n : Message) (x y bytes : List ℕ)
+    → HasMessage prefix m x bytes → HasMessage prefix n y bytes → x ≡ y
+message_rest prefix m n x y bytes l k =
+    opener_rest prefix m.opener n.opener x y k.at_opener
+    (opener_at prefix m.opener x l.at_opener k.at_opener
+    (at_opener_is prefix n.details.header n.details.user_header n.details.payload n.elements
+    k.at_user_header k.at_payload k.at_elements k.at_opener bytes k.header k.user_header k.payload
+    k.elements m x l) l.opener) k.opener
+
+pub message_at : (prefix : List ℕ) (m : Message) (x a b : List ℕ) → a ≡ b → HasMessage prefix m x a
+    → HasMessage prefix m x b
+message_at prefix m x a b e h = subst (λ (l : List ℕ). HasMessage prefix m x l) e h

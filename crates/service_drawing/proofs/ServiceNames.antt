@@ -1,0 +1,81 @@
+-- Names that a service cannot have.
+use Rattle.std.proofs.Common.{◌≡◌, ℕ, List, [], ◌∷◌, ◌++◌, Bool, true, false, cond, codes, Err, MatchBool, refl, sym, ◌∙◌, ap, subst, arith, nat_eq}
+use Rattle.std.specs.Prelude.{◌==◌}
+use Rattle.std.specs.List.{starts_with}
+use Rattle.std.proofs.lemmas.List.{append_cancel_left}
+use Rattle.iox2_texts.specs.Name.{IsName, MakesServiceName, MakesPublicName}
+use Rattle.iox2_texts.specs.declared.service_name.ServiceNameError.{ServiceNameError}
+use Rattle.iox2_texts.specs.declared.service_name.ServiceNameError.TheVariants.{InvalidContent, ExceedsMaximumLength}
+use Rattle.iox2_config.specs.Hashing.{hash_input, sha1_text, MakesHash}
+use Rattle.iox2_config.specs.declared.hash.input.PatternKind.{PatternKind}
+use Rattle.iox2_config.specs.declared.hash.input.PatternKind.TheVariants.{PublishSubscribe, Event, RequestResponse, Blackboard}
+use Rattle.iox2_config.specs.declared.hash.service_hash.ServiceHashError.{ServiceHashError}
+use Rattle.iox2_config.specs.declared.hash.service_hash.ServiceHashError.TheVariants.{HasherFailed, IllegalText}
+use Rattle.service_drawing.specs.Lines.{IsLine, pattern_word, MayBeNamed, HasService}
+use Rattle.service_drawing.proofs.Words.{line_one}
+
+abbrev pattern_at : List ℕ → PatternKind
+pattern_at [] = Event
+pattern_at (b ∷ bs) =
+    cond (b == 112) PublishSubscribe
+    (cond (b == 101) Event (cond (b == 114) RequestResponse Blackboard))
+
+pattern_front : (k : PatternKind) (x : List ℕ) → pattern_at (pattern_word k ++ x) ≡ k
+pattern_front PublishSubscribe x = refl
+pattern_front Event x = refl
+pattern_front RequestResponse x = refl
+pattern_front Blackboard x = refl
+
+-- a line has one pattern and one name
+pub same_pattern : (j k : PatternKind) (m n : List ℕ) → pattern_word j ++ m ≡ pattern_word k ++ n
+    → (j ≡ k) × (m ≡ n)
+same_pattern j k m n e =
+    let kinds : j ≡ k = sym (pattern_front j m) ∙ ap pattern_at e ∙ pattern_front k n in (
+      kinds,
+      append_cancel_left (pattern_word k) m n
+          (ap (λ i. pattern_word i ++ m) (sym kinds) ∙ e),
+    )
+
+-- what is true of the one name of a line
+pub of_the_line : (P : PatternKind → List ℕ → Type 0) (line : List ℕ) (k : PatternKind)
+    (name : List ℕ) → line ≡ pattern_word k ++ name → ¬ P k name → (j : PatternKind) (m : List ℕ)
+    → P j m → ¬ (line ≡ pattern_word j ++ m)
+of_the_line P line k name e bad j m p is =
+    let same = same_pattern j k m name (sym is ∙ e) in
+    bad (subst (λ i. P i name) same.0 (subst (λ (x : List ℕ). P j x) same.1 p))
+
+second : (b : Bool) (P Q : Type 0) → b ≡ false → MatchBool b P Q → Q
+second true P Q e h = cc
+second false P Q e h = h
+
+-- the name of an internal service
+pub not_internal : (k : PatternKind) (name : List ℕ)
+    → starts_with nat_eq name (codes "iox2://") ≡ true → ¬ MayBeNamed k name
+not_internal k name e may = may.from_outside e
+
+-- a name that is refused
+refused : (name : List ℕ) (why : ServiceNameError) → MakesServiceName name (Err why)
+    → ¬ IsName 255 name
+refused name InvalidContent h legal = h.1 legal
+refused name ExceedsMaximumLength h legal = omega (arith, h, legal.0.0)
+
+pub not_made : (k : PatternKind) (name : List ℕ) (why : ServiceNameError)
+    → MakesPublicName name (Err why) → starts_with nat_eq name (codes "iox2://") ≡ false
+    → ¬ MayBeNamed k name
+not_made k name why h e may =
+    refused name why
+    (second (starts_with nat_eq name (codes "iox2://")) _ (MakesServiceName name (Err why)) e h)
+    may.name
+
+-- a hash text that is refused
+pub not_hashed : (k : PatternKind) (name : List ℕ) (why : ServiceHashError)
+    → MakesHash sha1_text (λ input. ⊥) (hash_input k name) (Err why) → ¬ MayBeNamed k name
+not_hashed k name HasherFailed h may = h
+not_hashed k name IllegalText h may = h may.hashed
+
+-- a line that spells no service
+pub no_service : (line rest bytes : List ℕ) → IsLine line rest bytes
+    → ((k : PatternKind) (name : List ℕ) → MayBeNamed k name → ¬ (line ≡ pattern_word k ++ name))
+    → (k : PatternKind) (name more : List ℕ) → ¬ HasService k name more bytes
+no_service line rest bytes l bad k name more h =
+    bad k name h.named (line_one line _ rest more bytes l h.line).0

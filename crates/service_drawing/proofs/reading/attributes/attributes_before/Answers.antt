@@ -1,0 +1,29 @@
+use Rattle.std.proofs.Common.{length, rules}
+use Rattle.iox2_texts.specs.Pair.{Pair}
+use Rattle.service_drawing.proofs.AttributeLines.{found_attribute, one_more_line, finished, bad_pair, too_many, many}
+use Rattle.service_drawing.proofs.reading.attributes.attributes_before.Goals as goal
+
+pub loop-text-preserved : goal.loop-text-preserved
+loop-text-preserved c =
+    let pair : Pair = record { key = c.in-Some-pair_in.key; value = c.in-Some-pair_in.value } in
+    one_more_line c.loop-text.attributes c.add.new.self pair c.loop-text.rest.now
+    c.in-Some.tail.now _ c.loop-text.invariant
+    (found_attribute c.in-Some.text.now c.in-Some.tail.now c.loop-text.rest.now pair (search rules)
+    c.in-Some-pair_in.ensures.0 c.in-Some-pair_in.ensures.1)
+    c.in-Ok.ensures.added c.in-Ok.ensures.len c.in-Ok.ensures.bound
+
+pub returns-in_default-pair_in : goal.returns-in_default-pair_in
+returns-in_default-pair_in c =
+    bad_pair c.loop-text.attributes c.loop-text.rest.now c.args.bytes.now c.in-Some.text.now
+    c.in-Some.tail.now c.loop-text.invariant (search rules) c.in_default-pair_in.ensures
+
+pub returns-in-Err : goal.returns-in-Err
+returns-in-Err c =
+    too_many c.loop-text.attributes c.loop-text.rest.now c.args.bytes.now c.in-Some.text.now
+    c.in-Some.tail.now c.loop-text.invariant (search rules)
+    (many (length c.loop-text.attributes) (λ few. c.in-Err.ensures.variant.1 few))
+
+pub returns : goal.returns
+returns c =
+    finished c.loop-text.attributes c.loop-text.rest.now c.args.bytes.now c.loop-text.invariant
+    c.in_default.ensures.line

@@ -1,0 +1,26 @@
+use Rattle.std.proofs.Common.{rules}
+use Rattle.service_drawing.proofs.Messages.{no_third, no_alignments}
+use Rattle.service_drawing.proofs.reading.message.opener_in.Goals as goal
+
+pub returns-in_default-number-clause-spelled : goal.returns-in_default-number-clause-spelled
+returns-in_default-number-clause-spelled c =
+    no_third c.args.text.now c.in-Some.payload.now c.in-Some.header c.in-Some.user_header
+    (search rules) (search rules) (search rules) c.in_default-number.ensures
+
+pub returns-in_default-aligned-clause-spelled : goal.returns-in_default-aligned-clause-spelled
+returns-in_default-aligned-clause-spelled c =
+    no_alignments c.args.text.now c.in-Some.payload.now c.in-Some.header c.in-Some.user_header
+    c.in-Some-number.payload (search rules) (search rules) (search rules) (search rules)
+    (search rules) (λ all. c.in_default-aligned.ensures all.0)
+
+pub returns-in_default-aligned-2-clause-spelled : goal.returns-in_default-aligned-2-clause-spelled
+returns-in_default-aligned-2-clause-spelled c =
+    no_alignments c.args.text.now c.in-Some.payload.now c.in-Some.header c.in-Some.user_header
+    c.in-Some-number.payload (search rules) (search rules) (search rules) (search rules)
+    (search rules) (λ all. c.in_default-aligned-2.ensures all.1)
+
+pub returns-in_default-aligned-3-clause-spelled : goal.returns-in_default-aligned-3-clause-spelled
+returns-in_default-aligned-3-clause-spelled c =
+    no_alignments c.args.text.now c.in-Some.payload.now c.in-Some.header c.in-Some.user_header
+    c.in-Some-number.payload (search rules) (search rules) (search rules) (search rules)
+    (search rules) (λ all. c.in_default-aligned-3.ensures all.2)

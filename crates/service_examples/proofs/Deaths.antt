@@ -1,0 +1,170 @@
+-- What deaths leave of a service.
+use Rattle.std.proofs.Common.{◌≡◌, ◌∙◌, ℕ, Bool, true, false, List, [], ◌∷◌, ◌++◌, length, refl, sym, ap}
+use Rattle.std.specs.Prelude.{if◌then◌else◌, nat_lt, ◌||◌}
+use Rattle.std.specs.List.{list_any}
+use Rattle.std.specs.Fn.{Mut, Called}
+use Rattle.iox2_ids.specs.declared.identifiers.port_id.UniquePortId.{UniquePortId}
+use Rattle.iox2_container.specs.declared.container.release.ReleaseMode.TheVariants.{LockIfLastIndex}
+use Rattle.iox2_container.specs.declared.container.release.ReleaseState.{ReleaseState}
+use Rattle.iox2_container.specs.ContainerState.{ContainerState}
+use Rattle.iox2_container.specs.State.{Entry, RegistryState}
+use Rattle.iox2_container.specs.Steps.{candidates, is_of, lock_after, staying}
+use Rattle.iox2_dynamic.specs.declared.dynamic_config.answers.DeregisterNodeState.{DeregisterNodeState}
+use Rattle.iox2_dynamic.specs.declared.dynamic_config.cleanup.PortCleanupAction.{PortCleanupAction}
+use Rattle.iox2_dynamic.specs.declared.dynamic_config.cleanup.PortCleanupAction.TheVariants.{RemovePort}
+use Rattle.iox2_dynamic.specs.declared.dynamic_config.port_details.PortDetails.{PortDetails}
+use Rattle.iox2_dynamic.specs.Answers.{state_of}
+use Rattle.iox2_dynamic.specs.Recoveries.{AskedToGo, RecoversPorts, RecoversNodes, removes}
+use Rattle.iox2_dynamic.specs.Details.{node_of, port_of}
+use Rattle.iox2_dynamic.specs.Ports.{has_ports_of}
+use Rattle.iox2_dynamic.specs.Service.{Service}
+use Rattle.iox2_dynamic.specs.Steps.{DeadStep, NodesAfter}
+use Rattle.service_examples.specs.Removal.{OnlyOthersStay, others, last_went, ports_without, nodes_without}
+use Rattle.service_examples.proofs.Others.{all_go, all_stay, fewer, locks, lock_then, none_left, still_locked, others_then}
+
+same : (b x : Bool) → (if b then x else x) ≡ x
+same true x = refl
+same false x = refl
+
+-- all ports of the node go where each answer is that they do
+ports_go : {F : Type 0} (calls : F → UniquePortId → PortCleanupAction → F → Type 0)
+    → ((f : F) (x : UniquePortId) (r : PortCleanupAction) (h : F) → calls f x r h → r ≡ RemovePort)
+    → (dead : ℕ) (old : ContainerState PortDetails) (f : F) (new : ContainerState PortDetails)
+    (h : F) → RecoversPorts calls dead old f new h
+    → new.registry ≡ ports_without (dead ∷ []) old.registry
+ports_go {F} calls agrees dead old f new h r =
+    let asks : F → PortDetails → Bool → F → Type 0 =
+    λ g d goes j. AskedToGo calls g (port_of d) goes j in
+    let go = all_go asks
+    (λ g d goes j a. a.2
+    ∙ ap removes (agrees g (port_of d) a.0 j a.1)) node_of dead old.registry.entries r.1.step.0 f h
+    r.1.step.1 in
+    r.1.step.2.0
+    ∙ (ap (λ (l : Bool).
+    record old.registry {
+      entries = staying (is_of node_of dead) old.registry.entries r.1.step.0;
+      locked = l;
+    })
+    (same (list_any (λ goes. goes) r.1.step.0) old.registry.locked)
+    ∙ ap (λ (es : List (Entry PortDetails)). record old.registry { entries = es }) go)
+
+-- so do all entries of it
+nodes_go : (dead : ℕ) (old : ContainerState ℕ) (state : ReleaseState) (new : ContainerState ℕ)
+    → RecoversNodes dead old state new → new.registry ≡ nodes_without (dead ∷ []) old.registry
+nodes_go dead old state new r =
+    let node : ℕ → ℕ = λ id. id in
+    let asks : Unit {0} → ℕ → Bool → Unit {0} → Type 0 = λ _ _ goes _. goes ≡ true in
+    let before : List (Entry ℕ) = old.registry.entries in
+    let answers : List Bool = r.step.0 in
+    let stay : List (Entry ℕ) = others node (dead ∷ []) before in
+    let left : List (Entry ℕ) = staying (is_of node dead) before answers in
+    let lock : List (Entry ℕ) → Bool =
+    λ es. if list_any (λ goes. goes) answers then lock_after LockIfLastIndex
+    (length es) old.registry.locked else old.registry.locked in
+    let go : left ≡ stay = all_go asks (λ f x r h a. a) node dead before answers tt tt r.step.1 in
+    let entries : new.registry.entries ≡ stay = ap (λ (n : RegistryState ℕ). n.entries) r.step.2.0
+    ∙ go in
+    r.step.2.0
+    ∙ (ap (λ (es : List (Entry ℕ)). record old.registry { entries = left; locked = lock es })
+    entries
+    ∙ (ap (λ (l : Bool). record old.registry { entries = left; locked = l })
+    (locks asks (λ f x r h a. a) node dead before answers tt tt old.registry.locked r.step.1)
+    ∙ ap (λ (es : List (Entry ℕ)).
+    record old.registry {
+      entries = es;
+      locked = old.registry.locked || last_went before stay;
+    }) go))
+
+nodes_after : (dead : ℕ) (b : Bool) (old : ContainerState ℕ) (state : ReleaseState)
+    (new : ContainerState ℕ) → b ≡ false → NodesAfter dead b old state new
+    → RecoversNodes dead old state new
+nodes_after dead true old state new e n = (let bad : true ≡ false = e in cc)
+nodes_after dead false old state new e n = n
+
+none_of : (dead : ℕ) (old new : RegistryState PortDetails) → new ≡ ports_without (dead ∷ []) old
+    → length (candidates (is_of node_of dead) new.entries) ≡ 0
+none_of dead old new e =
+    ap (λ (r : RegistryState PortDetails). length (candidates (is_of node_of dead) r.entries)) e
+    ∙ ap length (none_left node_of dead old.entries)
+
+-- one node dies, whose ports all go
+pub one_dies : {F : Type 0} (calls : F → UniquePortId → PortCleanupAction → F → Type 0)
+    → ((f : F) (x : UniquePortId) (r : PortCleanupAction) (h : F) → calls f x r h → r ≡ RemovePort)
+    → (old : Service) (f : F) (dead : ℕ) (answer : DeregisterNodeState) (new : Service) (h : F)
+    → DeadStep calls old f dead answer new h → OnlyOthersStay (dead ∷ []) old new
+one_dies calls agrees old f dead answer new h r =
+    let first = ports_go calls agrees dead old.ports.first f new.ports.first r.0.0 r.0.1 in
+    let second = ports_go calls agrees dead old.ports.second r.0.0 new.ports.second h r.0.2 in
+    let a = none_of dead old.ports.first.registry new.ports.first.registry first in
+    let b = none_of dead old.ports.second.registry new.ports.second.registry second in
+    let none : has_ports_of dead new.ports ≡ false =
+    ap (λ n. nat_lt 0 n || nat_lt 0
+    (length (candidates (is_of node_of dead) new.ports.second.registry.entries))) a
+    ∙ ap (λ n. nat_lt 0 0 || nat_lt 0 n) b in
+    record {
+      pattern = ap (λ (s : Service). s.pattern) r.2;
+      nodes = nodes_go dead old.nodes (state_of answer) new.nodes
+          (nodes_after dead (has_ports_of dead new.ports) old.nodes
+          (state_of answer) new.nodes none r.1);
+      first_ports = first;
+      second_ports = second;
+    }
+
+-- the same, where the calls are those of a closure
+pub one_dies_by : {F : Type 0} (g : Mut F (UniquePortId × Unit {0}) PortCleanupAction)
+    (old : Service) (f : F) (dead : ℕ) (answer : DeregisterNodeState) (new : Service) (h : F)
+    → DeadStep (λ f x r h. Called g f (x, tt) r h) old f dead answer new h
+    → ((f : F) (x : UniquePortId) (r : PortCleanupAction) (h : F) → Called g f (x, tt) r h
+    → r ≡ RemovePort)
+    → OnlyOthersStay (dead ∷ []) old new
+one_dies_by g old f dead answer new h r agrees =
+    one_dies (λ f x r h. Called g f (x, tt) r h) agrees old f dead answer new h r
+
+-- nobody dies
+pub nobody_dies : (s : Service) → OnlyOthersStay [] s s
+nobody_dies s =
+    let ports : (r : RegistryState PortDetails) → r ≡ ports_without [] r =
+    λ r. ap (λ (es : List (Entry PortDetails)). record r { entries = es })
+    (sym (all_stay node_of r.entries)) in
+    let node : ℕ → ℕ = λ id. id in
+    let n : RegistryState ℕ = s.nodes.registry in
+    record {
+      pattern = refl;
+      nodes = ap (λ (l : Bool). record n { locked = l }) (sym (still_locked n.locked n.entries))
+          ∙ ap (λ (es : List (Entry ℕ)).
+          record n { entries = es; locked = n.locked || last_went n.entries es })
+          (sym (all_stay node n.entries));
+      first_ports = ports s.ports.first.registry;
+      second_ports = ports s.ports.second.registry;
+    }
+
+-- first some nodes die, and then others
+pub more_die : (ds ms : List ℕ) (old mid new : Service) → OnlyOthersStay ds old mid
+    → OnlyOthersStay ms mid new → OnlyOthersStay (ds ++ ms) old new
+more_die ds ms old mid new r s =
+    let ports : (a b c : RegistryState PortDetails) → b ≡ ports_without ds a
+    → c ≡ ports_without ms b → c ≡ ports_without (ds ++ ms) a
+    = λ a b c e f. f
+    ∙ (ap (ports_without ms) e
+    ∙ ap (λ (es : List (Entry PortDetails)). record a { entries = es })
+    (others_then node_of ds ms a.entries)) in
+    let node : ℕ → ℕ = λ id. id in
+    let n : RegistryState ℕ = old.nodes.registry in
+    let fewer_left : List (Entry ℕ) = others node ds n.entries in
+    let lock =
+    lock_then n.locked n.entries fewer_left (others node ms fewer_left)
+    (fewer node ds n.entries) (fewer node ms fewer_left) in
+    record {
+      pattern = s.pattern ∙ r.pattern;
+      nodes = s.nodes ∙ (ap (nodes_without ms) r.nodes
+          ∙ (ap (λ (l : Bool). record n { entries = others node ms fewer_left; locked = l }) lock
+          ∙ ap (λ (es : List (Entry ℕ)).
+          record n { entries = es; locked = n.locked || last_went n.entries es })
+          (others_then node ds ms n.entries)));
+      first_ports =
+          ports old.ports.first.registry mid.ports.first.registry new.ports.first.registry
+          r.first_ports s.first_ports;
+      second_ports =
+          ports old.ports.second.registry mid.ports.second.registry new.ports.second.registry
+          r.second_ports s.second_ports;
+    }

@@ -1,0 +1,111 @@
+//! A service builder: opens a service that its creator has described.
+ghost use Rattle.std.specs.Prelude.{◌≡◌, ◌↔◌, IsTrue, OnErr, IfOk, IfErr};
+ghost use Rattle.iox2_config.specs.Blocks.{MayOpen};
+ghost use Rattle.iox2_config.specs.declared.hash.input.PatternKind.TheVariants as kind;
+ghost use Rattle.iox2_static.specs.MessagingPattern.{kind_of};
+ghost use Rattle.service_examples.specs.Opening.{Opens, Refuses, GivesRoom, types_of};
+ghost use Rattle.service_examples.specs.Unchanged.{SameAttached};
+
+use iox2_config::types::{MessageTypeDetails, SampleLayout};
+use iox2_container::container::ContainerHandle;
+use iox2_dynamic::dynamic_config::{DynamicConfig, RegisterNodeResult};
+use iox2_ids::identifiers::UniqueNodeId;
+use iox2_static::static_config::StaticConfig;
+use iox2_texts::attribute::{AttributeVerificationError, AttributeVerifier};
+
+/// What an opener wants of a publish-subscribe service.
+#[derive(Debug, Drop)]
+pub struct Opener {
+    /// The attributes that the service must have.
+    pub verifier: AttributeVerifier,
+    /// The types of its messages.
+    pub types: MessageTypeDetails,
+    /// How many elements the payload of a message has.
+    pub elements: usize,
+    /// The node that opens the service.
+    pub node: UniqueNodeId,
+}
+
+/// A service that was opened.
+#[derive(Clone, Copy, Debug)]
+pub struct OpenedService {
+    /// The handle of the opener's node.
+    pub node: ContainerHandle,
+    /// The room of a message, in which all its parts lie as the service and the opener align them.
+    pub message: SampleLayout,
+}
+
+/// Why a service was not opened. The first cause is reported, and nothing is registered.
+#[derive(Debug, Drop, PartialEq, Eq)]
+pub enum OpenError {
+    /// It is not a publish-subscribe service.
+    IncompatibleMessagingPattern,
+    /// It lacks an attribute that the opener requires.
+    IncompatibleAttributes(AttributeVerificationError),
+    /// The opener's types were not given, or do not suit those of the service.
+    IncompatibleTypes,
+    /// A message would need more than 2^63 - 1 bytes.
+    MessageTooLarge,
+    /// The node was not registered.
+    NodeRefused(RegisterNodeResult),
+}
+
+/// Opens the service with this description: verifies its attributes, compares the types, lays out a
+/// message, and registers the opener's node.
+pub fn open_service(
+    description: &StaticConfig,
+    service: &mut DynamicConfig,
+    opener: &Opener,
+) -> Result<OpenedService, OpenError>
+    ensures opened { IfOk result (λ opened.
+        Opens description.now opener.now service.old opened service.new) }
+    ensures cause { IfErr result (Refuses description.now opener.now service.old) }
+    ensures unchanged { OnErr result (SameAttached service.old service.new) }
+{
+    if !description.is_publish_subscribe() {
+        return Err(OpenError::IncompatibleMessagingPattern);
+    }
+    if let Err(missing) = opener
+        .verifier
+        .verify_requirements(description.attributes())
+    {
+        return Err(OpenError::IncompatibleAttributes(missing));
+    }
+    let message = room_for(types_of(description), opener)?;
+    match service.register_node_id(opener.node) {
+        Ok(node) => Ok(OpenedService { node, message }),
+        Err(why) => Err(OpenError::NodeRefused(why)),
+    }
+}
+
+/// The types of the messages of a publish-subscribe service.
+fn types_of(description: &StaticConfig) -> &MessageTypeDetails
+    requires { kind_of description.now.pattern ≡ kind.PublishSubscribe }
+    ensures { result.now ≡ types_of description.now.pattern }
+{
+    description.publish_subscribe().message_type_details()
+}
+
+/// The room of a message of the opener's.
+fn room_for(types: &MessageTypeDetails, opener: &Opener) -> Result<SampleLayout, OpenError>
+    ensures { GivesRoom types.now opener.now result }
+{
+    if !may_open(&opener.types, types) {
+        return Err(OpenError::IncompatibleTypes);
+    }
+    match types.sample_layout(opener.elements) {
+        Some(message) => Ok(message),
+        None => Err(OpenError::MessageTooLarge),
+    }
+}
+
+/// Whether an opener with these types may use the messages of the service: its types were given,
+/// and suit the service's.
+fn may_open(opener: &MessageTypeDetails, service: &MessageTypeDetails) -> bool
+    ensures { IsTrue result ↔ MayOpen opener.now service.now }
+{
+    opener.header.alignment().is_power_of_two()
+        && opener.user_header.alignment().is_power_of_two()
+        && opener.payload.alignment().is_power_of_two()
+        && opener.is_compatible_to(service)
+}

@@ -1,0 +1,63 @@
+//! Callbacks that count by `+= 1`: what they are asked about is bounded, since it is in a registry.
+ghost use Rattle.std.specs.Prelude.{◌≡◌, ◌+◌, ◌<◌, ◌^◌, false, length};
+ghost use Rattle.iox2_container.specs.Steps.{entries_of};
+
+use iox2_container::container::{Attached, Container, Registry, ReleaseMode};
+use iox2_ids::identifiers::UniqueNodeId;
+use iox2_texts::bounded::CallbackProgression;
+
+/// How many entries there are, counted one by one.
+pub fn count_entries<T: Attached + Copy, R: Registry<T>>(registry: &R) -> usize
+    ensures { result ≡ length (R.state registry.now).registry.entries }
+{
+    // For the proof: the number of entries fits a `usize`.
+    let _bound = registry.len();
+    let mut count = 0usize;
+    let mut one_more = |_: &T| -> CallbackProgression
+        requires { count + 1 < 2 ^ 64 }
+        ensures counted { count.exit ≡ count.entry + 1 }
+        ensures goes_on { result ≡ CallbackProgression.Continue }
+    {
+        count += 1;
+        CallbackProgression::Continue
+    };
+    registry.for_each(&mut one_more);
+    count
+}
+
+/// Asks about each entry of the node and removes none; how many it asked about.
+pub fn count_asked<T: Attached + Copy, R: Registry<T>>(
+    registry: &mut R,
+    node: &UniqueNodeId,
+) -> usize
+    ensures { result ≡ entries_of T.node node.now (R.state registry.old).registry }
+{
+    // For the proof: the number of candidates fits a `usize`.
+    let _bound = registry.entries_of(node);
+    let mut count = 0usize;
+    let mut stays = |_: &T| -> bool
+        requires { count + 1 < 2 ^ 64 }
+        ensures counted { count.exit ≡ count.entry + 1 }
+        ensures stays { result ≡ false }
+    {
+        count += 1;
+        false
+    };
+    registry.recover(node, &mut stays, ReleaseMode::Default);
+    count
+}
+
+/// The nodes of a scan, counted by a closure with no clause.
+pub fn count_nodes(nodes: &Container<UniqueNodeId>) -> usize
+    ensures { result ≡ length nodes.now.registry.entries }
+{
+    // For the proof: the number of entries fits a `usize`.
+    let _bound = nodes.len();
+    let mut count = 0usize;
+    let mut one_more = |_: &UniqueNodeId| {
+        count += 1;
+        CallbackProgression::Continue
+    };
+    nodes.for_each(&mut one_more);
+    count
+}
