@@ -3,7 +3,9 @@ use super::services::*;
 use iox2_config::config::Config;
 use iox2_dynamic::dynamic_config::{AttachError, DynamicConfig};
 use iox2_static::static_config::publish_subscribe::StaticConfig;
-use service_examples::factory::{PublisherError, PublisherSettings, attach_publisher, data_segment};
+use service_examples::factory::{
+    PublisherError, PublisherSettings, attach_publisher, data_segment,
+};
 use service_examples::monitor::remove_dead_nodes;
 use std::process::Abort;
 use std::test::Fail;
