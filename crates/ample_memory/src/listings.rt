@@ -1,17 +1,14 @@
 //! Lists of who is attached to a service.
 use super::Called;
-use iox2_dynamic::dynamic_config::{DynamicConfig, MessagingPatternSettings, event};
+use iox2_dynamic::dynamic_config::{DynamicConfig, MessagingPatternSettings};
 use iox2_ids::identifiers::UniqueNodeId;
+use service_descriptions::hash::PatternKind;
 use service_examples::discovery::list_attached;
 use std::alloc::{AllocError, Global};
 
 /// A list of this many members.
 fn listed(alloc: Global, members: usize) -> Result<(), AllocError> {
-    let ports = event::DynamicConfigSettings {
-        number_of_listeners: 1,
-        number_of_notifiers: 1,
-    };
-    let settings = MessagingPatternSettings::Event(ports);
+    let settings = MessagingPatternSettings::new(PatternKind::Event, 1, 1);
     let mut service = DynamicConfig::new(alloc, &settings, members, 7)?;
     if let Some(node) = UniqueNodeId::new(1, 0, 0, 1) {
         for _ in 0..members {

@@ -2,19 +2,17 @@
 use super::Called;
 use service_descriptions::container::Role;
 use service_descriptions::dynamic_config::{
-    ListenerDetails, MessagingPatternSettings, PortDetails, event,
+    ListenerDetails, MessagingPatternSettings, PortDetails,
 };
+use service_descriptions::hash::PatternKind;
 use service_descriptions::identifiers::{UniqueListenerId, UniqueNodeId};
 use service_descriptions::replay::{Command, ServiceState, replay, write_reply};
 use std::alloc::{AllocError, Global};
 
 /// A service with this many places for nodes and for listeners.
 fn state(alloc: Global, places: usize) -> Result<ServiceState, AllocError> {
-    let ports = event::DynamicConfigSettings {
-        number_of_listeners: places,
-        number_of_notifiers: 1,
-    };
-    ServiceState::new(alloc, &MessagingPatternSettings::Event(ports), places, 7)
+    let settings = MessagingPatternSettings::new(PatternKind::Event, places, 1);
+    ServiceState::new(alloc, &settings, places, 7)
 }
 
 /// So many commands in one call.

@@ -3,6 +3,7 @@ use super::Called;
 use iox2_dynamic::dynamic_config::{
     DynamicConfig, MessagingPatternSettings, blackboard, event, publish_subscribe, request_response,
 };
+use service_descriptions::hash::PatternKind;
 use service_descriptions::replay::ServiceState;
 use std::alloc::{AllocError, Global};
 
@@ -13,22 +14,10 @@ type Places = (usize, usize, usize);
 /// for the others.
 fn settings(first: usize, second: usize) -> [MessagingPatternSettings; 4] {
     [
-        MessagingPatternSettings::PublishSubscribe(publish_subscribe::DynamicConfigSettings {
-            number_of_publishers: first,
-            number_of_subscribers: second,
-        }),
-        MessagingPatternSettings::Event(event::DynamicConfigSettings {
-            number_of_listeners: first,
-            number_of_notifiers: second,
-        }),
-        MessagingPatternSettings::RequestResponse(request_response::DynamicConfigSettings {
-            number_of_servers: first,
-            number_of_clients: second,
-        }),
-        MessagingPatternSettings::Blackboard(blackboard::DynamicConfigSettings {
-            number_of_readers: first,
-            number_of_writers: second,
-        }),
+        MessagingPatternSettings::new(PatternKind::PublishSubscribe, first, second),
+        MessagingPatternSettings::new(PatternKind::Event, first, second),
+        MessagingPatternSettings::new(PatternKind::RequestResponse, first, second),
+        MessagingPatternSettings::new(PatternKind::Blackboard, first, second),
     ]
 }
 

@@ -3,6 +3,7 @@ use Rattle.std.specs.Prelude.{ℕ, ◌+◌, ◌-◌, ◌*◌, ◌^◌, ◌<◌, 
 use Rattle.iox2_texts.specs.Multiple.{least_multiple}
 use Rattle.iox2_config.specs.Parts.{Part}
 use Rattle.iox2_config.specs.declared.types.message_details.MessageTypeDetails.{MessageTypeDetails}
+use Rattle.iox2_config.specs.declared.types.places.Places.{Places}
 
 -- the user header lies behind the header, at the first place that suits it
 abbrev pub user_header_place : MessageTypeDetails → ℕ → ℕ
@@ -12,6 +13,11 @@ user_header_place d header = least_multiple (header + d.header.size) d.user_head
 abbrev pub payload_place : MessageTypeDetails → ℕ → ℕ
 payload_place d header =
     least_multiple (user_header_place d header + d.user_header.size) d.payload.alignment
+
+-- the places of both
+abbrev pub places_in : MessageTypeDetails → ℕ → Places
+places_in d header =
+    record { user_header = user_header_place d header; payload = payload_place d header }
 
 -- the size that a message of n elements is given: enough for the largest gaps between its parts
 abbrev pub sample_size : MessageTypeDetails → ℕ → ℕ

@@ -8,7 +8,9 @@ ghost use Rattle.iox2_config.specs.Hashing.{HashInputsDiffer};
 
 use crate::config::{AllocationStrategy, BackpressureStrategy, Config, DataSegmentType, EventId};
 use crate::hash::{HashError, PatternKind, ServiceHash, ServiceHashError};
-use crate::types::{MessageTypeDetails, SampleLayout, TypeDetail, TypeDetailError, TypeVariant};
+use crate::types::{
+    MessageTypeDetails, Places, SampleLayout, TypeDetail, TypeDetailError, TypeVariant,
+};
 use std::alloc::AllocError;
 use std::cmp::Ordering;
 use std::hash::{Hash, Hasher};
@@ -101,7 +103,8 @@ pub fn type_variants_go_by_variant<H: Hasher>(
     (one == other, one.clone())
 }
 
-/// A strategy of each kind, a type of data segments, a kind of pattern, an event id and a layout.
+/// A strategy of each kind, a type of data segments, a kind of pattern, an event id, a layout and
+/// places.
 pub type Choices = (
     BackpressureStrategy,
     AllocationStrategy,
@@ -109,10 +112,11 @@ pub type Choices = (
     PatternKind,
     EventId,
     SampleLayout,
+    Places,
 );
 
-/// Strategies, types, kinds, event ids and layouts are equal exactly where they are the same, and a
-/// clone of one is it and takes no memory.
+/// Strategies, types, kinds, event ids, layouts and places are equal exactly where they are the
+/// same, and a clone of one is it and takes no memory.
 pub fn choices_go_by_variant(one: &Choices, other: &Choices) -> (bool, Result<Choices, AllocError>)
     ensures equal { IsTrue result.0 ↔ (one.now ≡ other.now) }
     ensures cloned { IsOkAnd result.1 (λ copy. copy ≡ one.now) }

@@ -55,10 +55,15 @@ fn room(rt: &impl Abort, details: &MessageTypeDetails, n: usize) -> Option<(usiz
 
 fn places(rt: &impl Abort, details: &MessageTypeDetails, header: usize) -> (usize, usize) {
     assert!(rt; details.has_places(header));
-    (
+    let both = (
         details.user_header_ptr_from_header(header),
         details.payload_ptr_from_header(header),
-    )
+    );
+    let places = details
+        .places(header)
+        .map(|places| (places.user_header, places.payload));
+    assert_eq!(rt; places, Some(both));
+    both
 }
 
 #[test]

@@ -35,7 +35,7 @@ fn details_and_settings_are_shown(rt: HostRuntime) -> Result<(), Fail> {
             [
                 is_shown(&port(pattern.first, 9, node)?),
                 is_shown(&port(pattern.second, 9, node)?),
-                is_shown(&settings(pattern.kind, 3, 5)),
+                is_shown(&MessagingPatternSettings::new(pattern.kind, 3, 5)),
             ],
             [true; 3]
         );

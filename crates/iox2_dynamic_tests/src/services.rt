@@ -89,39 +89,6 @@ pub(super) const ONE_OF_FIVE: Node = Node(1, 5);
 
 pub(super) const TWO_OF_FIVE: Node = Node(2, 5);
 
-/// The settings with this many places for the ports that
-/// are recovered first, and this many for the others.
-pub(super) fn settings(
-    pattern: PatternKind,
-    first: usize,
-    second: usize,
-) -> MessagingPatternSettings {
-    match pattern {
-        PatternKind::PublishSubscribe => MessagingPatternSettings::PublishSubscribe(
-            publish_subscribe::DynamicConfigSettings {
-                number_of_publishers: first,
-                number_of_subscribers: second,
-            },
-        ),
-        PatternKind::Event => MessagingPatternSettings::Event(event::DynamicConfigSettings {
-            number_of_listeners: first,
-            number_of_notifiers: second,
-        }),
-        PatternKind::RequestResponse => MessagingPatternSettings::RequestResponse(
-            request_response::DynamicConfigSettings {
-                number_of_servers: first,
-                number_of_clients: second,
-            },
-        ),
-        PatternKind::Blackboard => MessagingPatternSettings::Blackboard(
-            blackboard::DynamicConfigSettings {
-                number_of_readers: first,
-                number_of_writers: second,
-            },
-        ),
-    }
-}
-
 /// A service of number 7 with this many places for nodes, for the first ports and for the others.
 pub(super) fn service(
     alloc: Global,
@@ -129,7 +96,8 @@ pub(super) fn service(
     places: (usize, usize, usize),
 ) -> Result<DynamicConfig, AllocError> {
     let (nodes, first, second) = places;
-    DynamicConfig::new(alloc, &settings(pattern, first, second), nodes, 7)
+    let settings = MessagingPatternSettings::new(pattern, first, second);
+    DynamicConfig::new(alloc, &settings, nodes, 7)
 }
 
 /// As `service`, with this many tickets of each kind.
@@ -140,7 +108,7 @@ pub(super) fn service_by_tickets(
     tickets: u64,
 ) -> Result<DynamicConfig, AllocError> {
     let (nodes, first, second) = places;
-    let settings = settings(pattern, first, second);
+    let settings = MessagingPatternSettings::new(pattern, first, second);
     DynamicConfig::with_tickets(alloc, &settings, nodes, 7, tickets)
 }
 

@@ -1,13 +1,13 @@
 -- Where the parts of a message lie, as a caller sees it.
 use Rattle.std.specs.Prelude.{◌≡◌, ℕ, ◌^◌, ◌<◌, ◌≤◌, List, [], ◌∷◌, Result, Ok, Err}
 use Rattle.iox2_config.specs.Blocks.{HoldsEverywhere}
-use Rattle.iox2_config.specs.Layout.{sample_size, user_header_place, payload_place}
+use Rattle.iox2_config.specs.Layout.{sample_size, payload_place, places_in}
 use Rattle.iox2_config.specs.SampleLayoutParts.{SampleLayoutParts}
+use Rattle.iox2_config.specs.declared.types.places.Places.{Places}
 use Rattle.iox2sd_values.specs.Details.{HavePowers, shapes}
 use Rattle.iox2sd_values.specs.Status.{code}
 use Rattle.iox2sd_values.specs.declared.details.Details.{Details}
 use Rattle.iox2sd_values.specs.declared.layout.LayoutAnswer.{LayoutAnswer}
-use Rattle.iox2sd_values.specs.declared.layout.Places.{Places}
 use Rattle.iox2sd_values.specs.declared.layout.PlacesAnswer.{PlacesAnswer}
 use Rattle.iox2sd_values.specs.declared.status.Status.{Status}
 use Rattle.iox2sd_values.specs.declared.status.Status.TheVariants as status
@@ -45,11 +45,7 @@ places_answer (Err cause) = record { status = code cause; user_header = 0; paylo
 abbrev pub PlacesOf : Details → ℕ → Result Places Status → Type 0
 PlacesOf d header (Ok places) =
     HavePowers d × (payload_place (shapes d) header < 2 ^ 64)
-    × (places
-    ≡ record {
-      user_header = user_header_place (shapes d) header;
-      payload = payload_place (shapes d) header;
-    })
+    × (places ≡ places_in (shapes d) header)
 PlacesOf d header (Err status.BadAlignment) = ¬ (HavePowers d)
 PlacesOf d header (Err status.TooLarge) = HavePowers d × (2 ^ 64 ≤ payload_place (shapes d) header)
 PlacesOf d header (Err _) = ⊥

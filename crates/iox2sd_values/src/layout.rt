@@ -5,7 +5,7 @@ ghost use Rattle.iox2sd_values.specs.Layouts.{PlacesOf, places_answer, TellsPlac
 
 use super::details::{Details, shape_details};
 use super::status::Status;
-use iox2_config::types::SampleLayout;
+use iox2_config::types::{Places, SampleLayout};
 
 /// The room for a message.
 #[repr(C)]
@@ -29,15 +29,6 @@ pub struct PlacesAnswer {
     pub user_header: usize,
     /// The place of the payload.
     pub payload: usize,
-}
-
-/// The places of two parts of a message.
-#[derive(Clone, Copy)]
-pub(super) struct Places {
-    /// Of the user header.
-    pub(super) user_header: usize,
-    /// Of the payload.
-    pub(super) payload: usize,
 }
 
 /// The answer with this room, or with the cause for which there is none.
@@ -96,13 +87,10 @@ fn places_of(details: &Details<'_>, header: usize) -> Result<Places, Status>
     let Some(details) = shape_details(details) else {
         return Err(Status::BadAlignment);
     };
-    if !details.has_places(header) {
-        return Err(Status::TooLarge);
+    match details.places(header) {
+        Some(places) => Ok(places),
+        None => Err(Status::TooLarge),
     }
-    Ok(Places {
-        user_header: details.user_header_ptr_from_header(header),
-        payload: details.payload_ptr_from_header(header),
-    })
 }
 
 /// The room for a message whose payload has so many elements. Sizes and alignments alone are looked

@@ -1,40 +1,20 @@
 //! Services that tests make, the commands that lines spell, and the lines of replies.
 
-use service_descriptions::dynamic_config::{
-    MessagingPatternSettings, blackboard, event, publish_subscribe, request_response,
-};
+use service_descriptions::dynamic_config::MessagingPatternSettings;
+use service_descriptions::hash::PatternKind;
 use service_descriptions::replay::{Command, Reply, ServiceState, read_line, replay, write_reply};
 use std::alloc::{AllocError, Global};
 use std::str::Split;
 use std::test::Fail;
 
-/// The settings of a pattern with this room for the ports recovered first, and for the others.
-fn settings(pattern: &str, first: usize, second: usize) -> Option<MessagingPatternSettings> {
-    match pattern {
-        "publish-subscribe" => Some(MessagingPatternSettings::PublishSubscribe(
-            publish_subscribe::DynamicConfigSettings {
-                number_of_subscribers: second,
-                number_of_publishers: first,
-            },
-        )),
-        "event" => Some(MessagingPatternSettings::Event(event::DynamicConfigSettings {
-            number_of_listeners: first,
-            number_of_notifiers: second,
-        })),
-        "request-response" => Some(MessagingPatternSettings::RequestResponse(
-            request_response::DynamicConfigSettings {
-                number_of_servers: first,
-                number_of_clients: second,
-            },
-        )),
-        "blackboard" => Some(MessagingPatternSettings::Blackboard(
-            blackboard::DynamicConfigSettings {
-                number_of_readers: first,
-                number_of_writers: second,
-            },
-        )),
-        _ => None,
+/// The pattern of this word.
+fn pattern(word: &str) -> Option<PatternKind> {
+    for kind in PatternKind::ALL {
+        if kind.word() == word {
+            return Some(kind);
+        }
     }
+    None
 }
 
 /// The number that the next word spells.
@@ -45,12 +25,13 @@ fn next_number(words: &mut Split<'_, char>) -> Option<usize> {
 /// The number, the room for nodes and the settings that follow the first word of a service line.
 fn asked(line: &str) -> Option<(u64, usize, MessagingPatternSettings)> {
     let mut words = line.split(' ');
-    let pattern = words.next()?;
+    let pattern = pattern(words.next()?)?;
     let number = next_number(&mut words)?;
     let max_nodes = next_number(&mut words)?;
     let first = next_number(&mut words)?;
     let second = next_number(&mut words)?;
-    Some((number as u64, max_nodes, settings(pattern, first, second)?))
+    let settings = MessagingPatternSettings::new(pattern, first, second);
+    Some((number as u64, max_nodes, settings))
 }
 
 /// The service that a script's first line asks for.

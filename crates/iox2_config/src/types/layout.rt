@@ -1,12 +1,13 @@
 //! Where the parts of a message lie, and how much room it needs.
-ghost use Rattle.std.specs.Prelude.{◌≡◌, ◌^◌, ◌<◌, ◌≤◌, ◌↔◌, IsTrue, IfSome, IfNone};
+ghost use Rattle.std.specs.Prelude.{◌≡◌, ◌^◌, ◌<◌, ◌≤◌, ◌↔◌, IsTrue, IfSome, IfNone, MatchOption};
 ghost use Rattle.iox2_texts.specs.Multiple.{least_multiple};
 ghost use Rattle.iox2_config.specs.Blocks.{HoldsEverywhere};
 ghost use Rattle.iox2_config.specs.Compatible.{Compatible, Suits};
 ghost use Rattle.iox2_config.specs.Layout.{user_header_place, payload_place, sample_size, HaveAlignments};
-ghost use Rattle.iox2_config.specs.Layout.{HasPlaces};
+ghost use Rattle.iox2_config.specs.Layout.{HasPlaces, places_in};
 
 use super::message_details::MessageTypeDetails;
+use super::places::Places;
 use super::sample_layout::SampleLayout;
 use super::type_detail::TypeDetail;
 use iox2_texts::bounded::align;
@@ -24,25 +25,32 @@ impl MessageTypeDetails {
             && self.payload.alignment() != 0
     }
 
+    /// The places of user header and payload in a message with its header at the place `header`, or
+    /// `None` exactly where `has_places` says no.
+    #[tactic(auto, using(iox2_texts::proofs::Multiple::multiples))]
+    pub fn places(&self, header: usize) -> Option<Places>
+        ensures { MatchOption result (¬ (HasPlaces self.now header))
+            (λ places. HasPlaces self.now header × (places ≡ places_in self.now header)) }
+    {
+        if !self.has_alignments() {
+            return None;
+        }
+        let header_end = header.checked_add(self.header.size())?;
+        let user_header = checked_align(header_end, self.user_header.alignment())?;
+        let user_header_end = user_header.checked_add(self.user_header.size())?;
+        let payload = checked_align(user_header_end, self.payload.alignment())?;
+        Some(Places {
+            user_header,
+            payload,
+        })
+    }
+
     /// Whether a message with its header at the place `header` has a place for its payload: no
     /// alignment is 0, and the payload's place fits 64 bits.
-    #[tactic(auto, using(iox2_texts::proofs::Multiple::multiples))]
     pub fn has_places(&self, header: usize) -> bool
         ensures { IsTrue result ↔ HasPlaces self.now header }
     {
-        if !self.has_alignments() {
-            return false;
-        }
-        let Some(header_end) = header.checked_add(self.header.size()) else {
-            return false;
-        };
-        let Some(user_header) = checked_align(header_end, self.user_header.alignment()) else {
-            return false;
-        };
-        let Some(user_header_end) = user_header.checked_add(self.user_header.size()) else {
-            return false;
-        };
-        checked_align(user_header_end, self.payload.alignment()).is_some()
+        self.places(header).is_some()
     }
 
     /// The place of the user header in a message with its header at the place `header`, for which

@@ -86,13 +86,10 @@ pub(super) fn places(about: &Option<StaticConfig>, part: MessagePart, header: us
     if !details.has_alignments() {
         return Reply::NoAlignments;
     }
-    if !details.has_places(header) {
-        return Reply::NoPlaces;
+    match details.places(header) {
+        Some(places) => Reply::Places(places.user_header, places.payload),
+        None => Reply::NoPlaces,
     }
-    Reply::Places(
-        details.user_header_ptr_from_header(header),
-        details.payload_ptr_from_header(header),
-    )
 }
 
 /// Whether an opener with these details may use the service.
