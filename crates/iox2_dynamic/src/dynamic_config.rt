@@ -28,6 +28,8 @@ pub use details::{
 };
 pub use pattern::MessagingPattern;
 pub use port_details::PortDetails;
+pub use port_kind::PortKind;
+pub use port_registries::PortRegistries;
 pub use roles::PortRoles;
 pub use service::DynamicConfig;
 pub use settings::MessagingPatternSettings;

@@ -50,6 +50,18 @@ fn two_and_one_are_noted(
     );
 }
 
+/// The same of any pattern, by listings for both kinds of its ports.
+fn are_noted_by_kind<A: PortKind, B: PortKind>(
+    rt: &impl Abort,
+    ports: &PortRegistries<A, B>,
+    counts: (usize, usize),
+) {
+    let (mut first, mut second) = (ArrayVec::new(), ArrayVec::new());
+    ports.list_first(&mut |details: &A| note_two(&mut first, details));
+    ports.list_second(&mut |details: &B| note_two(&mut second, details));
+    two_and_one_are_noted(rt, &first, &second, counts);
+}
+
 #[test]
 fn publishers_and_subscribers_are_listed(rt: HostRuntime) -> Result<(), Fail> {
     let service = three_and_one(&rt, rt.alloc(), &PUBLISH_SUBSCRIBE)?;
@@ -60,6 +72,7 @@ fn publishers_and_subscribers_are_listed(rt: HostRuntime) -> Result<(), Fail> {
     ports.list_subscribers(&mut |details: &SubscriberDetails| note_two(&mut second, details));
     let counts = (ports.number_of_publishers(), ports.number_of_subscribers());
     two_and_one_are_noted(&rt, &first, &second, counts);
+    are_noted_by_kind(&rt, ports, counts);
     Ok(())
 }
 
@@ -73,6 +86,7 @@ fn listeners_and_notifiers_are_listed(rt: HostRuntime) -> Result<(), Fail> {
     ports.list_notifiers(&mut |details: &NotifierDetails| note_two(&mut second, details));
     let counts = (ports.number_of_listeners(), ports.number_of_notifiers());
     two_and_one_are_noted(&rt, &first, &second, counts);
+    are_noted_by_kind(&rt, ports, counts);
     Ok(())
 }
 
@@ -86,6 +100,7 @@ fn servers_and_clients_are_listed(rt: HostRuntime) -> Result<(), Fail> {
     ports.list_clients(&mut |details: &ClientDetails| note_two(&mut second, details));
     let counts = (ports.number_of_servers(), ports.number_of_clients());
     two_and_one_are_noted(&rt, &first, &second, counts);
+    are_noted_by_kind(&rt, ports, counts);
     Ok(())
 }
 
@@ -99,6 +114,7 @@ fn readers_and_writers_are_listed(rt: HostRuntime) -> Result<(), Fail> {
     ports.list_writers(&mut |details: &WriterDetails| note_two(&mut second, details));
     let counts = (ports.number_of_readers(), ports.number_of_writers());
     two_and_one_are_noted(&rt, &first, &second, counts);
+    are_noted_by_kind(&rt, ports, counts);
     Ok(())
 }
 

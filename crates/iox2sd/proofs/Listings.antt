@@ -1,5 +1,5 @@
 -- Listings by a callback that puts what it is shown into an array.
-use Rattle.std.proofs.Common.{◌≡◌, ◌∙◌, Bool, true, false, ℕ, ◌<◌, ◌≤◌, Some, List, [], ◌∷◌, ◌++◌, map, length, refl, sym, ap, subst, inl, inr, arith, slice_set}
+use Rattle.std.proofs.Common.{◌≡◌, ◌↔◌, ◌∙◌, true≢false, IsTrue, Bool, true, false, ℕ, ◌<◌, ◌≤◌, Some, List, [], ◌∷◌, ◌++◌, map, length, refl, sym, ap, subst, inl, inr, arith, slice_set}
 use Rattle.std.specs.Prelude.{drop}
 use Rattle.std.proofs.lemmas.List.{append-nil, append_assoc, length-append, length-map}
 use Rattle.std.proofs.Math.Seq.{set-append_seam}
@@ -7,14 +7,16 @@ use Rattle.iox2_texts.specs.Attribute.{Visits}
 use Rattle.iox2_texts.specs.declared.bounded.callback_progression.CallbackProgression.{CallbackProgression}
 use Rattle.iox2_texts.specs.declared.bounded.callback_progression.CallbackProgression.TheVariants.{Continue, Stop}
 use Rattle.iox2_container.specs.ContainerState.{ContainerState}
+use Rattle.iox2_container.specs.Mapped.{entry_as, container_as}
+use Rattle.iox2_container.specs.State.{Entry}
 use Rattle.iox2_container.specs.declared.container.role.Role.{Role}
 use Rattle.iox2_container.specs.Steps.{Visit, listed}
 use Rattle.iox2_dynamic.specs.declared.dynamic_config.port_details.PortDetails.{PortDetails}
-use Rattle.iox2_dynamic.specs.Ports.{CountsIn, ListsIn}
+use Rattle.iox2_dynamic.specs.Ports.{CountsIn}
 use Rattle.iox2_dynamic.specs.Service.{Service, first_role, second_role}
 use Rattle.iox2_dynamic.proofs.Rooms.{roles_differ}
 use Rattle.iox2sd.specs.Ids.{id_of}
-use Rattle.iox2sd.specs.Listings.{Puts, PutsAll, ListsAll, NeedsMore, ports_in, nodes_in, PortsOf}
+use Rattle.iox2sd.specs.Listings.{Puts, PutsAll, ListsAll, NeedsMore, ports_in, ports_of_kind, nodes_in, PortsOf}
 use Rattle.iox2sd.specs.declared.id.Id.{Id}
 use Rattle.iox2sd.specs.Ports.{told_port}
 use Rattle.iox2sd.specs.declared.port.Port.{Port}
@@ -53,24 +55,23 @@ module _ {F T A : Type 0} (calls : F → T → CallbackProgression → F → Typ
   all_put f items h i visit = let v = visits_put f items h i visit.visits in
       (v.0, puts_all (k f) (map item items) (k h) v.1)
 
--- a listing of the ports of a role
-pub ports_put : {F : Type 0} (calls : F → PortDetails → CallbackProgression → F → Type 0)
-    (k : F → List Port × ℕ) (I : F → Type 0)
-    → ((f : F) (x : PortDetails) (r : CallbackProgression) (h : F) → I f → calls f x r h → I h
-    × Puts (k f) (told_port x) r (k h))
-    → (s : Service) (role : Role) (f : F) (found : Bool) (h : F) → I f
-    → ListsIn calls (first_role s.pattern) (second_role s.pattern) s.ports role f found h
-    → I h
-    × (role ≡ first_role s.pattern → PutsAll (ports_in s.ports.first) (k f) (k h))
-    × (role ≡ second_role s.pattern → PutsAll (ports_in s.ports.second) (k f) (k h))
-ports_put calls k I step s role f false h i shown =
-    (subst I (sym shown.1) i, λ e. absurd (shown.0.0 e), λ e. absurd (shown.0.1 e))
-ports_put calls k I step s role f true h i (inl shown) =
-    let all = all_put calls k told_port I step f (listed s.ports.first.registry) h i shown.1 in
-    (all.0, λ e. all.1, λ e. absurd (roles_differ s.pattern (sym shown.0 ∙ e)))
-ports_put calls k I step s role f true h i (inr shown) =
-    let all = all_put calls k told_port I step f (listed s.ports.second.registry) h i shown.1 in
-    (all.0, λ e. absurd (roles_differ s.pattern (sym e ∙ shown.0)), λ e. all.1)
+shown_as : {T : Type 0} (details : T → PortDetails) (es : List (Entry T))
+    → map (λ x. told_port (details x)) (map (λ e. e.details) es)
+    ≡ map told_port (map (λ e. e.details) (map (entry_as details) es))
+shown_as details [] = refl
+shown_as details (e ∷ es) = ap (λ l. told_port (details e.details) ∷ l) (shown_as details es)
+
+-- a listing of the ports of one kind, with the details of their own
+pub kind_put : {F T : Type 0} (details : T → PortDetails)
+    (calls : F → T → CallbackProgression → F → Type 0) (k : F → List Port × ℕ) (I : F → Type 0)
+    → ((f : F) (x : T) (r : CallbackProgression) (h : F) → I f → calls f x r h → I h
+    × Puts (k f) (told_port (details x)) r (k h))
+    → (ports : ContainerState T) (f h : F) → I f → Visit calls f (listed ports.registry) h
+    → I h × PutsAll (ports_in (container_as details ports)) (k f) (k h)
+kind_put details calls k I step ports f h i visit =
+    let all =
+    all_put calls k (λ x. told_port (details x)) I step f (listed ports.registry) h i visit in
+    (all.0, subst (λ l. PutsAll l (k f) (k h)) (shown_as details ports.registry.entries) all.1)
 
 length_ports : (ports : ContainerState PortDetails)
     → length (ports_in ports) ≡ length ports.registry.entries
@@ -87,17 +88,22 @@ counted s role n (inr found) =
     (ports_in s.ports.second, inr (found.0, refl), found.1 ∙ sym (length_ports s.ports.second))
 
 -- they stand at the front of an array that has room for them
-pub at_front : (s : Service) (role : Role) (before after : List Port) (used : ℕ)
-    → (role ≡ first_role s.pattern → PutsAll (ports_in s.ports.first) (before, 0) (after, used))
-    → (role ≡ second_role s.pattern → PutsAll (ports_in s.ports.second) (before, 0) (after, used))
+pub at_front : (s : Service) (role : Role) (is_first : Bool)
+    → (IsTrue is_first ↔ (role ≡ first_role s.pattern))
+    → (before after : List Port) (used : ℕ)
+    → PutsAll (ports_of_kind is_first s.ports) (before, 0) (after, used)
     → (ports : List Port) → PortsOf s role ports → length ports ≤ length before → after ≡ ports
     ++ drop (length ports) before
-at_front s role before after used first second ports (inl is) fits =
+at_front s role true same before after used puts ports (inl is) fits =
     subst (λ (l : List Port). length l ≤ length before → after ≡ l ++ drop (length l) before)
-    (sym is.1) (first is.0 [] before refl refl) fits
-at_front s role before after used first second ports (inr is) fits =
+    (sym is.1) (puts [] before refl refl) fits
+at_front s role false same before after used puts ports (inl is) fits =
+    absurd (true≢false (sym (same.1 is.0)))
+at_front s role true same before after used puts ports (inr is) fits =
+    absurd (roles_differ s.pattern (sym (same.0 refl) ∙ is.0))
+at_front s role false same before after used puts ports (inr is) fits =
     subst (λ (l : List Port). length l ≤ length before → after ≡ l ++ drop (length l) before)
-    (sym is.1) (second is.0 [] before refl refl) fits
+    (sym is.1) (puts [] before refl refl) fits
 
 length_nodes : (nodes : ContainerState ℕ) → length (nodes_in nodes) ≡ length nodes.registry.entries
 length_nodes nodes = length-map (listed nodes.registry) id_of

@@ -1,12 +1,12 @@
 -- Listings into a caller's array.
-use Rattle.std.specs.Prelude.{◌≡◌, ℕ, ◌+◌, ◌<◌, ◌≤◌, List, ◌++◌, Some, None, map, drop, length, slice_set, ◌⊎◌}
+use Rattle.std.specs.Prelude.{◌≡◌, Bool, true, false, ℕ, ◌+◌, ◌<◌, ◌≤◌, List, ◌++◌, Some, None, map, drop, length, slice_set, ◌⊎◌}
 use Rattle.iox2_texts.specs.declared.bounded.callback_progression.CallbackProgression.{CallbackProgression}
 use Rattle.iox2_texts.specs.declared.bounded.callback_progression.CallbackProgression.TheVariants.{Continue, Stop}
 use Rattle.iox2_container.specs.ContainerState.{ContainerState}
 use Rattle.iox2_container.specs.Steps.{listed}
 use Rattle.iox2_container.specs.declared.container.role.Role.{Role}
 use Rattle.iox2_dynamic.specs.declared.dynamic_config.port_details.PortDetails.{PortDetails}
-use Rattle.iox2_dynamic.specs.Ports.{IsNeither}
+use Rattle.iox2_dynamic.specs.Ports.{Ports, IsNeither}
 use Rattle.iox2_dynamic.specs.Service.{Service as Held, first_role, second_role}
 use Rattle.iox2sd.specs.Answers.{count_answer}
 use Rattle.iox2sd.specs.Handles.{ReadsRole}
@@ -54,6 +54,11 @@ NeedsMore items before n after = (length before < length items) × (after ≡ be
 -- these ports, by rising slot
 abbrev pub ports_in : ContainerState PortDetails → List Port
 ports_in ports = map told_port (listed ports.registry)
+
+-- the ports of the first kind, or those of the second
+abbrev pub ports_of_kind : Bool → Ports → List Port
+ports_of_kind true ports = ports_in ports.first
+ports_of_kind false ports = ports_in ports.second
 
 -- these are the ports of a role of the service
 abbrev pub PortsOf : Held → Role → List Port → Type 0

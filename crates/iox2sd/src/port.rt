@@ -88,7 +88,7 @@ impl Port {
     }
 
     /// What the details of every kind tell; all other fields are 0.
-    #[inline(always)]
+    #[inline]
     fn blank(details: &PortDetails) -> Port
         ensures { result ≡ blank details.now }
     {
@@ -101,7 +101,7 @@ impl Port {
     }
 
     /// What the details tell.
-    #[inline(always)]
+    #[inline]
     pub(super) fn of(details: &PortDetails) -> Port
         ensures { result ≡ told_port details.now }
     {

@@ -57,8 +57,10 @@ impl<A: PortKind, B: PortKind> PortRegistries<A, B> {
         })
     }
 
-    /// Shows the ports of the first kind.
-    pub(super) fn list_first<F: FnMut(&A) -> CallbackProgression>(&self, f: &mut F)
+    /// Calls the callback on the details of the ports that are recovered first by rising slot, up
+    /// to and with the first answer `Stop`. Code for all patterns lists both kinds so, each with
+    /// the details of its own.
+    pub fn list_first<F: FnMut(&A) -> CallbackProgression>(&self, f: &mut F)
         requires { CanVisit (TakesAt F.FnMut) (CalledAt F.FnMut) f.old
             (listed self.now.first.registry) }
         ensures { Visit (CalledAt F.FnMut) f.old (listed self.now.first.registry) f.new }
@@ -66,8 +68,9 @@ impl<A: PortKind, B: PortKind> PortRegistries<A, B> {
         self.first.for_each(f);
     }
 
-    /// Shows the ports of the second kind.
-    pub(super) fn list_second<F: FnMut(&B) -> CallbackProgression>(&self, f: &mut F)
+    /// Calls the callback on the details of the other ports by rising slot, up to and with the
+    /// first answer `Stop`.
+    pub fn list_second<F: FnMut(&B) -> CallbackProgression>(&self, f: &mut F)
         requires { CanVisit (TakesAt F.FnMut) (CalledAt F.FnMut) f.old
             (listed self.now.second.registry) }
         ensures { Visit (CalledAt F.FnMut) f.old (listed self.now.second.registry) f.new }

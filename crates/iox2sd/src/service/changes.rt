@@ -25,6 +25,7 @@ pub struct HandleAnswer {
 
 impl HandleAnswer {
     /// The answer that tells what was made, or why nothing was.
+    #[inline(always)]
     fn of(made: Result<Handle, Status>) -> HandleAnswer
         ensures { result ≡ handle_answer made }
     {

@@ -33,6 +33,7 @@ pub struct PortAnswer {
 
 impl IdAnswer {
     /// The answer that tells a node, or why there is none.
+    #[inline(always)]
     fn of(found: Result<Id, Status>) -> IdAnswer
         ensures { result ≡ id_answer found }
     {
@@ -51,6 +52,7 @@ impl IdAnswer {
 
 impl PortAnswer {
     /// The answer that tells a port, or why there is none.
+    #[inline(always)]
     fn of(found: Result<Port, Status>) -> PortAnswer
         ensures { result ≡ port_answer found }
     {

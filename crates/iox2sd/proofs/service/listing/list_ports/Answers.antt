@@ -27,8 +27,8 @@ returns c =
       found.1,
       (
         fits,
-        at_front c.args.service.now c.in-Some.role c.args.out.now c.put_ports.new.out
-            c.put_ports.new.used c.put_ports.ensures.first c.put_ports.ensures.second found.0
+        at_front c.args.service.now c.in-Some.role c.is_first.result c.is_first.ensures
+            c.args.out.now c.put_ports.new.out c.put_ports.new.used c.put_ports.ensures found.0
             found.1 fits,
         found.2,
       ),
