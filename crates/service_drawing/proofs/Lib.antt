@@ -1,11 +1,15 @@
 mod Answered
-mod AttributeLines
+mod Attributes
+mod Descriptions
 mod Exchanges
 mod FirstLine
 mod Inside
+mod LinesOf
 mod Messages
 mod Naming
 mod Pairs
+mod Required
 mod ServiceNames
+mod SettingLines
 mod Words
 mod Writes

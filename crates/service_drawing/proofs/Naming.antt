@@ -3,7 +3,7 @@ use Rattle.std.proofs.Common.{◌≡◌, ℕ, ◌<◌, ◌≤◌, List, ◌++◌
 use Rattle.std.proofs.lemmas.Option.{none-some, slice_get_within, slice_get_cases, slice_get-get_or}
 use Rattle.iox2_config.specs.declared.hash.input.PatternKind.TheVariants.{PublishSubscribe, Event, RequestResponse, Blackboard}
 use Rattle.service_drawing.specs.Lines.{HasNoPattern}
-use Rattle.service_drawing.specs.Settings.{HasName, IsNamed}
+use Rattle.service_drawing.specs.Settings.{HasName, IsSetting, IsNamed}
 
 -- the setting of this number has another name
 pub not_named : (names : List (List ℕ)) (i : ℕ) (word name : List ℕ) → Some name ≡ slice_get names i
@@ -23,11 +23,10 @@ none_named names i word past before k h =
     before k (omega (arith, slice_get_within names k h.name h.stands, past_end names i (sym past)))
     h
 
--- the name in another spelling of its text
+-- the setting of the same word
 pub as_word : (names : List (List ℕ)) (i : ℕ) (word other : List ℕ) → word ≡ other
-    → HasName names i word
-    → HasName names i other
-as_word names i word other e h = subst (λ (w : List ℕ). HasName names i w) e h
+    → IsSetting names i word → IsSetting names i other
+as_word names i word other e h = subst (λ (w : List ℕ). IsSetting names i w) e h
 
 -- a line that begins with none of the four words
 pub no_pattern : (line : List ℕ) → ((rest : List ℕ) → ¬ (line ≡ codes "publish-subscribe " ++ rest))

@@ -1,6 +1,7 @@
 -- Promises: how a description is spelled, and what the streams of the program get.
 pub mod Arguments
 pub mod Causes
+pub mod Descriptions
 pub mod Lines
 pub mod Settings
 pub mod Streams

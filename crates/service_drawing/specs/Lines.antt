@@ -1,5 +1,5 @@
 -- How a description is spelled.
-use Rattle.std.specs.Prelude.{◌≡◌, ◌≢◌, ℕ, ◌<◌, ◌≤◌, ◌^◌, List, [], ◌∷◌, ◌++◌, codes, length, Option, Some, None, IfSome, IsTrue, nat_eq}
+use Rattle.std.specs.Prelude.{◌≡◌, ◌≢◌, ℕ, ◌<◌, ◌≤◌, ◌^◌, List, [], ◌∷◌, ◌++◌, ◌+◌, ◌⊎◌, codes, length, filter_map, Option, Some, None, IfSome, IsTrue, nat_eq}
 use Rattle.std.specs.List.{starts_with, All, AllPass}
 use Rattle.std.specs.Int.{is_power_of_two}
 use Rattle.std.specs.Fmt.{decimal}
@@ -7,6 +7,7 @@ use Rattle.iox2_texts.specs.Attribute.{IsListing}
 use Rattle.iox2_texts.specs.Name.{IsName}
 use Rattle.iox2_texts.specs.Pair.{Pair}
 use Rattle.iox2_texts.specs.Path.{IsRestrictedName}
+use Rattle.iox2_texts.specs.Verify.{Requirements}
 use Rattle.iox2_config.specs.Hashing.{hash_input, sha1_text}
 use Rattle.iox2_config.specs.TypeDetailParts.{TypeDetailParts}
 use Rattle.iox2_config.specs.TypeDetails.{IsTypeName}
@@ -35,6 +36,20 @@ pub record IsLine (text rest bytes : List ℕ) : Type 0 where
 -- the bytes begin with no line that begins so
 abbrev pub HasNoLine : List ℕ → List ℕ → Type 0
 HasNoLine begin bytes = (text rest : List ℕ) → ¬ IsLine (begin ++ text) rest bytes
+
+-- the bytes begin with a line that begins so and then spells this
+pub record HasLineOf {A : Type 0} (begin : List ℕ) (Spells : A → List ℕ → Type 0) (x : A)
+    (rest bytes : List ℕ) : Type 0 where
+  pub text : List ℕ
+  pub line : IsLine (begin ++ text) rest bytes
+  pub spelled : Spells x text
+
+-- the bytes begin with a line of each of these in this order, and no more follow
+abbrev pub HasLinesOf : {A : Type 0} → List ℕ → (A → List ℕ → Type 0) → List A → List ℕ → List ℕ
+    → Type 0
+HasLinesOf begin Spells [] rest bytes = (rest ≡ bytes) × HasNoLine begin bytes
+HasLinesOf begin Spells (x ∷ xs) rest bytes =
+    (mid : List ℕ) × HasLineOf begin Spells x mid bytes × HasLinesOf begin Spells xs rest mid
 
 -- a line may give the alignment: a power of two that a number of 64 bits can be
 abbrev pub IsGiven : ℕ → Type 0
@@ -151,23 +166,67 @@ pub record IsPair (pair : Pair) : Type 0 where
 abbrev pub pair_text : Pair → List ℕ
 pair_text pair = pair.key ++ 32 ∷ pair.value
 
--- the bytes begin with the line of an attribute
-pub record HasAttribute (pair : Pair) (rest bytes : List ℕ) : Type 0 where
-  pub line : IsLine (codes "attribute " ++ pair_text pair) rest bytes
+-- the text gives the pair
+pub record GivesPair (pair : Pair) (text : List ℕ) : Type 0 where
   pub legal : IsPair pair
-
--- the bytes begin with the lines of these attributes in this order, and no more follow
-abbrev pub HasAttributeLines : List Pair → List ℕ → List ℕ → Type 0
-HasAttributeLines [] rest bytes = (rest ≡ bytes) × HasNoLine (codes "attribute ") bytes
-HasAttributeLines (pair ∷ pairs) rest bytes =
-    (mid : List ℕ) × HasAttribute pair mid bytes × HasAttributeLines pairs rest mid
+  pub spelled : text ≡ pair_text pair
 
 -- the bytes begin with the lines of the attributes of this set
 pub record HasAttributes (set : List Pair) (rest bytes : List ℕ) : Type 0 where
   pub pairs : List Pair
-  pub lines : HasAttributeLines pairs rest bytes
+  pub lines : HasLinesOf (codes "attribute ") GivesPair pairs rest bytes
   pub few : length pairs ≤ 16
   pub listing : IsListing pairs set
+
+-- what a line requires
+pub data Requirement : Type 0 where
+  OfPair : Pair → Requirement
+  -- with any value
+  OfKey : List ℕ → Requirement
+
+-- the text after `require` gives the pair or the key
+abbrev pub GivesRequirement : Requirement → List ℕ → Type 0
+GivesRequirement (OfPair pair) text = IsPair pair × (text ≡ 32 ∷ pair_text pair)
+GivesRequirement (OfKey key) text = IsKey key × (text ≡ codes "-key " ++ key)
+
+-- the pair or the key is required besides
+abbrev pub Adds : Requirements → Requirement → Requirements → Type 0
+Adds old (OfPair pair) new = IsListing (pair ∷ old.pairs) new.pairs × (new.keys ≡ old.keys)
+Adds old (OfKey key) new = new ≡ record { pairs = old.pairs; keys = old.keys ++ key ∷ [] }
+
+-- how many pairs and keys are required
+abbrev pub number_required : Requirements → ℕ
+number_required required = length required.pairs + length required.keys
+
+-- there is room for one more, which the text gives, and it is required besides
+pub record RequiresMore (old : Requirements) (text : List ℕ) (new : Requirements) : Type 0 where
+  pub each : Requirement
+  pub gives : GivesRequirement each text
+  pub room : number_required old < 16
+  pub added : Adds old each new
+
+-- there is no room for one more, or the text gives none
+abbrev pub RequiresNoMore : Requirements → List ℕ → Type 0
+RequiresNoMore old text =
+    (16 ≤ number_required old) ⊎ ((each : Requirement) → ¬ GivesRequirement each text)
+
+-- the pair that is required, if it is one
+abbrev pub pair_of : Requirement → Option Pair
+pair_of (OfPair pair) = Some pair
+pair_of (OfKey key) = None
+
+-- the key that is required, if it is one
+abbrev pub key_of : Requirement → Option (List ℕ)
+key_of (OfPair pair) = None
+key_of (OfKey key) = Some key
+
+-- the bytes begin with the lines of what is required
+pub record HasRequirements (required : Requirements) (rest bytes : List ℕ) : Type 0 where
+  pub each : List Requirement
+  pub lines : HasLinesOf (codes "require") GivesRequirement each rest bytes
+  pub few : length each ≤ 16
+  pub pairs : IsListing (filter_map pair_of each) required.pairs
+  pub keys : filter_map key_of each ≡ required.keys
 
 -- the word for a pattern
 abbrev pub pattern_word : PatternKind → List ℕ

@@ -1,14 +1,19 @@
 -- The settings of services, by their numbers.
-use Rattle.std.specs.Prelude.{◌≡◌, ◌==◌, ◌⊎◌, ℕ, List, [], ◌∷◌, ◌++◌, Bool, codes, cond, nat_eq, ◌<◌, length, Some, None, true, false, slice_get, slice_index, slice_set}
-use Rattle.std.specs.List.{before_first}
+use Rattle.std.specs.Prelude.{◌≡◌, ◌==◌, ◌⊎◌, ℕ, List, [], ◌∷◌, ◌++◌, Bool, codes, cond, map, nat_eq, ◌<◌, ◌^◌, length, Some, None, IfSome, true, false, slice_get, slice_index, slice_set}
+use Rattle.std.specs.List.{before_first, IsDistinct}
 use Rattle.std.specs.Fmt.{decimal}
 use Rattle.std.specs.Duration.{as_nanos}
+use Rattle.iox2_config.specs.Defaults.{IsDefaultConfig, default_publish_subscribe, default_event, default_request_response, default_blackboard}
+use Rattle.iox2_config.specs.declared.config.Config.{Config}
 use Rattle.iox2_config.specs.declared.config.choices.BackpressureStrategy.TheVariants.{RetryUntilDelivered, DiscardData}
 use Rattle.iox2_config.specs.declared.config.choices.AllocationStrategy.TheVariants.{BestFit, PowerOfTwo, Static}
 use Rattle.iox2_config.specs.declared.config.blackboard.Blackboard.{Blackboard}
 use Rattle.iox2_config.specs.declared.config.event.Event.{Event}
 use Rattle.iox2_config.specs.declared.config.publish_subscribe.PublishSubscribe.{PublishSubscribe}
 use Rattle.iox2_config.specs.declared.config.request_response.RequestResonse.{RequestResonse}
+use Rattle.iox2_config.specs.declared.hash.input.PatternKind.{PatternKind}
+use Rattle.iox2_config.specs.declared.hash.input.PatternKind.TheVariants as kind
+use Rattle.service_drawing.specs.Lines.{HasLinesOf}
 use Rattle.service_drawing.specs.declared.reading.cause.Reason.{Reason}
 use Rattle.service_drawing.specs.declared.reading.cause.Reason.TheVariants.{InternalName, UnknownSetting, SetTwice, OtherForm}
 use Rattle.service_drawing.specs.declared.settings.value.Value.{Value}
@@ -28,6 +33,17 @@ value_text (Backpressure DiscardData) = codes "DiscardData"
 value_text (Allocation BestFit) = codes "BestFit"
 value_text (Allocation PowerOfTwo) = codes "PowerOfTwo"
 value_text (Allocation Static) = codes "Static"
+
+-- a setting that has the first value may have the second: one of the same kind, whose numbers are
+-- of 64 bits
+abbrev pub MayBecome : Value → Value → Type 0
+MayBecome (Number old) (Number n) = n < 2 ^ 64
+MayBecome (Switch old) (Switch on) = Unit {0}
+MayBecome (Perhaps old) (Perhaps n) = IfSome n (λ n. n < 2 ^ 64)
+MayBecome (Deadline old) (Deadline time) = IfSome time (λ time. as_nanos time < 2 ^ 64)
+MayBecome (Backpressure old) (Backpressure strategy) = Unit {0}
+MayBecome (Allocation old) (Allocation strategy) = Unit {0}
+MayBecome old value = ⊥
 
 -- the names of the settings of a publish-subscribe service
 abbrev pub publish_subscribe_names : List (List ℕ)
@@ -133,29 +149,85 @@ pub record HasName (names : List (List ℕ)) (index : ℕ) (word : List ℕ) : T
 abbrev pub word_of : List ℕ → List ℕ
 word_of text = before_first (λ b. b == 32) text
 
--- the text names one of the settings, which no line before has set, and a value, and that setting
--- alone has got that value and is marked as set
-pub record Sets (names : List (List ℕ)) (old : List Value) (given : List Bool) (text : List ℕ)
-    (new : List Value)
-    (marked : List Bool) : Type 0 where
+-- the first setting with the name has this number
+pub record IsSetting (names : List (List ℕ)) (index : ℕ) (word : List ℕ) : Type 0 where
+  pub named : HasName names index word
+  pub first : (k : ℕ) → k < index → ¬ HasName names k word
+
+-- a setting, by its number, with a value
+pub record Assignment : Type 0 where
   pub index : ℕ
   pub value : Value
-  pub named : HasName names index (word_of text)
-  pub spelled : text ≡ word_of text ++ 32 ∷ value_text value
-  pub first : slice_get given index ≡ Some false
-  pub changed : new ≡ slice_set old index value
-  pub noted : marked ≡ slice_set given index true
+
+-- the text names one of the settings and spells a value that it may have
+pub record GivesSetting (names : List (List ℕ)) (values : List Value) (set : Assignment)
+    (text : List ℕ) : Type 0 where
+  pub old : Value
+  pub setting : IsSetting names set.index (word_of text)
+  pub spelled : text ≡ word_of text ++ 32 ∷ value_text set.value
+  pub stands : slice_get values set.index ≡ Some old
+  pub legal : MayBecome old set.value
+
+-- the values after each of these settings in turn has got its value
+abbrev pub assigned : List Value → List Assignment → List Value
+assigned values [] = values
+assigned values (set ∷ sets) = assigned (slice_set values set.index set.value) sets
+
+-- the bytes begin with the lines of settings, each of which is set once
+-- at most, and the values are the defaults but for those that are set
+pub record HasSettings (names : List (List ℕ)) (defaults values : List Value)
+    (rest bytes : List ℕ) : Type 0 where
+  pub sets : List Assignment
+  pub lines : HasLinesOf (codes "set ") (GivesSetting names defaults) sets rest bytes
+  pub once : IsDistinct nat_eq (map (λ set. set.index) sets)
+  pub changed : values ≡ assigned defaults sets
+
+-- the text gives one of the settings, which no line before has set,
+-- and that alone has got the value and is marked as set
+pub record Sets (names : List (List ℕ)) (old : List Value) (given : List Bool) (text : List ℕ)
+    (new : List Value) (marked : List Bool) : Type 0 where
+  pub set : Assignment
+  pub gives : GivesSetting names old set text
+  pub first : slice_get given set.index ≡ Some false
+  pub changed : new ≡ slice_set old set.index set.value
+  pub noted : marked ≡ slice_set given set.index true
 
 -- the text names a setting that is marked so
 pub record NamesMarked (names : List (List ℕ)) (given : List Bool) (text : List ℕ)
     (mark : Bool) : Type 0 where
   pub index : ℕ
-  pub named : HasName names index (word_of text)
+  pub setting : IsSetting names index (word_of text)
   pub marked : slice_get given index ≡ Some mark
 
 -- for this reason no setting is set: the name is looked at first, then whether it was set before
-abbrev pub IsNotSet : List (List ℕ) → List Bool → List ℕ → Reason → Type 0
-IsNotSet names given text UnknownSetting = (index : ℕ) → ¬ HasName names index (word_of text)
-IsNotSet names given text SetTwice = NamesMarked names given text true
-IsNotSet names given text OtherForm = (word_of text ≡ text) ⊎ NamesMarked names given text false
-IsNotSet names given text InternalName = ⊥
+abbrev pub IsNotSet : List (List ℕ) → List Value → List Bool → List ℕ → Reason → Type 0
+IsNotSet names values given text UnknownSetting =
+    (index : ℕ) → ¬ HasName names index (word_of text)
+IsNotSet names values given text SetTwice = NamesMarked names given text true
+IsNotSet names values given text OtherForm =
+    ((word_of text ≡ text) ⊎ NamesMarked names given text false)
+    × ((set : Assignment) → ¬ GivesSetting names values set text)
+IsNotSet names values given text InternalName = ⊥
+
+-- the bytes begin with the lines of the settings of this pattern, with
+-- which the configuration is the default one but for those settings
+abbrev pub HasConfiguration : PatternKind → Config → List ℕ → List ℕ → Type 0
+HasConfiguration kind.PublishSubscribe c rest bytes =
+    HasSettings publish_subscribe_names (publish_subscribe_values default_publish_subscribe)
+    (publish_subscribe_values c.defaults.publish_subscribe) rest bytes
+    × IsDefaultConfig (record c {
+      defaults = record c.defaults { publish_subscribe = default_publish_subscribe };
+    })
+HasConfiguration kind.Event c rest bytes =
+    HasSettings event_names (event_values default_event) (event_values c.defaults.event) rest bytes
+    × IsDefaultConfig (record c { defaults = record c.defaults { event = default_event } })
+HasConfiguration kind.RequestResponse c rest bytes =
+    HasSettings request_response_names (request_response_values default_request_response)
+    (request_response_values c.defaults.request_response) rest bytes
+    × IsDefaultConfig (record c {
+      defaults = record c.defaults { request_response = default_request_response };
+    })
+HasConfiguration kind.Blackboard c rest bytes =
+    HasSettings blackboard_names (blackboard_values default_blackboard)
+    (blackboard_values c.defaults.blackboard) rest bytes
+    × IsDefaultConfig (record c { defaults = record c.defaults { blackboard = default_blackboard } })

@@ -1,7 +1,11 @@
 //! Descriptions as lines.
 ghost use Rattle.std.specs.Prelude.{◌≡◌, ℕ, List, codes, IfOk, IfErr, MatchResult};
 ghost use Rattle.iox2_config.specs.TypeDetailParts.{TypeDetailParts};
+ghost use Rattle.iox2_config.specs.declared.config.Config.{Config};
+ghost use Rattle.service_drawing.specs.Descriptions.{HasDescription};
 ghost use Rattle.service_drawing.specs.Lines.{HasType, HasExchange, kind_of_exchange};
+ghost use Rattle.service_drawing.specs.Settings.{HasConfiguration};
+ghost use Rattle.service_drawing.specs.declared.description.Description.{Description};
 ghost use Rattle.service_drawing.specs.declared.description.Exchange.{Exchange};
 
 mod attributes;
@@ -23,16 +27,31 @@ use service::service_before;
 use settings::settings_before;
 
 /// The lines of the settings, with which the configuration is changed.
-fn configuration_before(bytes: &[u8], kind: PatternKind) -> Result<(Config, &[u8]), Expected<'_>> {
+fn configuration_before(bytes: &[u8], kind: PatternKind) -> Result<(Config, &[u8]), Expected<'_>>
+    ensures { MatchResult result
+        (λ found. HasConfiguration kind found.0 found.1.now bytes.now)
+        (λ expected. (config : Config) (rest : List ℕ)
+        → ¬ HasConfiguration kind config rest bytes.now) }
+{
     let mut config = Config::default();
-    let defaults = &mut config.defaults;
-    let rest = match kind {
-        PatternKind::PublishSubscribe => settings_before(bytes, &mut defaults.publish_subscribe),
-        PatternKind::Event => settings_before(bytes, &mut defaults.event),
-        PatternKind::RequestResponse => settings_before(bytes, &mut defaults.request_response),
-        PatternKind::Blackboard => settings_before(bytes, &mut defaults.blackboard),
-    }?;
-    Ok((config, rest))
+    match kind {
+        PatternKind::PublishSubscribe => {
+            let rest = settings_before(bytes, &mut config.defaults.publish_subscribe)?;
+            Ok((config, rest))
+        }
+        PatternKind::Event => {
+            let rest = settings_before(bytes, &mut config.defaults.event)?;
+            Ok((config, rest))
+        }
+        PatternKind::RequestResponse => {
+            let rest = settings_before(bytes, &mut config.defaults.request_response)?;
+            Ok((config, rest))
+        }
+        PatternKind::Blackboard => {
+            let rest = settings_before(bytes, &mut config.defaults.blackboard)?;
+            Ok((config, rest))
+        }
+    }
 }
 
 /// The line of a blackboard's keys.
@@ -75,7 +94,10 @@ fn exchange_before(bytes: &[u8], kind: PatternKind) -> Result<(Exchange, &[u8]),
 }
 
 /// The service that the lines describe, or what was expected in the place of the first bad one.
-pub(crate) fn read_description(bytes: &[u8]) -> Result<Description, Expected<'_>> {
+pub(crate) fn read_description(bytes: &[u8]) -> Result<Description, Expected<'_>>
+    ensures { MatchResult result (λ d. HasDescription d bytes.now)
+        (λ expected. (d : Description) → ¬ HasDescription d bytes.now) }
+{
     let (service, rest) = service_before(bytes)?;
     let (config, rest) = configuration_before(rest, service.kind)?;
     let (exchange, rest) = exchange_before(rest, service.kind)?;

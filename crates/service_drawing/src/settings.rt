@@ -1,6 +1,6 @@
 //! The settings of a service, by their own names.
-ghost use Rattle.std.specs.Prelude.{◌≡◌, ◌<◌, ℕ, List, IsTrue, IfSome, false, slice_get, slice_set};
-ghost use Rattle.service_drawing.specs.Settings.{listed};
+ghost use Rattle.std.specs.Prelude.{◌≡◌, ◌<◌, ℕ, List, IsTrue, IfSome, Some, false, slice_get, slice_set};
+ghost use Rattle.service_drawing.specs.Settings.{listed, MayBecome};
 ghost use Rattle.std.specs.Option.{option_map};
 ghost use Rattle.service_drawing.specs.declared.settings.value.Value.{Value};
 
@@ -34,5 +34,7 @@ pub(crate) trait Settings {
     /// another kind than the setting's.
     fn set(&mut self, index: usize, value: Value) -> bool
         ensures set { IsTrue result → values self.new ≡ slice_set (values self.old) index value }
-        ensures kept { result ≡ false → self.new ≡ self.old };
+        ensures kept { result ≡ false → self.new ≡ self.old }
+        ensures refused { result ≡ false → (old : Value) → slice_get (values self.old) index ≡ Some old
+            → ¬ MayBecome old value };
 }

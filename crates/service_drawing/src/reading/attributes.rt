@@ -1,7 +1,9 @@
 //! The lines of attributes.
 ghost use Rattle.std.specs.Prelude.{◌≡◌, ℕ, List, MatchOption, MatchResult};
 ghost use Rattle.iox2_texts.specs.Pair.{Pair};
+ghost use Rattle.iox2_texts.specs.Verify.{Requirements};
 ghost use Rattle.service_drawing.specs.Lines.{IsKey, IsPair, pair_text, HasAttributes};
+ghost use Rattle.service_drawing.specs.Lines.{HasRequirements, RequiresMore, RequiresNoMore};
 
 use super::expected::Expected;
 use super::message::line_after;
@@ -65,7 +67,11 @@ pub(super) fn attributes_before(bytes: &[u8]) -> Result<(AttributeSet, &[u8]), E
 }
 
 /// The lines of the attributes that an opener requires, at most 16.
-pub(super) fn required_before(bytes: &[u8]) -> Result<(AttributeVerifier, &[u8]), Expected<'_>> {
+pub(super) fn required_before(bytes: &[u8]) -> Result<(AttributeVerifier, &[u8]), Expected<'_>>
+    ensures { MatchResult result (λ found. HasRequirements found.0 found.1.now bytes.now)
+        (λ expected. (required : Requirements) (rest : List ℕ)
+        → ¬ HasRequirements required rest bytes.now) }
+{
     let mut required = AttributeVerifier::new();
     let mut rest = bytes;
     while let Some((text, tail)) = line_after(rest, "", "require") {
@@ -83,12 +89,17 @@ pub(super) fn required_before(bytes: &[u8]) -> Result<(AttributeVerifier, &[u8])
 }
 
 /// The verifier that requires also what a text spells after `require`.
-fn requiring(required: AttributeVerifier, text: &str) -> Option<AttributeVerifier> {
+fn requiring(required: AttributeVerifier, text: &str) -> Option<AttributeVerifier>
+    ensures { MatchOption result (RequiresNoMore required text.now) (RequiresMore required text.now) }
+{
     if let Some(text) = after_word(text, " ") {
         let Some((key, value)) = pair_in(text) else {
             return None;
         };
-        required.require(&key, &value).ok()
+        match required.require(&key, &value) {
+            Ok(more) => Some(more),
+            Err(_) => None,
+        }
     } else {
         let Some(text) = after_word(text, "-key ") else {
             return None;
@@ -96,6 +107,9 @@ fn requiring(required: AttributeVerifier, text: &str) -> Option<AttributeVerifie
         let Some(key) = key_in(text) else {
             return None;
         };
-        required.require_key(&key).ok()
+        match required.require_key(&key) {
+            Ok(more) => Some(more),
+            Err(_) => None,
+        }
     }
 }

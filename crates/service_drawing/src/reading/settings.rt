@@ -1,6 +1,9 @@
 //! The lines of settings.
-ghost use Rattle.std.specs.Prelude.{◌≡◌, ◌<◌, ◌↔◌, ℕ, IsTrue, Some, IfOk, IfSome, IfErr, MatchOption, slice_get};
-ghost use Rattle.service_drawing.specs.Settings.{HasName, IsDashed, IsNamed, IsNotSet, Sets, dash_for};
+ghost use Rattle.std.specs.Prelude.{◌≡◌, ◌<◌, ◌↔◌, ℕ, List, IsTrue, Some, IfOk, IfSome, IfErr, MatchOption, MatchResult};
+ghost use Rattle.std.specs.Prelude.{slice_get};
+ghost use Rattle.service_drawing.specs.Settings.{HasName, HasSettings, IsDashed, IsNamed, IsNotSet};
+ghost use Rattle.service_drawing.specs.Settings.{IsSetting, Sets, dash_for};
+ghost use Rattle.service_drawing.specs.declared.settings.value.Value.{Value};
 
 use super::cause::Reason;
 use super::expected::Expected;
@@ -42,7 +45,7 @@ fn is_named(word: &str, name: &str) -> bool
 /// The number and the value of the setting of this name, if there is one.
 fn find<S: Settings>(settings: &S, word: &str) -> Option<(usize, Value)>
     ensures name { MatchOption result ((index : ℕ) → ¬ HasName S.names index word.now)
-        (λ found. HasName S.names found.0 word.now) }
+        (λ found. IsSetting S.names found.0 word.now) }
     ensures value { IfSome result (λ found.
         (found.0 < 32) × (slice_get (S.values settings.now) found.0 ≡ Some found.1)) }
 {
@@ -61,7 +64,8 @@ fn find<S: Settings>(settings: &S, word: &str) -> Option<(usize, Value)>
 fn set<S: Settings>(settings: &mut S, given: &mut [bool; 32], text: &str) -> Result<(), Reason>
     ensures set { IfOk result (λ done. Sets S.names (S.values settings.old) given.old text.now
         (S.values settings.new) given.new) }
-    ensures refused { IfErr result (λ reason. IsNotSet S.names given.old text.now reason) }
+    ensures refused { IfErr result (λ reason. IsNotSet S.names (S.values settings.old) given.old text.now
+        reason) }
 {
     let Some((word, text)) = split_word(text) else {
         return Err(Reason::OtherForm);
@@ -100,14 +104,20 @@ fn expected<S: Settings>(bytes: &[u8], reason: Reason) -> Expected<'_> {
 pub(super) fn settings_before<'a, S: Settings>(
     bytes: &'a [u8],
     settings: &mut S,
-) -> Result<&'a [u8], Expected<'a>> {
+) -> Result<&'a [u8], Expected<'a>>
+    ensures { MatchResult result
+        (λ rest. HasSettings S.names (S.values settings.old) (S.values settings.new) rest.now
+        bytes.now)
+        (λ expected. (values : List Value) (rest : List ℕ)
+        → ¬ HasSettings S.names (S.values settings.old) values rest bytes.now) }
+{
     let mut given = [false; 32];
     let mut rest = bytes;
     while let Some((text, tail)) = line_after(rest, "", "set ") {
-        if let Err(reason) = set(settings, &mut given, text) {
-            return Err(expected::<S>(rest, reason));
+        match set(settings, &mut given, text) {
+            Ok(()) => rest = tail,
+            Err(reason) => return Err(expected::<S>(rest, reason)),
         }
-        rest = tail;
     }
     Ok(rest)
 }

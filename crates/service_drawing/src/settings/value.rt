@@ -1,6 +1,15 @@
 //! The values of settings.
-ghost use Rattle.std.specs.Prelude.{◌≡◌, IfSome, Some};
-ghost use Rattle.service_drawing.specs.Settings.{value_text};
+ghost use Rattle.std.specs.Prelude.{◌≡◌, ◌<◌, ◌^◌, ℕ, Bool, Option, IfSome, MatchOption, Some};
+ghost use Rattle.std.specs.Duration.{as_nanos};
+ghost use Rattle.std.specs.declared.time.Duration.{Duration};
+ghost use Rattle.iox2_config.specs.declared.config.choices.AllocationStrategy.{
+  AllocationStrategy,
+};
+ghost use Rattle.iox2_config.specs.declared.config.choices.BackpressureStrategy.{
+  BackpressureStrategy,
+};
+ghost use Rattle.service_drawing.specs.Settings.{MayBecome, value_text};
+ghost use Rattle.service_drawing.specs.declared.settings.value.Value.{Value};
 ghost use Rattle.service_drawing.specs.declared.settings.value.Value.TheVariants.{
   Switch,
   Perhaps,
@@ -51,7 +60,9 @@ impl fmt::Display for Value {
 impl Value {
     /// The value of the same kind that the text spells.
     pub(crate) fn of_kind(self, text: &str) -> Option<Value>
-        ensures { IfSome result (λ value. text.now ≡ value_text value) }
+        ensures { MatchOption result
+            ((value : Value) → MayBecome self value → ¬ (text.now ≡ value_text value))
+            (λ value. MayBecome self value × (text.now ≡ value_text value)) }
     {
         match self {
             Value::Number(_) => number(text).map(Value::Number),
@@ -65,7 +76,8 @@ impl Value {
 }
 
 fn switch(text: &str) -> Option<bool>
-    ensures { IfSome result (λ on. text.now ≡ value_text (Switch on)) }
+    ensures { MatchOption result ((on : Bool) → ¬ (text.now ≡ value_text (Switch on)))
+        (λ on. text.now ≡ value_text (Switch on)) }
 {
     match text {
         "true" => Some(true),
@@ -75,7 +87,9 @@ fn switch(text: &str) -> Option<bool>
 }
 
 fn perhaps(text: &str) -> Option<Option<usize>>
-    ensures { IfSome result (λ n. text.now ≡ value_text (Perhaps n)) }
+    ensures { MatchOption result
+        ((n : Option ℕ) → IfSome n (λ n. n < 2 ^ 64) → ¬ (text.now ≡ value_text (Perhaps n)))
+        (λ n. IfSome n (λ n. n < 2 ^ 64) × (text.now ≡ value_text (Perhaps n))) }
 {
     if text == "none" {
         return Some(None);
@@ -87,7 +101,11 @@ fn perhaps(text: &str) -> Option<Option<usize>>
 }
 
 fn deadline(text: &str) -> Option<Option<Duration>>
-    ensures { IfSome result (λ time. text.now ≡ value_text (Deadline time)) }
+    ensures { MatchOption result
+        ((time : Option Duration) → IfSome time (λ time. as_nanos time < 2 ^ 64)
+        → ¬ (text.now ≡ value_text (Deadline time)))
+        (λ time. IfSome time (λ time. as_nanos time < 2 ^ 64)
+        × (text.now ≡ value_text (Deadline time))) }
 {
     if text == "none" {
         return Some(None);
@@ -99,7 +117,9 @@ fn deadline(text: &str) -> Option<Option<Duration>>
 }
 
 fn backpressure(text: &str) -> Option<BackpressureStrategy>
-    ensures { IfSome result (λ strategy. text.now ≡ value_text (Backpressure strategy)) }
+    ensures { MatchOption result
+        ((strategy : BackpressureStrategy) → ¬ (text.now ≡ value_text (Backpressure strategy)))
+        (λ strategy. text.now ≡ value_text (Backpressure strategy)) }
 {
     match text {
         "RetryUntilDelivered" => Some(BackpressureStrategy::RetryUntilDelivered),
@@ -109,7 +129,9 @@ fn backpressure(text: &str) -> Option<BackpressureStrategy>
 }
 
 fn allocation(text: &str) -> Option<AllocationStrategy>
-    ensures { IfSome result (λ strategy. text.now ≡ value_text (Allocation strategy)) }
+    ensures { MatchOption result
+        ((strategy : AllocationStrategy) → ¬ (text.now ≡ value_text (Allocation strategy)))
+        (λ strategy. text.now ≡ value_text (Allocation strategy)) }
 {
     match text {
         "BestFit" => Some(AllocationStrategy::BestFit),

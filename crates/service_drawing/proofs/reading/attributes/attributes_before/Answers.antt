@@ -1,6 +1,6 @@
 use Rattle.std.proofs.Common.{length, rules}
 use Rattle.iox2_texts.specs.Pair.{Pair}
-use Rattle.service_drawing.proofs.AttributeLines.{found_attribute, one_more_line, finished, bad_pair, too_many, many}
+use Rattle.service_drawing.proofs.Attributes.{found_attribute, one_more_line, finished, bad_pair, too_many, many}
 use Rattle.service_drawing.proofs.reading.attributes.attributes_before.Goals as goal
 
 pub loop-text-preserved : goal.loop-text-preserved

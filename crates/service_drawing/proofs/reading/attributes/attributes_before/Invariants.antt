@@ -1,5 +1,5 @@
 use Rattle.std.proofs.Common.{length}
-use Rattle.service_drawing.proofs.AttributeLines.{Reading}
+use Rattle.service_drawing.proofs.Attributes.{Reading}
 use Rattle.service_drawing.proofs.reading.attributes.attributes_before.Given as goal
 
 abbrev pub invariant-loop-text : goal.invariant-loop-text

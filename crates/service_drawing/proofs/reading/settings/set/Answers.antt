@@ -1,17 +1,24 @@
-use Rattle.std.proofs.Common.{false, true, refl, inr, rules}
-use Rattle.service_drawing.specs.Settings.{word_of}
+use Rattle.std.proofs.Common.{◌≡◌, ℕ, List, false, true, refl, inl, inr, rules, subst}
+use Rattle.service_drawing.specs.Settings.{HasName, word_of}
 use Rattle.service_drawing.proofs.Naming.{as_word, marked_at}
+use Rattle.service_drawing.proofs.SettingLines.{no_value_follows, not_a_value}
 use Rattle.service_drawing.proofs.reading.settings.set.Goals as goal
+
+pub returns-in_default-clause-refused : goal.returns-in_default-clause-refused
+returns-in_default-clause-refused g c =
+    let none : word_of c.args.text.now ≡ c.args.text.now = search rules in
+    (inl none, no_value_follows g.S.Settings.names _ c.args.text.now none)
 
 pub returns-in_default-find-clause-refused : goal.returns-in_default-find-clause-refused
 returns-in_default-find-clause-refused g c index h =
+    let word : word_of c.args.text.now ≡ c.in-Some.word.now = search rules in
     c.in_default-find.ensures.name index
-    (as_word g.S.Settings.names index (word_of c.args.text.now) c.in-Some.word.now (search rules) h)
+    (subst (λ (w : List ℕ). HasName g.S.Settings.names index w) word h)
 
 pub returns-then-given-index-clause-refused : goal.returns-then-given-index-clause-refused
 returns-then-given-index-clause-refused g c = record {
   index = c.in-Some-find.index;
-  named = as_word g.S.Settings.names c.in-Some-find.index c.in-Some.word.now
+  setting = as_word g.S.Settings.names c.in-Some-find.index c.in-Some.word.now
       (word_of c.args.text.now) (search rules) (search rules);
   marked = marked_at c.args.given.now c.in-Some-find.index true
       (search rules) c.if-given-index.true;
@@ -19,11 +26,15 @@ returns-then-given-index-clause-refused g c = record {
 
 pub returns-in-Some-of_kind-clause-set : goal.returns-in-Some-of_kind-clause-set
 returns-in-Some-of_kind-clause-set g c = record {
-  index = c.in-Some-find.index;
-  value = c.in-Some-of_kind.value;
-  named = as_word g.S.Settings.names c.in-Some-find.index c.in-Some.word.now
-      (word_of c.args.text.now) (search rules) (search rules);
-  spelled = search rules;
+  set = record { index = c.in-Some-find.index; value = c.in-Some-of_kind.value };
+  gives = record {
+    old = c.in-Some-find.value;
+    setting = as_word g.S.Settings.names c.in-Some-find.index c.in-Some.word.now
+        (word_of c.args.text.now) (search rules) (search rules);
+    spelled = search rules;
+    stands = search rules;
+    legal = search rules;
+  };
   first = marked_at c.args.given.now c.in-Some-find.index false
       (search rules) c.if-given-index.false;
   changed = search rules;
@@ -31,19 +42,19 @@ returns-in-Some-of_kind-clause-set g c = record {
 }
 
 pub returns-in_default-of_kind-clause-refused : goal.returns-in_default-of_kind-clause-refused
-returns-in_default-of_kind-clause-refused g c = inr (record {
-  index = c.in-Some-find.index;
-  named = as_word g.S.Settings.names c.in-Some-find.index c.in-Some.word.now
-      (word_of c.args.text.now) (search rules) (search rules);
-  marked = marked_at c.args.given.now c.in-Some-find.index false
-      (search rules) c.if-given-index.false;
-})
+returns-in_default-of_kind-clause-refused g c =
+    absurd (c.if-set.ensures.refused refl c.in-Some-find.value (search rules) (search rules))
 
 pub returns-in_default-of_kind-2-clause-refused : goal.returns-in_default-of_kind-2-clause-refused
-returns-in_default-of_kind-2-clause-refused g c = inr (record {
-  index = c.in-Some-find.index;
-  named = as_word g.S.Settings.names c.in-Some-find.index c.in-Some.word.now
-      (word_of c.args.text.now) (search rules) (search rules);
-  marked = marked_at c.args.given.now c.in-Some-find.index false
-      (search rules) c.if-given-index.false;
-})
+returns-in_default-of_kind-2-clause-refused g c =
+    let named = as_word g.S.Settings.names c.in-Some-find.index c.in-Some.word.now
+    (word_of c.args.text.now) (search rules) (search rules) in (
+      inr (record {
+        index = c.in-Some-find.index;
+        setting = named;
+        marked = marked_at c.args.given.now c.in-Some-find.index false
+            (search rules) c.if-given-index.false;
+      }),
+      not_a_value g.S.Settings.names _ c.in-Some-find.index c.in-Some-find.value c.args.text.now
+          c.in-Some.text.now named (search rules) (search rules) c.in_default-of_kind.ensures,
+    )

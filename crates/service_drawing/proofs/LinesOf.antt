@@ -1,0 +1,94 @@
+-- Lines of one kind that were read, and what no further line may be.
+use Rattle.std.proofs.Common.{◌≡◌, ◌<◌, ℕ, List, [], ◌∷◌, ◌++◌, length, map, refl, sym, ap, ◌∙◌, subst, arith, length-append}
+use Rattle.std.proofs.lemmas.List.{length-map}
+use Rattle.service_drawing.specs.Lines.{IsLine, HasNoLine, HasLineOf, HasLinesOf}
+use Rattle.service_drawing.proofs.Messages.{same_text}
+use Rattle.service_drawing.proofs.Words.{line_one}
+
+-- these lines stand before this place
+abbrev pub UpTo : {A : Type 0} → List ℕ → (A → List ℕ → Type 0) → List A → List ℕ → List ℕ → Type 0
+UpTo begin Spells [] at bytes = bytes ≡ at
+UpTo begin Spells (x ∷ xs) at bytes =
+    (mid : List ℕ) × HasLineOf begin Spells x mid bytes × UpTo begin Spells xs at mid
+
+-- one more line
+pub more_lines : {A : Type 0} (begin : List ℕ) (Spells : A → List ℕ → Type 0) (xs : List A) (x : A)
+    (at next bytes : List ℕ) → UpTo begin Spells xs at bytes → HasLineOf begin Spells x next at
+    → UpTo begin Spells (xs ++ x ∷ []) next bytes
+more_lines begin Spells [] x at next bytes e h =
+    (next, subst (λ (b : List ℕ). HasLineOf begin Spells x next b) (sym e) h, refl)
+more_lines begin Spells (y ∷ xs) x at next bytes u h =
+    (u.0, u.1, more_lines begin Spells xs x at next u.0 u.2 h)
+
+-- no more follow
+pub all_lines : {A : Type 0} (begin : List ℕ) (Spells : A → List ℕ → Type 0) (xs : List A)
+    (at bytes : List ℕ) → UpTo begin Spells xs at bytes → HasNoLine begin at
+    → HasLinesOf begin Spells xs at bytes
+all_lines begin Spells [] at bytes e none =
+    (sym e, subst (λ (b : List ℕ). HasNoLine begin b) (sym e) none)
+all_lines begin Spells (x ∷ xs) at bytes u none =
+    (u.0, u.1, all_lines begin Spells xs at u.0 u.2 none)
+
+-- two lists that give a text after the same lines: the second goes on with one that gives it, and
+-- both give the same keys before
+pub record GoesOn {A K : Type 0} (Spells : A → List ℕ → Type 0) (key : A → K) (xs ys : List A)
+    (text : List ℕ) : Type 0 where
+  pub one : A
+  pub more : List A
+  pub spelled : Spells one text
+  pub keys : map key ys ≡ map key xs ++ key one ∷ map key more
+
+pub goes_on : {A K : Type 0} (begin : List ℕ) (Spells : A → List ℕ → Type 0) (key : A → K)
+    → ((x y : A) (t : List ℕ) → Spells x t → Spells y t → key x ≡ key y) → (xs ys : List A)
+    (at rest bytes text tail : List ℕ) → UpTo begin Spells xs at bytes
+    → IsLine (begin ++ text) tail at → HasLinesOf begin Spells ys rest bytes
+    → GoesOn Spells key xs ys text
+goes_on begin Spells key same [] [] at rest bytes text tail e l h =
+    absurd (h.1 text tail (subst (λ (b : List ℕ). IsLine (begin ++ text) tail b) (sym e) l))
+goes_on begin Spells key same [] (y ∷ ys) at rest bytes text tail e l h = record {
+  one = y;
+  more = ys;
+  spelled = subst (λ (t : List ℕ). Spells y t)
+      (same_text begin h.1.text h.0 bytes h.1.line text tail
+      (subst (λ (b : List ℕ). IsLine (begin ++ text) tail b) (sym e) l)) h.1.spelled;
+  keys = refl;
+}
+goes_on begin Spells key same (x ∷ xs) [] at rest bytes text tail u l h =
+    absurd (h.1 u.1.text u.0 u.1.line)
+goes_on {K = K} begin Spells key same (x ∷ xs) (y ∷ ys) at rest bytes text tail u l h =
+    let texts : h.1.text ≡ u.1.text =
+    same_text begin h.1.text h.0 bytes h.1.line u.1.text u.0 u.1.line in
+    let mids : h.0 ≡ u.0 = (line_one _ _ h.0 u.0 bytes h.1.line u.1.line).1 in
+    let more = goes_on begin Spells key same xs ys at rest u.0 text tail u.2 l
+    (subst (λ (b : List ℕ). HasLinesOf begin Spells ys rest b) mids h.2) in
+    let keys : key y ≡ key x =
+    same y x u.1.text (subst (λ (t : List ℕ). Spells y t) texts h.1.spelled) u.1.spelled in
+    record {
+      one = more.one;
+      more = more.more;
+      spelled = more.spelled;
+      keys = ap (λ k. k ∷ map key ys) keys ∙ ap (λ (l : List K). key x ∷ l) more.keys;
+    }
+
+-- how many there are where one goes on
+pub longer_by_one : {A K : Type 0} (Spells : A → List ℕ → Type 0) (key : A → K) (xs ys : List A)
+    (text : List ℕ) → GoesOn Spells key xs ys text → length xs < length ys
+longer_by_one Spells key xs ys text g =
+    let all = ap length g.keys in
+    omega (arith, simp (length-map, length-append) at all)
+
+-- the key of lines that are only counted
+abbrev pub no_key : {A : Type 0} → A → Unit {0}
+no_key x = tt
+
+-- one rest follows the lines
+pub lines_rest : {A : Type 0} (begin : List ℕ) (Spells : A → List ℕ → Type 0) (xs ys : List A)
+    (r s bytes : List ℕ) → HasLinesOf begin Spells xs r bytes → HasLinesOf begin Spells ys s bytes
+    → r ≡ s
+lines_rest begin Spells [] [] r s bytes h k = h.0 ∙ sym k.0
+lines_rest begin Spells [] (y ∷ ys) r s bytes h k = absurd (h.1 k.1.text k.0 k.1.line)
+lines_rest begin Spells (x ∷ xs) [] r s bytes h k = absurd (k.1 h.1.text h.0 h.1.line)
+lines_rest begin Spells (x ∷ xs) (y ∷ ys) r s bytes h k =
+    let mids : k.0 ≡ h.0 = (line_one _ _ k.0 h.0 bytes k.1.line h.1.line).1 in
+    lines_rest begin Spells xs ys r s h.0 h.2
+    (subst (λ (b : List ℕ). HasLinesOf begin Spells ys s b) mids k.2)

@@ -1,0 +1,19 @@
+use Rattle.std.proofs.Common.{rules}
+use Rattle.service_drawing.proofs.Required.{one_more_required, required_whole, not_required}
+use Rattle.service_drawing.proofs.reading.attributes.required_before.Goals as goal
+
+pub loop-text-preserved : goal.loop-text-preserved
+loop-text-preserved c =
+    one_more_required c.loop-text.required c.in-Some-requiring.more c.loop-text.rest.now
+    c.in-Some.tail.now _ c.in-Some.text.now c.loop-text.invariant (search rules)
+    c.in-Some-requiring.ensures
+
+pub returns-in_default-requiring : goal.returns-in_default-requiring
+returns-in_default-requiring c =
+    not_required c.loop-text.required c.loop-text.rest.now c.args.bytes.now c.in-Some.text.now
+    c.in-Some.tail.now c.loop-text.invariant (search rules) c.in_default-requiring.ensures
+
+pub returns : goal.returns
+returns c =
+    required_whole c.loop-text.required c.loop-text.rest.now c.args.bytes.now
+    c.loop-text.invariant c.in_default.ensures.line

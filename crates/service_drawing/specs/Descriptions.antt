@@ -1,0 +1,21 @@
+-- What a whole description is.
+use Rattle.std.specs.Prelude.{◌≡◌, ℕ, List, []}
+use Rattle.iox2_config.specs.Hashing.{hash_input, sha1_text}
+use Rattle.service_drawing.specs.Lines.{HasService, HasExchange, kind_of_exchange, HasAttributes, HasRequirements}
+use Rattle.service_drawing.specs.Settings.{HasConfiguration}
+use Rattle.service_drawing.specs.declared.description.Description.{Description}
+
+-- the bytes are the lines of the description: those of the service, of settings,
+-- of what the ports exchange, of attributes and of what an opener requires
+pub record HasDescription (d : Description) (bytes : List ℕ) : Type 0 where
+  pub at_settings : List ℕ
+  pub at_exchange : List ℕ
+  pub at_attributes : List ℕ
+  pub at_required : List ℕ
+  pub service : HasService d.kind d.name at_settings bytes
+  pub hash : d.hash ≡ sha1_text (hash_input d.kind d.name)
+  pub settings : HasConfiguration d.kind d.config at_exchange at_settings
+  pub exchange : HasExchange d.exchange at_attributes at_exchange
+  pub kind : kind_of_exchange d.exchange ≡ d.kind
+  pub attributes : HasAttributes d.attributes at_required at_attributes
+  pub required : HasRequirements d.required [] at_required
