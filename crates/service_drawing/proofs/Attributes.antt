@@ -3,8 +3,8 @@ use Rattle.std.proofs.Common.{◌≡◌, ℕ, ◌+◌, ◌<◌, ◌≤◌, true,
 use Rattle.std.proofs.lemmas.List.Sorted.{IsPermutation-cons, IsPermutation-to_front, IsPermutation-trans}
 use Rattle.iox2_texts.specs.Attribute.{IsListing}
 use Rattle.iox2_texts.specs.Pair.{Pair}
-use Rattle.service_drawing.specs.Lines.{IsLine, HasNoLine, HasLineOf, HasLinesOf, IsPair, pair_text, GivesPair, HasAttributes}
-use Rattle.service_drawing.proofs.LinesOf.{UpTo, more_lines, all_lines, goes_on, longer_by_one, no_key}
+use Rattle.service_drawing.specs.Lines.{IsLine, HasNoLine, HasLineOf, IsPair, pair_text, GivesPair, HasAttributes, Begins, StopsAt}
+use Rattle.service_drawing.proofs.LinesOf.{UpTo, more_lines, all_lines, lines_stop, goes_on, longer_by_one, no_key}
 
 -- what was read so far
 pub record Reading (set : List Pair) (at bytes : List ℕ) : Type 0 where
@@ -58,23 +58,35 @@ finished set at bytes r none = record {
 }
 
 -- the next line gives no pair
-pub bad_pair : (set : List Pair) (at bytes text tail : List ℕ) → Reading set at bytes
-    → IsLine (codes "attribute " ++ text) tail at
-    → ((pair : Pair) → IsPair pair → ¬ (text ≡ pair_text pair)) → (other : List Pair)
-    (rest : List ℕ) → ¬ HasAttributes other rest bytes
-bad_pair set at bytes text tail r l bad other rest h =
-    let next = goes_on (codes "attribute ") GivesPair no_key (λ x y t p q. refl) r.pairs h.pairs at
-    rest bytes text tail r.lines l h.lines in
-    bad next.one next.spelled.legal next.spelled.spelled
+pub stops_at_pair : (set : List Pair) (left at bytes text tail : List ℕ) → left ≡ at
+    → Reading set at bytes → IsLine (codes "attribute " ++ text) tail at
+    → ((pair : Pair) → IsPair pair → ¬ (text ≡ pair_text pair))
+    → StopsAt (Begins HasAttributes) left bytes
+stops_at_pair set left at bytes text tail e r l bad =
+    lines_stop (codes "attribute ") GivesPair r.pairs (Begins HasAttributes) left at bytes text tail
+    e r.lines l
+    (λ other next rest u k h.
+    let one = goes_on (codes "attribute ") GivesPair no_key (λ x y t p q. refl) r.pairs
+    h.2.pairs next h.1 other text rest u k h.2.lines in
+    bad one.one one.spelled.legal one.spelled.spelled)
 
 -- the next line is one too many
-pub too_many : (set : List Pair) (at bytes text tail : List ℕ) → Reading set at bytes
-    → IsLine (codes "attribute " ++ text) tail at → 16 ≤ length set → (other : List Pair)
-    (rest : List ℕ) → ¬ HasAttributes other rest bytes
-too_many set at bytes text tail r l full other rest h =
-    let next = goes_on (codes "attribute ") GivesPair no_key (λ x y t p q. refl) r.pairs h.pairs at
-    rest bytes text tail r.lines l h.lines in
-    omega (arith, longer_by_one GivesPair no_key r.pairs h.pairs text next, full, r.count, h.few)
+pub stops_when_full : (set : List Pair) (left at bytes text tail : List ℕ) → left ≡ at
+    → Reading set at bytes → IsLine (codes "attribute " ++ text) tail at → 16 ≤ length set
+    → StopsAt (Begins HasAttributes) left bytes
+stops_when_full set left at bytes text tail e r l full =
+    lines_stop (codes "attribute ") GivesPair r.pairs (Begins HasAttributes) left at bytes text tail
+    e r.lines l
+    (λ other next rest u k h.
+    let one = goes_on (codes "attribute ") GivesPair no_key (λ x y t p q. refl) r.pairs
+    h.2.pairs next h.1 other text rest u k h.2.lines in
+    omega (
+      arith,
+      longer_by_one GivesPair no_key r.pairs h.2.pairs text one,
+      full,
+      r.count,
+      h.2.few,
+    ))
 
 unequal : false ≡ true → ⊥
 unequal e = cc

@@ -1,22 +1,53 @@
--- A description is read in one way: where a part of it is missing or bad, there is none.
-use Rattle.std.proofs.Common.{◌≡◌, ◌==◌, ℕ, List, [], ◌∷◌, true, false, length, codes, refl, sym, ◌∙◌, subst, arith}
+-- The parts of a description in turn, and where reading them stops.
+use Rattle.std.proofs.Common.{◌≡◌, ◌==◌, ℕ, List, [], ◌∷◌, ◌++◌, true, false, length, Some, None, codes, inl, inr, refl, sym, ap, ◌∙◌, subst, arith, length-append}
 use Rattle.std.proofs.lemmas.Bool.{eqb-true}
 use Rattle.iox2_texts.specs.Pair.{Pair}
 use Rattle.iox2_texts.specs.Verify.{Requirements}
 use Rattle.iox2_config.specs.declared.config.Config.{Config}
 use Rattle.iox2_config.specs.declared.hash.input.PatternKind.{PatternKind}
 use Rattle.iox2_config.specs.declared.hash.input.PatternKind.TheVariants as kind
-use Rattle.service_drawing.specs.Descriptions.{HasDescription}
-use Rattle.service_drawing.specs.Lines.{HasService, HasMessage, HasExchange, kind_of_exchange, HasAttributes, HasRequirements, GivesPair, GivesRequirement}
+use Rattle.service_drawing.specs.Descriptions.{IsDescription}
+use Rattle.service_drawing.specs.Lines.{IsLine, HasSameLine, Begins, StopsAt, pattern_word, HasLinesOf, HasService, HasExchange, HasAttributes, HasRequirements, GivesPair, GivesRequirement}
 use Rattle.service_drawing.specs.Settings.{HasSettings, HasConfiguration, GivesSetting}
-use Rattle.service_drawing.specs.declared.description.Description.{Description}
 use Rattle.service_drawing.specs.declared.description.Exchange.{Exchange}
-use Rattle.service_drawing.specs.declared.description.Exchange.TheVariants.{PublishSubscribe, Event, RequestResponse, Blackboard}
 use Rattle.service_drawing.specs.declared.settings.value.Value.{Value}
-use Rattle.service_drawing.proofs.LinesOf.{lines_rest}
-use Rattle.service_drawing.proofs.Messages.{message_rest, message_at, type_rest}
+use Rattle.service_drawing.proofs.Exchanges.{exchange_rest, exchange_end, exchange_moves}
+use Rattle.service_drawing.proofs.LinesOf.{lines_rest, lines_move}
 use Rattle.service_drawing.proofs.ServiceNames.{same_pattern}
+use Rattle.service_drawing.proofs.Stops.{Moves, Then, moves_as, line_moves, line_later, ends_later, after, stops_as, stops_here}
 use Rattle.service_drawing.proofs.Words.{line_one}
+
+-- the line of a service, by its pattern and name
+abbrev HasLineOfService : PatternKind × List ℕ → List ℕ → List ℕ → Type 0
+HasLineOfService s rest bytes = HasService s.0 s.1 rest bytes
+
+-- what follows the parts of a description
+abbrev pub AfterAttributes : List ℕ → Type 0
+AfterAttributes bytes = (required : Requirements) × HasRequirements required [] bytes
+
+abbrev pub AfterExchange : List ℕ → Type 0
+AfterExchange = Then HasAttributes (λ set. AfterAttributes)
+
+abbrev pub AfterSettings : PatternKind → List ℕ → Type 0
+AfterSettings k = Then (HasExchange k) (λ x. AfterExchange)
+
+abbrev pub AfterService : PatternKind → List ℕ → Type 0
+AfterService k = Then (HasConfiguration k) (λ c. AfterSettings k)
+
+abbrev InTurn : List ℕ → Type 0
+InTurn = Then HasLineOfService (λ s. AfterService s.0)
+
+in_turn : (bytes : List ℕ) → IsDescription bytes → InTurn bytes
+in_turn bytes g =
+    let d = g.0 in
+    let h = g.1 in
+    let attributes : AfterExchange h.at_attributes =
+    (d.attributes, h.at_required, h.attributes, (d.required, h.required)) in
+    let exchange : AfterSettings d.kind h.at_exchange =
+    (d.exchange, h.at_attributes, h.exchange, attributes) in
+    let settings : AfterService d.kind h.at_settings =
+    (d.config, h.at_exchange, h.settings, exchange) in
+    ((d.kind, d.name), h.at_settings, h.service, settings)
 
 -- the line of a service tells its pattern
 service_same : (j k : PatternKind) (m n x y bytes : List ℕ) → HasService j m x bytes
@@ -25,10 +56,26 @@ service_same j k m n x y bytes p q =
     let same = line_one _ _ x y bytes p.line q.line in
     ((same_pattern j k m n same.0).0, same.1)
 
+service_moves : (k : PatternKind) (name rest bytes : List ℕ) → HasService k name rest bytes
+    → Moves None (HasService k name) rest bytes
+service_moves k name rest bytes h =
+    moves_as None (IsLine (pattern_word k ++ name)) (HasService k name) rest bytes
+    (λ r b l. record { line = l; named = h.named }) (line_moves _ rest bytes h.line)
+
 settings_rest : (names : List (List ℕ)) (defaults v w : List Value) (x y bytes : List ℕ)
     → HasSettings names defaults v x bytes → HasSettings names defaults w y bytes → x ≡ y
 settings_rest names defaults v w x y bytes p q =
     lines_rest (codes "set ") (GivesSetting names defaults) p.sets q.sets x y bytes p.lines q.lines
+
+settings_move : (names : List (List ℕ)) (defaults v : List Value) (rest bytes : List ℕ)
+    → HasSettings names defaults v rest bytes
+    → Moves (Some (codes "set ")) (HasSettings names defaults v) rest bytes
+settings_move names defaults v rest bytes h =
+    moves_as (Some (codes "set "))
+    (HasLinesOf (codes "set ") (GivesSetting names defaults) h.sets)
+    (HasSettings names defaults v) rest bytes
+    (λ r b l. record { sets = h.sets; lines = l; once = h.once; changed = h.changed })
+    (lines_move (codes "set ") (GivesSetting names defaults) h.sets rest bytes h.lines)
 
 configuration_rest : (k : PatternKind) (c d : Config) (x y bytes : List ℕ)
     → HasConfiguration k c x bytes → HasConfiguration k d y bytes → x ≡ y
@@ -38,126 +85,158 @@ configuration_rest kind.Event c d x y bytes p q = settings_rest _ _ _ _ x y byte
 configuration_rest kind.RequestResponse c d x y bytes p q = settings_rest _ _ _ _ x y bytes p.0 q.0
 configuration_rest kind.Blackboard c d x y bytes p q = settings_rest _ _ _ _ x y bytes p.0 q.0
 
-exchange_rest : (e f : Exchange) (x y bytes : List ℕ) → kind_of_exchange e ≡ kind_of_exchange f
-    → HasExchange e x bytes → HasExchange f y bytes → x ≡ y
-exchange_rest (PublishSubscribe m) (PublishSubscribe n) x y bytes k p q =
-    message_rest [] m n x y bytes p q
-exchange_rest (PublishSubscribe m) Event x y bytes k p q = cc
-exchange_rest (PublishSubscribe m) (RequestResponse n o) x y bytes k p q = cc
-exchange_rest (PublishSubscribe m) (Blackboard t) x y bytes k p q = cc
-exchange_rest Event Event x y bytes k p q = p ∙ sym q
-exchange_rest Event (PublishSubscribe m) x y bytes k p q = cc
-exchange_rest Event (RequestResponse m n) x y bytes k p q = cc
-exchange_rest Event (Blackboard t) x y bytes k p q = cc
-exchange_rest (RequestResponse a b) (RequestResponse m n) x y bytes k p q =
-    message_rest (codes "response-") b n x y q.0
-    (message_at (codes "response-") b x p.0 q.0
-    (message_rest (codes "request-") a m p.0 q.0 bytes p.1 q.1) p.2) q.2
-exchange_rest (RequestResponse a b) (PublishSubscribe m) x y bytes k p q = cc
-exchange_rest (RequestResponse a b) Event x y bytes k p q = cc
-exchange_rest (RequestResponse a b) (Blackboard t) x y bytes k p q = cc
-exchange_rest (Blackboard t) (Blackboard u) x y bytes k p q =
-    type_rest (codes "key ") t u x y bytes p q
-exchange_rest (Blackboard t) (PublishSubscribe m) x y bytes k p q = cc
-exchange_rest (Blackboard t) Event x y bytes k p q = cc
-exchange_rest (Blackboard t) (RequestResponse m n) x y bytes k p q = cc
+configuration_moves : (k : PatternKind) (c : Config) (rest bytes : List ℕ)
+    → HasConfiguration k c rest bytes
+    → Moves (Some (codes "set ")) (HasConfiguration k c) rest bytes
+configuration_moves kind.PublishSubscribe c rest bytes h =
+    moves_as _ _ (HasConfiguration kind.PublishSubscribe c) rest bytes (λ r b s. (s, h.1))
+    (settings_move _ _ _ rest bytes h.0)
+configuration_moves kind.Event c rest bytes h =
+    moves_as _ _ (HasConfiguration kind.Event c) rest bytes (λ r b s. (s, h.1))
+    (settings_move _ _ _ rest bytes h.0)
+configuration_moves kind.RequestResponse c rest bytes h =
+    moves_as _ _ (HasConfiguration kind.RequestResponse c) rest bytes (λ r b s. (s, h.1))
+    (settings_move _ _ _ rest bytes h.0)
+configuration_moves kind.Blackboard c rest bytes h =
+    moves_as _ _ (HasConfiguration kind.Blackboard c) rest bytes (λ r b s. (s, h.1))
+    (settings_move _ _ _ rest bytes h.0)
+
+-- where the settings stop, from the same defaults, so does the configuration
+pub configuration_stops : (k : PatternKind) (names : List (List ℕ)) (one other : List Value)
+    (values : Config → List Value) (left bytes : List ℕ) → one ≡ other
+    → ((c : Config) (r b : List ℕ) → HasConfiguration k c r b
+    → HasSettings names other (values c) r b) → StopsAt (Begins (HasSettings names one)) left bytes
+    → StopsAt (Begins (HasConfiguration k)) left bytes
+configuration_stops k names one other values left bytes e to s =
+    stops_as (Begins (HasSettings names one)) (Begins (HasConfiguration k)) left bytes
+    (λ b g. (
+      values g.0,
+      g.1,
+      subst (λ (d : List Value). HasSettings names d (values g.0) g.1 b) (sym e) (to g.0 g.1 b g.2),
+    )) s
 
 attributes_rest : (s t : List Pair) (x y bytes : List ℕ) → HasAttributes s x bytes
     → HasAttributes t y bytes → x ≡ y
 attributes_rest s t x y bytes p q =
     lines_rest (codes "attribute ") GivesPair p.pairs q.pairs x y bytes p.lines q.lines
 
-required_rest : (r s : Requirements) (x y bytes : List ℕ) → HasRequirements r x bytes
-    → HasRequirements s y bytes → x ≡ y
-required_rest r s x y bytes p q =
-    lines_rest (codes "require") GivesRequirement p.each q.each x y bytes p.lines q.lines
+attributes_move : (s : List Pair) (rest bytes : List ℕ) → HasAttributes s rest bytes
+    → Moves (Some (codes "attribute ")) (HasAttributes s) rest bytes
+attributes_move s rest bytes h =
+    moves_as (Some (codes "attribute ")) (HasLinesOf (codes "attribute ") GivesPair h.pairs)
+    (HasAttributes s) rest bytes
+    (λ r b l. record { pairs = h.pairs; lines = l; few = h.few; listing = h.listing })
+    (lines_move (codes "attribute ") GivesPair h.pairs rest bytes h.lines)
 
--- where the settings of a description begin, and its pattern
-settings_at : (k : PatternKind) (name x bytes : List ℕ) → HasService k name x bytes
-    → (d : Description) (h : HasDescription d bytes) → (d.kind ≡ k) × HasConfiguration k d.config h.at_exchange x
-settings_at k name x bytes s d h =
-    let same = service_same d.kind k d.name name h.at_settings x bytes h.service s in (
-      same.0,
-      subst (λ (b : List ℕ). HasConfiguration k d.config h.at_exchange b) same.1
-          (subst (λ j. HasConfiguration j d.config h.at_exchange h.at_settings) same.0 h.settings),
-    )
+requirements_move : (v : Requirements) (rest bytes : List ℕ) → HasRequirements v rest bytes
+    → Moves (Some (codes "require")) (HasRequirements v) rest bytes
+requirements_move v rest bytes h =
+    moves_as (Some (codes "require")) (HasLinesOf (codes "require") GivesRequirement h.each)
+    (HasRequirements v) rest bytes
+    (λ r b l. record {
+      each = h.each;
+      lines = l;
+      few = h.few;
+      pairs = h.pairs;
+      keys = h.keys;
+    }) (lines_move (codes "require") GivesRequirement h.each rest bytes h.lines)
 
--- where the lines of what the ports exchange begin
-exchange_at : (k : PatternKind) (name x y bytes : List ℕ) (c : Config) → HasService k name x bytes
-    → HasConfiguration k c y x → (d : Description) (h : HasDescription d bytes)
-    → (kind_of_exchange d.exchange ≡ k) × HasExchange d.exchange h.at_attributes y
-exchange_at k name x y bytes c s p d h =
-    let at = settings_at k name x bytes s d h in (
-      h.kind ∙ at.0,
-      subst (λ (b : List ℕ). HasExchange d.exchange h.at_attributes b)
-          (configuration_rest k d.config c h.at_exchange y x at.1 p) h.exchange,
-    )
+-- no service
+pub no_service_here : (left bytes : List ℕ) → left ≡ bytes
+    → ((k : PatternKind) (name rest : List ℕ) → ¬ HasService k name rest bytes)
+    → StopsAt IsDescription left bytes
+no_service_here left bytes e none =
+    stops_as (Begins HasLineOfService) IsDescription left bytes
+    (λ b g. ((g.0.kind, g.0.name), g.1.at_settings, g.1.service))
+    (stops_here (Begins HasLineOfService) left bytes e like (λ g. none g.0.0 g.0.1 g.1 g.2))
+  where
+    like : (other : List ℕ) → HasSameLine other bytes → Begins HasLineOfService other
+        → Begins HasLineOfService bytes
+    like other same g =
+        let l = line_later [] other bytes (pattern_word g.0.0 ++ g.0.1) g.1 same g.2.line in
+        (g.0, l.0, record { line = l.1; named = g.2.named })
 
--- where the lines of attributes begin
-attributes_at : (k : PatternKind) (name x y z bytes : List ℕ) (c : Config) (e : Exchange)
-    → HasService k name x bytes → HasConfiguration k c y x → kind_of_exchange e ≡ k
-    → HasExchange e z y → (d : Description) (h : HasDescription d bytes)
-    → HasAttributes d.attributes h.at_required z
-attributes_at k name x y z bytes c e s p same q d h =
-    let at = exchange_at k name x y bytes c s p d h in
-    subst (λ (b : List ℕ). HasAttributes d.attributes h.at_required b)
-    (exchange_rest d.exchange e h.at_attributes z y (at.0 ∙ sym same) at.1 q) h.attributes
+-- where a part of a description was read, it stops where what follows does
+pub stops_after_service : (k : PatternKind) (name left mid bytes : List ℕ)
+    → HasService k name mid bytes → StopsAt (AfterService k) left mid
+    → StopsAt IsDescription left bytes
+stops_after_service k name left mid bytes h s =
+    stops_as InTurn IsDescription left bytes in_turn
+    (after HasLineOfService (λ s. AfterService s.0) None (k, name) left mid bytes
+    (λ t x y b p q n.
+    let same = service_same t.0 k t.1 name y x b q p in
+    subst (λ j. AfterService j x) same.0 (subst (AfterService t.0) same.1 n))
+    (service_moves k name mid bytes h) s)
 
--- where the lines of what is required begin
-required_at : (k : PatternKind) (name x y z w bytes : List ℕ) (c : Config) (e : Exchange)
-    (set : List Pair) → HasService k name x bytes → HasConfiguration k c y x
-    → kind_of_exchange e ≡ k → HasExchange e z y → HasAttributes set w z → (d : Description)
-    → HasDescription d bytes → HasRequirements d.required [] w
-required_at k name x y z w bytes c e set s p same q r d h =
-    subst (λ (b : List ℕ). HasRequirements d.required [] b)
-    (attributes_rest d.attributes set h.at_required w z
-    (attributes_at k name x y z bytes c e s p same q d h) r) h.required
+pub stops_in_settings : (k : PatternKind) (left bytes : List ℕ)
+    → StopsAt (Begins (HasConfiguration k)) left bytes → StopsAt (AfterService k) left bytes
+stops_in_settings k left bytes s =
+    stops_as (Begins (HasConfiguration k)) (AfterService k) left bytes (λ b g. (g.0, g.1, g.2)) s
 
--- where one of its parts is missing or bad, no description is the bytes
-pub no_settings : (k : PatternKind) (name x bytes : List ℕ) → HasService k name x bytes
-    → ((c : Config) (r : List ℕ) → ¬ HasConfiguration k c r x) → (d : Description)
-    → ¬ HasDescription d bytes
-no_settings k name x bytes s bad d h =
-    bad d.config h.at_exchange (settings_at k name x bytes s d h).1
+pub stops_after_settings : (k : PatternKind) (c : Config) (left mid bytes : List ℕ)
+    → HasConfiguration k c mid bytes → StopsAt (AfterSettings k) left mid
+    → StopsAt (AfterService k) left bytes
+stops_after_settings k c left mid bytes h s =
+    after (HasConfiguration k) (λ c. AfterSettings k) (Some (codes "set ")) c left mid bytes
+    (λ d x y b p q n. subst (AfterSettings k) (configuration_rest k d c y x b q p) n)
+    (configuration_moves k c mid bytes h) s
 
-pub no_exchange : (k : PatternKind) (name x y bytes : List ℕ) (c : Config)
-    → HasService k name x bytes → HasConfiguration k c y x
-    → ((e : Exchange) (r : List ℕ) → kind_of_exchange e ≡ k → ¬ HasExchange e r y)
-    → (d : Description) → ¬ HasDescription d bytes
-no_exchange k name x y bytes c s p bad d h =
-    let at = exchange_at k name x y bytes c s p d h in
-    bad d.exchange h.at_attributes at.0 at.1
+pub stops_in_exchange : (k : PatternKind) (left bytes : List ℕ)
+    → StopsAt (Begins (HasExchange k)) left bytes → StopsAt (AfterSettings k) left bytes
+stops_in_exchange k left bytes s =
+    stops_as (Begins (HasExchange k)) (AfterSettings k) left bytes (λ b g. (g.0, g.1, g.2)) s
 
-pub no_attributes : (k : PatternKind) (name x y z bytes : List ℕ) (c : Config) (e : Exchange)
-    → HasService k name x bytes → HasConfiguration k c y x → kind_of_exchange e ≡ k
-    → HasExchange e z y → ((set : List Pair) (r : List ℕ) → ¬ HasAttributes set r z)
-    → (d : Description) → ¬ HasDescription d bytes
-no_attributes k name x y z bytes c e s p same q bad d h =
-    bad d.attributes h.at_required (attributes_at k name x y z bytes c e s p same q d h)
+pub stops_after_exchange : (k : PatternKind) (x : Exchange) (left mid bytes : List ℕ)
+    → HasExchange k x mid bytes → StopsAt AfterExchange left mid
+    → StopsAt (AfterSettings k) left bytes
+stops_after_exchange k x left mid bytes h s =
+    after (HasExchange k) (λ x. AfterExchange) (exchange_end k x mid bytes h) x left mid bytes
+    (λ e r t b p q n. subst AfterExchange (exchange_rest k e x t r b q p) n)
+    (exchange_moves k x mid bytes h) s
 
-pub no_required : (k : PatternKind) (name x y z w bytes : List ℕ) (c : Config) (e : Exchange)
-    (set : List Pair) → HasService k name x bytes → HasConfiguration k c y x
-    → kind_of_exchange e ≡ k → HasExchange e z y → HasAttributes set w z
-    → ((v : Requirements) → ¬ HasRequirements v [] w) → (d : Description) → ¬ HasDescription d bytes
-no_required k name x y z w bytes c e set s p same q r bad d h =
-    bad d.required (required_at k name x y z w bytes c e set s p same q r d h)
+pub stops_in_attributes : (left bytes : List ℕ) → StopsAt (Begins HasAttributes) left bytes
+    → StopsAt AfterExchange left bytes
+stops_in_attributes left bytes s =
+    stops_as (Begins HasAttributes) AfterExchange left bytes (λ b g. (g.0, g.1, g.2)) s
+
+pub stops_after_attributes : (set : List Pair) (left mid bytes : List ℕ)
+    → HasAttributes set mid bytes → StopsAt AfterAttributes left mid
+    → StopsAt AfterExchange left bytes
+stops_after_attributes set left mid bytes h s =
+    after HasAttributes (λ set. AfterAttributes) (Some (codes "attribute ")) set left mid bytes
+    (λ t x y b p q n. subst AfterAttributes (attributes_rest t set y x b q p) n)
+    (attributes_move set mid bytes h) s
+
+pub stops_in_required : (left bytes : List ℕ) → StopsAt (Begins HasRequirements) left bytes
+    → StopsAt AfterAttributes left bytes
+stops_in_required left bytes s =
+    stops_as (Begins HasRequirements) AfterAttributes left bytes (λ b g. (g.0, [], g.1)) s
 
 -- more follows than what is required
-pub goes_on_after : (v : Requirements) (x w : List ℕ) → HasRequirements v x w
-    → false ≡ (length x == 0) → (other : Requirements) → ¬ HasRequirements other [] w
-goes_on_after v x w p more other q = filled x more (required_rest v other x [] w p q)
-  where
-    filled : (xs : List ℕ) → false ≡ (length xs == 0) → ¬ (xs ≡ [])
-    filled [] e none = cc
-    filled (y ∷ ys) e none = cc
+filled : (left other : List ℕ) → false ≡ (length left == 0) → HasSameLine left other
+    → ¬ ([] ≡ other)
+filled [] other more same e = cc
+filled (x ∷ xs) other more (inl same) e = let none : x ∷ xs ≡ [] = same ∙ sym e in cc
+filled (x ∷ xs) other more (inr s) e =
+    omega (arith, ap length (e ∙ s.second.spelled), length-append s.line (10 ∷ s.other_rest))
+
+pub stops_after_required : (v : Requirements) (left rest bytes : List ℕ) → left ≡ rest
+    → HasRequirements v rest bytes → false ≡ (length rest == 0)
+    → StopsAt AfterAttributes left bytes
+stops_after_required v left rest bytes e h more =
+    let m = requirements_move v rest bytes h in
+    record {
+      read = m.front;
+      parts = m.parts ∙ ap (λ (l : List ℕ). m.front ++ l) (sym e);
+      stops = λ other same good.
+          let like = subst (λ (l : List ℕ). HasSameLine l other) e same in
+          let whole = m.moved other
+          (ends_later (Some (codes "require")) [] rest other like m.ends) in
+          filled rest other more like
+          (lines_rest (codes "require") GivesRequirement good.1.each whole.each [] other
+          (m.front ++ other) good.1.lines whole.lines);
+    }
 
 pub no_more : (xs : List ℕ) → true ≡ (length xs == 0) → xs ≡ []
 no_more [] e = refl
 no_more (y ∷ ys) e = absurd (omega (arith, eqb-true (length (y ∷ ys)) 0 (sym e)))
-
--- the same refusal, of the same pattern
-pub none_of : (j k : PatternKind) (bytes : List ℕ) → j ≡ k
-    → ((c : Config) (rest : List ℕ) → ¬ HasConfiguration k c rest bytes) → (c : Config)
-    (rest : List ℕ) → ¬ HasConfiguration j c rest bytes
-none_of j k bytes e none c rest h =
-    none c rest (subst (λ i. HasConfiguration i c rest bytes) e h)

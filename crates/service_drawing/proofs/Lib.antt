@@ -5,11 +5,13 @@ mod Exchanges
 mod FirstLine
 mod Inside
 mod LinesOf
+mod MessageParts
 mod Messages
 mod Naming
 mod Pairs
 mod Required
 mod ServiceNames
 mod SettingLines
+mod Stops
 mod Words
 mod Writes

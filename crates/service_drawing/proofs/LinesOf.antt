@@ -1,8 +1,9 @@
 -- Lines of one kind that were read, and what no further line may be.
-use Rattle.std.proofs.Common.{◌≡◌, ◌<◌, ℕ, List, [], ◌∷◌, ◌++◌, length, map, refl, sym, ap, ◌∙◌, subst, arith, length-append}
+use Rattle.std.proofs.Common.{◌≡◌, ◌<◌, ℕ, List, [], ◌∷◌, ◌++◌, Some, None, length, map, refl, sym, ap, ◌∙◌, subst, arith, length-append}
 use Rattle.std.proofs.lemmas.List.{length-map}
-use Rattle.service_drawing.specs.Lines.{IsLine, HasNoLine, HasLineOf, HasLinesOf}
+use Rattle.service_drawing.specs.Lines.{IsLine, HasNoLine, HasSameLine, StopsAt, HasLineOf, HasLinesOf}
 use Rattle.service_drawing.proofs.Messages.{same_text}
+use Rattle.service_drawing.proofs.Stops.{Moves, moves_as, line_moves, moves_then, line_later}
 use Rattle.service_drawing.proofs.Words.{line_one}
 
 -- these lines stand before this place
@@ -92,3 +93,56 @@ lines_rest begin Spells (x ∷ xs) (y ∷ ys) r s bytes h k =
     let mids : k.0 ≡ h.0 = (line_one _ _ k.0 h.0 bytes k.1.line h.1.line).1 in
     lines_rest begin Spells xs ys r s h.0 h.2
     (subst (λ (b : List ℕ). HasLinesOf begin Spells ys s b) mids k.2)
+
+-- the lines are read before other bytes too
+one_moves : {A : Type 0} (begin : List ℕ) (Spells : A → List ℕ → Type 0) (x : A)
+    (rest bytes : List ℕ) → HasLineOf begin Spells x rest bytes
+    → Moves None (HasLineOf begin Spells x) rest bytes
+one_moves begin Spells x rest bytes h =
+    moves_as None (IsLine (begin ++ h.text)) (HasLineOf begin Spells x) rest bytes
+    (λ r b l. record { text = h.text; line = l; spelled = h.spelled })
+    (line_moves (begin ++ h.text) rest bytes h.line)
+
+pub up_moves : {A : Type 0} (begin : List ℕ) (Spells : A → List ℕ → Type 0) (xs : List A)
+    (at bytes : List ℕ) → UpTo begin Spells xs at bytes
+    → Moves None (UpTo begin Spells xs) at bytes
+up_moves begin Spells [] at bytes e = record {
+  front = [];
+  parts = e;
+  ends = tt;
+  moved = λ other n. refl;
+}
+up_moves begin Spells (x ∷ xs) at bytes u =
+    moves_then None None (HasLineOf begin Spells x) (UpTo begin Spells xs) u.0 at bytes
+    (one_moves begin Spells x u.0 bytes u.1) (up_moves begin Spells xs at u.0 u.2) (λ o m n. tt)
+
+pub lines_move : {A : Type 0} (begin : List ℕ) (Spells : A → List ℕ → Type 0) (xs : List A)
+    (rest bytes : List ℕ) → HasLinesOf begin Spells xs rest bytes
+    → Moves (Some begin) (HasLinesOf begin Spells xs) rest bytes
+lines_move begin Spells [] rest bytes h = record {
+  front = [];
+  parts = sym h.0;
+  ends = subst (λ (b : List ℕ). HasNoLine begin b) (sym h.0) h.1;
+  moved = λ other none. (refl, none);
+}
+lines_move begin Spells (x ∷ xs) rest bytes h =
+    moves_then None (Some begin) (HasLineOf begin Spells x) (HasLinesOf begin Spells xs) h.0 rest
+    bytes (one_moves begin Spells x h.0 bytes h.1) (lines_move begin Spells xs rest h.0 h.2)
+    (λ o m n. tt)
+
+-- where the line that follows those that were read is no good after them, they stop
+pub lines_stop : {A : Type 0} (begin : List ℕ) (Spells : A → List ℕ → Type 0) (xs : List A)
+    (IsGood : List ℕ → Type 0) (left at bytes text tail : List ℕ) → left ≡ at
+    → UpTo begin Spells xs at bytes → IsLine (begin ++ text) tail at
+    → ((other next rest : List ℕ) → UpTo begin Spells xs next other
+    → IsLine (begin ++ text) rest next → ¬ IsGood other) → StopsAt IsGood left bytes
+lines_stop begin Spells xs IsGood left at bytes text tail e u l bad =
+    let m = up_moves begin Spells xs at bytes u in
+    record {
+      read = m.front;
+      parts = m.parts ∙ ap (λ (a : List ℕ). m.front ++ a) (sym e);
+      stops = λ other same.
+          let next = line_later [] at other (begin ++ text) tail
+          (subst (λ (a : List ℕ). HasSameLine a other) e same) l in
+          bad (m.front ++ other) other next.0 (m.moved other tt) next.1;
+    }

@@ -13,8 +13,7 @@ use Rattle.iox2_config.specs.declared.types.type_detail.TypeDetailError.{TypeDet
 use Rattle.iox2_config.specs.declared.types.type_detail.TypeDetailError.TheVariants.{Name, AlignmentNotPowerOfTwo}
 use Rattle.iox2_config.specs.declared.types.type_detail.TypeVariant.{TypeVariant}
 use Rattle.iox2_config.specs.declared.types.type_detail.TypeVariant.TheVariants.{FixedSize, Dynamic}
-use Rattle.service_drawing.specs.Lines.{IsLine, IsDescribed, AreAlignments, type_text, payload_text, alignments_text, variant_word, HasType, HasPayload, HasElements, HasOpener, HasMessage}
-use Rattle.service_drawing.specs.declared.description.Message.{Message}
+use Rattle.service_drawing.specs.Lines.{IsLine, IsDescribed, AreAlignments, type_text, payload_text, alignments_text, variant_word, HasType, HasPayload, HasElements, HasOpener}
 use Rattle.service_drawing.proofs.Words.{same_number, line_one}
 
 -- no second number
@@ -161,117 +160,9 @@ pub elements_rest : (prefix : List ℕ) (v : TypeVariant) (m n : ℕ) (x y bytes
 elements_rest prefix FixedSize m n x y bytes p q = p.1 ∙ sym q.1
 elements_rest prefix Dynamic m n x y bytes p q = (line_one _ _ x y bytes p.1 q.1).1
 
-opener_rest : (prefix : List ℕ) (o q : Option MessageTypeDetails) (x y bytes : List ℕ)
+pub opener_rest : (prefix : List ℕ) (o q : Option MessageTypeDetails) (x y bytes : List ℕ)
     → HasOpener prefix o x bytes → HasOpener prefix q y bytes → x ≡ y
 opener_rest prefix None None x y bytes p q = p.0 ∙ sym q.0
 opener_rest prefix None (Some d) x y bytes p q = absurd (p.1 (alignments_text d) y q.1)
 opener_rest prefix (Some d) None x y bytes p q = absurd (q.1 (alignments_text d) x p.1)
 opener_rest prefix (Some d) (Some e) x y bytes p q = (line_one _ _ x y bytes p.1 q.1).1
-
--- the same line from where the rest is
-pub type_at : (begin : List ℕ) (t : TypeDetailParts) (x a b : List ℕ) → a ≡ b → HasType begin t x a
-    → HasType begin t x b
-type_at begin t x a b e h = subst (λ (m : List ℕ). HasType begin t x m) e h
-
-payload_at : (prefix : List ℕ) (t : TypeDetailParts) (x a b : List ℕ) → a ≡ b
-    → HasPayload prefix t x a → HasPayload prefix t x b
-payload_at prefix t x a b e h = subst (λ (m : List ℕ). HasPayload prefix t x m) e h
-
-pub elements_at : (prefix : List ℕ) (v w : TypeVariant) (n : ℕ) (x a b : List ℕ) → v ≡ w → a ≡ b
-    → HasElements prefix v n x a → HasElements prefix w n x b
-elements_at prefix v w n x a b e f h =
-    subst (λ u. HasElements prefix u n x b) e
-    (subst (λ (m : List ℕ). HasElements prefix v n x m) f h)
-
-opener_at : (prefix : List ℕ) (o : Option MessageTypeDetails) (x a b : List ℕ) → a ≡ b
-    → HasOpener prefix o x a → HasOpener prefix o x b
-opener_at prefix o x a b e h = subst (λ (m : List ℕ). HasOpener prefix o x m) e h
-
--- where the payload's line begins
-at_payload_is : (prefix : List ℕ) (h u : TypeDetailParts) (x y bytes : List ℕ)
-    → HasType (prefix ++ codes "header ") h x bytes → HasType (prefix ++ codes "user-header ") u y x
-    → (m : Message) (rest : List ℕ) (l : HasMessage prefix m rest bytes) → l.at_payload ≡ y
-at_payload_is prefix h u x y bytes first second m rest l =
-    type_rest _ m.details.user_header u l.at_payload y x
-    (type_at _ m.details.user_header l.at_payload l.at_user_header x
-    (type_rest _ m.details.header h l.at_user_header x bytes l.header first) l.user_header) second
-
--- where the line of the elements begins, and which variant the payload has
-at_elements_is : (prefix : List ℕ) (h u t : TypeDetailParts) (x y z bytes : List ℕ)
-    → HasType (prefix ++ codes "header ") h x bytes → HasType (prefix ++ codes "user-header ") u y x
-    → HasPayload prefix t z y → (m : Message) (rest : List ℕ) (l : HasMessage prefix m rest bytes)
-    → (m.details.payload.variant ≡ t.variant) × (l.at_elements ≡ z)
-at_elements_is prefix h u t x y z bytes first second third m rest l =
-    payload_same prefix m.details.payload t l.at_elements z y
-    (payload_at prefix m.details.payload l.at_elements l.at_payload y
-    (at_payload_is prefix h u x y bytes first second m rest l) l.payload) third
-
--- where the opener's line begins
-at_opener_is : (prefix : List ℕ) (h u t : TypeDetailParts) (n : ℕ) (x y z w bytes : List ℕ)
-    → HasType (prefix ++ codes "header ") h x bytes → HasType (prefix ++ codes "user-header ") u y x
-    → HasPayload prefix t z y → HasElements prefix t.variant n w z → (m : Message) (rest : List ℕ)
-    (l : HasMessage prefix m rest bytes) → l.at_opener ≡ w
-at_opener_is prefix h u t n x y z w bytes first second third fourth m rest l =
-    let at = at_elements_is prefix h u t x y z bytes first second third m rest l in
-    elements_rest prefix t.variant m.elements n l.at_opener w z
-    (elements_at prefix m.details.payload.variant t.variant m.elements l.at_opener l.at_elements z
-    at.0 at.1 l.elements) fourth
-
--- where one of its lines is missing or bad, no message begins the bytes
-pub no_header : (prefix bytes : List ℕ)
-    → ((t : TypeDetailParts) (r : List ℕ) → ¬ HasType (prefix ++ codes "header ") t r bytes)
-    → (m : Message) (rest : List ℕ) → ¬ HasMessage prefix m rest bytes
-no_header prefix bytes bad m rest l = bad m.details.header l.at_user_header l.header
-
-pub no_user_header : (prefix : List ℕ) (h : TypeDetailParts) (x bytes : List ℕ)
-    → HasType (prefix ++ codes "header ") h x bytes
-    → ((t : TypeDetailParts) (r : List ℕ) → ¬ HasType (prefix ++ codes "user-header ") t r x)
-    → (m : Message) (rest : List ℕ) → ¬ HasMessage prefix m rest bytes
-no_user_header prefix h x bytes first bad m rest l =
-    bad m.details.user_header l.at_payload
-    (type_at _ m.details.user_header l.at_payload l.at_user_header x
-    (type_rest _ m.details.header h l.at_user_header x bytes l.header first) l.user_header)
-
-pub no_payload : (prefix : List ℕ) (h u : TypeDetailParts) (x y bytes : List ℕ)
-    → HasType (prefix ++ codes "header ") h x bytes → HasType (prefix ++ codes "user-header ") u y x
-    → ((t : TypeDetailParts) (r : List ℕ) → ¬ HasPayload prefix t r y) → (m : Message)
-    (rest : List ℕ) → ¬ HasMessage prefix m rest bytes
-no_payload prefix h u x y bytes first second bad m rest l =
-    bad m.details.payload l.at_elements
-    (payload_at prefix m.details.payload l.at_elements l.at_payload y
-    (at_payload_is prefix h u x y bytes first second m rest l) l.payload)
-
-pub no_elements : (prefix : List ℕ) (h u t : TypeDetailParts) (x y z bytes : List ℕ)
-    → HasType (prefix ++ codes "header ") h x bytes → HasType (prefix ++ codes "user-header ") u y x
-    → HasPayload prefix t z y
-    → ((n : ℕ) (r : List ℕ) → ¬ HasElements prefix t.variant n r z) → (m : Message)
-    (rest : List ℕ) → ¬ HasMessage prefix m rest bytes
-no_elements prefix h u t x y z bytes first second third bad m rest l =
-    let at = at_elements_is prefix h u t x y z bytes first second third m rest l in
-    bad m.elements l.at_opener
-    (elements_at prefix m.details.payload.variant t.variant m.elements l.at_opener l.at_elements z
-    at.0 at.1 l.elements)
-
-pub no_opener : (prefix : List ℕ) (h u t : TypeDetailParts) (n : ℕ) (x y z w bytes : List ℕ)
-    → HasType (prefix ++ codes "header ") h x bytes → HasType (prefix ++ codes "user-header ") u y x
-    → HasPayload prefix t z y → HasElements prefix t.variant n w z
-    → ((o : Option MessageTypeDetails) (r : List ℕ) → ¬ HasOpener prefix o r w) → (m : Message)
-    (rest : List ℕ) → ¬ HasMessage prefix m rest bytes
-no_opener prefix h u t n x y z w bytes first second third fourth bad m rest l =
-    bad m.opener rest
-    (opener_at prefix m.opener rest l.at_opener w
-    (at_opener_is prefix h u t n x y z w bytes first second third fourth m rest l) l.opener)
-
--- what follows a message
-pub message_rest : (prefix : List ℕ) (m n : Message) (x y bytes : List ℕ)
-    → HasMessage prefix m x bytes → HasMessage prefix n y bytes → x ≡ y
-message_rest prefix m n x y bytes l k =
-    opener_rest prefix m.opener n.opener x y k.at_opener
-    (opener_at prefix m.opener x l.at_opener k.at_opener
-    (at_opener_is prefix n.details.header n.details.user_header n.details.payload n.elements
-    k.at_user_header k.at_payload k.at_elements k.at_opener bytes k.header k.user_header k.payload
-    k.elements m x l) l.opener) k.opener
-
-pub message_at : (prefix : List ℕ) (m : Message) (x a b : List ℕ) → a ≡ b → HasMessage prefix m x a
-    → HasMessage prefix m x b
-message_at prefix m x a b e h = subst (λ (l : List ℕ). HasMessage prefix m x l) e h

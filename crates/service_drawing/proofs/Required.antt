@@ -1,13 +1,13 @@
 -- What an opener requires, as far as it was read, and what no further line may be.
-use Rattle.std.proofs.Common.{◌≡◌, ℕ, ◌+◌, ◌<◌, ◌≤◌, List, [], ◌∷◌, ◌++◌, inl, inr, codes, length, filter_map, refl, sym, ◌∙◌, ap, subst, arith, length-append}
+use Rattle.std.proofs.Common.{◌≡◌, ℕ, ◌+◌, ◌≤◌, List, [], ◌∷◌, ◌++◌, inl, inr, codes, length, filter_map, refl, sym, ◌∙◌, ap, arith, length-append}
 use Rattle.std.proofs.lemmas.List.{append-nil}
 use Rattle.std.proofs.lemmas.List.Elements.{filter_map-append}
 use Rattle.std.proofs.lemmas.List.Sorted.{length_permutation}
 use Rattle.iox2_texts.specs.Attribute.{IsListing}
 use Rattle.iox2_texts.specs.Verify.{Requirements}
-use Rattle.service_drawing.specs.Lines.{IsLine, HasNoLine, Requirement, OfPair, OfKey, GivesRequirement, Adds, number_required, RequiresMore, RequiresNoMore, pair_of, key_of, HasRequirements}
+use Rattle.service_drawing.specs.Lines.{IsLine, HasNoLine, Requirement, OfPair, OfKey, GivesRequirement, Adds, number_required, RequiresMore, RequiresNoMore, pair_of, key_of, HasRequirements, Begins, StopsAt}
 use Rattle.service_drawing.proofs.Attributes.{listed_more}
-use Rattle.service_drawing.proofs.LinesOf.{UpTo, more_lines, all_lines, goes_on, longer_by_one, no_key}
+use Rattle.service_drawing.proofs.LinesOf.{UpTo, more_lines, all_lines, lines_stop, goes_on, longer_by_one, no_key}
 
 -- what was read so far
 pub record Requiring (required : Requirements) (at bytes : List ℕ) : Type 0 where
@@ -66,20 +66,22 @@ required_whole required at bytes r none = record {
 }
 
 -- the next line is one too many, or requires nothing
-pub not_required : (required : Requirements) (at bytes text tail : List ℕ)
+pub stops_at_required : (required : Requirements) (left at bytes text tail : List ℕ) → left ≡ at
     → Requiring required at bytes → IsLine (codes "require" ++ text) tail at
-    → RequiresNoMore required text → (other : Requirements) (rest : List ℕ)
-    → ¬ HasRequirements other rest bytes
-not_required required at bytes text tail r l bad other rest h =
-    let next = goes_on (codes "require") GivesRequirement no_key (λ x y t p q. refl) r.each h.each at
-    rest bytes text tail r.lines l h.lines in
+    → RequiresNoMore required text → StopsAt (Begins HasRequirements) left bytes
+stops_at_required required left at bytes text tail e r l bad =
+    lines_stop (codes "require") GivesRequirement r.each (Begins HasRequirements) left at bytes text
+    tail e r.lines l
+    (λ other next rest u k h.
+    let one = goes_on (codes "require") GivesRequirement no_key (λ x y t p q. refl) r.each
+    h.2.each next h.1 other text rest u k h.2.lines in
     elim bad [
       | inl full ↦ omega (
         arith,
-        longer_by_one GivesRequirement no_key r.each h.each text next,
+        longer_by_one GivesRequirement no_key r.each h.2.each text one,
         full,
         r.count,
-        h.few,
+        h.2.few,
       )
-      | inr none ↦ none next.one next.spelled
-    ]
+      | inr none ↦ none one.one one.spelled
+    ])

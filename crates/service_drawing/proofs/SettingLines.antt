@@ -1,17 +1,17 @@
 -- Settings that were read, and what no further line may be.
-use Rattle.std.proofs.Common.{◌≡◌, ◌≢◌, ℕ, zero, suc, ◌<◌, replicate, true, false, Bool, ◌||◌, List, [], ◌∷◌, ◌++◌, ◌⊎◌, inl, inr, Some, codes, length, map, nat_eq, slice_get, slice_set, refl, sym, ◌∙◌, ap, subst, arith}
+use Rattle.std.proofs.Common.{◌≡◌, ◌≢◌, ℕ, zero, suc, ◌<◌, replicate, true, false, Bool, ◌||◌, List, [], ◌∷◌, ◌++◌, inl, inr, Some, codes, map, nat_eq, slice_get, slice_set, refl, sym, ◌∙◌, ap, subst, arith}
 use Rattle.std.specs.List.{AllByRecursion, IsDistinct, list_any}
 use Rattle.std.proofs.lemmas.Bool.{eqb-false, eqb-true, ne_eqb}
 use Rattle.std.proofs.lemmas.Cmp.{nat_eq_equiv}
 use Rattle.std.proofs.lemmas.List.{append_cancel_left, map-append}
 use Rattle.std.proofs.lemmas.List.Folds.{list_any-append}
 use Rattle.std.proofs.lemmas.Map.Keys.{IsDistinct-push}
-use Rattle.service_drawing.specs.Lines.{IsLine, HasNoLine}
-use Rattle.service_drawing.specs.Settings.{HasName, IsSetting, MayBecome, Assignment, GivesSetting, assigned, HasSettings, Sets, NamesMarked, IsNotSet, word_of, value_text}
+use Rattle.service_drawing.specs.Lines.{IsLine, HasNoLine, Begins, StopsAt}
+use Rattle.service_drawing.specs.Settings.{IsSetting, MayBecome, Assignment, GivesSetting, assigned, HasSettings, Sets, NamesMarked, IsNotSet, word_of, value_text}
 use Rattle.service_drawing.specs.declared.reading.cause.Reason.{Reason}
 use Rattle.service_drawing.specs.declared.reading.cause.Reason.TheVariants.{InternalName, UnknownSetting, SetTwice, OtherForm}
 use Rattle.service_drawing.specs.declared.settings.value.Value.{Value}
-use Rattle.service_drawing.proofs.LinesOf.{UpTo, more_lines, all_lines, GoesOn, goes_on}
+use Rattle.service_drawing.proofs.LinesOf.{UpTo, more_lines, all_lines, lines_stop, GoesOn, goes_on}
 use Rattle.service_drawing.proofs.Words.{longer}
 
 -- the numbers of the settings
@@ -204,7 +204,7 @@ settings_whole names defaults values given at bytes r none = record {
 }
 
 -- the next line sets nothing
-pub not_set : (names : List (List ℕ)) (defaults values : List Value) (given : List Bool)
+not_set : (names : List (List ℕ)) (defaults values : List Value) (given : List Bool)
     (reason : Reason) (at bytes text tail : List ℕ) → Setting names defaults values given at bytes
     → IsLine (codes "set " ++ text) tail at → IsNotSet names values given text reason
     → (other : List Value) (rest : List ℕ) → ¬ HasSettings names defaults other rest bytes
@@ -246,9 +246,21 @@ not_set names defaults values given reason at bytes text tail r l bad other rest
               next.spelled)
         ]
 
--- the same refusal, by the same defaults
-pub none_from : (names : List (List ℕ)) (one other : List Value) (bytes : List ℕ) → one ≡ other
-    → ((values : List Value) (rest : List ℕ) → ¬ HasSettings names one values rest bytes)
-    → (values : List Value) (rest : List ℕ) → ¬ HasSettings names other values rest bytes
-none_from names one other bytes e none values rest h =
-    none values rest (subst (λ (d : List Value). HasSettings names d values rest bytes) (sym e) h)
+-- reading stops at a line that sets nothing
+pub stops_at_setting : (names : List (List ℕ)) (defaults values : List Value) (given : List Bool)
+    (reason : Reason) (left at bytes text tail : List ℕ) → left ≡ at
+    → Setting names defaults values given at bytes → IsLine (codes "set " ++ text) tail at
+    → IsNotSet names values given text reason
+    → StopsAt (Begins (HasSettings names defaults)) left bytes
+stops_at_setting names defaults values given reason left at bytes text tail e r l bad =
+    lines_stop (codes "set ") (GivesSetting names defaults) r.sets
+    (Begins (HasSettings names defaults)) left at bytes text tail e r.lines l
+    (λ other next rest u k h.
+    not_set names defaults values given reason next other text rest
+    (record {
+      sets = r.sets;
+      lines = u;
+      once = r.once;
+      changed = r.changed;
+      marks = r.marks;
+    }) k bad h.0 h.1 h.2)

@@ -1,7 +1,7 @@
 -- What a whole description is.
 use Rattle.std.specs.Prelude.{◌≡◌, ℕ, List, []}
 use Rattle.iox2_config.specs.Hashing.{hash_input, sha1_text}
-use Rattle.service_drawing.specs.Lines.{HasService, HasExchange, kind_of_exchange, HasAttributes, HasRequirements}
+use Rattle.service_drawing.specs.Lines.{HasService, HasExchange, HasAttributes, HasRequirements}
 use Rattle.service_drawing.specs.Settings.{HasConfiguration}
 use Rattle.service_drawing.specs.declared.description.Description.{Description}
 
@@ -15,7 +15,10 @@ pub record HasDescription (d : Description) (bytes : List ℕ) : Type 0 where
   pub service : HasService d.kind d.name at_settings bytes
   pub hash : d.hash ≡ sha1_text (hash_input d.kind d.name)
   pub settings : HasConfiguration d.kind d.config at_exchange at_settings
-  pub exchange : HasExchange d.exchange at_attributes at_exchange
-  pub kind : kind_of_exchange d.exchange ≡ d.kind
+  pub exchange : HasExchange d.kind d.exchange at_attributes at_exchange
   pub attributes : HasAttributes d.attributes at_required at_attributes
   pub required : HasRequirements d.required [] at_required
+
+-- the bytes are a description
+abbrev pub IsDescription : List ℕ → Type 0
+IsDescription bytes = (d : Description) × HasDescription d bytes

@@ -37,6 +37,29 @@ pub record IsLine (text rest bytes : List ℕ) : Type 0 where
 abbrev pub HasNoLine : List ℕ → List ℕ → Type 0
 HasNoLine begin bytes = (text rest : List ℕ) → ¬ IsLine (begin ++ text) rest bytes
 
+-- both begin with the same line
+pub record BeginAlike (one other : List ℕ) : Type 0 where
+  pub line : List ℕ
+  pub rest : List ℕ
+  pub other_rest : List ℕ
+  pub first : IsLine line rest one
+  pub second : IsLine line other_rest other
+
+-- both are the same, or begin with the same line
+abbrev pub HasSameLine : List ℕ → List ℕ → Type 0
+HasSameLine one other = (one ≡ other) ⊎ BeginAlike one other
+
+-- what this says begins the bytes
+abbrev pub Begins : {A : Type 0} → (A → List ℕ → List ℕ → Type 0) → List ℕ → Type 0
+Begins {A} Has bytes = (x : A) × (rest : List ℕ) × Has x rest bytes
+
+-- what is left of the bytes begins with a line that none has there of those that are good:
+-- none goes on so after what was read
+pub record StopsAt (IsGood : List ℕ → Type 0) (left bytes : List ℕ) : Type 0 where
+  pub read : List ℕ
+  pub parts : bytes ≡ read ++ left
+  pub stops : (other : List ℕ) → HasSameLine left other → ¬ IsGood (read ++ other)
+
 -- the bytes begin with a line that begins so and then spells this
 pub record HasLineOf {A : Type 0} (begin : List ℕ) (Spells : A → List ℕ → Type 0) (x : A)
     (rest bytes : List ℕ) : Type 0 where
@@ -132,21 +155,18 @@ pub record HasMessage (prefix : List ℕ) (m : Message) (rest bytes : List ℕ) 
   pub opener : HasOpener prefix m.opener rest at_opener
   pub opens : IfSome m.opener (λ opener. IsOpenerOf opener m.details)
 
--- the bytes begin with what the lines say of messages and keys
-abbrev pub HasExchange : Exchange → List ℕ → List ℕ → Type 0
-HasExchange (exchange.PublishSubscribe message) rest bytes = HasMessage [] message rest bytes
-HasExchange exchange.Event rest bytes = rest ≡ bytes
-HasExchange (exchange.RequestResponse request response) rest bytes =
-    (mid : List ℕ) × HasMessage (codes "request-") request mid bytes
+-- the bytes begin with what the lines of this pattern say of messages and keys
+abbrev pub HasExchange : PatternKind → Exchange → List ℕ → List ℕ → Type 0
+HasExchange PublishSubscribe x rest bytes =
+    (message : Message) × (x ≡ exchange.PublishSubscribe message)
+    × HasMessage [] message rest bytes
+HasExchange Event x rest bytes = (x ≡ exchange.Event) × (rest ≡ bytes)
+HasExchange RequestResponse x rest bytes =
+    (request : Message) × (response : Message) × (x ≡ exchange.RequestResponse request response)
+    × (mid : List ℕ) × HasMessage (codes "request-") request mid bytes
     × HasMessage (codes "response-") response rest mid
-HasExchange (exchange.Blackboard key) rest bytes = HasType (codes "key ") key rest bytes
-
--- the pattern of a kind of exchange
-abbrev pub kind_of_exchange : Exchange → PatternKind
-kind_of_exchange (exchange.PublishSubscribe message) = PublishSubscribe
-kind_of_exchange exchange.Event = Event
-kind_of_exchange (exchange.RequestResponse request response) = RequestResponse
-kind_of_exchange (exchange.Blackboard key) = Blackboard
+HasExchange Blackboard x rest bytes =
+    (key : TypeDetailParts) × (x ≡ exchange.Blackboard key) × HasType (codes "key ") key rest bytes
 
 -- the text has no space
 abbrev pub HasNoSpace : List ℕ → Type 0

@@ -1,12 +1,9 @@
 //! Descriptions as lines.
 ghost use Rattle.std.specs.Prelude.{◌≡◌, ℕ, List, codes, IfOk, IfErr, MatchResult};
 ghost use Rattle.iox2_config.specs.TypeDetailParts.{TypeDetailParts};
-ghost use Rattle.iox2_config.specs.declared.config.Config.{Config};
-ghost use Rattle.service_drawing.specs.Descriptions.{HasDescription};
-ghost use Rattle.service_drawing.specs.Lines.{HasType, HasExchange, kind_of_exchange};
+ghost use Rattle.service_drawing.specs.Descriptions.{HasDescription, IsDescription};
+ghost use Rattle.service_drawing.specs.Lines.{HasType, HasExchange, Begins, StopsAt};
 ghost use Rattle.service_drawing.specs.Settings.{HasConfiguration};
-ghost use Rattle.service_drawing.specs.declared.description.Description.{Description};
-ghost use Rattle.service_drawing.specs.declared.description.Exchange.{Exchange};
 
 mod attributes;
 pub(crate) mod cause;
@@ -30,8 +27,7 @@ use settings::settings_before;
 fn configuration_before(bytes: &[u8], kind: PatternKind) -> Result<(Config, &[u8]), Expected<'_>>
     ensures { MatchResult result
         (λ found. HasConfiguration kind found.0 found.1.now bytes.now)
-        (λ expected. (config : Config) (rest : List ℕ)
-        → ¬ HasConfiguration kind config rest bytes.now) }
+        (λ expected. StopsAt (Begins (HasConfiguration kind)) expected.rest.now bytes.now) }
 {
     let mut config = Config::default();
     match kind {
@@ -56,9 +52,11 @@ fn configuration_before(bytes: &[u8], kind: PatternKind) -> Result<(Config, &[u8
 
 /// The line of a blackboard's keys.
 fn key_type_before(bytes: &[u8]) -> Result<(TypeDetail, &[u8]), Expected<'_>>
-    ensures { MatchResult result (λ found. HasType (codes "key ") found.0 found.1.now bytes.now)
+    ensures spelled { MatchResult result
+        (λ found. HasType (codes "key ") found.0 found.1.now bytes.now)
         (λ expected. (t : TypeDetailParts) (rest : List ℕ)
         → ¬ HasType (codes "key ") t rest bytes.now) }
+    ensures place { IfErr result (λ expected. expected.rest.now ≡ bytes.now) }
 {
     fixed_before(
         bytes,
@@ -70,10 +68,8 @@ fn key_type_before(bytes: &[u8]) -> Result<(TypeDetail, &[u8]), Expected<'_>>
 
 /// The lines of what the ports exchange.
 fn exchange_before(bytes: &[u8], kind: PatternKind) -> Result<(Exchange, &[u8]), Expected<'_>>
-    ensures spelled { IfOk result (λ found. HasExchange found.0 found.1.now bytes.now) }
-    ensures kind { IfOk result (λ found. kind_of_exchange found.0 ≡ kind) }
-    ensures none { IfErr result (λ expected. (x : Exchange) (rest : List ℕ)
-        → kind_of_exchange x ≡ kind → ¬ HasExchange x rest bytes.now) }
+    ensures { MatchResult result (λ found. HasExchange kind found.0 found.1.now bytes.now)
+        (λ expected. StopsAt (Begins (HasExchange kind)) expected.rest.now bytes.now) }
 {
     match kind {
         PatternKind::PublishSubscribe => {
@@ -96,7 +92,7 @@ fn exchange_before(bytes: &[u8], kind: PatternKind) -> Result<(Exchange, &[u8]),
 /// The service that the lines describe, or what was expected in the place of the first bad one.
 pub(crate) fn read_description(bytes: &[u8]) -> Result<Description, Expected<'_>>
     ensures { MatchResult result (λ d. HasDescription d bytes.now)
-        (λ expected. (d : Description) → ¬ HasDescription d bytes.now) }
+        (λ expected. StopsAt IsDescription expected.rest.now bytes.now) }
 {
     let (service, rest) = service_before(bytes)?;
     let (config, rest) = configuration_before(rest, service.kind)?;

@@ -1,4 +1,5 @@
 //! What was expected where a line is bad.
+ghost use Rattle.std.specs.Prelude.{◌≡◌};
 
 use super::cause::Reason;
 
@@ -17,12 +18,16 @@ pub(crate) struct Expected<'a> {
 
 impl<'a> Expected<'a> {
     /// A line of another form, which begins without a prefix.
-    pub(super) fn plain(rest: &'a [u8], form: &'static str) -> Self {
+    pub(super) fn plain(rest: &'a [u8], form: &'static str) -> Self
+        ensures { result.rest.now ≡ rest.now }
+    {
         Expected::prefixed(rest, "", form)
     }
 
     /// A line of another form, which begins with this prefix.
-    pub(super) fn prefixed(rest: &'a [u8], prefix: &'static str, form: &'static str) -> Self {
+    pub(super) fn prefixed(rest: &'a [u8], prefix: &'static str, form: &'static str) -> Self
+        ensures { result.rest.now ≡ rest.now }
+    {
         Expected {
             rest,
             reason: Reason::OtherForm,

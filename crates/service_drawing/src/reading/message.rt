@@ -10,8 +10,7 @@ ghost use Rattle.iox2_config.specs.declared.types.type_detail.TypeVariant.TheVar
 ghost use Rattle.service_drawing.specs.Lines.{type_text, payload_text, alignments_text};
 ghost use Rattle.service_drawing.specs.Lines.{IsLine, HasNoLine, IsDescribed, IsOpenerOf};
 ghost use Rattle.service_drawing.specs.Lines.{AreAlignments, HasType, HasPayload, HasElements};
-ghost use Rattle.service_drawing.specs.Lines.{HasOpener, HasMessage};
-ghost use Rattle.service_drawing.specs.declared.description.Message.{Message};
+ghost use Rattle.service_drawing.specs.Lines.{HasOpener, HasMessage, Begins, StopsAt};
 
 use super::expected::Expected;
 use super::words::{after_word, next_line, number, number_word};
@@ -143,10 +142,11 @@ pub(super) fn fixed_before<'a>(
     word: &'static str,
     form: &'static str,
 ) -> Result<(TypeDetail, &'a [u8]), Expected<'a>>
-    ensures { MatchResult result
+    ensures spelled { MatchResult result
         (λ found. HasType (prefix.now ++ word.now) found.0 found.1.now bytes.now)
         (λ expected. (t : TypeDetailParts) (rest : List ℕ)
         → ¬ HasType (prefix.now ++ word.now) t rest bytes.now) }
+    ensures place { IfErr result (λ expected. expected.rest.now ≡ bytes.now) }
 {
     let expected = Expected::prefixed(bytes, prefix, form);
     let Some((text, rest)) = line_after(bytes, prefix, word) else {
@@ -163,9 +163,11 @@ fn payload_before<'a>(
     bytes: &'a [u8],
     prefix: &'static str,
 ) -> Result<(TypeDetail, &'a [u8]), Expected<'a>>
-    ensures { MatchResult result (λ found. HasPayload prefix.now found.0 found.1.now bytes.now)
+    ensures spelled { MatchResult result
+        (λ found. HasPayload prefix.now found.0 found.1.now bytes.now)
         (λ expected. (t : TypeDetailParts) (rest : List ℕ)
         → ¬ HasPayload prefix.now t rest bytes.now) }
+    ensures place { IfErr result (λ expected. expected.rest.now ≡ bytes.now) }
 {
     let expected = Expected::prefixed(
         bytes,
@@ -186,10 +188,11 @@ fn number_of_elements_before<'a>(
     bytes: &'a [u8],
     prefix: &'static str,
 ) -> Result<(usize, &'a [u8]), Expected<'a>>
-    ensures { MatchResult result
+    ensures spelled { MatchResult result
         (λ found. HasElements prefix.now Dynamic found.0 found.1.now bytes.now)
         (λ expected. (n : ℕ) (rest : List ℕ)
         → ¬ HasElements prefix.now Dynamic n rest bytes.now) }
+    ensures place { IfErr result (λ expected. expected.rest.now ≡ bytes.now) }
 {
     let expected = Expected::prefixed(bytes, prefix, "elements NUMBER");
     let Some((text, rest)) = line_after(bytes, prefix, "elements ") else {
@@ -207,10 +210,11 @@ fn elements_before<'a>(
     prefix: &'static str,
     variant: TypeVariant,
 ) -> Result<(usize, &'a [u8]), Expected<'a>>
-    ensures { MatchResult result
+    ensures spelled { MatchResult result
         (λ found. HasElements prefix.now variant found.0 found.1.now bytes.now)
         (λ expected. (n : ℕ) (rest : List ℕ)
         → ¬ HasElements prefix.now variant n rest bytes.now) }
+    ensures place { IfErr result (λ expected. expected.rest.now ≡ bytes.now) }
 {
     match variant {
         TypeVariant::FixedSize => Ok((1, bytes)),
@@ -229,6 +233,7 @@ fn opener_before<'a>(
         (λ expected. (opener : Option MessageTypeDetails) (rest : List ℕ)
         → ¬ HasOpener prefix.now opener rest bytes.now) }
     ensures same { IfOk result (λ found. IfSome found.0 (λ opener. IsOpenerOf opener service.now)) }
+    ensures place { IfErr result (λ expected. expected.rest.now ≡ bytes.now) }
 {
     let Some((text, rest)) = line_after(bytes, prefix, "opener ") else {
         return Ok((None, bytes));
@@ -249,7 +254,7 @@ pub(super) fn message_before<'a>(
     prefix: &'static str,
 ) -> Result<(Message, &'a [u8]), Expected<'a>>
     ensures { MatchResult result (λ found. HasMessage prefix.now found.0 found.1.now bytes.now)
-        (λ expected. (m : Message) (rest : List ℕ) → ¬ HasMessage prefix.now m rest bytes.now) }
+        (λ expected. StopsAt (Begins (HasMessage prefix.now)) expected.rest.now bytes.now) }
 {
     let (header, rest) = fixed_before(
         bytes,

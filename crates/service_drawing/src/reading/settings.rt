@@ -1,9 +1,9 @@
 //! The lines of settings.
-ghost use Rattle.std.specs.Prelude.{◌≡◌, ◌<◌, ◌↔◌, ℕ, List, IsTrue, Some, IfOk, IfSome, IfErr, MatchOption, MatchResult};
+ghost use Rattle.std.specs.Prelude.{◌≡◌, ◌<◌, ◌↔◌, ℕ, IsTrue, Some, IfOk, IfSome, IfErr, MatchOption, MatchResult};
 ghost use Rattle.std.specs.Prelude.{slice_get};
+ghost use Rattle.service_drawing.specs.Lines.{Begins, StopsAt};
 ghost use Rattle.service_drawing.specs.Settings.{HasName, HasSettings, IsDashed, IsNamed, IsNotSet};
 ghost use Rattle.service_drawing.specs.Settings.{IsSetting, Sets, dash_for};
-ghost use Rattle.service_drawing.specs.declared.settings.value.Value.{Value};
 
 use super::cause::Reason;
 use super::expected::Expected;
@@ -86,7 +86,9 @@ fn set<S: Settings>(settings: &mut S, given: &mut [bool; 32], text: &str) -> Res
 }
 
 /// What was expected in the place of a line that sets nothing.
-fn expected<S: Settings>(bytes: &[u8], reason: Reason) -> Expected<'_> {
+fn expected<S: Settings>(bytes: &[u8], reason: Reason) -> Expected<'_>
+    ensures { result.rest.now ≡ bytes.now }
+{
     let (prefix, form) = match reason {
         Reason::UnknownSetting => ("set NAME VALUE with one of the names ", S::all_names()),
         Reason::SetTwice => ("each setting once", ""),
@@ -108,8 +110,8 @@ pub(super) fn settings_before<'a, S: Settings>(
     ensures { MatchResult result
         (λ rest. HasSettings S.names (S.values settings.old) (S.values settings.new) rest.now
         bytes.now)
-        (λ expected. (values : List Value) (rest : List ℕ)
-        → ¬ HasSettings S.names (S.values settings.old) values rest bytes.now) }
+        (λ expected. StopsAt (Begins (HasSettings S.names (S.values settings.old)))
+        expected.rest.now bytes.now) }
 {
     let mut given = [false; 32];
     let mut rest = bytes;

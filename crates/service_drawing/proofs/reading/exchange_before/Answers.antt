@@ -1,32 +1,41 @@
-use Rattle.std.proofs.Common.{◌≡◌, ℕ, List, rules}
-use Rattle.iox2_config.specs.declared.hash.input.PatternKind.TheVariants.{RequestResponse}
-use Rattle.service_drawing.specs.Lines.{HasExchange, kind_of_exchange}
-use Rattle.service_drawing.specs.declared.description.Exchange.{Exchange}
-use Rattle.service_drawing.proofs.Exchanges.{no_request, no_response}
+use Rattle.std.proofs.Common.{rules}
+use Rattle.service_drawing.specs.Lines.{HasExchange, Begins, StopsAt}
+use Rattle.service_drawing.proofs.Exchanges.{message_stops, request_stops, response_stops, key_stops}
 use Rattle.service_drawing.proofs.reading.exchange_before.Goals as goal
 
-pub returns-in_err-request-in-RequestResponse-clause-none :
-    goal.returns-in_err-request-in-RequestResponse-clause-none
-returns-in_err-request-in-RequestResponse-clause-none c =
-    let none : (x : Exchange) (rest : List ℕ) → kind_of_exchange x ≡ RequestResponse
-    → ¬ HasExchange x rest c.args.bytes.now =
-    no_request c.args.bytes.now c.in_err-request-in-RequestResponse.ensures in
+pub returns-in_err-message-in-PublishSubscribe : goal.returns-in_err-message-in-PublishSubscribe
+returns-in_err-message-in-PublishSubscribe c =
+    let stops : StopsAt (Begins (HasExchange c.args.kind)) c.in_err-message-in-PublishSubscribe.field-0.0.rest.now
+    c.args.bytes.now =
+    rw c.in-PublishSubscribe.is
+    (message_stops c.in_err-message-in-PublishSubscribe.field-0.0.rest.now c.args.bytes.now
+    c.in_err-message-in-PublishSubscribe.ensures) in
     search rules
 
-pub returns-in_err-response-in-RequestResponse-clause-none :
-    goal.returns-in_err-response-in-RequestResponse-clause-none
-returns-in_err-response-in-RequestResponse-clause-none c =
-    let none : (x : Exchange) (rest : List ℕ) → kind_of_exchange x ≡ RequestResponse
-    → ¬ HasExchange x rest c.args.bytes.now =
-    no_response c.args.bytes.now c.in_ok-request-in-RequestResponse.rest.now
-    c.in_ok-request-in-RequestResponse.request c.in_ok-request-in-RequestResponse.ensures
-    c.in_err-response-in-RequestResponse.ensures in
+pub returns-in_err-request-in-RequestResponse : goal.returns-in_err-request-in-RequestResponse
+returns-in_err-request-in-RequestResponse c =
+    let stops : StopsAt (Begins (HasExchange c.args.kind)) c.in_err-request-in-RequestResponse.field-0.0.rest.now
+    c.args.bytes.now =
+    rw c.in-RequestResponse.is
+    (request_stops c.in_err-request-in-RequestResponse.field-0.0.rest.now c.args.bytes.now
+    c.in_err-request-in-RequestResponse.ensures) in
     search rules
 
-pub returns-in_ok-response-in-RequestResponse-clause-spelled :
-    goal.returns-in_ok-response-in-RequestResponse-clause-spelled
-returns-in_ok-response-in-RequestResponse-clause-spelled c = (
-  c.in_ok-request-in-RequestResponse.rest.now,
-  c.in_ok-request-in-RequestResponse.ensures,
-  c.in_ok-response-in-RequestResponse.ensures,
-)
+pub returns-in_err-response-in-RequestResponse : goal.returns-in_err-response-in-RequestResponse
+returns-in_err-response-in-RequestResponse c =
+    let stops : StopsAt (Begins (HasExchange c.args.kind)) c.in_err-response-in-RequestResponse.field-0.0.rest.now
+    c.args.bytes.now =
+    rw c.in-RequestResponse.is
+    (response_stops c.in_ok-request-in-RequestResponse.request
+    c.in_err-response-in-RequestResponse.field-0.0.rest.now c.in_ok-request-in-RequestResponse.rest.now
+    c.args.bytes.now c.in_ok-request-in-RequestResponse.ensures c.in_err-response-in-RequestResponse.ensures) in
+    search rules
+
+pub returns-in_err-key-in-Blackboard : goal.returns-in_err-key-in-Blackboard
+returns-in_err-key-in-Blackboard c =
+    let stops : StopsAt (Begins (HasExchange c.args.kind)) c.in_err-key-in-Blackboard.field-0.0.rest.now
+    c.args.bytes.now =
+    rw c.in-Blackboard.is
+    (key_stops c.in_err-key-in-Blackboard.field-0.0.rest.now c.args.bytes.now
+    c.in_err-key-in-Blackboard.ensures.place c.in_err-key-in-Blackboard.ensures.spelled) in
+    search rules

@@ -1,58 +1,77 @@
-use Rattle.std.proofs.Common.{◌≡◌, List, [], ℕ, rules, sym, subst}
-use Rattle.service_drawing.specs.Descriptions.{HasDescription}
-use Rattle.service_drawing.specs.Lines.{HasRequirements}
-use Rattle.service_drawing.specs.declared.description.Description.{Description}
-use Rattle.service_drawing.proofs.Descriptions.{no_settings, no_exchange, no_attributes, no_required, goes_on_after, no_more}
+use Rattle.std.proofs.Common.{◌≡◌, List, [], ℕ, rules, subst}
+use Rattle.service_drawing.specs.Descriptions.{IsDescription}
+use Rattle.service_drawing.specs.Lines.{HasRequirements, StopsAt}
+use Rattle.service_drawing.proofs.Descriptions.{no_service_here, stops_after_service, stops_in_settings, stops_after_settings, stops_in_exchange, stops_after_exchange, stops_in_attributes, stops_after_attributes, stops_in_required, stops_after_required, no_more}
 use Rattle.service_drawing.proofs.reading.read_description.Goals as goal
+
+pub returns-in_err-service : goal.returns-in_err-service
+returns-in_err-service c =
+    let stops : StopsAt IsDescription c.in_err-service.field-0.0.rest.now c.args.bytes.now =
+    no_service_here _ c.args.bytes.now c.in_err-service.ensures.place
+    c.in_err-service.ensures.spelled in
+    search rules
 
 pub returns-in_err-config : goal.returns-in_err-config
 returns-in_err-config c =
-    let none : (d : Description) → ¬ HasDescription d c.args.bytes.now =
-    no_settings c.in_ok-service.service.kind c.in_ok-service.service.name
-    c.in_ok-service.rest.now c.args.bytes.now c.in_ok-service.ensures.spelled
-    c.in_err-config.ensures in
+    let s = c.in_ok-service in
+    let stops : StopsAt IsDescription c.in_err-config.field-0.0.rest.now c.args.bytes.now =
+    stops_after_service s.service.kind s.service.name _ s.rest.now c.args.bytes.now
+    s.ensures.spelled (stops_in_settings s.service.kind _ s.rest.now c.in_err-config.ensures) in
     search rules
 
 pub returns-in_err-exchange : goal.returns-in_err-exchange
 returns-in_err-exchange c =
-    let none : (d : Description) → ¬ HasDescription d c.args.bytes.now =
-    no_exchange c.in_ok-service.service.kind c.in_ok-service.service.name
-    c.in_ok-service.rest.now c.in_ok-config.rest.now c.args.bytes.now c.in_ok-config.config
-    c.in_ok-service.ensures.spelled c.in_ok-config.ensures c.in_err-exchange.ensures.none in
+    let s = c.in_ok-service in
+    let g = c.in_ok-config in
+    let stops : StopsAt IsDescription c.in_err-exchange.field-0.0.rest.now c.args.bytes.now =
+    stops_after_service s.service.kind s.service.name _ s.rest.now c.args.bytes.now
+    s.ensures.spelled
+    (stops_after_settings s.service.kind g.config _ g.rest.now s.rest.now g.ensures
+    (stops_in_exchange s.service.kind _ g.rest.now c.in_err-exchange.ensures)) in
     search rules
 
 pub returns-in_err-attributes : goal.returns-in_err-attributes
 returns-in_err-attributes c =
-    let none : (d : Description) → ¬ HasDescription d c.args.bytes.now =
-    no_attributes c.in_ok-service.service.kind c.in_ok-service.service.name
-    c.in_ok-service.rest.now c.in_ok-config.rest.now c.in_ok-exchange.rest.now
-    c.args.bytes.now c.in_ok-config.config c.in_ok-exchange.exchange
-    c.in_ok-service.ensures.spelled c.in_ok-config.ensures c.in_ok-exchange.ensures.kind
-    c.in_ok-exchange.ensures.spelled c.in_err-attributes.ensures in
+    let s = c.in_ok-service in
+    let g = c.in_ok-config in
+    let x = c.in_ok-exchange in
+    let stops : StopsAt IsDescription c.in_err-attributes.field-0.0.rest.now c.args.bytes.now =
+    stops_after_service s.service.kind s.service.name _ s.rest.now c.args.bytes.now
+    s.ensures.spelled
+    (stops_after_settings s.service.kind g.config _ g.rest.now s.rest.now g.ensures
+    (stops_after_exchange s.service.kind x.exchange _ x.rest.now g.rest.now x.ensures
+    (stops_in_attributes _ x.rest.now c.in_err-attributes.ensures))) in
     search rules
 
 pub returns-in_err-required : goal.returns-in_err-required
 returns-in_err-required c =
-    let none : (d : Description) → ¬ HasDescription d c.args.bytes.now =
-    no_required c.in_ok-service.service.kind c.in_ok-service.service.name
-    c.in_ok-service.rest.now c.in_ok-config.rest.now c.in_ok-exchange.rest.now
-    c.in_ok-attributes.rest.now c.args.bytes.now c.in_ok-config.config
-    c.in_ok-exchange.exchange c.in_ok-attributes.attributes
-    c.in_ok-service.ensures.spelled c.in_ok-config.ensures c.in_ok-exchange.ensures.kind
-    c.in_ok-exchange.ensures.spelled c.in_ok-attributes.ensures
-    (λ v. c.in_err-required.ensures v []) in
+    let s = c.in_ok-service in
+    let g = c.in_ok-config in
+    let x = c.in_ok-exchange in
+    let a = c.in_ok-attributes in
+    let stops : StopsAt IsDescription c.in_err-required.field-0.0.rest.now c.args.bytes.now =
+    stops_after_service s.service.kind s.service.name _ s.rest.now c.args.bytes.now
+    s.ensures.spelled
+    (stops_after_settings s.service.kind g.config _ g.rest.now s.rest.now g.ensures
+    (stops_after_exchange s.service.kind x.exchange _ x.rest.now g.rest.now x.ensures
+    (stops_after_attributes a.attributes _ a.rest.now x.rest.now a.ensures
+    (stops_in_required _ a.rest.now c.in_err-required.ensures)))) in
     search rules
 
 pub returns-then-not-is_empty : goal.returns-then-not-is_empty
 returns-then-not-is_empty c =
-    no_required c.in_ok-service.service.kind c.in_ok-service.service.name
-    c.in_ok-service.rest.now c.in_ok-config.rest.now c.in_ok-exchange.rest.now
-    c.in_ok-attributes.rest.now c.args.bytes.now c.in_ok-config.config
-    c.in_ok-exchange.exchange c.in_ok-attributes.attributes
-    c.in_ok-service.ensures.spelled c.in_ok-config.ensures c.in_ok-exchange.ensures.kind
-    c.in_ok-exchange.ensures.spelled c.in_ok-attributes.ensures
-    (goes_on_after c.in_ok-required.required c.in_ok-required.rest.now
-    c.in_ok-attributes.rest.now c.in_ok-required.ensures c.if-not-is_empty.ensures)
+    let s = c.in_ok-service in
+    let g = c.in_ok-config in
+    let x = c.in_ok-exchange in
+    let a = c.in_ok-attributes in
+    let r = c.in_ok-required in
+    stops_after_service s.service.kind s.service.name _ s.rest.now c.args.bytes.now
+    s.ensures.spelled
+    (stops_after_settings s.service.kind g.config _ g.rest.now s.rest.now g.ensures
+    (stops_after_exchange s.service.kind x.exchange _ x.rest.now g.rest.now x.ensures
+    (stops_after_attributes a.attributes _ a.rest.now x.rest.now a.ensures
+    (stops_after_required r.required c.plain.result.rest.now r.rest.now a.rest.now
+    c.plain.ensures r.ensures c.if-not-is_empty.ensures))))
 
 pub returns : goal.returns
 returns c =
@@ -66,8 +85,7 @@ returns c =
       service = c.in_ok-service.ensures.spelled;
       hash = c.in_ok-service.ensures.hash;
       settings = c.in_ok-config.ensures;
-      exchange = c.in_ok-exchange.ensures.spelled;
-      kind = c.in_ok-exchange.ensures.kind;
+      exchange = c.in_ok-exchange.ensures;
       attributes = c.in_ok-attributes.ensures;
       required = subst (λ (r : List ℕ). HasRequirements c.in_ok-required.required r
           c.in_ok-attributes.rest.now) none c.in_ok-required.ensures;

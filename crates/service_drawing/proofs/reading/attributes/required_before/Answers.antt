@@ -1,5 +1,5 @@
 use Rattle.std.proofs.Common.{rules}
-use Rattle.service_drawing.proofs.Required.{one_more_required, required_whole, not_required}
+use Rattle.service_drawing.proofs.Required.{one_more_required, required_whole, stops_at_required}
 use Rattle.service_drawing.proofs.reading.attributes.required_before.Goals as goal
 
 pub loop-text-preserved : goal.loop-text-preserved
@@ -10,8 +10,9 @@ loop-text-preserved c =
 
 pub returns-in_default-requiring : goal.returns-in_default-requiring
 returns-in_default-requiring c =
-    not_required c.loop-text.required c.loop-text.rest.now c.args.bytes.now c.in-Some.text.now
-    c.in-Some.tail.now c.loop-text.invariant (search rules) c.in_default-requiring.ensures
+    stops_at_required c.loop-text.required c.plain-expected.result.rest.now c.loop-text.rest.now
+    c.args.bytes.now c.in-Some.text.now c.in-Some.tail.now c.plain-expected.ensures
+    c.loop-text.invariant (search rules) c.in_default-requiring.ensures
 
 pub returns : goal.returns
 returns c =

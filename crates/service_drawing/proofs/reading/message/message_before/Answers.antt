@@ -1,52 +1,76 @@
-use Rattle.std.proofs.Common.{ℕ, List, refl, sym, rules}
-use Rattle.service_drawing.specs.Lines.{HasMessage}
-use Rattle.service_drawing.specs.declared.description.Message.{Message}
-use Rattle.service_drawing.proofs.Messages.{elements_at, no_user_header, no_payload, no_elements, no_opener}
+use Rattle.std.proofs.Common.{refl, sym, rules}
+use Rattle.service_drawing.specs.Lines.{HasMessage, Begins, StopsAt}
+use Rattle.service_drawing.proofs.MessageParts.{elements_at, stops_after_header, stops_after_user_header, stops_after_payload, stops_after_elements, no_header_here, no_user_header_here, no_payload_here, no_elements_here, no_opener_here}
 use Rattle.service_drawing.proofs.reading.message.message_before.Goals as goal
+
+pub returns-in_err-header : goal.returns-in_err-header
+returns-in_err-header c =
+    let stops : StopsAt (Begins (HasMessage c.args.prefix.now)) c.in_err-header.field-0.0.rest.now
+    c.args.bytes.now =
+    no_header_here c.args.prefix.now _ c.args.bytes.now c.in_err-header.ensures.place
+    c.in_err-header.ensures.spelled in
+    search rules
 
 pub returns-in_err-user_header : goal.returns-in_err-user_header
 returns-in_err-user_header c =
-    let none : (m : Message) (rest : List ℕ)
-    → ¬ HasMessage c.args.prefix.now m rest c.args.bytes.now =
-    no_user_header c.args.prefix.now c.in_ok-header.header c.in_ok-header.rest.now
-    c.args.bytes.now c.in_ok-header.ensures c.in_err-user_header.ensures in
+    let p = c.args.prefix.now in
+    let stops : StopsAt (Begins (HasMessage p)) c.in_err-user_header.field-0.0.rest.now
+    c.args.bytes.now =
+    stops_after_header p c.in_ok-header.header _ c.in_ok-header.rest.now c.args.bytes.now
+    c.in_ok-header.ensures.spelled
+    (no_user_header_here p _ c.in_ok-header.rest.now c.in_err-user_header.ensures.place
+    c.in_err-user_header.ensures.spelled) in
     search rules
 
 pub returns-in_err-payload : goal.returns-in_err-payload
 returns-in_err-payload c =
-    let none : (m : Message) (rest : List ℕ)
-    → ¬ HasMessage c.args.prefix.now m rest c.args.bytes.now =
-    no_payload c.args.prefix.now c.in_ok-header.header c.in_ok-user_header.user_header
-    c.in_ok-header.rest.now c.in_ok-user_header.rest.now c.args.bytes.now
-    c.in_ok-header.ensures c.in_ok-user_header.ensures c.in_err-payload.ensures in
+    let p = c.args.prefix.now in
+    let stops : StopsAt (Begins (HasMessage p)) c.in_err-payload.field-0.0.rest.now
+    c.args.bytes.now =
+    stops_after_header p c.in_ok-header.header _ c.in_ok-header.rest.now c.args.bytes.now
+    c.in_ok-header.ensures.spelled
+    (stops_after_user_header p c.in_ok-user_header.user_header _ c.in_ok-user_header.rest.now
+    c.in_ok-header.rest.now c.in_ok-user_header.ensures.spelled
+    (no_payload_here p _ c.in_ok-user_header.rest.now c.in_err-payload.ensures.place
+    c.in_err-payload.ensures.spelled)) in
     search rules
 
 pub returns-in_err-elements : goal.returns-in_err-elements
 returns-in_err-elements c =
+    let p = c.args.prefix.now in
+    let v = c.in_ok-payload.payload.variant in
     let z = c.in_ok-payload.rest.now in
-    let none : (m : Message) (rest : List ℕ)
-    → ¬ HasMessage c.args.prefix.now m rest c.args.bytes.now =
-    no_elements c.args.prefix.now c.in_ok-header.header c.in_ok-user_header.user_header
-    c.in_ok-payload.payload c.in_ok-header.rest.now c.in_ok-user_header.rest.now z
-    c.args.bytes.now c.in_ok-header.ensures c.in_ok-user_header.ensures c.in_ok-payload.ensures
-    (λ n r h. c.in_err-elements.ensures n r
-    (elements_at c.args.prefix.now c.in_ok-payload.payload.variant c.variant.result n r z z
-    (sym c.variant.ensures) refl h)) in
+    let stops : StopsAt (Begins (HasMessage p)) c.in_err-elements.field-0.0.rest.now
+    c.args.bytes.now =
+    stops_after_header p c.in_ok-header.header _ c.in_ok-header.rest.now c.args.bytes.now
+    c.in_ok-header.ensures.spelled
+    (stops_after_user_header p c.in_ok-user_header.user_header _ c.in_ok-user_header.rest.now
+    c.in_ok-header.rest.now c.in_ok-user_header.ensures.spelled
+    (stops_after_payload p c.in_ok-payload.payload _ z c.in_ok-user_header.rest.now
+    c.in_ok-payload.ensures.spelled
+    (no_elements_here p v _ z c.in_err-elements.ensures.place
+    (λ n r h. c.in_err-elements.ensures.spelled n r
+    (elements_at p v c.variant.result n r z z (sym c.variant.ensures) refl h))))) in
     search rules
 
 pub returns-in_err-opener : goal.returns-in_err-opener
 returns-in_err-opener c =
+    let p = c.args.prefix.now in
+    let v = c.in_ok-payload.payload.variant in
     let z = c.in_ok-payload.rest.now in
     let w = c.in_ok-elements.rest.now in
-    let none : (m : Message) (rest : List ℕ)
-    → ¬ HasMessage c.args.prefix.now m rest c.args.bytes.now =
-    no_opener c.args.prefix.now c.in_ok-header.header c.in_ok-user_header.user_header
-    c.in_ok-payload.payload c.in_ok-elements.elements c.in_ok-header.rest.now
-    c.in_ok-user_header.rest.now z w c.args.bytes.now c.in_ok-header.ensures
-    c.in_ok-user_header.ensures c.in_ok-payload.ensures
-    (elements_at c.args.prefix.now c.variant.result c.in_ok-payload.payload.variant
-    c.in_ok-elements.elements w z z c.variant.ensures refl c.in_ok-elements.ensures)
-    c.in_err-opener.ensures.spelled in
+    let stops : StopsAt (Begins (HasMessage p)) c.in_err-opener.field-0.0.rest.now
+    c.args.bytes.now =
+    stops_after_header p c.in_ok-header.header _ c.in_ok-header.rest.now c.args.bytes.now
+    c.in_ok-header.ensures.spelled
+    (stops_after_user_header p c.in_ok-user_header.user_header _ c.in_ok-user_header.rest.now
+    c.in_ok-header.rest.now c.in_ok-user_header.ensures.spelled
+    (stops_after_payload p c.in_ok-payload.payload _ z c.in_ok-user_header.rest.now
+    c.in_ok-payload.ensures.spelled
+    (stops_after_elements p v c.in_ok-elements.elements _ w z
+    (elements_at p c.variant.result v c.in_ok-elements.elements w z z c.variant.ensures refl
+    c.in_ok-elements.ensures.spelled)
+    (no_opener_here p _ w c.in_err-opener.ensures.place c.in_err-opener.ensures.spelled)))) in
     search rules
 
 pub returns : goal.returns
@@ -55,12 +79,12 @@ returns c = record {
   at_payload = c.in_ok-user_header.rest.now;
   at_elements = c.in_ok-payload.rest.now;
   at_opener = c.in_ok-elements.rest.now;
-  header = c.in_ok-header.ensures;
-  user_header = c.in_ok-user_header.ensures;
-  payload = c.in_ok-payload.ensures;
+  header = c.in_ok-header.ensures.spelled;
+  user_header = c.in_ok-user_header.ensures.spelled;
+  payload = c.in_ok-payload.ensures.spelled;
   elements = elements_at c.args.prefix.now c.variant.result c.in_ok-payload.payload.variant
       c.in_ok-elements.elements c.in_ok-elements.rest.now c.in_ok-payload.rest.now
-      c.in_ok-payload.rest.now c.variant.ensures refl c.in_ok-elements.ensures;
+      c.in_ok-payload.rest.now c.variant.ensures refl c.in_ok-elements.ensures.spelled;
   opener = c.in_ok-opener.ensures.spelled;
   opens = c.in_ok-opener.ensures.same;
 }

@@ -1,0 +1,275 @@
+-- The parts of a message in turn, and where reading them stops.
+use Rattle.std.proofs.Common.{◌≡◌, ℕ, List, [], ◌++◌, codes, Option, Some, None, refl, sym, subst}
+use Rattle.std.specs.Fmt.{decimal}
+use Rattle.iox2_config.specs.TypeDetailParts.{TypeDetailParts}
+use Rattle.iox2_config.specs.declared.types.message_details.MessageTypeDetails.{MessageTypeDetails}
+use Rattle.iox2_config.specs.declared.types.type_detail.TypeVariant.{TypeVariant}
+use Rattle.iox2_config.specs.declared.types.type_detail.TypeVariant.TheVariants.{FixedSize, Dynamic}
+use Rattle.service_drawing.specs.Lines.{IsLine, HasNoLine, HasSameLine, Begins, StopsAt, type_text, payload_text, alignments_text, HasType, HasPayload, HasElements, HasOpener, HasMessage}
+use Rattle.service_drawing.specs.declared.description.Message.{Message}
+use Rattle.service_drawing.proofs.Messages.{type_rest, payload_same, elements_rest, opener_rest}
+use Rattle.service_drawing.proofs.Stops.{Both, Moves, Then, moves_as, line_moves, moves_then, after, stops_as, stops_here, line_later, none_later}
+
+-- the same line, of the same variant
+pub elements_at : (prefix : List ℕ) (v w : TypeVariant) (n : ℕ) (x a b : List ℕ) → v ≡ w → a ≡ b
+    → HasElements prefix v n x a → HasElements prefix w n x b
+elements_at prefix v w n x a b e f h =
+    subst (λ u. HasElements prefix u n x b) e
+    (subst (λ (m : List ℕ). HasElements prefix v n x m) f h)
+
+-- the parts of a message are read before other bytes too
+pub type_moves : (begin : List ℕ) (t : TypeDetailParts) (rest bytes : List ℕ)
+    → HasType begin t rest bytes → Moves None (HasType begin t) rest bytes
+type_moves begin t rest bytes h =
+    moves_as None (IsLine (begin ++ type_text t)) (HasType begin t) rest bytes
+    (λ r b l. record { line = l; one_value = h.one_value; described = h.described })
+    (line_moves _ rest bytes h.line)
+
+payload_moves : (prefix : List ℕ) (t : TypeDetailParts) (rest bytes : List ℕ)
+    → HasPayload prefix t rest bytes → Moves None (HasPayload prefix t) rest bytes
+payload_moves prefix t rest bytes h =
+    moves_as None (IsLine (prefix ++ codes "payload " ++ payload_text t)) (HasPayload prefix t) rest
+    bytes (λ r b l. record { line = l; described = h.described }) (line_moves _ rest bytes h.line)
+
+elements_moves : (prefix : List ℕ) (v : TypeVariant) (n : ℕ) (rest bytes : List ℕ)
+    → HasElements prefix v n rest bytes → Moves None (HasElements prefix v n) rest bytes
+elements_moves prefix FixedSize n rest bytes h = record {
+  front = [];
+  parts = sym h.1;
+  ends = tt;
+  moved = λ other e. (h.0, refl);
+}
+elements_moves prefix Dynamic n rest bytes h =
+    moves_as None (IsLine (prefix ++ codes "elements " ++ decimal n))
+    (HasElements prefix Dynamic n) rest bytes (λ r b l. (h.0, l)) (line_moves _ rest bytes h.1)
+
+-- the line of an opener may follow where there was none
+abbrev pub opener_end : List ℕ → Option MessageTypeDetails → Option (List ℕ)
+opener_end prefix None = Some (prefix ++ codes "opener ")
+opener_end prefix (Some opener) = None
+
+opener_moves : (prefix : List ℕ) (o : Option MessageTypeDetails) (rest bytes : List ℕ)
+    → HasOpener prefix o rest bytes → Moves (opener_end prefix o) (HasOpener prefix o) rest bytes
+opener_moves prefix None rest bytes h = record {
+  front = [];
+  parts = sym h.0;
+  ends = subst (HasNoLine (prefix ++ codes "opener ")) (sym h.0) h.1;
+  moved = λ other none. (refl, none);
+}
+opener_moves prefix (Some d) rest bytes h =
+    moves_as None (IsLine (prefix ++ codes "opener " ++ alignments_text d))
+    (HasOpener prefix (Some d)) rest bytes (λ r b l. (h.0, l)) (line_moves _ rest bytes h.1)
+
+-- what follows the parts of a message
+abbrev pub AfterElements : List ℕ → List ℕ → Type 0
+AfterElements prefix = Begins (HasOpener prefix)
+
+abbrev pub AfterPayload : List ℕ → TypeVariant → List ℕ → Type 0
+AfterPayload prefix v = Then (HasElements prefix v) (λ n. AfterElements prefix)
+
+abbrev pub AfterUserHeader : List ℕ → List ℕ → Type 0
+AfterUserHeader prefix = Then (HasPayload prefix) (λ t. AfterPayload prefix t.variant)
+
+abbrev pub AfterHeader : List ℕ → List ℕ → Type 0
+AfterHeader prefix = Then (HasType (prefix ++ codes "user-header ")) (λ u. AfterUserHeader prefix)
+
+abbrev InTurn : List ℕ → List ℕ → Type 0
+InTurn prefix = Then (HasType (prefix ++ codes "header ")) (λ h. AfterHeader prefix)
+
+in_turn : (prefix bytes : List ℕ) → Begins (HasMessage prefix) bytes → InTurn prefix bytes
+in_turn prefix bytes g =
+    let m = g.0 in
+    let h = g.2 in
+    let opener : AfterElements prefix h.at_opener = (m.opener, g.1, h.opener) in
+    let elements : AfterPayload prefix m.details.payload.variant h.at_elements =
+    (m.elements, h.at_opener, h.elements, opener) in
+    let payload : AfterUserHeader prefix h.at_payload =
+    (m.details.payload, h.at_elements, h.payload, elements) in
+    let user_header : AfterHeader prefix h.at_user_header =
+    (m.details.user_header, h.at_payload, h.user_header, payload) in
+    (m.details.header, h.at_user_header, h.header, user_header)
+
+-- where a part of a message was read, the message stops where what follows does
+pub stops_after_header : (prefix : List ℕ) (t : TypeDetailParts) (left mid bytes : List ℕ)
+    → HasType (prefix ++ codes "header ") t mid bytes → StopsAt (AfterHeader prefix) left mid
+    → StopsAt (Begins (HasMessage prefix)) left bytes
+stops_after_header prefix t left mid bytes h s =
+    stops_as (InTurn prefix) (Begins (HasMessage prefix)) left bytes (in_turn prefix)
+    (after (HasType (prefix ++ codes "header ")) (λ h. AfterHeader prefix) None t left mid bytes
+    (λ u x y b p q n. subst (AfterHeader prefix) (type_rest _ u t y x b q p) n)
+    (type_moves _ t mid bytes h) s)
+
+pub stops_after_user_header : (prefix : List ℕ) (t : TypeDetailParts) (left mid bytes : List ℕ)
+    → HasType (prefix ++ codes "user-header ") t mid bytes
+    → StopsAt (AfterUserHeader prefix) left mid → StopsAt (AfterHeader prefix) left bytes
+stops_after_user_header prefix t left mid bytes h s =
+    after (HasType (prefix ++ codes "user-header ")) (λ u. AfterUserHeader prefix) None t left mid
+    bytes (λ u x y b p q n. subst (AfterUserHeader prefix) (type_rest _ u t y x b q p) n)
+    (type_moves _ t mid bytes h) s
+
+pub stops_after_payload : (prefix : List ℕ) (t : TypeDetailParts) (left mid bytes : List ℕ)
+    → HasPayload prefix t mid bytes → StopsAt (AfterPayload prefix t.variant) left mid
+    → StopsAt (AfterUserHeader prefix) left bytes
+stops_after_payload prefix t left mid bytes h s =
+    after (HasPayload prefix) (λ t. AfterPayload prefix t.variant) None t left mid bytes
+    (λ u x y b p q n.
+    let same = payload_same prefix u t y x b q p in
+    subst (λ v. AfterPayload prefix v x) same.0 (subst (AfterPayload prefix u.variant) same.1 n))
+    (payload_moves prefix t mid bytes h) s
+
+pub stops_after_elements : (prefix : List ℕ) (v : TypeVariant) (n : ℕ) (left mid bytes : List ℕ)
+    → HasElements prefix v n mid bytes → StopsAt (AfterElements prefix) left mid
+    → StopsAt (AfterPayload prefix v) left bytes
+stops_after_elements prefix v n left mid bytes h s =
+    after (HasElements prefix v) (λ n. AfterElements prefix) None n left mid bytes
+    (λ m x y b p q k. subst (AfterElements prefix) (elements_rest prefix v m n y x b q p) k)
+    (elements_moves prefix v n mid bytes h) s
+
+-- a part that is not there
+type_like : (begin other bytes : List ℕ) → HasSameLine other bytes → Begins (HasType begin) other
+    → Begins (HasType begin) bytes
+type_like begin other bytes same g =
+    let l = line_later [] other bytes (begin ++ type_text g.0) g.1 same g.2.line in
+    (g.0, l.0, record { line = l.1; one_value = g.2.one_value; described = g.2.described })
+
+pub no_type_here : (begin left bytes : List ℕ) → left ≡ bytes
+    → ((t : TypeDetailParts) (rest : List ℕ) → ¬ HasType begin t rest bytes)
+    → StopsAt (Begins (HasType begin)) left bytes
+no_type_here begin left bytes e none =
+    stops_here (Begins (HasType begin)) left bytes e
+    (λ other same h. type_like begin other bytes same h) (λ h. none h.0 h.1 h.2)
+
+pub no_header_here : (prefix left bytes : List ℕ) → left ≡ bytes
+    → ((t : TypeDetailParts) (rest : List ℕ) → ¬ HasType (prefix ++ codes "header ") t rest bytes)
+    → StopsAt (Begins (HasMessage prefix)) left bytes
+no_header_here prefix left bytes e none =
+    stops_as (Begins (HasType (prefix ++ codes "header "))) (Begins (HasMessage prefix)) left bytes
+    (λ b g. (g.0.details.header, g.2.at_user_header, g.2.header))
+    (no_type_here _ left bytes e none)
+
+pub no_user_header_here : (prefix left bytes : List ℕ) → left ≡ bytes
+    → ((t : TypeDetailParts) (rest : List ℕ)
+    → ¬ HasType (prefix ++ codes "user-header ") t rest bytes)
+    → StopsAt (AfterHeader prefix) left bytes
+no_user_header_here prefix left bytes e none =
+    stops_as (Begins (HasType (prefix ++ codes "user-header "))) (AfterHeader prefix) left bytes
+    (λ b g. (g.0, g.1, g.2)) (no_type_here _ left bytes e none)
+
+pub no_payload_here : (prefix left bytes : List ℕ) → left ≡ bytes
+    → ((t : TypeDetailParts) (rest : List ℕ) → ¬ HasPayload prefix t rest bytes)
+    → StopsAt (AfterUserHeader prefix) left bytes
+no_payload_here prefix left bytes e none =
+    stops_as (Begins (HasPayload prefix)) (AfterUserHeader prefix) left bytes
+    (λ b g. (g.0, g.1, g.2))
+    (stops_here (Begins (HasPayload prefix)) left bytes e like (λ h. none h.0 h.1 h.2))
+  where
+    like : (other : List ℕ) → HasSameLine other bytes → Begins (HasPayload prefix) other
+        → Begins (HasPayload prefix) bytes
+    like other same g =
+        let l = line_later [] other bytes (prefix ++ codes "payload " ++ payload_text g.0) g.1 same
+        g.2.line in
+        (g.0, l.0, record { line = l.1; described = g.2.described })
+
+pub no_elements_here : (prefix : List ℕ) (v : TypeVariant) (left bytes : List ℕ) → left ≡ bytes
+    → ((n : ℕ) (rest : List ℕ) → ¬ HasElements prefix v n rest bytes)
+    → StopsAt (AfterPayload prefix v) left bytes
+no_elements_here prefix v left bytes e none =
+    stops_as (Begins (HasElements prefix v)) (AfterPayload prefix v) left bytes
+    (λ b g. (g.0, g.1, g.2))
+    (stops_here (Begins (HasElements prefix v)) left bytes e
+    (λ other same h. like v other same h.0 h.1 h.2) (λ h. none h.0 h.1 h.2))
+  where
+    like : (w : TypeVariant) (other : List ℕ) → HasSameLine other bytes → (n : ℕ) (rest : List ℕ)
+        → HasElements prefix w n rest other → Begins (HasElements prefix w) bytes
+    like FixedSize other same n rest h = (n, bytes, (h.0, refl))
+    like Dynamic other same n rest h =
+        let l = line_later [] other bytes (prefix ++ codes "elements " ++ decimal n) rest same h.1 in
+        (n, l.0, (h.0, l.1))
+
+pub no_opener_here : (prefix left bytes : List ℕ) → left ≡ bytes
+    → ((o : Option MessageTypeDetails) (rest : List ℕ) → ¬ HasOpener prefix o rest bytes)
+    → StopsAt (AfterElements prefix) left bytes
+no_opener_here prefix left bytes e none =
+    stops_here (AfterElements prefix) left bytes e
+    (λ other same h. like h.0 other same h.1 h.2) (λ h. none h.0 h.1 h.2)
+  where
+    like : (o : Option MessageTypeDetails) (other : List ℕ) → HasSameLine other bytes
+        → (rest : List ℕ) → HasOpener prefix o rest other → AfterElements prefix bytes
+    like None other same rest h =
+        (None, bytes, (refl, none_later [] other bytes (prefix ++ codes "opener ") same h.1))
+    like (Some d) other same rest h =
+        let l = line_later [] other bytes (prefix ++ codes "opener " ++ alignments_text d) rest same
+        h.1 in
+        (Some d, l.0, (h.0, l.1))
+
+-- what follows a message
+pub message_rest : (prefix : List ℕ) (m n : Message) (x y bytes : List ℕ)
+    → HasMessage prefix m x bytes → HasMessage prefix n y bytes → x ≡ y
+message_rest prefix m n x y bytes l k =
+    let a : l.at_user_header ≡ k.at_user_header =
+    type_rest _ m.details.header n.details.header l.at_user_header k.at_user_header bytes l.header
+    k.header in
+    let b : l.at_payload ≡ k.at_payload =
+    type_rest _ m.details.user_header n.details.user_header l.at_payload k.at_payload
+    k.at_user_header
+    (subst (λ (z : List ℕ). HasType (prefix ++ codes "user-header ") m.details.user_header
+    l.at_payload z) a l.user_header) k.user_header in
+    let c = payload_same prefix m.details.payload n.details.payload l.at_elements k.at_elements
+    k.at_payload
+    (subst (λ (z : List ℕ). HasPayload prefix m.details.payload l.at_elements z) b l.payload)
+    k.payload in
+    let d : l.at_opener ≡ k.at_opener =
+    elements_rest prefix n.details.payload.variant m.elements n.elements l.at_opener k.at_opener
+    k.at_elements
+    (elements_at prefix m.details.payload.variant n.details.payload.variant m.elements l.at_opener
+    l.at_elements k.at_elements c.0 c.1 l.elements) k.elements in
+    opener_rest prefix m.opener n.opener x y k.at_opener
+    (subst (λ (z : List ℕ). HasOpener prefix m.opener x z) d l.opener) k.opener
+
+-- a message is read before other bytes too
+pub message_moves : (prefix : List ℕ) (m : Message) (rest bytes : List ℕ)
+    → HasMessage prefix m rest bytes
+    → Moves (opener_end prefix m.opener) (HasMessage prefix m) rest bytes
+message_moves prefix m rest bytes h =
+    let end = opener_end prefix m.opener in
+    let Header : List ℕ → List ℕ → Type 0 =
+    HasType (prefix ++ codes "header ") m.details.header in
+    let UserHeader : List ℕ → List ℕ → Type 0 =
+    HasType (prefix ++ codes "user-header ") m.details.user_header in
+    let Payload : List ℕ → List ℕ → Type 0 = HasPayload prefix m.details.payload in
+    let Elements : List ℕ → List ℕ → Type 0 =
+    HasElements prefix m.details.payload.variant m.elements in
+    let Opener : List ℕ → List ℕ → Type 0 = HasOpener prefix m.opener in
+    let at_opener : Moves end Opener rest h.at_opener =
+    opener_moves prefix m.opener rest h.at_opener h.opener in
+    let at_elements : Moves end (Both Elements Opener) rest h.at_elements =
+    moves_then None end Elements Opener h.at_opener rest h.at_elements
+    (elements_moves prefix _ m.elements h.at_opener h.at_elements h.elements) at_opener
+    (λ o n k. tt) in
+    let at_payload : Moves end (Both Payload (Both Elements Opener)) rest h.at_payload =
+    moves_then None end Payload (Both Elements Opener) h.at_elements rest h.at_payload
+    (payload_moves prefix m.details.payload h.at_elements h.at_payload h.payload) at_elements
+    (λ o n k. tt) in
+    let at_user_header : Moves end (Both UserHeader (Both Payload (Both Elements Opener))) rest
+    h.at_user_header =
+    moves_then None end UserHeader (Both Payload (Both Elements Opener)) h.at_payload rest
+    h.at_user_header
+    (type_moves _ m.details.user_header h.at_payload h.at_user_header h.user_header) at_payload
+    (λ o n k. tt) in
+    moves_as end (Both Header (Both UserHeader (Both Payload (Both Elements Opener))))
+    (HasMessage prefix m) rest bytes
+    (λ r b g. record {
+      at_user_header = g.0;
+      at_payload = g.2.0;
+      at_elements = g.2.2.0;
+      at_opener = g.2.2.2.0;
+      header = g.1;
+      user_header = g.2.1;
+      payload = g.2.2.1;
+      elements = g.2.2.2.1;
+      opener = g.2.2.2.2;
+      opens = h.opens;
+    })
+    (moves_then None end Header (Both UserHeader (Both Payload (Both Elements Opener)))
+    h.at_user_header rest bytes (type_moves _ m.details.header h.at_user_header bytes h.header)
+    at_user_header (λ o n k. tt))

@@ -1,0 +1,159 @@
+-- How far bytes were read, where none that are good go on so.
+use Rattle.std.proofs.Common.{◌≡◌, ℕ, List, [], ◌∷◌, ◌++◌, Option, Some, None, inl, inr, refl, sym, ◌∙◌, ap, subst, append_assoc}
+use Rattle.service_drawing.specs.Lines.{IsLine, HasNoLine, HasSameLine, StopsAt}
+use Rattle.service_drawing.proofs.Words.{Lacks, plain_lacks}
+
+-- a text without such a byte that stands before one stands so whatever follows a later one
+before_later : (byte : ℕ) (s p r y x : List ℕ) → Lacks byte s → p ++ byte ∷ y ≡ s ++ byte ∷ r
+    → (q : List ℕ) × (p ++ byte ∷ x ≡ s ++ byte ∷ q)
+before_later byte [] [] r y x lacks e = (x, refl)
+before_later byte [] (c ∷ p) r y x lacks e =
+    let head : c ≡ byte = cc in
+    (p ++ byte ∷ x, ap (λ h. h ∷ (p ++ byte ∷ x)) head)
+before_later byte (c ∷ s) [] r y x lacks e = let head : c ≡ byte = cc in absurd (lacks.0 head)
+before_later byte (c ∷ s) (d ∷ p) r y x lacks e =
+    let head : d ≡ c = cc in
+    let tail : p ++ byte ∷ y ≡ s ++ byte ∷ r = cc in
+    let more = before_later byte s p r y x lacks.1 tail in
+    (more.0, ap (λ h. h ∷ (p ++ byte ∷ x)) head ∙ ap (λ (l : List ℕ). c ∷ l) more.1)
+
+pub same_back : (one other : List ℕ) → HasSameLine one other → HasSameLine other one
+same_back one other (inl e) = inl (sym e)
+same_back one other (inr s) = inr (record {
+  line = s.line;
+  rest = s.other_rest;
+  other_rest = s.rest;
+  first = s.second;
+  second = s.first;
+})
+
+-- a line that the bytes begin with stays where a later line does
+pub line_later : (read left other text rest : List ℕ) → HasSameLine left other
+    → IsLine text rest (read ++ left) → (q : List ℕ) × IsLine text q (read ++ other)
+line_later read left other text rest (inl e) l =
+    (rest, subst (λ (m : List ℕ). IsLine text rest (read ++ m)) e l)
+line_later read left other text rest (inr s) l =
+    let whole : (read ++ s.line) ++ 10 ∷ s.rest ≡ text ++ 10 ∷ rest =
+    append_assoc read s.line (10 ∷ s.rest) ∙ sym (ap (λ (m : List ℕ). read ++ m) s.first.spelled)
+    ∙ l.spelled in
+    let found = before_later 10 text (read ++ s.line) rest s.rest s.other_rest
+    (plain_lacks text l.plain) whole in (
+      found.0,
+      record {
+        spelled = ap (λ (m : List ℕ). read ++ m) s.second.spelled
+            ∙ sym (append_assoc read s.line (10 ∷ s.other_rest)) ∙ found.1;
+        plain = l.plain;
+      },
+    )
+
+pub none_later : (read left other begin : List ℕ) → HasSameLine left other
+    → HasNoLine begin (read ++ left) → HasNoLine begin (read ++ other)
+none_later read left other begin same none text rest l =
+    let back = line_later read other left (begin ++ text) rest (same_back left other same) l in
+    none text back.0 back.1
+
+-- where a part of a description ends: before bytes that begin with no line that begins so
+abbrev pub EndsAt : Option (List ℕ) → List ℕ → Type 0
+EndsAt None bytes = Unit {0}
+EndsAt (Some begin) bytes = HasNoLine begin bytes
+
+pub ends_later : (end : Option (List ℕ)) (read left other : List ℕ) → HasSameLine left other
+    → EndsAt end (read ++ left) → EndsAt end (read ++ other)
+ends_later None read left other same e = tt
+ends_later (Some begin) read left other same none = none_later read left other begin same none
+
+-- a part was read, and is read before other bytes too if it may end there
+pub record Moves (end : Option (List ℕ)) (Has : List ℕ → List ℕ → Type 0)
+    (rest bytes : List ℕ) : Type 0 where
+  pub front : List ℕ
+  pub parts : bytes ≡ front ++ rest
+  pub ends : EndsAt end rest
+  pub moved : (other : List ℕ) → EndsAt end other → Has other (front ++ other)
+
+pub moves_as : (end : Option (List ℕ)) (Has Other : List ℕ → List ℕ → Type 0)
+    (rest bytes : List ℕ) → ((r b : List ℕ) → Has r b → Other r b) → Moves end Has rest bytes
+    → Moves end Other rest bytes
+moves_as end Has Other rest bytes to m = record {
+  front = m.front;
+  parts = m.parts;
+  ends = m.ends;
+  moved = λ other e. to other (m.front ++ other) (m.moved other e);
+}
+
+pub line_moves : (text rest bytes : List ℕ) → IsLine text rest bytes
+    → Moves None (IsLine text) rest bytes
+line_moves text rest bytes l = record {
+  front = text ++ 10 ∷ [];
+  parts = l.spelled ∙ sym (append_assoc text (10 ∷ []) rest);
+  ends = tt;
+  moved = λ other e. record { spelled = append_assoc text (10 ∷ []) other; plain = l.plain };
+}
+
+-- one part after another
+abbrev pub Both : (List ℕ → List ℕ → Type 0) → (List ℕ → List ℕ → Type 0) → List ℕ → List ℕ
+    → Type 0
+Both Has Next rest bytes = (mid : List ℕ) × Has mid bytes × Next rest mid
+
+pub moves_then : (one end : Option (List ℕ)) (Has Next : List ℕ → List ℕ → Type 0)
+    (mid rest bytes : List ℕ) → Moves one Has mid bytes → Moves end Next rest mid
+    → ((other m : List ℕ) → Next other m → EndsAt one m)
+    → Moves end (Both Has Next) rest bytes
+moves_then one end Has Next mid rest bytes h k apart = record {
+  front = h.front ++ k.front;
+  parts = h.parts ∙ ap (λ (l : List ℕ). h.front ++ l) k.parts
+      ∙ sym (append_assoc h.front k.front rest);
+  ends = k.ends;
+  moved = λ other e.
+      let next = k.moved other e in (
+        k.front ++ other,
+        subst (λ (b : List ℕ). Has (k.front ++ other) b)
+            (sym (append_assoc h.front k.front other))
+            (h.moved (k.front ++ other) (apart other (k.front ++ other) next)),
+        next,
+      );
+}
+
+-- this, and then what belongs to it
+abbrev pub Then : {A : Type 0} → (A → List ℕ → List ℕ → Type 0) → (A → List ℕ → Type 0) → List ℕ
+    → Type 0
+Then {A} Has Next bytes = (x : A) × (mid : List ℕ) × Has x mid bytes × Next x mid
+
+-- where a part was read whole, it stops where the next ones do
+pub after : {A : Type 0} (Has : A → List ℕ → List ℕ → Type 0) (Next : A → List ℕ → Type 0)
+    (end : Option (List ℕ)) (x : A) (left mid bytes : List ℕ)
+    → ((y : A) (r s b : List ℕ) → Has x r b → Has y s b → Next y s → Next x r)
+    → Moves end (Has x) mid bytes → StopsAt (Next x) left mid → StopsAt (Then Has Next) left bytes
+after Has Next end x left mid bytes one m s = record {
+  read = m.front ++ s.read;
+  parts = m.parts ∙ ap (λ (l : List ℕ). m.front ++ l) s.parts
+      ∙ sym (append_assoc m.front s.read left);
+  stops = λ other same good.
+      let rest : List ℕ = s.read ++ other in
+      let ends : EndsAt end rest =
+      ends_later end s.read left other same (subst (EndsAt end) s.parts m.ends) in
+      let whole : Then Has Next (m.front ++ rest) =
+      subst (Then Has Next) (append_assoc m.front s.read other) good in
+      s.stops other same
+      (one whole.0 rest whole.1 (m.front ++ rest) (m.moved rest ends) whole.2 whole.3);
+}
+
+-- what is good in other words
+pub stops_as : (IsGood Other : List ℕ → Type 0) (left bytes : List ℕ)
+    → ((b : List ℕ) → Other b → IsGood b) → StopsAt IsGood left bytes → StopsAt Other left bytes
+stops_as IsGood Other left bytes to s = record {
+  read = s.read;
+  parts = s.parts;
+  stops = λ other same good. s.stops other same (to (s.read ++ other) good);
+}
+
+-- nothing was read
+pub stops_here : (IsGood : List ℕ → Type 0) (left bytes : List ℕ) → left ≡ bytes
+    → ((other : List ℕ) → HasSameLine other bytes → IsGood other → IsGood bytes) → ¬ IsGood bytes
+    → StopsAt IsGood left bytes
+stops_here IsGood left bytes e to none = record {
+  read = [];
+  parts = sym e;
+  stops = λ other same good.
+      none (to other (same_back bytes other
+      (subst (λ (l : List ℕ). HasSameLine l other) e same)) good);
+}
