@@ -1,11 +1,13 @@
 -- What is answered, and what follows from a status.
-use Rattle.std.proofs.Common.{◌≡◌, Result, Ok, Err, IfOk, String, subst, sym, ap, ◌∙◌, arith}
+use Rattle.std.proofs.Common.{◌≡◌, ℕ, List, Option, Some, None, IfSome, Result, Ok, Err, IfOk, String, subst, sym, ap, ◌∙◌, arith}
 use Rattle.std.specs.declared.alloc.Global.{Global}
-use Rattle.service_drawing.specs.Arguments.{Answers}
-use Rattle.service_drawing.specs.Streams.{status_of}
+use Rattle.service_drawing.specs.Descriptions.{IsDescription}
+use Rattle.service_drawing.specs.Lines.{StopsAt}
+use Rattle.service_drawing.specs.Streams.{status_of, TellsBadLine, Draws, Answers}
 use Rattle.service_drawing.specs.declared.arguments.Asked.{Asked}
 use Rattle.service_drawing.specs.declared.fault.Fault.{Fault}
 use Rattle.service_drawing.specs.declared.fault.Fault.TheVariants.{BadArgument, BadLine, NoMemory}
+use Rattle.service_drawing.specs.declared.reading.expected.Expected.{Expected}
 
 -- the status 0 is that of an answer
 pub answered_at_zero : (end : Result (String Global) Fault) (P : Type 0) → IfOk end (λ text. P)
@@ -16,8 +18,30 @@ answered_at_zero (Err BadArgument) P h e = absurd (omega (arith, e))
 answered_at_zero (Err NoMemory) P h e = absurd (omega (arith, e))
 
 -- what is answered to this request
-pub answers_for : (asked : Result Asked Fault) (field expected : Asked)
+pub answers_for : (given : Option (List ℕ)) (asked : Result Asked Fault) (field expected : Asked)
     (end : Result (String Global) Fault) → asked ≡ Ok field → field ≡ expected
-    → Answers (Ok expected) end → Answers asked end
-answers_for asked field expected end e f h =
-    subst (λ (q : Result Asked Fault). Answers q end) (sym (e ∙ ap Ok f)) h
+    → Answers given (Ok expected) end → Answers given asked end
+answers_for given asked field expected end e f h =
+    subst (λ (q : Result Asked Fault). Answers given q end) (sym (e ∙ ap Ok f)) h
+
+-- the line that is told is that where reading stopped
+pub draws_no_more : (bytes : List ℕ) (expected : Expected) (fault : Fault)
+    → StopsAt IsDescription expected.rest.now bytes → TellsBadLine bytes expected fault
+    → Draws bytes (Err fault)
+draws_no_more bytes expected (BadLine line cause prefix form) s h = record {
+  left = expected.rest.now;
+  reason = expected.reason;
+  stops = s;
+  number = h.0 s.read s.parts;
+  because = h.1;
+}
+draws_no_more bytes expected BadArgument s h = h
+draws_no_more bytes expected NoMemory s h = tt
+
+-- what was drawn is drawn of what the reader gave
+pub draws_given : (given : Option (List ℕ)) (items bytes : List ℕ)
+    (end : Result (String Global) Fault) → IfSome given (λ input. items ≡ input) → bytes ≡ items
+    → Draws bytes end → IfSome given (λ input. Draws input end)
+draws_given None items bytes end e same h = tt
+draws_given (Some input) items bytes end e same h =
+    subst (λ (b : List ℕ). Draws b end) (same ∙ e) h

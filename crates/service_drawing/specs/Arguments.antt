@@ -9,7 +9,6 @@ use Rattle.std.specs.declared.io.ErrorKind.TheVariants.{OutOfMemory}
 use Rattle.service_drawing.specs.declared.arguments.Asked.{Asked}
 use Rattle.service_drawing.specs.declared.arguments.Asked.TheVariants.{Drawing, Help, Version}
 use Rattle.service_drawing.specs.declared.arguments.Form.TheVariants.{Text, Svg}
-use Rattle.service_drawing.specs.declared.arguments.TheConstants.{HELP, VERSION}
 use Rattle.service_drawing.specs.declared.fault.Fault.{Fault}
 use Rattle.service_drawing.specs.declared.fault.Fault.TheVariants.{BadArgument, BadLine, NoMemory}
 
@@ -49,11 +48,3 @@ IsDrawing asked = ⊥
 abbrev pub IsTextOrNoMemory : List ℕ → Result (String Global) Fault → Type 0
 IsTextOrNoMemory text (Ok copy) = string_bytes copy ≡ text
 IsTextOrNoMemory text (Err fault) = fault ≡ NoMemory
-
--- what is answered: a drawing or why there is none, or the
--- text that was asked for unless there is no memory for it
-abbrev pub Answers : Result Asked Fault → Result (String Global) Fault → Type 0
-Answers (Err fault) end = end ≡ Err fault
-Answers (Ok (Drawing form)) end = Unit {0}
-Answers (Ok Help) end = IsTextOrNoMemory HELP.now end
-Answers (Ok Version) end = IsTextOrNoMemory VERSION.now end

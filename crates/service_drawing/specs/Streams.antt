@@ -1,17 +1,22 @@
 -- What the streams of the program get.
-use Rattle.std.specs.Prelude.{◌≡◌, ℕ, ◌+◌, List, [], ◌∷◌, ◌++◌, ◌==◌, codes, count_by, Result, Ok, Err, Option, String, string_bytes}
+use Rattle.std.specs.Prelude.{◌≡◌, ℕ, ◌+◌, List, [], ◌∷◌, ◌++◌, ◌==◌, codes, count_by, Result, Ok, Err, Option, IfSome, String, string_bytes}
 use Rattle.std.specs.Fmt.{decimal}
 use Rattle.std.specs.Io.KnownBytes.{Appends, IsAtEnd}
 use Rattle.std.specs.declared.alloc.Global.{Global}
 use Rattle.std.specs.declared.io.Error.{Error}
 use Rattle.std.specs.declared.vec.IntoIter.{IntoIter}
-use Rattle.service_drawing.specs.Arguments.{AsksFor, Answers, IsDrawing}
+use Rattle.service_drawing.specs.Arguments.{AsksFor, IsDrawing, IsTextOrNoMemory}
 use Rattle.service_drawing.specs.Causes.{IsCause}
+use Rattle.service_drawing.specs.Descriptions.{IsDescription}
+use Rattle.service_drawing.specs.Lines.{StopsAt}
 use Rattle.service_drawing.specs.declared.arguments.Asked.{Asked}
+use Rattle.service_drawing.specs.declared.arguments.Asked.TheVariants.{Drawing, Help, Version}
+use Rattle.service_drawing.specs.declared.arguments.TheConstants.{HELP, VERSION}
 use Rattle.service_drawing.specs.declared.fault.Fault.{Fault}
 use Rattle.service_drawing.specs.declared.fault.Fault.TheVariants.{BadArgument, BadLine, NoMemory}
 use Rattle.service_drawing.specs.declared.reading.cause.Cause.{Cause}
 use Rattle.service_drawing.specs.declared.reading.cause.Cause.TheVariants.{NoNewline, CarriageReturn, ForeignByte, TwoSpaces, Read}
+use Rattle.service_drawing.specs.declared.reading.cause.Reason.{Reason}
 use Rattle.service_drawing.specs.declared.reading.cause.Reason.TheVariants.{InternalName, UnknownSetting, SetTwice, OtherForm}
 use Rattle.service_drawing.specs.declared.reading.expected.Expected.{Expected}
 
@@ -56,6 +61,31 @@ TellsBadLine bytes expected (BadLine line cause prefix form) =
 TellsBadLine bytes expected BadArgument = ⊥
 TellsBadLine bytes expected NoMemory = ⊥
 
+-- the line of this number is bad for this cause: with it begins what is left
+-- of the bytes where no description goes on so
+pub record IsBadLine (line : ℕ) (cause : Cause) (bytes : List ℕ) : Type 0 where
+  pub left : List ℕ
+  pub reason : Reason
+  pub stops : StopsAt IsDescription left bytes
+  pub number : line ≡ count_by (λ b. b == 10) stops.read + 1
+  pub because : IsCause left reason cause
+
+-- what is drawn of the bytes: a description, or the number of the first line that none has there
+-- is reported
+abbrev pub Draws : List ℕ → Result (String Global) Fault → Type 0
+Draws bytes (Ok text) = IsDescription bytes
+Draws bytes (Err (BadLine line cause prefix form)) = IsBadLine line cause bytes
+Draws bytes (Err BadArgument) = ⊥
+Draws bytes (Err NoMemory) = Unit {0}
+
+-- what is answered: the bytes that the reader gives, if they are known, are drawn, or the text
+-- that was asked for is answered unless there is no memory for it
+abbrev pub Answers : Option (List ℕ) → Result Asked Fault → Result (String Global) Fault → Type 0
+Answers given (Err fault) end = end ≡ Err fault
+Answers given (Ok (Drawing form)) end = IfSome given (λ bytes. Draws bytes end)
+Answers given (Ok Help) end = IsTextOrNoMemory HELP.now end
+Answers given (Ok Version) end = IsTextOrNoMemory VERSION.now end
+
 -- what the output gets
 abbrev pub output_text : Result (String Global) Fault → List ℕ
 output_text (Ok text) = string_bytes text
@@ -76,11 +106,11 @@ status_of (Err NoMemory) = 2
 -- what was asked for was answered or there was a fault: that is the status, the writers got what
 -- fits it, and for a drawing the input was read to its end
 pub record Reported (arguments : Result (IntoIter (String Global) Global) Error) (status : ℕ)
-    (left out_old out_new err_old err_new : Option (List ℕ)) : Type 0 where
+    (given left out_old out_new err_old err_new : Option (List ℕ)) : Type 0 where
   pub asked : Result Asked Fault
   pub end : Result (String Global) Fault
   pub asks : AsksFor arguments asked
-  pub answered : Answers asked end
+  pub answered : Answers given asked end
   pub told : status ≡ status_of end
   pub read : status ≡ 0 → IsDrawing asked → IsAtEnd left
   pub output : Appends out_old out_new (output_text end)

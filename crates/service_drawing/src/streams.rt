@@ -1,8 +1,9 @@
 //! The program: a description comes from a reader, and goes to a writer as text or as a picture.
 ghost use Rattle.std.specs.Prelude.{◌≡◌, ◌<◌, IfOk, OnOk};
 ghost use Rattle.std.specs.Io.KnownBytes.{Appends, IsAtEnd};
-ghost use Rattle.service_drawing.specs.Arguments.{Answers, IsDrawing, IsTextOrNoMemory};
-ghost use Rattle.service_drawing.specs.Streams.{status_of, output_text, error_text, Reported};
+ghost use Rattle.service_drawing.specs.Arguments.{IsDrawing, IsTextOrNoMemory};
+ghost use Rattle.service_drawing.specs.Streams.{status_of, output_text, error_text};
+ghost use Rattle.service_drawing.specs.Streams.{Draws, Answers, Reported};
 
 use crate::arguments::{Asked, Form, HELP, VERSION, asked_by};
 use crate::fault::{Fault, bad_line, write_fault};
@@ -16,7 +17,9 @@ use std::io;
 use std::io::{Read, Write};
 
 /// What a description is drawn as, or why it is not drawn.
-fn drawn(alloc: Global, form: Form, bytes: &[u8]) -> Result<String, Fault> {
+fn drawn(alloc: Global, form: Form, bytes: &[u8]) -> Result<String, Fault>
+    ensures { Draws bytes.now result }
+{
     let service = match read_description(bytes) {
         Ok(service) => service,
         Err(expected) => return Err(bad_line(bytes, expected)),
@@ -69,7 +72,7 @@ fn answer<R: Read>(
     asked: Result<Asked, Fault>,
     input: &mut R,
 ) -> io::Result<Result<String, Fault>>
-    ensures told { IfOk result (λ end. Answers asked end) }
+    ensures told { IfOk result (λ end. Answers (R.remaining input.old) asked end) }
     ensures read { IfOk result (λ end. IfOk end (λ text.
         IsDrawing asked → IsAtEnd (R.remaining input.new))) }
 {
@@ -102,7 +105,8 @@ fn run<R: Read, W: Write, E: Write>(
     output: &mut W,
     errors: &mut E,
 ) -> io::Result<u8>
-    ensures { IfOk result (λ status. Reported arguments status (R.remaining input.new)
+    ensures { IfOk result (λ status. Reported arguments status
+        (R.remaining input.old) (R.remaining input.new)
         (W.contents output.old) (W.contents output.new)
         (E.contents errors.old) (E.contents errors.new)) }
 {
@@ -132,7 +136,8 @@ pub fn describe_streams<R: Read, W: Write, E: Write>(
     ensures range { result < 4 }
     // A status below 3 says whether what was asked for
     // was written, and the writers got what fits it.
-    ensures reported { result < 3 → Reported arguments result (R.remaining input.new)
+    ensures reported { result < 3 → Reported arguments result
+        (R.remaining input.old) (R.remaining input.new)
         (W.contents output.old) (W.contents output.new)
         (E.contents errors.old) (E.contents errors.new) }
 {

@@ -1,20 +1,23 @@
 use Rattle.service_drawing.specs.declared.arguments.Asked.TheVariants.{Drawing, Help, Version}
-use Rattle.service_drawing.proofs.Answered.{answers_for}
+use Rattle.service_drawing.proofs.Answered.{answers_for, draws_given}
 use Rattle.service_drawing.proofs.streams.answer.Goals as goal
 
 pub returns-in-Ok-clause-told : goal.returns-in-Ok-clause-told
 returns-in-Ok-clause-told g c =
-    answers_for c.args.asked c.in-Ok-Drawing.field-0
+    answers_for _ c.args.asked c.in-Ok-Drawing.field-0
     (Drawing c.in-Ok-Drawing.form) c.drawn.result c.in-Ok-Drawing.is
-    (rw c.in-Ok-Drawing.is at c.in-Ok-Drawing.field-0-is) tt
+    (rw c.in-Ok-Drawing.is at c.in-Ok-Drawing.field-0-is)
+    (draws_given _ c.in-Ok.bytes.items _ c.drawn.result
+    (rw c.in-Ok.is at c.in_ok-bytes-in-Ok-Drawing.ensures.bytes) c.deref.ensures.value
+    c.drawn.ensures)
 
 pub returns-in-Ok-Help-clause-told : goal.returns-in-Ok-Help-clause-told
 returns-in-Ok-Help-clause-told g c =
-    answers_for c.args.asked c.in-Ok-Help.field-0 Help c.text_of.result c.in-Ok-Help.is
+    answers_for _ c.args.asked c.in-Ok-Help.field-0 Help c.text_of.result c.in-Ok-Help.is
     (rw c.in-Ok-Help.is at c.in-Ok-Help.field-0-is) c.text_of.ensures
 
 pub returns-in-Ok-Version-clause-told : goal.returns-in-Ok-Version-clause-told
 returns-in-Ok-Version-clause-told g c =
-    answers_for c.args.asked c.in-Ok-Version.field-0 Version c.text_of-in-Ok-Version.result
+    answers_for _ c.args.asked c.in-Ok-Version.field-0 Version c.text_of-in-Ok-Version.result
     c.in-Ok-Version.is
     (rw c.in-Ok-Version.is at c.in-Ok-Version.field-0-is) c.text_of-in-Ok-Version.ensures
