@@ -1,8 +1,7 @@
 -- What is answered, and what follows from a status.
 use Rattle.std.proofs.Common.{◌≡◌, ℕ, List, Option, Some, None, IfSome, Result, Ok, Err, IfOk, String, subst, sym, ap, ◌∙◌, arith}
 use Rattle.std.specs.declared.alloc.Global.{Global}
-use Rattle.service_drawing.specs.Descriptions.{IsDescription}
-use Rattle.service_drawing.specs.Lines.{StopsAt}
+use Rattle.service_drawing.specs.Descriptions.{StopsReading}
 use Rattle.service_drawing.specs.Streams.{status_of, TellsBadLine, Draws, Answers}
 use Rattle.service_drawing.specs.declared.arguments.Asked.{Asked}
 use Rattle.service_drawing.specs.declared.fault.Fault.{Fault}
@@ -26,7 +25,7 @@ answers_for given asked field expected end e f h =
 
 -- the line that is told is that where reading stopped
 pub draws_no_more : (bytes : List ℕ) (expected : Expected) (fault : Fault)
-    → StopsAt IsDescription expected.rest.now bytes → TellsBadLine bytes expected fault
+    → StopsReading expected.rest.now bytes → TellsBadLine bytes expected fault
     → Draws bytes (Err fault)
 draws_no_more bytes expected (BadLine line cause prefix form) s h = record {
   left = expected.rest.now;

@@ -3,7 +3,7 @@ use Rattle.std.proofs.Common.{◌≡◌, ℕ, ◌+◌, ◌<◌, ◌≤◌, true,
 use Rattle.std.proofs.lemmas.List.Sorted.{IsPermutation-cons, IsPermutation-to_front, IsPermutation-trans}
 use Rattle.iox2_texts.specs.Attribute.{IsListing}
 use Rattle.iox2_texts.specs.Pair.{Pair}
-use Rattle.service_drawing.specs.Lines.{IsLine, HasNoLine, HasLineOf, IsPair, pair_text, GivesPair, HasAttributes, Begins, StopsAt}
+use Rattle.service_drawing.specs.Lines.{IsLine, HasNoLine, HasLineOf, IsPair, pair_text, GivesPair, HasAttributes, HasLinesOf, Whole, Begins, StopsAt}
 use Rattle.service_drawing.proofs.LinesOf.{UpTo, more_lines, all_lines, lines_stop, goes_on, longer_by_one, no_key}
 
 -- what was read so far
@@ -57,14 +57,28 @@ finished set at bytes r none = record {
   listing = r.listing;
 }
 
+whole_attributes : (set : List Pair) (at bytes : List ℕ) (r : Reading set at bytes) (b : List ℕ)
+    → HasLinesOf (codes "attribute ") GivesPair r.pairs [] b → Whole HasAttributes b
+whole_attributes set at bytes r b l = (
+  set,
+  record {
+    pairs = r.pairs;
+    lines = l;
+    few = omega (arith, r.count, r.few);
+    listing = r.listing;
+  },
+)
+
 -- the next line gives no pair
 pub stops_at_pair : (set : List Pair) (left at bytes text tail : List ℕ) → left ≡ at
     → Reading set at bytes → IsLine (codes "attribute " ++ text) tail at
     → ((pair : Pair) → IsPair pair → ¬ (text ≡ pair_text pair))
-    → StopsAt (Begins HasAttributes) left bytes
+    → StopsAt HasAttributes left bytes
 stops_at_pair set left at bytes text tail e r l bad =
-    lines_stop (codes "attribute ") GivesPair r.pairs (Begins HasAttributes) left at bytes text tail
+    lines_stop (codes "attribute ") GivesPair r.pairs (Whole HasAttributes)
+    (Begins HasAttributes) left at bytes text tail
     e r.lines l
+    (whole_attributes set at bytes r)
     (λ other next rest u k h.
     let one = goes_on (codes "attribute ") GivesPair no_key (λ x y t p q. refl) r.pairs
     h.2.pairs next h.1 other text rest u k h.2.lines in
@@ -73,10 +87,12 @@ stops_at_pair set left at bytes text tail e r l bad =
 -- the next line is one too many
 pub stops_when_full : (set : List Pair) (left at bytes text tail : List ℕ) → left ≡ at
     → Reading set at bytes → IsLine (codes "attribute " ++ text) tail at → 16 ≤ length set
-    → StopsAt (Begins HasAttributes) left bytes
+    → StopsAt HasAttributes left bytes
 stops_when_full set left at bytes text tail e r l full =
-    lines_stop (codes "attribute ") GivesPair r.pairs (Begins HasAttributes) left at bytes text tail
+    lines_stop (codes "attribute ") GivesPair r.pairs (Whole HasAttributes)
+    (Begins HasAttributes) left at bytes text tail
     e r.lines l
+    (whole_attributes set at bytes r)
     (λ other next rest u k h.
     let one = goes_on (codes "attribute ") GivesPair no_key (λ x y t p q. refl) r.pairs
     h.2.pairs next h.1 other text rest u k h.2.lines in

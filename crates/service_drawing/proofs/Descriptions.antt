@@ -1,20 +1,23 @@
 -- The parts of a description in turn, and where reading them stops.
-use Rattle.std.proofs.Common.{◌≡◌, ◌==◌, ℕ, List, [], ◌∷◌, ◌++◌, true, false, length, Some, None, codes, inl, inr, refl, sym, ap, ◌∙◌, subst, arith, length-append}
+use Rattle.std.proofs.Common.{◌≡◌, ◌==◌, ℕ, List, [], ◌∷◌, ◌++◌, true, false, length, get_or, Some, None, codes, inl, inr, refl, sym, ap, ◌∙◌, subst, arith, length-append}
 use Rattle.std.proofs.lemmas.Bool.{eqb-true}
+use Rattle.std.proofs.lemmas.List.Sorted.{IsPermutation-refl}
+use Rattle.iox2_texts.specs.Attribute.{IsListing}
+use Rattle.iox2_config.specs.Hashing.{hash_input, sha1_text}
 use Rattle.iox2_texts.specs.Pair.{Pair}
 use Rattle.iox2_texts.specs.Verify.{Requirements}
 use Rattle.iox2_config.specs.declared.config.Config.{Config}
 use Rattle.iox2_config.specs.declared.hash.input.PatternKind.{PatternKind}
 use Rattle.iox2_config.specs.declared.hash.input.PatternKind.TheVariants as kind
-use Rattle.service_drawing.specs.Descriptions.{IsDescription}
-use Rattle.service_drawing.specs.Lines.{IsLine, HasSameLine, Begins, StopsAt, pattern_word, HasLinesOf, HasService, HasExchange, HasAttributes, HasRequirements, GivesPair, GivesRequirement}
+use Rattle.service_drawing.specs.Descriptions.{IsDescription, IsDescriptionOrNothing, StopsReading}
+use Rattle.service_drawing.specs.Lines.{IsLine, HasNoLine, HasSameLine, Whole, Begins, Stops, StopsAt, pattern_word, HasLinesOf, HasService, HasExchange, HasAttributes, HasRequirements, GivesPair, GivesRequirement}
 use Rattle.service_drawing.specs.Settings.{HasSettings, HasConfiguration, GivesSetting}
 use Rattle.service_drawing.specs.declared.description.Exchange.{Exchange}
 use Rattle.service_drawing.specs.declared.settings.value.Value.{Value}
-use Rattle.service_drawing.proofs.Exchanges.{exchange_rest, exchange_end, exchange_moves}
-use Rattle.service_drawing.proofs.LinesOf.{lines_rest, lines_move}
+use Rattle.service_drawing.proofs.Exchanges.{exchange_rest, exchange_end, exchange_moves, exchange_apart, ends_in_opener, some_exchange}
+use Rattle.service_drawing.proofs.LinesOf.{lines_rest, lines_move, lines_apart}
 use Rattle.service_drawing.proofs.ServiceNames.{same_pattern}
-use Rattle.service_drawing.proofs.Stops.{Moves, Then, moves_as, line_moves, line_later, ends_later, after, stops_as, stops_here}
+use Rattle.service_drawing.proofs.Stops.{EndsAt, AreApart, Moves, Then, moves_as, line_moves, line_later, ends_later, after, stops_as, stops_with, stops_here, whole_then, none_begins}
 use Rattle.service_drawing.proofs.Words.{line_one}
 
 -- the line of a service, by its pattern and name
@@ -101,14 +104,19 @@ configuration_moves kind.Blackboard c rest bytes h =
     moves_as _ _ (HasConfiguration kind.Blackboard c) rest bytes (λ r b s. (s, h.1))
     (settings_move _ _ _ rest bytes h.0)
 
--- where the settings stop, from the same defaults, so does the configuration
-pub configuration_stops : (k : PatternKind) (names : List (List ℕ)) (one other : List Value)
-    (values : Config → List Value) (left bytes : List ℕ) → one ≡ other
+-- where the settings stop, from the same defaults, so does the configuration, which has those that
+-- were set
+pub configuration_stops : (k : PatternKind) (names : List (List ℕ)) (one other set : List Value)
+    (values : Config → List Value) (config : Config) (left bytes : List ℕ) → one ≡ other
+    → ((b : List ℕ) → HasSettings names other set [] b → HasConfiguration k config [] b)
     → ((c : Config) (r b : List ℕ) → HasConfiguration k c r b
-    → HasSettings names other (values c) r b) → StopsAt (Begins (HasSettings names one)) left bytes
-    → StopsAt (Begins (HasConfiguration k)) left bytes
-configuration_stops k names one other values left bytes e to s =
-    stops_as (Begins (HasSettings names one)) (Begins (HasConfiguration k)) left bytes
+    → HasSettings names other (values c) r b)
+    → Stops (HasSettings names one set []) (Begins (HasSettings names one)) left bytes
+    → StopsAt (HasConfiguration k) left bytes
+configuration_stops k names one other set values config left bytes e from to s =
+    stops_as (HasSettings names one set []) (Begins (HasSettings names one))
+    (Whole (HasConfiguration k)) (Begins (HasConfiguration k)) left bytes
+    (λ b w. (config, from b (subst (λ (d : List Value). HasSettings names d set [] b) e w)))
     (λ b g. (
       values g.0,
       g.1,
@@ -141,14 +149,69 @@ requirements_move v rest bytes h =
       keys = h.keys;
     }) (lines_move (codes "require") GivesRequirement h.each rest bytes h.lines)
 
+-- no lines at all
+none_listed : IsListing [] []
+none_listed = (IsPermutation-refl [], λ k d low high. absurd (omega arith))
+
+no_requirements : HasRequirements (record { pairs = []; keys = [] }) [] []
+no_requirements = record {
+  each = [];
+  lines = (refl, none_begins (codes "require"));
+  few = omega arith;
+  pairs = none_listed;
+  keys = refl;
+}
+
+no_attributes : HasAttributes [] [] []
+no_attributes = record {
+  pairs = [];
+  lines = (refl, none_begins (codes "attribute "));
+  few = omega arith;
+  listing = none_listed;
+}
+
+-- what follows begins in no other way
+required_apart : (word bytes : List ℕ) → AreApart word (codes "require") → AfterAttributes bytes
+    → HasNoLine word bytes
+required_apart word bytes apart g =
+    lines_apart (codes "require") word GivesRequirement g.1.each [] bytes apart g.1.lines
+    (none_begins word)
+
+attributes_apart : (word bytes : List ℕ) → AreApart word (codes "attribute ")
+    → AreApart word (codes "require") → AfterExchange bytes → HasNoLine word bytes
+attributes_apart word bytes one other g =
+    lines_apart (codes "attribute ") word GivesPair g.2.pairs g.1 bytes one g.2.lines
+    (required_apart word g.1 other g.3)
+
+settings_apart : (k : PatternKind) (bytes : List ℕ) → AfterSettings k bytes
+    → HasNoLine (codes "set ") bytes
+settings_apart k bytes g =
+    exchange_apart k g.0 g.1 bytes g.2
+    (attributes_apart (codes "set ") g.1
+    (λ x y e. omega (arith, ap (λ (l : List ℕ). get_or l 0 0) e))
+    (λ x y e. omega (arith, ap (λ (l : List ℕ). get_or l 0 0) e)) g.3)
+
+exchange_ends : (k : PatternKind) (x : Exchange) (mid bytes : List ℕ)
+    (h : HasExchange k x mid bytes) (next : List ℕ) → AfterExchange next
+    → EndsAt (exchange_end k x mid bytes h) next
+exchange_ends k x mid bytes h next g =
+    ends_in_opener k x mid bytes h next
+    (attributes_apart (codes "opener ") next
+    (λ x y e. omega (arith, ap (λ (l : List ℕ). get_or l 0 0) e))
+    (λ x y e. omega (arith, ap (λ (l : List ℕ). get_or l 0 0) e)) g)
+    (attributes_apart (codes "response-opener ") next
+    (λ x y e. omega (arith, ap (λ (l : List ℕ). get_or l 0 0) e))
+    (λ x y e. omega (arith, ap (λ (l : List ℕ). get_or l 2 0) e)) g)
+
 -- no service
 pub no_service_here : (left bytes : List ℕ) → left ≡ bytes
     → ((k : PatternKind) (name rest : List ℕ) → ¬ HasService k name rest bytes)
-    → StopsAt IsDescription left bytes
+    → StopsReading left bytes
 no_service_here left bytes e none =
-    stops_as (Begins HasLineOfService) IsDescription left bytes
-    (λ b g. ((g.0.kind, g.0.name), g.1.at_settings, g.1.service))
-    (stops_here (Begins HasLineOfService) left bytes e like (λ g. none g.0.0 g.0.1 g.1 g.2))
+    stops_as IsDescriptionOrNothing (Begins HasLineOfService) IsDescriptionOrNothing IsDescription
+    left bytes (λ b w. w) (λ b g. ((g.0.kind, g.0.name), g.1.at_settings, g.1.service))
+    (stops_here IsDescriptionOrNothing (Begins HasLineOfService) left bytes [] e (inr refl) like
+    (λ g. none g.0.0 g.0.1 g.1 g.2))
   where
     like : (other : List ℕ) → HasSameLine other bytes → Begins HasLineOfService other
         → Begins HasLineOfService bytes
@@ -156,61 +219,115 @@ no_service_here left bytes e none =
         let l = line_later [] other bytes (pattern_word g.0.0 ++ g.0.1) g.1 same g.2.line in
         (g.0, l.0, record { line = l.1; named = g.2.named })
 
+-- parts in turn make a description
+description_of : (bytes : List ℕ) → InTurn bytes → IsDescription bytes
+description_of bytes g =
+    let c = g.3 in
+    let x = c.3 in
+    let a = x.3 in
+    let r = a.3 in (
+      record {
+        name = g.0.1;
+        kind = g.0.0;
+        hash = sha1_text (hash_input g.0.0 g.0.1);
+        config = c.0;
+        exchange = x.0;
+        attributes = a.0;
+        required = r.0;
+      },
+      record {
+        at_settings = g.1;
+        at_exchange = c.1;
+        at_attributes = x.1;
+        at_required = a.1;
+        service = g.2;
+        hash = refl;
+        settings = c.2;
+        exchange = x.2;
+        attributes = a.2;
+        required = r.1;
+      },
+    )
+
 -- where a part of a description was read, it stops where what follows does
 pub stops_after_service : (k : PatternKind) (name left mid bytes : List ℕ)
-    → HasService k name mid bytes → StopsAt (AfterService k) left mid
-    → StopsAt IsDescription left bytes
+    → HasService k name mid bytes → Stops (AfterService k) (AfterService k) left mid
+    → StopsReading left bytes
 stops_after_service k name left mid bytes h s =
-    stops_as InTurn IsDescription left bytes in_turn
-    (after HasLineOfService (λ s. AfterService s.0) None (k, name) left mid bytes
+    stops_as InTurn InTurn IsDescriptionOrNothing IsDescription left bytes
+    (λ b w. inl (description_of b w)) in_turn
+    (after HasLineOfService (λ s. AfterService s.0) (λ s. AfterService s.0) None (k, name) left mid
+    bytes
     (λ t x y b p q n.
     let same = service_same t.0 k t.1 name y x b q p in
     subst (λ j. AfterService j x) same.0 (subst (AfterService t.0) same.1 n))
-    (service_moves k name mid bytes h) s)
+    (λ b w. tt) (service_moves k name mid bytes h) s)
 
 pub stops_in_settings : (k : PatternKind) (left bytes : List ℕ)
-    → StopsAt (Begins (HasConfiguration k)) left bytes → StopsAt (AfterService k) left bytes
+    → StopsAt (HasConfiguration k) left bytes
+    → Stops (AfterService k) (AfterService k) left bytes
 stops_in_settings k left bytes s =
-    stops_as (Begins (HasConfiguration k)) (AfterService k) left bytes (λ b g. (g.0, g.1, g.2)) s
+    let some = some_exchange k in
+    let next : AfterSettings k some.0 =
+    (some.1.0, [], some.1.1, ([], [], no_attributes, (_, no_requirements))) in
+    stops_as (AfterService k) (Begins (HasConfiguration k)) (AfterService k) (AfterService k) left
+    bytes (λ b w. w) (λ b g. (g.0, g.1, g.2))
+    (stops_with (Whole (HasConfiguration k)) (Begins (HasConfiguration k)) (AfterService k) some.0
+    left bytes
+    (λ b w. (
+      w.0,
+      some.0,
+      whole_then (Some (codes "set ")) (HasConfiguration k w.0) some.0 b
+          (configuration_moves k w.0 [] b w.1) (settings_apart k some.0 next),
+      next,
+    )) s)
 
 pub stops_after_settings : (k : PatternKind) (c : Config) (left mid bytes : List ℕ)
-    → HasConfiguration k c mid bytes → StopsAt (AfterSettings k) left mid
-    → StopsAt (AfterService k) left bytes
+    → HasConfiguration k c mid bytes → Stops (AfterSettings k) (AfterSettings k) left mid
+    → Stops (AfterService k) (AfterService k) left bytes
 stops_after_settings k c left mid bytes h s =
-    after (HasConfiguration k) (λ c. AfterSettings k) (Some (codes "set ")) c left mid bytes
+    after (HasConfiguration k) (λ c. AfterSettings k) (λ c. AfterSettings k) (Some (codes "set ")) c
+    left mid bytes
     (λ d x y b p q n. subst (AfterSettings k) (configuration_rest k d c y x b q p) n)
-    (configuration_moves k c mid bytes h) s
+    (settings_apart k) (configuration_moves k c mid bytes h) s
 
 pub stops_in_exchange : (k : PatternKind) (left bytes : List ℕ)
-    → StopsAt (Begins (HasExchange k)) left bytes → StopsAt (AfterSettings k) left bytes
+    → StopsAt (HasExchange k) left bytes → Stops (AfterSettings k) (AfterSettings k) left bytes
 stops_in_exchange k left bytes s =
-    stops_as (Begins (HasExchange k)) (AfterSettings k) left bytes (λ b g. (g.0, g.1, g.2)) s
+    stops_as (Whole (HasExchange k)) (Begins (HasExchange k)) (AfterSettings k) (AfterSettings k)
+    left bytes (λ b w. (w.0, [], w.1, ([], [], no_attributes, (_, no_requirements))))
+    (λ b g. (g.0, g.1, g.2)) s
 
 pub stops_after_exchange : (k : PatternKind) (x : Exchange) (left mid bytes : List ℕ)
-    → HasExchange k x mid bytes → StopsAt AfterExchange left mid
-    → StopsAt (AfterSettings k) left bytes
+    → HasExchange k x mid bytes → Stops AfterExchange AfterExchange left mid
+    → Stops (AfterSettings k) (AfterSettings k) left bytes
 stops_after_exchange k x left mid bytes h s =
-    after (HasExchange k) (λ x. AfterExchange) (exchange_end k x mid bytes h) x left mid bytes
-    (λ e r t b p q n. subst AfterExchange (exchange_rest k e x t r b q p) n)
-    (exchange_moves k x mid bytes h) s
+    after (HasExchange k) (λ x. AfterExchange) (λ x. AfterExchange) (exchange_end k x mid bytes h) x
+    left mid bytes (λ e r t b p q n. subst AfterExchange (exchange_rest k e x t r b q p) n)
+    (exchange_ends k x mid bytes h) (exchange_moves k x mid bytes h) s
 
-pub stops_in_attributes : (left bytes : List ℕ) → StopsAt (Begins HasAttributes) left bytes
-    → StopsAt AfterExchange left bytes
+pub stops_in_attributes : (left bytes : List ℕ) → StopsAt HasAttributes left bytes
+    → Stops AfterExchange AfterExchange left bytes
 stops_in_attributes left bytes s =
-    stops_as (Begins HasAttributes) AfterExchange left bytes (λ b g. (g.0, g.1, g.2)) s
+    stops_as (Whole HasAttributes) (Begins HasAttributes) AfterExchange AfterExchange left bytes
+    (λ b w. (w.0, [], w.1, (_, no_requirements))) (λ b g. (g.0, g.1, g.2)) s
 
 pub stops_after_attributes : (set : List Pair) (left mid bytes : List ℕ)
-    → HasAttributes set mid bytes → StopsAt AfterAttributes left mid
-    → StopsAt AfterExchange left bytes
+    → HasAttributes set mid bytes → Stops AfterAttributes AfterAttributes left mid
+    → Stops AfterExchange AfterExchange left bytes
 stops_after_attributes set left mid bytes h s =
-    after HasAttributes (λ set. AfterAttributes) (Some (codes "attribute ")) set left mid bytes
+    after HasAttributes (λ set. AfterAttributes) (λ set. AfterAttributes)
+    (Some (codes "attribute ")) set left mid bytes
     (λ t x y b p q n. subst AfterAttributes (attributes_rest t set y x b q p) n)
+    (λ b w. required_apart (codes "attribute ") b
+    (λ x y e. omega (arith, ap (λ (l : List ℕ). get_or l 0 0) e)) w)
     (attributes_move set mid bytes h) s
 
-pub stops_in_required : (left bytes : List ℕ) → StopsAt (Begins HasRequirements) left bytes
-    → StopsAt AfterAttributes left bytes
+pub stops_in_required : (left bytes : List ℕ) → StopsAt HasRequirements left bytes
+    → Stops AfterAttributes AfterAttributes left bytes
 stops_in_required left bytes s =
-    stops_as (Begins HasRequirements) AfterAttributes left bytes (λ b g. (g.0, [], g.1)) s
+    stops_as (Whole HasRequirements) (Begins HasRequirements) AfterAttributes AfterAttributes left
+    bytes (λ b w. (w.0, w.1)) (λ b g. (g.0, [], g.1)) s
 
 -- more follows than what is required
 filled : (left other : List ℕ) → false ≡ (length left == 0) → HasSameLine left other
@@ -222,12 +339,14 @@ filled (x ∷ xs) other more (inr s) e =
 
 pub stops_after_required : (v : Requirements) (left rest bytes : List ℕ) → left ≡ rest
     → HasRequirements v rest bytes → false ≡ (length rest == 0)
-    → StopsAt AfterAttributes left bytes
+    → Stops AfterAttributes AfterAttributes left bytes
 stops_after_required v left rest bytes e h more =
     let m = requirements_move v rest bytes h in
     record {
       read = m.front;
+      more = [];
       parts = m.parts ∙ ap (λ (l : List ℕ). m.front ++ l) (sym e);
+      begun = (v, m.moved [] (none_begins (codes "require")));
       stops = λ other same good.
           let like = subst (λ (l : List ℕ). HasSameLine l other) e same in
           let whole = m.moved other

@@ -1,9 +1,9 @@
 -- Lines of one kind that were read, and what no further line may be.
 use Rattle.std.proofs.Common.{◌≡◌, ◌<◌, ℕ, List, [], ◌∷◌, ◌++◌, Some, None, length, map, refl, sym, ap, ◌∙◌, subst, arith, length-append}
 use Rattle.std.proofs.lemmas.List.{length-map}
-use Rattle.service_drawing.specs.Lines.{IsLine, HasNoLine, HasSameLine, StopsAt, HasLineOf, HasLinesOf}
+use Rattle.service_drawing.specs.Lines.{IsLine, HasNoLine, HasSameLine, Stops, HasLineOf, HasLinesOf}
 use Rattle.service_drawing.proofs.Messages.{same_text}
-use Rattle.service_drawing.proofs.Stops.{Moves, moves_as, line_moves, moves_then, line_later}
+use Rattle.service_drawing.proofs.Stops.{Moves, moves_as, line_moves, moves_then, line_later, none_begins, AreApart, other_line}
 use Rattle.service_drawing.proofs.Words.{line_one}
 
 -- these lines stand before this place
@@ -132,17 +132,30 @@ lines_move begin Spells (x ∷ xs) rest bytes h =
 
 -- where the line that follows those that were read is no good after them, they stop
 pub lines_stop : {A : Type 0} (begin : List ℕ) (Spells : A → List ℕ → Type 0) (xs : List A)
-    (IsGood : List ℕ → Type 0) (left at bytes text tail : List ℕ) → left ≡ at
+    (IsWhole IsGood : List ℕ → Type 0) (left at bytes text tail : List ℕ) → left ≡ at
     → UpTo begin Spells xs at bytes → IsLine (begin ++ text) tail at
+    → ((b : List ℕ) → HasLinesOf begin Spells xs [] b → IsWhole b)
     → ((other next rest : List ℕ) → UpTo begin Spells xs next other
-    → IsLine (begin ++ text) rest next → ¬ IsGood other) → StopsAt IsGood left bytes
-lines_stop begin Spells xs IsGood left at bytes text tail e u l bad =
+    → IsLine (begin ++ text) rest next → ¬ IsGood other) → Stops IsWhole IsGood left bytes
+lines_stop begin Spells xs IsWhole IsGood left at bytes text tail e u l whole bad =
     let m = up_moves begin Spells xs at bytes u in
     record {
       read = m.front;
+      more = [];
       parts = m.parts ∙ ap (λ (a : List ℕ). m.front ++ a) (sym e);
+      begun = whole (m.front ++ [])
+          (all_lines begin Spells xs [] (m.front ++ []) (m.moved [] tt) (none_begins begin));
       stops = λ other same.
           let next = line_later [] at other (begin ++ text) tail
           (subst (λ (a : List ℕ). HasSameLine a other) e same) l in
           bad (m.front ++ other) other next.0 (m.moved other tt) next.1;
     }
+
+-- lines that begin in another way
+pub lines_apart : {A : Type 0} (begin word : List ℕ) (Spells : A → List ℕ → Type 0) (xs : List A)
+    (rest bytes : List ℕ) → AreApart word begin → HasLinesOf begin Spells xs rest bytes
+    → HasNoLine word rest → HasNoLine word bytes
+lines_apart begin word Spells [] rest bytes apart h none =
+    subst (λ (b : List ℕ). HasNoLine word b) h.0 none
+lines_apart begin word Spells (x ∷ xs) rest bytes apart h none =
+    other_line word begin h.1.text h.0 bytes apart h.1.line

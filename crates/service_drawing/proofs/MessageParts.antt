@@ -1,14 +1,20 @@
 -- The parts of a message in turn, and where reading them stops.
-use Rattle.std.proofs.Common.{◌≡◌, ℕ, List, [], ◌++◌, codes, Option, Some, None, refl, sym, subst}
-use Rattle.std.specs.Fmt.{decimal}
+use Rattle.std.proofs.Common.{◌≡◌, ℕ, List, [], ◌∷◌, ◌++◌, codes, true, Option, Some, None, refl, sym, subst, arith, append_assoc}
+use lib.Count.{ones}
+use Rattle.std.specs.List.{list_all}
+use Rattle.std.proofs.lemmas.List.Elements.{All-append, All-cons, All-nil}
+use Rattle.std.proofs.lemmas.List.Sums.{AllPass-from_list_all}
+use Rattle.std.specs.Fmt.{decimal, digits}
 use Rattle.iox2_config.specs.TypeDetailParts.{TypeDetailParts}
 use Rattle.iox2_config.specs.declared.types.message_details.MessageTypeDetails.{MessageTypeDetails}
 use Rattle.iox2_config.specs.declared.types.type_detail.TypeVariant.{TypeVariant}
 use Rattle.iox2_config.specs.declared.types.type_detail.TypeVariant.TheVariants.{FixedSize, Dynamic}
-use Rattle.service_drawing.specs.Lines.{IsLine, HasNoLine, HasSameLine, Begins, StopsAt, type_text, payload_text, alignments_text, HasType, HasPayload, HasElements, HasOpener, HasMessage}
+use Rattle.iox2_texts.specs.Text.{IsTextByte}
+use Rattle.service_drawing.specs.Causes.{is_plain}
+use Rattle.service_drawing.specs.Lines.{IsLine, IsPlain, HasNoLine, HasSameLine, Begins, Whole, Stops, StopsAt, IsDescribed, type_text, payload_text, alignments_text, HasType, HasPayload, HasElements, HasOpener, HasMessage}
 use Rattle.service_drawing.specs.declared.description.Message.{Message}
 use Rattle.service_drawing.proofs.Messages.{type_rest, payload_same, elements_rest, opener_rest}
-use Rattle.service_drawing.proofs.Stops.{Both, Moves, Then, moves_as, line_moves, moves_then, after, stops_as, stops_here, line_later, none_later}
+use Rattle.service_drawing.proofs.Stops.{Both, Moves, Then, moves_as, line_moves, moves_then, after, stops_as, stops_here, line_later, none_later, none_begins, AreApart, other_line}
 
 -- the same line, of the same variant
 pub elements_at : (prefix : List ℕ) (v w : TypeVariant) (n : ℕ) (x a b : List ℕ) → v ≡ w → a ≡ b
@@ -60,70 +66,224 @@ opener_moves prefix (Some d) rest bytes h =
     moves_as None (IsLine (prefix ++ codes "opener " ++ alignments_text d))
     (HasOpener prefix (Some d)) rest bytes (λ r b l. (h.0, l)) (line_moves _ rest bytes h.1)
 
--- what follows the parts of a message
-abbrev pub AfterElements : List ℕ → List ℕ → Type 0
-AfterElements prefix = Begins (HasOpener prefix)
+-- what follows the parts of a message, up to this end
+abbrev pub AfterPayload : List ℕ → TypeVariant → (List ℕ → Type 0) → List ℕ → Type 0
+AfterPayload prefix v End = Then (HasElements prefix v) (λ n. End)
 
-abbrev pub AfterPayload : List ℕ → TypeVariant → List ℕ → Type 0
-AfterPayload prefix v = Then (HasElements prefix v) (λ n. AfterElements prefix)
+abbrev pub AfterUserHeader : List ℕ → (List ℕ → Type 0) → List ℕ → Type 0
+AfterUserHeader prefix End = Then (HasPayload prefix) (λ t. AfterPayload prefix t.variant End)
 
-abbrev pub AfterUserHeader : List ℕ → List ℕ → Type 0
-AfterUserHeader prefix = Then (HasPayload prefix) (λ t. AfterPayload prefix t.variant)
+abbrev pub AfterHeader : List ℕ → (List ℕ → Type 0) → List ℕ → Type 0
+AfterHeader prefix End =
+    Then (HasType (prefix ++ codes "user-header ")) (λ u. AfterUserHeader prefix End)
 
-abbrev pub AfterHeader : List ℕ → List ℕ → Type 0
-AfterHeader prefix = Then (HasType (prefix ++ codes "user-header ")) (λ u. AfterUserHeader prefix)
+abbrev InTurn : List ℕ → (List ℕ → Type 0) → List ℕ → Type 0
+InTurn prefix End = Then (HasType (prefix ++ codes "header ")) (λ h. AfterHeader prefix End)
 
-abbrev InTurn : List ℕ → List ℕ → Type 0
-InTurn prefix = Then (HasType (prefix ++ codes "header ")) (λ h. AfterHeader prefix)
+-- the line of an opener, or none
+abbrev pub Opening : List ℕ → List ℕ → Type 0
+Opening prefix = Begins (HasOpener prefix)
 
-in_turn : (prefix bytes : List ℕ) → Begins (HasMessage prefix) bytes → InTurn prefix bytes
+-- no line
+abbrev pub Closed : List ℕ → List ℕ → Type 0
+Closed prefix = HasOpener prefix None []
+
+-- what follows stops
+abbrev pub StopsIn : (List ℕ → (List ℕ → Type 0) → List ℕ → Type 0) → List ℕ → List ℕ → List ℕ
+    → Type 0
+StopsIn After prefix left bytes =
+    Stops (After prefix (Closed prefix)) (After prefix (Opening prefix)) left bytes
+
+in_turn : (prefix bytes : List ℕ) → Begins (HasMessage prefix) bytes
+    → InTurn prefix (Opening prefix) bytes
 in_turn prefix bytes g =
     let m = g.0 in
     let h = g.2 in
-    let opener : AfterElements prefix h.at_opener = (m.opener, g.1, h.opener) in
-    let elements : AfterPayload prefix m.details.payload.variant h.at_elements =
+    let opener : Opening prefix h.at_opener = (m.opener, g.1, h.opener) in
+    let elements : AfterPayload prefix m.details.payload.variant (Opening prefix) h.at_elements =
     (m.elements, h.at_opener, h.elements, opener) in
-    let payload : AfterUserHeader prefix h.at_payload =
+    let payload : AfterUserHeader prefix (Opening prefix) h.at_payload =
     (m.details.payload, h.at_elements, h.payload, elements) in
-    let user_header : AfterHeader prefix h.at_user_header =
+    let user_header : AfterHeader prefix (Opening prefix) h.at_user_header =
     (m.details.user_header, h.at_payload, h.user_header, payload) in
     (m.details.header, h.at_user_header, h.header, user_header)
 
+-- parts in turn make a message without an opener
+message_of : (prefix bytes : List ℕ) → InTurn prefix (Closed prefix) bytes
+    → Whole (HasMessage prefix) bytes
+message_of prefix bytes g =
+    let u = g.3 in
+    let p = u.3 in
+    let e = p.3 in (
+      record {
+        details = record { header = g.0; user_header = u.0; payload = p.0 };
+        elements = e.0;
+        opener = None;
+      },
+      record {
+        at_user_header = g.1;
+        at_payload = u.1;
+        at_elements = p.1;
+        at_opener = e.1;
+        header = g.2;
+        user_header = u.2;
+        payload = p.2;
+        elements = e.2;
+        opener = e.3;
+        opens = tt;
+      },
+    )
+
 -- where a part of a message was read, the message stops where what follows does
 pub stops_after_header : (prefix : List ℕ) (t : TypeDetailParts) (left mid bytes : List ℕ)
-    → HasType (prefix ++ codes "header ") t mid bytes → StopsAt (AfterHeader prefix) left mid
-    → StopsAt (Begins (HasMessage prefix)) left bytes
+    → HasType (prefix ++ codes "header ") t mid bytes → StopsIn AfterHeader prefix left mid
+    → StopsAt (HasMessage prefix) left bytes
 stops_after_header prefix t left mid bytes h s =
-    stops_as (InTurn prefix) (Begins (HasMessage prefix)) left bytes (in_turn prefix)
-    (after (HasType (prefix ++ codes "header ")) (λ h. AfterHeader prefix) None t left mid bytes
-    (λ u x y b p q n. subst (AfterHeader prefix) (type_rest _ u t y x b q p) n)
-    (type_moves _ t mid bytes h) s)
+    stops_as (InTurn prefix (Closed prefix)) (InTurn prefix (Opening prefix))
+    (Whole (HasMessage prefix)) (Begins (HasMessage prefix)) left bytes (message_of prefix)
+    (in_turn prefix)
+    (after (HasType (prefix ++ codes "header ")) (λ h. AfterHeader prefix (Closed prefix))
+    (λ h. AfterHeader prefix (Opening prefix)) None t left mid bytes
+    (λ u x y b p q n.
+    subst (AfterHeader prefix (Opening prefix)) (type_rest _ u t y x b q p) n)
+    (λ b w. tt) (type_moves _ t mid bytes h) s)
 
 pub stops_after_user_header : (prefix : List ℕ) (t : TypeDetailParts) (left mid bytes : List ℕ)
     → HasType (prefix ++ codes "user-header ") t mid bytes
-    → StopsAt (AfterUserHeader prefix) left mid → StopsAt (AfterHeader prefix) left bytes
+    → StopsIn AfterUserHeader prefix left mid → StopsIn AfterHeader prefix left bytes
 stops_after_user_header prefix t left mid bytes h s =
-    after (HasType (prefix ++ codes "user-header ")) (λ u. AfterUserHeader prefix) None t left mid
-    bytes (λ u x y b p q n. subst (AfterUserHeader prefix) (type_rest _ u t y x b q p) n)
-    (type_moves _ t mid bytes h) s
+    after (HasType (prefix ++ codes "user-header ")) (λ u. AfterUserHeader prefix (Closed prefix))
+    (λ u. AfterUserHeader prefix (Opening prefix)) None t left mid bytes
+    (λ u x y b p q n.
+    subst (AfterUserHeader prefix (Opening prefix)) (type_rest _ u t y x b q p) n)
+    (λ b w. tt) (type_moves _ t mid bytes h) s
+
+abbrev pub StopsInPayload : List ℕ → TypeVariant → List ℕ → List ℕ → Type 0
+StopsInPayload prefix v left bytes =
+    Stops (AfterPayload prefix v (Closed prefix)) (AfterPayload prefix v (Opening prefix)) left bytes
 
 pub stops_after_payload : (prefix : List ℕ) (t : TypeDetailParts) (left mid bytes : List ℕ)
-    → HasPayload prefix t mid bytes → StopsAt (AfterPayload prefix t.variant) left mid
-    → StopsAt (AfterUserHeader prefix) left bytes
+    → HasPayload prefix t mid bytes → StopsInPayload prefix t.variant left mid
+    → StopsIn AfterUserHeader prefix left bytes
 stops_after_payload prefix t left mid bytes h s =
-    after (HasPayload prefix) (λ t. AfterPayload prefix t.variant) None t left mid bytes
+    after (HasPayload prefix) (λ t. AfterPayload prefix t.variant (Closed prefix))
+    (λ t. AfterPayload prefix t.variant (Opening prefix)) None t left mid bytes
     (λ u x y b p q n.
     let same = payload_same prefix u t y x b q p in
-    subst (λ v. AfterPayload prefix v x) same.0 (subst (AfterPayload prefix u.variant) same.1 n))
-    (payload_moves prefix t mid bytes h) s
+    subst (λ v. AfterPayload prefix v (Opening prefix) x) same.0
+    (subst (AfterPayload prefix u.variant (Opening prefix)) same.1 n))
+    (λ b w. tt) (payload_moves prefix t mid bytes h) s
 
 pub stops_after_elements : (prefix : List ℕ) (v : TypeVariant) (n : ℕ) (left mid bytes : List ℕ)
-    → HasElements prefix v n mid bytes → StopsAt (AfterElements prefix) left mid
-    → StopsAt (AfterPayload prefix v) left bytes
+    → HasElements prefix v n mid bytes → Stops (Closed prefix) (Opening prefix) left mid
+    → StopsInPayload prefix v left bytes
 stops_after_elements prefix v n left mid bytes h s =
-    after (HasElements prefix v) (λ n. AfterElements prefix) None n left mid bytes
-    (λ m x y b p q k. subst (AfterElements prefix) (elements_rest prefix v m n y x b q p) k)
-    (elements_moves prefix v n mid bytes h) s
+    after (HasElements prefix v) (λ n. Closed prefix) (λ n. Opening prefix) None n left mid bytes
+    (λ m x y b p q k. subst (Opening prefix) (elements_rest prefix v m n y x b q p) k)
+    (λ b w. tt) (elements_moves prefix v n mid bytes h) s
+
+-- a plain example of each part
+abbrev pub some_type : TypeDetailParts
+some_type = record { variant = FixedSize; type_name = codes "a"; size = 0; alignment = 1 }
+
+plain : (text : List ℕ) → list_all is_plain text ≡ true → IsPlain text
+plain text e = AllPass-from_list_all is_plain text e
+
+some_described : IsDescribed some_type
+unfolding ones
+some_described = record {
+  size = omega arith;
+  alignment = (omega arith, refl);
+  named = omega arith;
+  type_name = (omega arith, All-cons IsTextByte 97 [] (omega arith, omega arith) (All-nil IsTextByte));
+}
+
+pub some_line : (prefix word text rest : List ℕ) → IsPlain prefix
+    → list_all is_plain (word ++ text) ≡ true
+    → IsLine (prefix ++ word ++ text) rest ((prefix ++ word ++ text) ++ 10 ∷ rest)
+some_line prefix word text rest p e = record {
+  spelled = refl;
+  plain = subst IsPlain (sym (append_assoc prefix word text))
+      (All-append (λ b. is_plain b ≡ true) prefix (word ++ text) p (plain (word ++ text) e));
+}
+
+pub some_has_type : (prefix word rest : List ℕ) → IsPlain prefix
+    → list_all is_plain (word ++ type_text some_type) ≡ true
+    → HasType (prefix ++ word) some_type rest
+    ((prefix ++ word ++ type_text some_type) ++ 10 ∷ rest)
+some_has_type prefix word rest p e = record {
+  line = some_line prefix word (type_text some_type) rest p e;
+  one_value = refl;
+  described = some_described;
+}
+
+some_opener : (prefix : List ℕ) → Closed prefix []
+some_opener prefix = (refl, none_begins (prefix ++ codes "opener "))
+
+plain_header : list_all is_plain (codes "header " ++ type_text some_type) ≡ true
+unfolding digits
+plain_header = refl
+
+plain_user_header : list_all is_plain (codes "user-header " ++ type_text some_type) ≡ true
+unfolding digits
+plain_user_header = refl
+
+plain_payload : list_all is_plain (codes "payload " ++ payload_text some_type) ≡ true
+unfolding digits
+plain_payload = refl
+
+plain_elements : list_all is_plain (codes "elements " ++ decimal 0) ≡ true
+unfolding digits
+plain_elements = refl
+
+pub plain_key : list_all is_plain (codes "key " ++ type_text some_type) ≡ true
+unfolding digits
+plain_key = refl
+
+some_payload : (prefix : List ℕ) → IsPlain prefix
+    → (b : List ℕ) × AfterUserHeader prefix (Closed prefix) b
+some_payload prefix p = (
+  (prefix ++ codes "payload " ++ payload_text some_type) ++ 10 ∷ [],
+  (
+    some_type,
+    [],
+    record {
+      line = some_line prefix (codes "payload ") (payload_text some_type) [] p plain_payload;
+      described = some_described;
+    },
+    (1, [], (refl, refl), some_opener prefix),
+  ),
+)
+
+some_user_header : (prefix : List ℕ) → IsPlain prefix
+    → (b : List ℕ) × AfterHeader prefix (Closed prefix) b
+some_user_header prefix p =
+    let next = some_payload prefix p in (
+      (prefix ++ codes "user-header " ++ type_text some_type) ++ 10 ∷ next.0,
+      (some_type, next.0, some_has_type prefix (codes "user-header ") next.0 p plain_user_header, next.1),
+    )
+
+pub some_message : (prefix : List ℕ) → IsPlain prefix
+    → (b : List ℕ) × Whole (HasMessage prefix) b
+some_message prefix p =
+    let next = some_user_header prefix p in
+    let bytes : List ℕ = (prefix ++ codes "header " ++ type_text some_type) ++ 10 ∷ next.0 in (
+      bytes,
+      message_of prefix bytes
+          (some_type, next.0, some_has_type prefix (codes "header ") next.0 p plain_header, next.1),
+    )
+
+some_elements : (prefix : List ℕ) → IsPlain prefix
+    → (b : List ℕ) × AfterPayload prefix Dynamic (Closed prefix) b
+some_elements prefix p = (
+  (prefix ++ codes "elements " ++ decimal 0) ++ 10 ∷ [],
+  (
+    0,
+    [],
+    (omega arith, some_line prefix (codes "elements ") (decimal 0) [] p plain_elements),
+    some_opener prefix,
+  ),
+)
 
 -- a part that is not there
 type_like : (begin other bytes : List ℕ) → HasSameLine other bytes → Begins (HasType begin) other
@@ -132,36 +292,44 @@ type_like begin other bytes same g =
     let l = line_later [] other bytes (begin ++ type_text g.0) g.1 same g.2.line in
     (g.0, l.0, record { line = l.1; one_value = g.2.one_value; described = g.2.described })
 
-pub no_type_here : (begin left bytes : List ℕ) → left ≡ bytes
-    → ((t : TypeDetailParts) (rest : List ℕ) → ¬ HasType begin t rest bytes)
-    → StopsAt (Begins (HasType begin)) left bytes
-no_type_here begin left bytes e none =
-    stops_here (Begins (HasType begin)) left bytes e
+pub no_type_here : (IsWhole : List ℕ → Type 0) (begin left bytes whole : List ℕ) → left ≡ bytes
+    → IsWhole whole → ((t : TypeDetailParts) (rest : List ℕ) → ¬ HasType begin t rest bytes)
+    → Stops IsWhole (Begins (HasType begin)) left bytes
+no_type_here IsWhole begin left bytes whole e begun none =
+    stops_here IsWhole (Begins (HasType begin)) left bytes whole e begun
     (λ other same h. type_like begin other bytes same h) (λ h. none h.0 h.1 h.2)
 
-pub no_header_here : (prefix left bytes : List ℕ) → left ≡ bytes
+pub no_header_here : (prefix left bytes : List ℕ) → IsPlain prefix → left ≡ bytes
     → ((t : TypeDetailParts) (rest : List ℕ) → ¬ HasType (prefix ++ codes "header ") t rest bytes)
-    → StopsAt (Begins (HasMessage prefix)) left bytes
-no_header_here prefix left bytes e none =
-    stops_as (Begins (HasType (prefix ++ codes "header "))) (Begins (HasMessage prefix)) left bytes
-    (λ b g. (g.0.details.header, g.2.at_user_header, g.2.header))
-    (no_type_here _ left bytes e none)
+    → StopsAt (HasMessage prefix) left bytes
+no_header_here prefix left bytes p e none =
+    let some = some_message prefix p in
+    let Is : List ℕ → Type 0 = Whole (HasMessage prefix) in
+    stops_as Is (Begins (HasType (prefix ++ codes "header "))) Is (Begins (HasMessage prefix)) left
+    bytes (λ b w. w) (λ b g. (g.0.details.header, g.2.at_user_header, g.2.header))
+    (no_type_here Is _ left bytes some.0 e some.1 none)
 
-pub no_user_header_here : (prefix left bytes : List ℕ) → left ≡ bytes
+pub no_user_header_here : (prefix left bytes : List ℕ) → IsPlain prefix → left ≡ bytes
     → ((t : TypeDetailParts) (rest : List ℕ)
     → ¬ HasType (prefix ++ codes "user-header ") t rest bytes)
-    → StopsAt (AfterHeader prefix) left bytes
-no_user_header_here prefix left bytes e none =
-    stops_as (Begins (HasType (prefix ++ codes "user-header "))) (AfterHeader prefix) left bytes
-    (λ b g. (g.0, g.1, g.2)) (no_type_here _ left bytes e none)
+    → StopsIn AfterHeader prefix left bytes
+no_user_header_here prefix left bytes p e none =
+    let some = some_user_header prefix p in
+    let Is : List ℕ → Type 0 = AfterHeader prefix (Closed prefix) in
+    stops_as Is (Begins (HasType (prefix ++ codes "user-header "))) Is
+    (AfterHeader prefix (Opening prefix)) left bytes (λ b w. w) (λ b g. (g.0, g.1, g.2))
+    (no_type_here Is _ left bytes some.0 e some.1 none)
 
-pub no_payload_here : (prefix left bytes : List ℕ) → left ≡ bytes
+pub no_payload_here : (prefix left bytes : List ℕ) → IsPlain prefix → left ≡ bytes
     → ((t : TypeDetailParts) (rest : List ℕ) → ¬ HasPayload prefix t rest bytes)
-    → StopsAt (AfterUserHeader prefix) left bytes
-no_payload_here prefix left bytes e none =
-    stops_as (Begins (HasPayload prefix)) (AfterUserHeader prefix) left bytes
-    (λ b g. (g.0, g.1, g.2))
-    (stops_here (Begins (HasPayload prefix)) left bytes e like (λ h. none h.0 h.1 h.2))
+    → StopsIn AfterUserHeader prefix left bytes
+no_payload_here prefix left bytes p e none =
+    let some = some_payload prefix p in
+    let Is : List ℕ → Type 0 = AfterUserHeader prefix (Closed prefix) in
+    stops_as Is (Begins (HasPayload prefix)) Is (AfterUserHeader prefix (Opening prefix)) left bytes
+    (λ b w. w) (λ b g. (g.0, g.1, g.2))
+    (stops_here Is (Begins (HasPayload prefix)) left bytes some.0 e some.1 like
+    (λ h. none h.0 h.1 h.2))
   where
     like : (other : List ℕ) → HasSameLine other bytes → Begins (HasPayload prefix) other
         → Begins (HasPayload prefix) bytes
@@ -170,37 +338,45 @@ no_payload_here prefix left bytes e none =
         g.2.line in
         (g.0, l.0, record { line = l.1; described = g.2.described })
 
-pub no_elements_here : (prefix : List ℕ) (v : TypeVariant) (left bytes : List ℕ) → left ≡ bytes
-    → ((n : ℕ) (rest : List ℕ) → ¬ HasElements prefix v n rest bytes)
-    → StopsAt (AfterPayload prefix v) left bytes
-no_elements_here prefix v left bytes e none =
-    stops_as (Begins (HasElements prefix v)) (AfterPayload prefix v) left bytes
-    (λ b g. (g.0, g.1, g.2))
-    (stops_here (Begins (HasElements prefix v)) left bytes e
-    (λ other same h. like v other same h.0 h.1 h.2) (λ h. none h.0 h.1 h.2))
-  where
-    like : (w : TypeVariant) (other : List ℕ) → HasSameLine other bytes → (n : ℕ) (rest : List ℕ)
-        → HasElements prefix w n rest other → Begins (HasElements prefix w) bytes
-    like FixedSize other same n rest h = (n, bytes, (h.0, refl))
-    like Dynamic other same n rest h =
-        let l = line_later [] other bytes (prefix ++ codes "elements " ++ decimal n) rest same h.1 in
-        (n, l.0, (h.0, l.1))
+pub no_elements_here : (prefix : List ℕ) (v : TypeVariant) (left bytes : List ℕ) → IsPlain prefix
+    → left ≡ bytes → ((n : ℕ) (rest : List ℕ) → ¬ HasElements prefix v n rest bytes)
+    → StopsInPayload prefix v left bytes
+no_elements_here prefix FixedSize left bytes p e none = absurd (none 1 bytes (refl, refl))
+no_elements_here prefix Dynamic left bytes p e none =
+    let some = some_elements prefix p in
+    let Is : List ℕ → Type 0 = AfterPayload prefix Dynamic (Closed prefix) in
+    stops_as Is (Begins (HasElements prefix Dynamic)) Is
+    (AfterPayload prefix Dynamic (Opening prefix)) left bytes (λ b w. w) (λ b g. (g.0, g.1, g.2))
+    (stops_here Is (Begins (HasElements prefix Dynamic)) left bytes some.0 e some.1
+    (λ other same g.
+    let l = line_later [] other bytes (prefix ++ codes "elements " ++ decimal g.0) g.1 same
+    g.2.1 in
+    (g.0, l.0, (g.2.0, l.1)))
+    (λ h. none h.0 h.1 h.2))
 
 pub no_opener_here : (prefix left bytes : List ℕ) → left ≡ bytes
     → ((o : Option MessageTypeDetails) (rest : List ℕ) → ¬ HasOpener prefix o rest bytes)
-    → StopsAt (AfterElements prefix) left bytes
+    → Stops (Closed prefix) (Opening prefix) left bytes
 no_opener_here prefix left bytes e none =
-    stops_here (AfterElements prefix) left bytes e
+    stops_here (Closed prefix) (Opening prefix) left bytes [] e (some_opener prefix)
     (λ other same h. like h.0 other same h.1 h.2) (λ h. none h.0 h.1 h.2)
   where
     like : (o : Option MessageTypeDetails) (other : List ℕ) → HasSameLine other bytes
-        → (rest : List ℕ) → HasOpener prefix o rest other → AfterElements prefix bytes
+        → (rest : List ℕ) → HasOpener prefix o rest other → Opening prefix bytes
     like None other same rest h =
         (None, bytes, (refl, none_later [] other bytes (prefix ++ codes "opener ") same h.1))
     like (Some d) other same rest h =
         let l = line_later [] other bytes (prefix ++ codes "opener " ++ alignments_text d) rest same
         h.1 in
         (Some d, l.0, (h.0, l.1))
+
+-- lines of a message begin with that of its header
+pub message_apart : (prefix word : List ℕ) (m : Message) (rest bytes : List ℕ)
+    → AreApart word (prefix ++ codes "header ") → HasMessage prefix m rest bytes
+    → HasNoLine word bytes
+message_apart prefix word m rest bytes apart h =
+    other_line word (prefix ++ codes "header ") (type_text m.details.header) h.at_user_header bytes
+    apart h.header.line
 
 -- what follows a message
 pub message_rest : (prefix : List ℕ) (m n : Message) (x y bytes : List ℕ)

@@ -5,7 +5,7 @@ use Rattle.std.proofs.lemmas.List.Elements.{filter_map-append}
 use Rattle.std.proofs.lemmas.List.Sorted.{length_permutation}
 use Rattle.iox2_texts.specs.Attribute.{IsListing}
 use Rattle.iox2_texts.specs.Verify.{Requirements}
-use Rattle.service_drawing.specs.Lines.{IsLine, HasNoLine, Requirement, OfPair, OfKey, GivesRequirement, Adds, number_required, RequiresMore, RequiresNoMore, pair_of, key_of, HasRequirements, Begins, StopsAt}
+use Rattle.service_drawing.specs.Lines.{IsLine, HasNoLine, Requirement, OfPair, OfKey, GivesRequirement, Adds, number_required, RequiresMore, RequiresNoMore, pair_of, key_of, HasRequirements, Whole, Begins, StopsAt}
 use Rattle.service_drawing.proofs.Attributes.{listed_more}
 use Rattle.service_drawing.proofs.LinesOf.{UpTo, more_lines, all_lines, lines_stop, goes_on, longer_by_one, no_key}
 
@@ -68,10 +68,21 @@ required_whole required at bytes r none = record {
 -- the next line is one too many, or requires nothing
 pub stops_at_required : (required : Requirements) (left at bytes text tail : List ℕ) → left ≡ at
     → Requiring required at bytes → IsLine (codes "require" ++ text) tail at
-    → RequiresNoMore required text → StopsAt (Begins HasRequirements) left bytes
+    → RequiresNoMore required text → StopsAt HasRequirements left bytes
 stops_at_required required left at bytes text tail e r l bad =
-    lines_stop (codes "require") GivesRequirement r.each (Begins HasRequirements) left at bytes text
+    lines_stop (codes "require") GivesRequirement r.each (Whole HasRequirements)
+    (Begins HasRequirements) left at bytes text
     tail e r.lines l
+    (λ b k. (
+      required,
+      record {
+        each = r.each;
+        lines = k;
+        few = r.few;
+        pairs = r.pairs;
+        keys = r.keys;
+      },
+    ))
     (λ other next rest u k h.
     let one = goes_on (codes "require") GivesRequirement no_key (λ x y t p q. refl) r.each
     h.2.each next h.1 other text rest u k h.2.lines in

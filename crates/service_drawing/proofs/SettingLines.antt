@@ -6,7 +6,7 @@ use Rattle.std.proofs.lemmas.Cmp.{nat_eq_equiv}
 use Rattle.std.proofs.lemmas.List.{append_cancel_left, map-append}
 use Rattle.std.proofs.lemmas.List.Folds.{list_any-append}
 use Rattle.std.proofs.lemmas.Map.Keys.{IsDistinct-push}
-use Rattle.service_drawing.specs.Lines.{IsLine, HasNoLine, Begins, StopsAt}
+use Rattle.service_drawing.specs.Lines.{IsLine, HasNoLine, Begins, Stops}
 use Rattle.service_drawing.specs.Settings.{IsSetting, MayBecome, Assignment, GivesSetting, assigned, HasSettings, Sets, NamesMarked, IsNotSet, word_of, value_text}
 use Rattle.service_drawing.specs.declared.reading.cause.Reason.{Reason}
 use Rattle.service_drawing.specs.declared.reading.cause.Reason.TheVariants.{InternalName, UnknownSetting, SetTwice, OtherForm}
@@ -251,10 +251,11 @@ pub stops_at_setting : (names : List (List ℕ)) (defaults values : List Value) 
     (reason : Reason) (left at bytes text tail : List ℕ) → left ≡ at
     → Setting names defaults values given at bytes → IsLine (codes "set " ++ text) tail at
     → IsNotSet names values given text reason
-    → StopsAt (Begins (HasSettings names defaults)) left bytes
+    → Stops (HasSettings names defaults values []) (Begins (HasSettings names defaults)) left bytes
 stops_at_setting names defaults values given reason left at bytes text tail e r l bad =
     lines_stop (codes "set ") (GivesSetting names defaults) r.sets
-    (Begins (HasSettings names defaults)) left at bytes text tail e r.lines l
+    (HasSettings names defaults values []) (Begins (HasSettings names defaults)) left at bytes text tail e r.lines l
+    (λ b k. record { sets = r.sets; lines = k; once = r.once; changed = r.changed })
     (λ other next rest u k h.
     not_set names defaults values given reason next other text rest
     (record {

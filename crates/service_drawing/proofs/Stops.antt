@@ -1,7 +1,8 @@
 -- How far bytes were read, where none that are good go on so.
-use Rattle.std.proofs.Common.{◌≡◌, ℕ, List, [], ◌∷◌, ◌++◌, Option, Some, None, inl, inr, refl, sym, ◌∙◌, ap, subst, append_assoc}
-use Rattle.service_drawing.specs.Lines.{IsLine, HasNoLine, HasSameLine, StopsAt}
-use Rattle.service_drawing.proofs.Words.{Lacks, plain_lacks}
+use Rattle.std.proofs.Common.{◌≡◌, ℕ, List, [], ◌∷◌, ◌++◌, Option, Some, None, inl, inr, refl, sym, ◌∙◌, ap, subst, append_assoc, length, length-append, arith}
+use Rattle.std.proofs.lemmas.List.{append-nil}
+use Rattle.service_drawing.specs.Lines.{IsLine, HasNoLine, HasSameLine, Stops}
+use Rattle.service_drawing.proofs.Words.{Lacks, plain_lacks, line_one}
 
 -- a text without such a byte that stands before one stands so whatever follows a later one
 before_later : (byte : ℕ) (s p r y x : List ℕ) → Lacks byte s → p ++ byte ∷ y ≡ s ++ byte ∷ r
@@ -119,14 +120,23 @@ abbrev pub Then : {A : Type 0} → (A → List ℕ → List ℕ → Type 0) → 
 Then {A} Has Next bytes = (x : A) × (mid : List ℕ) × Has x mid bytes × Next x mid
 
 -- where a part was read whole, it stops where the next ones do
-pub after : {A : Type 0} (Has : A → List ℕ → List ℕ → Type 0) (Next : A → List ℕ → Type 0)
-    (end : Option (List ℕ)) (x : A) (left mid bytes : List ℕ)
+pub after : {A : Type 0} (Has : A → List ℕ → List ℕ → Type 0)
+    (WholeNext Next : A → List ℕ → Type 0) (end : Option (List ℕ)) (x : A)
+    (left mid bytes : List ℕ)
     → ((y : A) (r s b : List ℕ) → Has x r b → Has y s b → Next y s → Next x r)
-    → Moves end (Has x) mid bytes → StopsAt (Next x) left mid → StopsAt (Then Has Next) left bytes
-after Has Next end x left mid bytes one m s = record {
+    → ((b : List ℕ) → WholeNext x b → EndsAt end b) → Moves end (Has x) mid bytes
+    → Stops (WholeNext x) (Next x) left mid
+    → Stops (Then Has WholeNext) (Then Has Next) left bytes
+after Has WholeNext Next end x left mid bytes one apart m s = record {
   read = m.front ++ s.read;
+  more = s.more;
   parts = m.parts ∙ ap (λ (l : List ℕ). m.front ++ l) s.parts
       ∙ sym (append_assoc m.front s.read left);
+  begun =
+      let rest : List ℕ = s.read ++ s.more in
+      let whole : Then Has WholeNext (m.front ++ rest) =
+      (x, rest, m.moved rest (apart rest s.begun), s.begun) in
+      subst (Then Has WholeNext) (sym (append_assoc m.front s.read s.more)) whole;
   stops = λ other same good.
       let rest : List ℕ = s.read ++ other in
       let ends : EndsAt end rest =
@@ -137,23 +147,63 @@ after Has Next end x left mid bytes one m s = record {
       (one whole.0 rest whole.1 (m.front ++ rest) (m.moved rest ends) whole.2 whole.3);
 }
 
--- what is good in other words
-pub stops_as : (IsGood Other : List ℕ → Type 0) (left bytes : List ℕ)
-    → ((b : List ℕ) → Other b → IsGood b) → StopsAt IsGood left bytes → StopsAt Other left bytes
-stops_as IsGood Other left bytes to s = record {
+-- what is whole and what is good in other words
+pub stops_as : (IsWhole IsGood WholeToo GoodToo : List ℕ → Type 0) (left bytes : List ℕ)
+    → ((b : List ℕ) → IsWhole b → WholeToo b) → ((b : List ℕ) → GoodToo b → IsGood b)
+    → Stops IsWhole IsGood left bytes → Stops WholeToo GoodToo left bytes
+stops_as IsWhole IsGood WholeToo GoodToo left bytes whole good s = record {
   read = s.read;
+  more = s.more;
   parts = s.parts;
-  stops = λ other same good. s.stops other same (to (s.read ++ other) good);
+  begun = whole (s.read ++ s.more) s.begun;
+  stops = λ other same g. s.stops other same (good (s.read ++ other) g);
+}
+
+-- more has to follow until it is whole
+pub stops_with : (IsWhole IsGood WholeToo : List ℕ → Type 0) (end left bytes : List ℕ)
+    → ((b : List ℕ) → IsWhole b → WholeToo (b ++ end)) → Stops IsWhole IsGood left bytes
+    → Stops WholeToo IsGood left bytes
+stops_with IsWhole IsGood WholeToo end left bytes whole s = record {
+  read = s.read;
+  more = s.more ++ end;
+  parts = s.parts;
+  begun = subst WholeToo (append_assoc s.read s.more end) (whole (s.read ++ s.more) s.begun);
+  stops = s.stops;
 }
 
 -- nothing was read
-pub stops_here : (IsGood : List ℕ → Type 0) (left bytes : List ℕ) → left ≡ bytes
+pub stops_here : (IsWhole IsGood : List ℕ → Type 0) (left bytes whole : List ℕ) → left ≡ bytes
+    → IsWhole whole
     → ((other : List ℕ) → HasSameLine other bytes → IsGood other → IsGood bytes) → ¬ IsGood bytes
-    → StopsAt IsGood left bytes
-stops_here IsGood left bytes e to none = record {
+    → Stops IsWhole IsGood left bytes
+stops_here IsWhole IsGood left bytes whole e begun to none = record {
   read = [];
+  more = whole;
   parts = sym e;
+  begun = begun;
   stops = λ other same good.
       none (to other (same_back bytes other
       (subst (λ (l : List ℕ). HasSameLine l other) e same)) good);
 }
+
+-- a part that was read to its end is read before more
+pub whole_then : (end : Option (List ℕ)) (Has : List ℕ → List ℕ → Type 0) (rest bytes : List ℕ)
+    → Moves end Has [] bytes → EndsAt end rest → Has rest (bytes ++ rest)
+whole_then end Has rest bytes m ends =
+    let front : m.front ≡ bytes = sym (append-nil m.front) ∙ sym m.parts in
+    subst (λ (b : List ℕ). Has rest (b ++ rest)) front (m.moved rest ends)
+
+-- no line begins nothing
+pub none_begins : (begin : List ℕ) → HasNoLine begin []
+none_begins begin text rest l =
+    omega (arith, ap length l.spelled, length-append (begin ++ text) (10 ∷ rest))
+
+-- two beginnings that no text has both
+abbrev pub AreApart : List ℕ → List ℕ → Type 0
+AreApart one other = (x y : List ℕ) → ¬ (one ++ x ≡ other ++ y)
+
+-- a line that begins in one of two ways does not begin in the other
+pub other_line : (one other text rest bytes : List ℕ) → AreApart one other
+    → IsLine (other ++ text) rest bytes → HasNoLine one bytes
+other_line one other text rest bytes apart l x r k =
+    apart x text (line_one (one ++ x) (other ++ text) r rest bytes k l).0

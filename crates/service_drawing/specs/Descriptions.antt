@@ -1,7 +1,7 @@
 -- What a whole description is.
-use Rattle.std.specs.Prelude.{◌≡◌, ℕ, List, []}
+use Rattle.std.specs.Prelude.{◌≡◌, ◌⊎◌, ℕ, List, []}
 use Rattle.iox2_config.specs.Hashing.{hash_input, sha1_text}
-use Rattle.service_drawing.specs.Lines.{HasService, HasExchange, HasAttributes, HasRequirements}
+use Rattle.service_drawing.specs.Lines.{Stops, HasService, HasExchange, HasAttributes, HasRequirements}
 use Rattle.service_drawing.specs.Settings.{HasConfiguration}
 use Rattle.service_drawing.specs.declared.description.Description.{Description}
 
@@ -22,3 +22,11 @@ pub record HasDescription (d : Description) (bytes : List ℕ) : Type 0 where
 -- the bytes are a description
 abbrev pub IsDescription : List ℕ → Type 0
 IsDescription bytes = (d : Description) × HasDescription d bytes
+
+-- the bytes are a description, or nothing
+abbrev pub IsDescriptionOrNothing : List ℕ → Type 0
+IsDescriptionOrNothing bytes = IsDescription bytes ⊎ (bytes ≡ [])
+
+-- what is left of the bytes begins with the first line that no description has there
+abbrev pub StopsReading : List ℕ → List ℕ → Type 0
+StopsReading left bytes = Stops IsDescriptionOrNothing IsDescription left bytes

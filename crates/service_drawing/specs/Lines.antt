@@ -53,12 +53,22 @@ HasSameLine one other = (one ≡ other) ⊎ BeginAlike one other
 abbrev pub Begins : {A : Type 0} → (A → List ℕ → List ℕ → Type 0) → List ℕ → Type 0
 Begins {A} Has bytes = (x : A) × (rest : List ℕ) × Has x rest bytes
 
--- what is left of the bytes begins with a line that none has there of those that are good:
--- none goes on so after what was read
-pub record StopsAt (IsGood : List ℕ → Type 0) (left bytes : List ℕ) : Type 0 where
+-- this is the bytes, whole
+abbrev pub Whole : {A : Type 0} → (A → List ℕ → List ℕ → Type 0) → List ℕ → Type 0
+Whole {A} Has bytes = (x : A) × Has x [] bytes
+
+-- what is left of the bytes begins with the first line that none has there: something whole begins
+-- with what was read, and nothing good goes on after it with that line
+pub record Stops (IsWhole IsGood : List ℕ → Type 0) (left bytes : List ℕ) : Type 0 where
   pub read : List ℕ
+  pub more : List ℕ
   pub parts : bytes ≡ read ++ left
+  pub begun : IsWhole (read ++ more)
   pub stops : (other : List ℕ) → HasSameLine left other → ¬ IsGood (read ++ other)
+
+-- the bytes are read up to the first line that this has nowhere there
+abbrev pub StopsAt : {A : Type 0} → (A → List ℕ → List ℕ → Type 0) → List ℕ → List ℕ → Type 0
+StopsAt Has left bytes = Stops (Whole Has) (Begins Has) left bytes
 
 -- the bytes begin with a line that begins so and then spells this
 pub record HasLineOf {A : Type 0} (begin : List ℕ) (Spells : A → List ℕ → Type 0) (x : A)

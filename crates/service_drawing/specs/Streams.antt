@@ -7,8 +7,7 @@ use Rattle.std.specs.declared.io.Error.{Error}
 use Rattle.std.specs.declared.vec.IntoIter.{IntoIter}
 use Rattle.service_drawing.specs.Arguments.{AsksFor, IsDrawing, IsTextOrNoMemory}
 use Rattle.service_drawing.specs.Causes.{IsCause}
-use Rattle.service_drawing.specs.Descriptions.{IsDescription}
-use Rattle.service_drawing.specs.Lines.{StopsAt}
+use Rattle.service_drawing.specs.Descriptions.{IsDescription, StopsReading}
 use Rattle.service_drawing.specs.declared.arguments.Asked.{Asked}
 use Rattle.service_drawing.specs.declared.arguments.Asked.TheVariants.{Drawing, Help, Version}
 use Rattle.service_drawing.specs.declared.arguments.TheConstants.{HELP, VERSION}
@@ -61,12 +60,11 @@ TellsBadLine bytes expected (BadLine line cause prefix form) =
 TellsBadLine bytes expected BadArgument = ⊥
 TellsBadLine bytes expected NoMemory = ⊥
 
--- the line of this number is bad for this cause: with it begins what is left
--- of the bytes where no description goes on so
+-- the line of this number is bad for this cause: it is the first that no description has there
 pub record IsBadLine (line : ℕ) (cause : Cause) (bytes : List ℕ) : Type 0 where
   pub left : List ℕ
   pub reason : Reason
-  pub stops : StopsAt IsDescription left bytes
+  pub stops : StopsReading left bytes
   pub number : line ≡ count_by (λ b. b == 10) stops.read + 1
   pub because : IsCause left reason cause
 

@@ -1,8 +1,8 @@
 //! Descriptions as lines.
 ghost use Rattle.std.specs.Prelude.{◌≡◌, ℕ, List, codes, IfOk, IfErr, MatchResult};
 ghost use Rattle.iox2_config.specs.TypeDetailParts.{TypeDetailParts};
-ghost use Rattle.service_drawing.specs.Descriptions.{HasDescription, IsDescription};
-ghost use Rattle.service_drawing.specs.Lines.{HasType, HasExchange, Begins, StopsAt};
+ghost use Rattle.service_drawing.specs.Descriptions.{HasDescription, StopsReading};
+ghost use Rattle.service_drawing.specs.Lines.{HasType, HasExchange, StopsAt};
 ghost use Rattle.service_drawing.specs.Settings.{HasConfiguration};
 
 mod attributes;
@@ -27,7 +27,7 @@ use settings::settings_before;
 fn configuration_before(bytes: &[u8], kind: PatternKind) -> Result<(Config, &[u8]), Expected<'_>>
     ensures { MatchResult result
         (λ found. HasConfiguration kind found.0 found.1.now bytes.now)
-        (λ expected. StopsAt (Begins (HasConfiguration kind)) expected.rest.now bytes.now) }
+        (λ expected. StopsAt (HasConfiguration kind) expected.rest.now bytes.now) }
 {
     let mut config = Config::default();
     match kind {
@@ -69,7 +69,7 @@ fn key_type_before(bytes: &[u8]) -> Result<(TypeDetail, &[u8]), Expected<'_>>
 /// The lines of what the ports exchange.
 fn exchange_before(bytes: &[u8], kind: PatternKind) -> Result<(Exchange, &[u8]), Expected<'_>>
     ensures { MatchResult result (λ found. HasExchange kind found.0 found.1.now bytes.now)
-        (λ expected. StopsAt (Begins (HasExchange kind)) expected.rest.now bytes.now) }
+        (λ expected. StopsAt (HasExchange kind) expected.rest.now bytes.now) }
 {
     match kind {
         PatternKind::PublishSubscribe => {
@@ -92,7 +92,7 @@ fn exchange_before(bytes: &[u8], kind: PatternKind) -> Result<(Exchange, &[u8]),
 /// The service that the lines describe, or what was expected in the place of the first bad one.
 pub(crate) fn read_description(bytes: &[u8]) -> Result<Description, Expected<'_>>
     ensures { MatchResult result (λ d. HasDescription d bytes.now)
-        (λ expected. StopsAt IsDescription expected.rest.now bytes.now) }
+        (λ expected. StopsReading expected.rest.now bytes.now) }
 {
     let (service, rest) = service_before(bytes)?;
     let (config, rest) = configuration_before(rest, service.kind)?;

@@ -10,7 +10,7 @@ ghost use Rattle.iox2_config.specs.declared.types.type_detail.TypeVariant.TheVar
 ghost use Rattle.service_drawing.specs.Lines.{type_text, payload_text, alignments_text};
 ghost use Rattle.service_drawing.specs.Lines.{IsLine, HasNoLine, IsDescribed, IsOpenerOf};
 ghost use Rattle.service_drawing.specs.Lines.{AreAlignments, HasType, HasPayload, HasElements};
-ghost use Rattle.service_drawing.specs.Lines.{HasOpener, HasMessage, Begins, StopsAt};
+ghost use Rattle.service_drawing.specs.Lines.{IsPlain, HasOpener, HasMessage, StopsAt};
 
 use super::expected::Expected;
 use super::words::{after_word, next_line, number, number_word};
@@ -253,8 +253,9 @@ pub(super) fn message_before<'a>(
     bytes: &'a [u8],
     prefix: &'static str,
 ) -> Result<(Message, &'a [u8]), Expected<'a>>
+    requires { IsPlain prefix.now }
     ensures { MatchResult result (λ found. HasMessage prefix.now found.0 found.1.now bytes.now)
-        (λ expected. StopsAt (Begins (HasMessage prefix.now)) expected.rest.now bytes.now) }
+        (λ expected. StopsAt (HasMessage prefix.now) expected.rest.now bytes.now) }
 {
     let (header, rest) = fixed_before(
         bytes,

@@ -1,7 +1,7 @@
 //! The lines of settings.
-ghost use Rattle.std.specs.Prelude.{◌≡◌, ◌<◌, ◌↔◌, ℕ, IsTrue, Some, IfOk, IfSome, IfErr, MatchOption, MatchResult};
+ghost use Rattle.std.specs.Prelude.{◌≡◌, ◌<◌, ◌↔◌, ℕ, [], IsTrue, Some, IfOk, IfSome, IfErr, MatchOption, MatchResult};
 ghost use Rattle.std.specs.Prelude.{slice_get};
-ghost use Rattle.service_drawing.specs.Lines.{Begins, StopsAt};
+ghost use Rattle.service_drawing.specs.Lines.{Begins, Stops};
 ghost use Rattle.service_drawing.specs.Settings.{HasName, HasSettings, IsDashed, IsNamed, IsNotSet};
 ghost use Rattle.service_drawing.specs.Settings.{IsSetting, Sets, dash_for};
 
@@ -64,6 +64,7 @@ fn find<S: Settings>(settings: &S, word: &str) -> Option<(usize, Value)>
 fn set<S: Settings>(settings: &mut S, given: &mut [bool; 32], text: &str) -> Result<(), Reason>
     ensures set { IfOk result (λ done. Sets S.names (S.values settings.old) given.old text.now
         (S.values settings.new) given.new) }
+    ensures kept { IfErr result (λ reason. settings.new ≡ settings.old) }
     ensures refused { IfErr result (λ reason. IsNotSet S.names (S.values settings.old) given.old text.now
         reason) }
 {
@@ -110,8 +111,8 @@ pub(super) fn settings_before<'a, S: Settings>(
     ensures { MatchResult result
         (λ rest. HasSettings S.names (S.values settings.old) (S.values settings.new) rest.now
         bytes.now)
-        (λ expected. StopsAt (Begins (HasSettings S.names (S.values settings.old)))
-        expected.rest.now bytes.now) }
+        (λ expected. Stops (HasSettings S.names (S.values settings.old) (S.values settings.new) [])
+        (Begins (HasSettings S.names (S.values settings.old))) expected.rest.now bytes.now) }
 {
     let mut given = [false; 32];
     let mut rest = bytes;

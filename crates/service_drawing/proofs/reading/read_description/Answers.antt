@@ -1,12 +1,12 @@
 use Rattle.std.proofs.Common.{◌≡◌, List, [], ℕ, rules, subst}
-use Rattle.service_drawing.specs.Descriptions.{IsDescription}
-use Rattle.service_drawing.specs.Lines.{HasRequirements, StopsAt}
+use Rattle.service_drawing.specs.Descriptions.{StopsReading}
+use Rattle.service_drawing.specs.Lines.{HasRequirements}
 use Rattle.service_drawing.proofs.Descriptions.{no_service_here, stops_after_service, stops_in_settings, stops_after_settings, stops_in_exchange, stops_after_exchange, stops_in_attributes, stops_after_attributes, stops_in_required, stops_after_required, no_more}
 use Rattle.service_drawing.proofs.reading.read_description.Goals as goal
 
 pub returns-in_err-service : goal.returns-in_err-service
 returns-in_err-service c =
-    let stops : StopsAt IsDescription c.in_err-service.field-0.0.rest.now c.args.bytes.now =
+    let stops : StopsReading c.in_err-service.field-0.0.rest.now c.args.bytes.now =
     no_service_here _ c.args.bytes.now c.in_err-service.ensures.place
     c.in_err-service.ensures.spelled in
     search rules
@@ -14,7 +14,7 @@ returns-in_err-service c =
 pub returns-in_err-config : goal.returns-in_err-config
 returns-in_err-config c =
     let s = c.in_ok-service in
-    let stops : StopsAt IsDescription c.in_err-config.field-0.0.rest.now c.args.bytes.now =
+    let stops : StopsReading c.in_err-config.field-0.0.rest.now c.args.bytes.now =
     stops_after_service s.service.kind s.service.name _ s.rest.now c.args.bytes.now
     s.ensures.spelled (stops_in_settings s.service.kind _ s.rest.now c.in_err-config.ensures) in
     search rules
@@ -23,7 +23,7 @@ pub returns-in_err-exchange : goal.returns-in_err-exchange
 returns-in_err-exchange c =
     let s = c.in_ok-service in
     let g = c.in_ok-config in
-    let stops : StopsAt IsDescription c.in_err-exchange.field-0.0.rest.now c.args.bytes.now =
+    let stops : StopsReading c.in_err-exchange.field-0.0.rest.now c.args.bytes.now =
     stops_after_service s.service.kind s.service.name _ s.rest.now c.args.bytes.now
     s.ensures.spelled
     (stops_after_settings s.service.kind g.config _ g.rest.now s.rest.now g.ensures
@@ -35,7 +35,7 @@ returns-in_err-attributes c =
     let s = c.in_ok-service in
     let g = c.in_ok-config in
     let x = c.in_ok-exchange in
-    let stops : StopsAt IsDescription c.in_err-attributes.field-0.0.rest.now c.args.bytes.now =
+    let stops : StopsReading c.in_err-attributes.field-0.0.rest.now c.args.bytes.now =
     stops_after_service s.service.kind s.service.name _ s.rest.now c.args.bytes.now
     s.ensures.spelled
     (stops_after_settings s.service.kind g.config _ g.rest.now s.rest.now g.ensures
@@ -49,7 +49,7 @@ returns-in_err-required c =
     let g = c.in_ok-config in
     let x = c.in_ok-exchange in
     let a = c.in_ok-attributes in
-    let stops : StopsAt IsDescription c.in_err-required.field-0.0.rest.now c.args.bytes.now =
+    let stops : StopsReading c.in_err-required.field-0.0.rest.now c.args.bytes.now =
     stops_after_service s.service.kind s.service.name _ s.rest.now c.args.bytes.now
     s.ensures.spelled
     (stops_after_settings s.service.kind g.config _ g.rest.now s.rest.now g.ensures

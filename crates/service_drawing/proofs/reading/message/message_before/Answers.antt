@@ -1,37 +1,37 @@
 use Rattle.std.proofs.Common.{refl, sym, rules}
-use Rattle.service_drawing.specs.Lines.{HasMessage, Begins, StopsAt}
+use Rattle.service_drawing.specs.Lines.{HasMessage, StopsAt}
 use Rattle.service_drawing.proofs.MessageParts.{elements_at, stops_after_header, stops_after_user_header, stops_after_payload, stops_after_elements, no_header_here, no_user_header_here, no_payload_here, no_elements_here, no_opener_here}
 use Rattle.service_drawing.proofs.reading.message.message_before.Goals as goal
 
 pub returns-in_err-header : goal.returns-in_err-header
 returns-in_err-header c =
-    let stops : StopsAt (Begins (HasMessage c.args.prefix.now)) c.in_err-header.field-0.0.rest.now
+    let stops : StopsAt (HasMessage c.args.prefix.now) c.in_err-header.field-0.0.rest.now
     c.args.bytes.now =
-    no_header_here c.args.prefix.now _ c.args.bytes.now c.in_err-header.ensures.place
+    no_header_here c.args.prefix.now _ c.args.bytes.now c.requires c.in_err-header.ensures.place
     c.in_err-header.ensures.spelled in
     search rules
 
 pub returns-in_err-user_header : goal.returns-in_err-user_header
 returns-in_err-user_header c =
     let p = c.args.prefix.now in
-    let stops : StopsAt (Begins (HasMessage p)) c.in_err-user_header.field-0.0.rest.now
+    let stops : StopsAt (HasMessage p) c.in_err-user_header.field-0.0.rest.now
     c.args.bytes.now =
     stops_after_header p c.in_ok-header.header _ c.in_ok-header.rest.now c.args.bytes.now
     c.in_ok-header.ensures.spelled
-    (no_user_header_here p _ c.in_ok-header.rest.now c.in_err-user_header.ensures.place
+    (no_user_header_here p _ c.in_ok-header.rest.now c.requires c.in_err-user_header.ensures.place
     c.in_err-user_header.ensures.spelled) in
     search rules
 
 pub returns-in_err-payload : goal.returns-in_err-payload
 returns-in_err-payload c =
     let p = c.args.prefix.now in
-    let stops : StopsAt (Begins (HasMessage p)) c.in_err-payload.field-0.0.rest.now
+    let stops : StopsAt (HasMessage p) c.in_err-payload.field-0.0.rest.now
     c.args.bytes.now =
     stops_after_header p c.in_ok-header.header _ c.in_ok-header.rest.now c.args.bytes.now
     c.in_ok-header.ensures.spelled
     (stops_after_user_header p c.in_ok-user_header.user_header _ c.in_ok-user_header.rest.now
     c.in_ok-header.rest.now c.in_ok-user_header.ensures.spelled
-    (no_payload_here p _ c.in_ok-user_header.rest.now c.in_err-payload.ensures.place
+    (no_payload_here p _ c.in_ok-user_header.rest.now c.requires c.in_err-payload.ensures.place
     c.in_err-payload.ensures.spelled)) in
     search rules
 
@@ -40,7 +40,7 @@ returns-in_err-elements c =
     let p = c.args.prefix.now in
     let v = c.in_ok-payload.payload.variant in
     let z = c.in_ok-payload.rest.now in
-    let stops : StopsAt (Begins (HasMessage p)) c.in_err-elements.field-0.0.rest.now
+    let stops : StopsAt (HasMessage p) c.in_err-elements.field-0.0.rest.now
     c.args.bytes.now =
     stops_after_header p c.in_ok-header.header _ c.in_ok-header.rest.now c.args.bytes.now
     c.in_ok-header.ensures.spelled
@@ -48,7 +48,7 @@ returns-in_err-elements c =
     c.in_ok-header.rest.now c.in_ok-user_header.ensures.spelled
     (stops_after_payload p c.in_ok-payload.payload _ z c.in_ok-user_header.rest.now
     c.in_ok-payload.ensures.spelled
-    (no_elements_here p v _ z c.in_err-elements.ensures.place
+    (no_elements_here p v _ z c.requires c.in_err-elements.ensures.place
     (λ n r h. c.in_err-elements.ensures.spelled n r
     (elements_at p v c.variant.result n r z z (sym c.variant.ensures) refl h))))) in
     search rules
@@ -59,7 +59,7 @@ returns-in_err-opener c =
     let v = c.in_ok-payload.payload.variant in
     let z = c.in_ok-payload.rest.now in
     let w = c.in_ok-elements.rest.now in
-    let stops : StopsAt (Begins (HasMessage p)) c.in_err-opener.field-0.0.rest.now
+    let stops : StopsAt (HasMessage p) c.in_err-opener.field-0.0.rest.now
     c.args.bytes.now =
     stops_after_header p c.in_ok-header.header _ c.in_ok-header.rest.now c.args.bytes.now
     c.in_ok-header.ensures.spelled

@@ -14,11 +14,12 @@ loop-text-preserved g c =
 
 pub returns-in-Err : goal.returns-in-Err
 returns-in-Err g c =
-    stops_at_setting g.S.Settings.names (g.S.Settings.values c.args.settings.now)
+    rw c.in-Err.ensures.kept
+    (stops_at_setting g.S.Settings.names (g.S.Settings.values c.args.settings.now)
     (g.S.Settings.values c.loop-text.settings) c.loop-text.given c.in-Err.reason
     c.expected.result.rest.now c.loop-text.rest.now c.args.bytes.now c.in-Some.text.now
     c.in-Some.tail.now c.expected.ensures c.loop-text.invariant (search rules)
-    c.in-Err.ensures.refused
+    c.in-Err.ensures.refused)
 
 pub returns : goal.returns
 returns g c =
