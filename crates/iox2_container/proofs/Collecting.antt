@@ -106,21 +106,3 @@ answers_by {F} {A} {R} {K} calls held answer step f (x ∷ xs) (r ∷ rs) g a =
     let rest : rs ≡ map (answer (held f)) xs = answers_by calls held answer step a.0 xs rs g a.2
     ∙ ap (λ (k : K). map (answer k) xs) s.0 in
     ap (λ (l : List R). r ∷ l) rest ∙ ap (λ (b : R). b ∷ map (answer (held f)) xs) s.1
-
-pub map-details : {T R : Type 0} (h : T → R) (es : List (Entry T))
-    → map h (map (λ e. e.details) es) ≡ map (λ e. h e.details) es
-map-details h [] = refl
-map-details {T} {R} h (e ∷ es) = ap (λ (l : List R). h e.details ∷ l) (map-details h es)
-
-pub filter-details : {T : Type 0} (p : T → Bool) (es : List (Entry T))
-    → filter p (map (λ e. e.details) es) ≡ map (λ e. e.details) (filter (λ e. p e.details) es)
-filter-details p [] = refl
-filter-details {T} p (e ∷ es) =
-    elim (p e.details) as
-    (λ b. (if b then e.details
-    ∷ filter p (map (λ e. e.details) es) else filter p (map (λ e. e.details) es))
-    ≡ map (λ e. e.details)
-    (if b then e ∷ filter (λ e. p e.details) es else filter (λ e. p e.details) es)) [
-      | true ↦ ap (λ (l : List T). e.details ∷ l) (filter-details p es)
-      | false ↦ filter-details p es
-    ]

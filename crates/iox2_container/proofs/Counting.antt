@@ -1,6 +1,6 @@
 -- How many entries a test holds of.
 use Rattle.std.proofs.Common.{◌≡◌, ℕ, zero, suc, ◌+◌, ◌≤◌, ◌<◌, Bool, true, false, Option, Some, None, List, [], ◌∷◌, ◌++◌, length, take, refl, sym, ◌∙◌, ap, subst, arith, add-one, inl, inr}
-use Rattle.std.specs.Prelude.{All, if◌then◌else◌, nat_lt, slice_get}
+use Rattle.std.specs.Prelude.{All, if◌then◌else◌, nat_lt, not, slice_get, ◌&&◌}
 use Rattle.std.proofs.lemmas.List.{append-nil}
 use Rattle.std.proofs.lemmas.List.Elements.{All-nil, All-cons}
 use Rattle.iox2_container.specs.declared.container.slots.cell.Occupant.{Occupant}
@@ -8,7 +8,7 @@ use Rattle.std.proofs.lemmas.Bool.{lt-ltb, le-ltb, cases_order}
 use Rattle.iox2_container.specs.Passes.{AreOthers, PlaceIsOf, cell_is_of}
 use Rattle.iox2_container.specs.Places.{NoneFrom, entries_from}
 use Rattle.iox2_container.specs.State.{Entry}
-use Rattle.iox2_container.specs.Steps.{InsertsOne, candidates, is_of, staying, is_true_first, after_first_answer}
+use Rattle.iox2_container.specs.Steps.{InsertsOne, candidates, is_of, staying}
 use Rattle.iox2_container.proofs.AskedInTurn.{entries_split, taken_free, taken_more}
 use Rattle.iox2_container.proofs.CellEntries.{all_before}
 use Rattle.iox2_container.proofs.Sweeping.{add_zero}
@@ -171,25 +171,23 @@ counted-InsertsOne p old new x g =
 
 -- a recovery leaves entries that are not dead
 pub counted-staying : {T : Type 0} (p is_dead : T → Bool)
-    → ((d : T) → is_dead d ≡ true → p d ≡ false) → (es : List (Entry T)) (answers : List Bool)
-    → counted p (staying is_dead es answers) ≡ counted p es
-counted-staying p is_dead other [] answers = refl
-counted-staying {T} p is_dead other (e ∷ es) answers =
-    let gone : List (Entry T) = staying is_dead es (after_first_answer answers) in
-    let kept : List (Entry T) = staying is_dead es answers in
-    let c = counted-cons p e es in
-    let g = counted-staying p is_dead other es (after_first_answer answers) in
-    let k = counted-staying p is_dead other es answers in
+    → ((d : T) → is_dead d ≡ true → p d ≡ false) → (marked : ℕ → Bool) (es : List (Entry T))
+    → counted p (staying is_dead marked es) ≡ counted p es
+counted-staying p is_dead other marked [] = refl
+counted-staying {T} p is_dead other marked (e ∷ es) =
+    let left : List (Entry T) = staying is_dead marked es in
+    let k = counted-staying p is_dead other marked es in
+    let more = counted-cons p e left in
+    let all = counted-cons p e es in
     (elim (is_dead e.details) as
     (λ b. (b ≡ true → p e.details ≡ false)
-    → counted p (if b then (if is_true_first answers then gone else e ∷ gone) else e ∷ kept)
-    ≡ counted p (e ∷ es)) [
-      | true ↦ λ o. elim (is_true_first answers) as
-          (λ b. counted p (if b then gone else e ∷ gone) ≡ counted p (e ∷ es)) [
-            | true ↦ let n : one_if (p e.details) ≡ 0 = ap one_if (o refl) in omega (arith, c, g, n)
-            | false ↦ omega (arith, c, g, counted-cons p e gone)
+    → counted p (if not (b && marked e.slot) then e ∷ left else left) ≡ counted p (e ∷ es)) [
+      | true ↦ λ o. elim (marked e.slot) as
+          (λ m. counted p (if not m then e ∷ left else left) ≡ counted p (e ∷ es)) [
+            | true ↦ omega (arith, all, k, ap one_if (o refl))
+            | false ↦ omega (arith, all, k, more)
           ]
-      | false ↦ λ o. omega (arith, c, k, counted-cons p e kept)
+      | false ↦ λ o. omega (arith, all, k, more)
     ]) (other e.details)
 
 not_one : (b : Bool) → one_if b ≡ 0 → b ≡ false

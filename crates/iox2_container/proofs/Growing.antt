@@ -7,7 +7,7 @@ use Rattle.iox2_container.specs.declared.container.release.ReleaseMode.{ReleaseM
 use Rattle.iox2_container.specs.declared.container.release.ReleaseState.{ReleaseState}
 use Rattle.iox2_container.specs.Handle.{Handle}
 use Rattle.iox2_container.specs.State.{Entry, RegistryState}
-use Rattle.iox2_container.specs.Steps.{AddStep, RemoveStep, Recovers, Leaves, Enters, staying, lock_after}
+use Rattle.iox2_container.specs.Steps.{AddStep, RemoveStep, Recovers, Leaves, Enters, staying}
 use Rattle.iox2_container.proofs.Members.{Among, among_more, among_less}
 use Rattle.iox2_container.proofs.Leaving.{stays_among}
 
@@ -52,12 +52,12 @@ pub grows_remove : {T : Type 0} (old : RegistryState T) (handle : Handle) (mode 
 grows_remove old handle mode (Err e) new s = grows_same old new s.1
 grows_remove old handle mode (Ok state) new s =
     let l : Leaves old handle mode new = s.0 in
-    grows_to old new new.entries (lock_after mode (length new.entries) old.locked) old.used l.3
+    grows_to old new new.entries _ old.used l.3
     (omega arith) (λ x a. inl (among_more new.entries old.entries l.0 x l.2 a))
 
-pub grows_recover : {T : Type 0} (is_dead : T → Bool) (answers : List Bool) (old : RegistryState T)
+pub grows_recover : {T : Type 0} (is_dead : T → Bool) (marked : ℕ → Bool) (old : RegistryState T)
     (mode : ReleaseMode) (state : ReleaseState) (new : RegistryState T)
-    → Recovers is_dead answers old mode state new → Grows old new
-grows_recover is_dead answers old mode state new s =
-    grows_to old new (staying is_dead old.entries answers) _ old.used s.0 (omega arith)
-    (λ x a. inl (stays_among is_dead old.entries answers x a))
+    → Recovers is_dead marked old mode state new → Grows old new
+grows_recover is_dead marked old mode state new s =
+    grows_to old new (staying is_dead marked old.entries) _ old.used s.0 (omega arith)
+    (λ x a. inl (stays_among is_dead marked old.entries x a))

@@ -1,7 +1,7 @@
 -- What histories of registries say of their entries.
-use Rattle.std.proofs.Common.{◌≡◌, ◌≢◌, ℕ, ◌+◌, ◌<◌, ◌≤◌, Bool, List, [], ◌∷◌, ◌++◌, length, map, refl, sym, ◌∙◌, ap, subst, arith, inl, inr, ◌⊎◌, ◌↔◌, Result, Ok, Err, Any}
-use Rattle.std.specs.Prelude.{All, AllPairs, if◌then◌else◌}
-use Rattle.std.specs.List.{list_any, cons_option}
+use Rattle.std.proofs.Common.{◌≡◌, ◌≢◌, ℕ, ◌+◌, ◌<◌, ◌≤◌, Bool, List, [], ◌∷◌, ◌++◌, map, refl, sym, ◌∙◌, ap, subst, arith, inl, inr, ◌⊎◌, ◌↔◌, Result, Ok, Err, Any}
+use Rattle.std.specs.Prelude.{All, AllPairs}
+use Rattle.std.specs.List.{cons_option}
 use Rattle.std.proofs.lemmas.List.Elements.{All-nil, All-cons, All-head, All-tail, All-weaker}
 use Rattle.std.proofs.lemmas.List.Kept.{AllPairs-cons}
 use Rattle.iox2_container.specs.declared.container.refusal.ContainerAddFailure.TheVariants.{IsLocked, OutOfSpace}
@@ -11,8 +11,8 @@ use Rattle.iox2_container.specs.declared.container.release.ReleaseMode.{ReleaseM
 use Rattle.iox2_container.specs.declared.container.release.ReleaseState.{ReleaseState}
 use Rattle.iox2_container.specs.Handle.{Handle}
 use Rattle.iox2_container.specs.State.{Entry, RegistryState, IsRegistry, handle_of}
-use Rattle.iox2_container.specs.Steps.{staying, lock_after, Leaves, Enters, RemoveStep, HasEntry}
-use Rattle.iox2_container.specs.Histories.{leaving, Change, ChangeStep, History, IsNew, TakesOut, Remains, IsRefused, handles_given, handle_given_by}
+use Rattle.iox2_container.specs.Steps.{leaving, staying, Leaves, Enters, RecoverStep, RemoveStep, HasEntry}
+use Rattle.iox2_container.specs.Histories.{IsRecoveryChange, Change, ChangeStep, History, IsNew, TakesOut, Remains, IsRefused, handles_given, handle_given_by}
 use Rattle.iox2_container.specs.Histories.Change.{Adding, Removing, Recovering}
 use Rattle.iox2_container.proofs.Members.{Among, of_all, moved, among_contained, contains_among, first_or_other, gained, among_more, among_less, without, DifferBy, other_differs}
 use Rattle.iox2_container.proofs.Growing.{grows_add, grows_remove, grows_recover}
@@ -106,25 +106,22 @@ held_after old mid (Removing key mode (Err e)) handle details w s h =
     inl (held_still mid old handle details (sym s.1) h, λ t. t)
 held_after {T} old mid (Removing key mode (Ok state)) handle details w s h =
     let l : Leaves old key mode mid = s.0 in
-    let k = held_in old mid.entries
-    (lock_after mode (length mid.entries) old.locked) old.used mid handle details l.3 h in
+    let k = held_in old mid.entries _ old.used mid handle details l.3 h in
     inl (
       (k.0, among_more mid.entries old.entries l.0 k.0 l.2 k.1, k.2, k.3),
       λ t. other_differs (λ v. v.slot) mid.entries old.entries l.0 k.0 l.2 (slots_differ old w) k.1
           (sym (slot_of handle (handle_of old k.0) k.2)
           ∙ (slot_of handle key t ∙ slot_of key (handle_of old l.0) l.1)),
     )
-held_after {T} old mid (Recovering is_dead answers went mode state) handle details w s h =
-    let k = held_in old (staying is_dead old.entries answers)
-    (if list_any (λ goes. goes) answers then lock_after mode
-    (length mid.entries) old.locked else old.locked) old.used mid handle details s.1.0 h in
+held_after {T} old mid (Recovering is_dead marked went mode state) handle details w s h =
+    let k = held_in old (staying is_dead marked old.entries) _ old.used mid handle details s.0.0 h in
     inl (
-      (k.0, stays_among is_dead old.entries answers k.0 k.1, k.2, k.3),
+      (k.0, stays_among is_dead marked old.entries k.0 k.1, k.2, k.3),
       λ t.
-          let z = handle_among old (leaving is_dead old.entries answers) handle
-          (moved handle went (map (handle_of old) (leaving is_dead old.entries answers)) s.2
+          let z = handle_among old (leaving is_dead marked old.entries) handle
+          (moved handle went (map (handle_of old) (leaving is_dead marked old.entries)) s.1
           (among_contained went handle t)) in
-          stays_apart (λ v. v.slot) is_dead old.entries answers k.0 z.0 (slots_differ old w) k.1 z.1
+          stays_apart is_dead marked old.entries (λ v. v.slot) k.0 z.0 (slots_differ old w) k.1 z.1
           (sym (slot_of handle (handle_of old k.0) k.2)
           ∙ slot_of handle (handle_of old z.0) z.2),
     )
@@ -147,21 +144,17 @@ held_on old mid (Removing key mode (Err e)) handle details s k f =
 held_on {T} old mid (Removing key mode (Ok state)) handle details s k f =
     let l : Leaves old key mode mid = s.0 in
     elim (among_less mid.entries old.entries l.0 k.0 l.2 k.1) [
-      | inl m ↦ holds old mid.entries
-          (lock_after mode (length mid.entries) old.locked) old.used mid handle details l.3
-          (k.0, m, k.2, k.3)
+      | inl m ↦ holds old mid.entries _ old.used mid handle details l.3 (k.0, m, k.2, k.3)
       | inr e ↦ absurd (f (k.2 ∙ (ap (handle_of old) e ∙ sym l.1)))
     ]
-held_on {T} old mid (Recovering is_dead answers went mode state) handle details s k f =
-    let gone = leaving is_dead old.entries answers in
-    elim (stays_or_leaves is_dead old.entries answers k.0 k.1) [
-      | inl m ↦ holds old (staying is_dead old.entries answers)
-          (if list_any (λ goes. goes) answers then lock_after mode
-          (length mid.entries) old.locked else old.locked) old.used mid handle details s.1.0
+held_on {T} old mid (Recovering is_dead marked went mode state) handle details s k f =
+    let gone = leaving is_dead marked old.entries in
+    elim (stays_or_leaves is_dead marked old.entries k.0 k.1) [
+      | inl m ↦ holds old (staying is_dead marked old.entries) _ old.used mid handle details s.0.0
           (k.0, m, k.2, k.3)
       | inr m ↦ absurd
           (f (contains_among went handle
-          (moved handle (map (handle_of old) gone) went (sym s.2)
+          (moved handle (map (handle_of old) gone) went (sym s.1)
           (subst (λ (n : Handle). Among n (map (handle_of old) gone)) (sym k.2)
           (among_handles old gone k.0 m)))))
     ]
@@ -278,8 +271,8 @@ used_grows : {T : Type 0} (old mid : RegistryState T) (change : Change T)
     → ChangeStep old change mid → old.used ≤ mid.used
 used_grows old mid (Adding d result) s = (grows_add old d result mid s).used
 used_grows old mid (Removing key mode result) s = (grows_remove old key mode result mid s).used
-used_grows old mid (Recovering is_dead answers went mode state) s =
-    (grows_recover is_dead answers old mode state mid s.1).used
+used_grows old mid (Recovering is_dead marked went mode state) s =
+    (grows_recover is_dead marked old mode state mid s.0).used
 
 -- what is added has the next ticket
 new_ticket : {T : Type 0} (old mid : RegistryState T) (handle : Handle) (details : T)
@@ -299,11 +292,11 @@ taken_held {T} old mid (Removing key mode (Ok state)) handle s t =
     let l : Leaves old key mode mid = s.0 in
     (l.0, gained mid.entries old.entries l.0 l.2, t ∙ l.1)
 taken_held old mid (Removing key mode (Err e)) handle s t = absurd t
-taken_held {T} old mid (Recovering is_dead answers went mode state) handle s t =
-    let gone = leaving is_dead old.entries answers in
+taken_held {T} old mid (Recovering is_dead marked went mode state) handle s t =
+    let gone = leaving is_dead marked old.entries in
     let z = handle_among old gone handle
-    (moved handle went (map (handle_of old) gone) s.2 (among_contained went handle t)) in
-    (z.0, leaves_among is_dead old.entries answers z.0 z.1, z.2)
+    (moved handle went (map (handle_of old) gone) s.1 (among_contained went handle t)) in
+    (z.0, leaves_among is_dead marked old.entries z.0 z.1, z.2)
 
 spent_after : {T : Type 0} (old mid : RegistryState T) (change : Change T) (handle : Handle)
     → IsRegistry old → ChangeStep old change mid → TakesOut handle change → IsSpent mid handle
@@ -377,7 +370,7 @@ given_first : {T : Type 0} (P : Handle → Type 0) (change : Change T) (given : 
 given_first P (Adding d (Ok handle)) given f h = All-cons P handle given (f handle d refl) h
 given_first P (Adding d (Err e)) given f h = h
 given_first P (Removing key mode result) given f h = h
-given_first P (Recovering is_dead answers went mode state) given f h = h
+given_first P (Recovering is_dead marked went mode state) given f h = h
 
 -- the tickets of the handles that are given from here on
 tickets_to_come : {T : Type 0} (old new : RegistryState T) (changes : List (Change T))
@@ -411,7 +404,7 @@ first_differs {T} old mid (Adding d (Ok handle)) given s h p =
     p
 first_differs old mid (Adding d (Err e)) given s h p = p
 first_differs old mid (Removing key mode result) given s h p = p
-first_differs old mid (Recovering is_dead answers went mode state) given s h p = p
+first_differs old mid (Recovering is_dead marked went mode state) given s h p = p
 
 pub handles_differ : {T : Type 0} (old new : RegistryState T) (changes : List (Change T))
     → History old changes new → AllPairs ◌≢◌ (handles_given changes)
@@ -419,3 +412,19 @@ handles_differ old new [] s = λ i j d h l. absurd (omega (arith, l))
 handles_differ old new (c ∷ cs) s =
     first_differs old s.0 c (handles_given cs) s.1 (tickets_to_come s.0 new cs s.3)
     (handles_differ s.0 new cs s.3)
+
+-- a recovery is a change, with the marks by the callback's answers and the handles of the entries
+-- that went, and such a change is a recovery
+pub recovery_changes : {F T : Type 0} (calls : F → T → Bool → F → Type 0) (is_dead : T → Bool)
+    (old new : RegistryState T) (f f' : F) (mode : ReleaseMode) (state : ReleaseState)
+    → RecoverStep calls is_dead old f mode state new f'
+    ↔ IsRecoveryChange calls is_dead old f mode state new f'
+recovery_changes calls is_dead old new f f' mode state = (
+  λ r. record {
+    marked = r.marked;
+    went = map (handle_of old) (leaving is_dead r.marked old.entries);
+    asked = r.asked;
+    changes = (r.recovers, refl);
+  },
+  λ r. record { marked = r.marked; asked = r.asked; recovers = r.changes.0 },
+)

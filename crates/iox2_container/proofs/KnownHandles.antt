@@ -123,7 +123,8 @@ goes_on node number old earlier (Call.Remove k mode) reply new w s =
 goes_on node number old earlier (Call.Recover dead keys mode) reply new w s =
     record {
       grows =
-          grows_recover (is_of node dead) s.1.step.0 old.registry mode s.0 new.registry s.1.step.2;
+          grows_recover (is_of node dead) s.1.step.marked old.registry mode s.0 new.registry
+          s.1.step.recovers;
       knows = knows_reply new.registry reply (Reply.State s.0) s.2 tt;
     }
 goes_on {T} node number old earlier Call.List reply new w s =

@@ -1,8 +1,9 @@
 -- Callbacks that are asked in turn, seen through another state or with other details.
-use Rattle.std.proofs.Common.{◌≡◌, ℕ, Bool, true, false, List, [], ◌∷◌, map, length, refl, sym, ◌∙◌, ap, subst, inl, inr}
-use Rattle.std.specs.Prelude.{if◌then◌else◌}
-use Rattle.std.specs.List.{list_any}
-use Rattle.std.proofs.lemmas.List.{length-map}
+use Rattle.std.proofs.Common.{◌≡◌, ℕ, Bool, List, [], ◌∷◌, map, length, refl, sym, ◌∙◌, ap, subst, inl, inr}
+use Rattle.std.specs.Prelude.{not, ◌&&◌}
+use Rattle.std.proofs.lemmas.Simd.{map-map}
+use Rattle.std.proofs.lemmas.List.{length-map, map-id}
+use Rattle.std.proofs.lemmas.List.Elements.{filter_agree}
 use Rattle.iox2_texts.specs.Attribute.{Visits}
 use Rattle.iox2_texts.specs.declared.bounded.callback_progression.CallbackProgression.{CallbackProgression}
 use Rattle.iox2_texts.specs.declared.bounded.callback_progression.CallbackProgression.TheVariants.{Continue, Stop}
@@ -11,8 +12,10 @@ use Rattle.iox2_container.specs.declared.container.release.ReleaseState.{Release
 use Rattle.iox2_container.specs.Changes.{RecoversBy}
 use Rattle.iox2_container.specs.ContainerState.{ContainerState}
 use Rattle.iox2_container.specs.State.{Entry, RegistryState}
-use Rattle.iox2_container.specs.Steps.{Asked, Visit, RecoverStep, asked_about, candidates, staying, is_true_first, after_first_answer, lock_after}
+use Rattle.iox2_container.specs.Steps.{Asked, Visit, RecoverStep, marks_of, asked_about, candidates, is_leaving, lock_after, staying}
 use Rattle.iox2_container.specs.Mapped.{entry_as, registry_as}
+use Rattle.iox2_container.proofs.ListEdits.{filter-map}
+use Rattle.iox2_container.proofs.Mapped.{candidates-as, listed-as}
 
 -- what each call keeps is true at the end, and each call is one of others
 pub Asked-as : {F G A B R : Type 0} (calls : F → A → R → F → Type 0)
@@ -27,10 +30,6 @@ Asked-as calls others k u I step f (x ∷ xs) (r ∷ rs) h i a =
     let s = step f x r a.0 i a.1 in
     let t = Asked-as calls others k u I step a.0 xs rs h s.1 a.2 in ((k a.0, s.0, t.0), t.1)
 
-pub map-same : {A : Type 0} (xs : List A) → map (λ x. x) xs ≡ xs
-map-same [] = refl
-map-same (x ∷ xs) = ap (λ l. x ∷ l) (map-same xs)
-
 -- a recovery by a callback that holds another one
 pub RecoversBy-through : {F G T : Type 0} (calls : F → T → Bool → F → Type 0)
     (others : G → T → Bool → G → Type 0) (k : F → G) (I : F → Type 0)
@@ -42,9 +41,14 @@ pub RecoversBy-through : {F G T : Type 0} (calls : F → T → Bool → F → Ty
 RecoversBy-through calls others k I step is_dead old f mode state new h i r =
     let s = r.step in
     let items = asked_about is_dead old.registry in
-    let a = Asked-as calls others k (λ x. x) I step f items s.0 h i s.1 in (
+    let answers = marks_of is_dead s.marked old.registry.entries in
+    let a = Asked-as calls others k (λ x. x) I step f items answers h i s.asked in (
       record {
-        step = (s.0, subst (λ l. Asked others (k f) l s.0 (k h)) (map-same items) a.0, s.2);
+        step = record {
+          marked = s.marked;
+          asked = subst (λ l. Asked others (k f) l answers (k h)) (map-id items) a.0;
+          recovers = s.recovers;
+        };
         kept = r.kept;
         touched = r.touched;
       },
@@ -54,51 +58,26 @@ RecoversBy-through calls others k I step is_dead old f mode state new h i r =
 -- candidates and what stays, with other details
 module _ {T U : Type 0} (g : T → U) (is_dead : T → Bool) (is_dead' : U → Bool)
     (same : (x : T) → is_dead' (g x) ≡ is_dead x) where
-  pub candidates-as : (es : List (Entry T))
+  pub asked-as : (es : List (Entry T))
       → map (λ e. e.details) (candidates is_dead' (map (entry_as g) es))
       ≡ map g (map (λ e. e.details) (candidates is_dead es))
-  candidates-as [] = refl
-  candidates-as (e ∷ es) =
-      rw (same e.details)
-      (elim (is_dead e.details) as
-      (λ b. map (λ e. e.details)
-      (if b then entry_as g e
-      ∷ candidates is_dead' (map (entry_as g) es) else candidates is_dead' (map (entry_as g) es))
-      ≡ map g (map (λ e. e.details)
-      (if b then e ∷ candidates is_dead es else candidates is_dead es))) [
-        | true ↦ ap (λ l. g e.details ∷ l) (candidates-as es)
-        | false ↦ candidates-as es
-      ])
+  asked-as es = ap (map (λ e. e.details)) (candidates-as g is_dead is_dead' same es)
+      ∙ listed-as g (candidates is_dead es)
 
-  pub staying-as : (es : List (Entry T)) (answers : List Bool)
-      → staying is_dead' (map (entry_as g) es) answers
-      ≡ map (entry_as g) (staying is_dead es answers)
-  staying-as [] answers = refl
-  staying-as (e ∷ es) answers =
-      rw (same e.details)
-      (elim (is_dead e.details) as
-      (λ b. (if b then
-      (if is_true_first answers then staying is_dead' (map (entry_as g) es)
-      (after_first_answer answers) else entry_as g e
-      ∷ staying is_dead' (map (entry_as g) es) (after_first_answer answers)) else entry_as g e
-      ∷ staying is_dead' (map (entry_as g) es) answers)
-      ≡ map (entry_as g)
-      (if b then
-      (if is_true_first answers then staying is_dead es (after_first_answer answers) else e
-      ∷ staying is_dead es (after_first_answer answers)) else e ∷ staying is_dead es answers)) [
-        | true ↦ elim (is_true_first answers) as
-            (λ b. (if b then staying is_dead' (map (entry_as g) es)
-            (after_first_answer answers) else entry_as g e
-            ∷ staying is_dead' (map (entry_as g) es) (after_first_answer answers))
-            ≡ map (entry_as g)
-            (if b then staying is_dead es (after_first_answer answers) else e
-            ∷ staying is_dead es (after_first_answer answers))) [
-              | true ↦ staying-as es (after_first_answer answers)
-              | false ↦ ap (λ (l : List (Entry U)). entry_as g e ∷ l)
-                  (staying-as es (after_first_answer answers))
-            ]
-        | false ↦ ap (λ (l : List (Entry U)). entry_as g e ∷ l) (staying-as es answers)
-      ])
+  marks-as : (marked : ℕ → Bool) (es : List (Entry T))
+      → marks_of is_dead' marked (map (entry_as g) es) ≡ marks_of is_dead marked es
+  marks-as marked es =
+      ap (map (λ e. marked e.slot)) (candidates-as g is_dead is_dead' same es)
+      ∙ map-map (λ e. marked e.slot) (entry_as g) (candidates is_dead es)
+
+  staying-as : (marked : ℕ → Bool) (es : List (Entry T))
+      → staying is_dead' marked (map (entry_as g) es) ≡ map (entry_as g) (staying is_dead marked es)
+  staying-as marked es =
+      filter-map (λ e. not (is_leaving is_dead' marked e)) (entry_as g) es
+      ∙ ap (map (entry_as g))
+      (filter_agree (λ e. not (is_dead' (g e.details) && marked e.slot))
+      (λ e. not (is_leaving is_dead marked e))
+      (λ e. ap (λ b. not (b && marked e.slot)) (same e.details)) es)
 
   pub RecoverStep-as : {F : Type 0} (calls : F → T → Bool → F → Type 0)
       (others : F → U → Bool → F → Type 0)
@@ -108,23 +87,19 @@ module _ {T U : Type 0} (g : T → U) (is_dead : T → Bool) (is_dead' : U → B
       → RecoverStep calls is_dead old f mode state new h
       → RecoverStep others is_dead' (registry_as g old) f mode state (registry_as g new) h
   RecoverStep-as {F} calls others step old f mode state new h r =
-      let items = map (λ e. e.details) (candidates is_dead old.entries) in
       let a = Asked-as calls others (λ s. s) g (λ _. Unit {0})
-      (λ s x b t i c. (step s x b t c, tt)) f items r.0 h tt r.1 in
-      let lock : ℕ → Bool =
-      λ n. if list_any (λ goes. goes) r.0 then lock_after mode n old.locked else old.locked in
-      let made : List (Entry U) → ℕ → RegistryState U =
-      λ es n. record (registry_as g old) { entries = es; locked = lock n } in (
-        r.0,
-        subst (λ l. Asked others f l r.0 h) (sym (candidates-as old.entries)) a.0,
-        (
-          ap (registry_as g) r.2.0
-              ∙ (ap (λ es. made es (length new.entries)) (sym (staying-as old.entries r.0))
-              ∙ ap (made (staying is_dead' (map (entry_as g) old.entries) r.0))
-              (sym (length-map new.entries (entry_as g)))),
-          r.2.1,
-        ),
-      )
+      (λ s x b t i c. (step s x b t c, tt)) f (asked_about is_dead old)
+      (marks_of is_dead r.marked old.entries) h tt r.asked in
+      record {
+        marked = r.marked;
+        asked = rw (asked-as old.entries) (rw (marks-as r.marked old.entries) a.0);
+        recovers = (
+          rw (staying-as r.marked old.entries)
+              (rw (length-map old.entries (entry_as g)) (rw (length-map new.entries (entry_as g))
+              (ap (registry_as g) r.recovers.0))),
+          r.recovers.1,
+        );
+      }
 
 -- a recovery by a callback that holds a `&mut` to another one
 pub RecoversBy-lent : {F G T : Type 0} (calls : F → T → Bool → F → Type 0)

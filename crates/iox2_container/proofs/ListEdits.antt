@@ -1,6 +1,6 @@
--- Lists in which one element was written.
-use Rattle.std.proofs.Common.{◌≡◌, ◌≢◌, ℕ, zero, suc, ◌<◌, Some, List, [], ◌∷◌, length, refl, ap, arith}
-use Rattle.std.specs.Prelude.{slice_get, slice_set}
+-- Lists in which one element was written, and lists that were mapped and filtered.
+use Rattle.std.proofs.Common.{◌≡◌, ◌≢◌, ℕ, zero, suc, ◌<◌, Bool, true, false, Some, List, [], ◌∷◌, length, map, refl, ap, arith}
+use Rattle.std.specs.Prelude.{filter, if◌then◌else◌, slice_get, slice_set}
 
 -- the others are as they were
 pub get_set_other : {A : Type 0} (xs : List A) (i j : ℕ) (a : A) → j ≢ i
@@ -17,3 +17,14 @@ pub get_set_same : {A : Type 0} (xs : List A) (i : ℕ) (a : A) → i < length x
 get_set_same [] i a h = absurd (omega arith)
 get_set_same (x ∷ xs) zero a h = refl
 get_set_same (x ∷ xs) (suc i) a h = get_set_same xs i a (omega arith)
+
+pub filter-map : {A B : Type 0} (p : B → Bool) (u : A → B) (xs : List A)
+    → filter p (map u xs) ≡ map u (filter (λ x. p (u x)) xs)
+filter-map p u [] = refl
+filter-map {A} {B} p u (x ∷ xs) =
+    elim (p (u x)) as
+    (λ b. (if b then u x ∷ filter p (map u xs) else filter p (map u xs))
+    ≡ map u (if b then x ∷ filter (λ x. p (u x)) xs else filter (λ x. p (u x)) xs)) [
+      | true ↦ ap (λ (l : List B). u x ∷ l) (filter-map p u xs)
+      | false ↦ filter-map p u xs
+    ]

@@ -1,8 +1,9 @@
 -- What a call does, it does with other details too.
-use Rattle.std.proofs.Common.{◌≡◌, ◌≢◌, ℕ, suc, ◌<◌, Bool, true, false, length, Result, Ok, Err, List, [], ◌∷◌, map, refl, sym, ◌∙◌, ap, arith}
-use Rattle.std.specs.Prelude.{◌==◌, AllPairs, if◌then◌else◌}
+use Rattle.std.proofs.Common.{◌≡◌, ◌≢◌, ℕ, ◌<◌, Bool, length, Result, Ok, Err, List, [], ◌∷◌, map, refl, sym, ◌∙◌, ap, arith}
+use Rattle.std.specs.Prelude.{◌==◌, AllPairs}
 use Rattle.std.proofs.lemmas.List.{map-append, length-map}
-use Rattle.std.proofs.lemmas.List.Elements.{All-map}
+use Rattle.std.proofs.lemmas.List.Elements.{All-map, filter_agree}
+use Rattle.std.proofs.lemmas.Simd.{map-map}
 use Rattle.std.proofs.lemmas.List.Kept.{AllPairs-cons}
 use Rattle.iox2_container.specs.declared.container.refusal.ContainerAddFailure.{ContainerAddFailure}
 use Rattle.iox2_container.specs.declared.container.refusal.ContainerAddFailure.TheVariants.{IsLocked, OutOfSpace}
@@ -12,7 +13,8 @@ use Rattle.iox2_container.specs.declared.container.release.ReleaseState.{Release
 use Rattle.iox2_container.specs.Handle.{Handle}
 use Rattle.iox2_container.specs.ContainerState.{ContainerState}
 use Rattle.iox2_container.specs.State.{Entry, RegistryState, IsRegistry, handle_of}
-use Rattle.iox2_container.specs.Steps.{AddStep, RemoveStep, InsertsOne, IsUnknownHandle, HasEntry, TakesEntry, candidates, entries_of, is_of, lock_after}
+use Rattle.iox2_container.specs.Steps.{AddStep, RemoveStep, InsertsOne, IsUnknownHandle, HasEntry, candidates, entries_of, is_of}
+use Rattle.iox2_container.proofs.ListEdits.{filter-map}
 use Rattle.iox2_container.proofs.Gaining.{AllPairs-head, AllPairs-tail}
 use Rattle.iox2_container.specs.Changes.{Changes, Adds, Removes}
 use Rattle.iox2_container.specs.Mapped.{entry_as, registry_as, container_as}
@@ -87,21 +89,16 @@ RemoveStep-as g old handle mode (Err e) new h = (
   All-map (λ x. handle ≢ handle_of (registry_as g old) x) (entry_as g) old.entries h.0,
   ap (registry_as g) h.1,
 )
-RemoveStep-as {T} {U} g old handle mode (Ok state) new h =
-    let as_left : ℕ → RegistryState U =
-    λ n. record
-    (registry_as g old) {
-      entries = map (entry_as g) new.entries;
-      locked = lock_after mode n old.locked;
-    } in (
-      (
-        entry_as g h.0.0,
-        h.0.1,
-        InsertsOne-as g new.entries old.entries h.0.0 h.0.2,
-        ap (registry_as g) h.0.3 ∙ ap as_left (sym (length-map new.entries (entry_as g))),
-      ),
-      h.1,
-    )
+RemoveStep-as g old handle mode (Ok state) new h = (
+  (
+    entry_as g h.0.0,
+    h.0.1,
+    InsertsOne-as g new.entries old.entries h.0.0 h.0.2,
+    rw (length-map old.entries (entry_as g))
+        (rw (length-map new.entries (entry_as g)) (ap (registry_as g) h.0.3)),
+  ),
+  h.1,
+)
 
 pub Adds-as : {T U : Type 0} (g : T → U) (old : ContainerState T) (details : T)
     (answer : Result Handle ContainerAddFailure) (new : ContainerState T)
@@ -119,30 +116,25 @@ Removes-as g old handle mode answer new =
 
 pub listed-as : {T U : Type 0} (g : T → U) (es : List (Entry T))
     → map (λ e. e.details) (map (entry_as g) es) ≡ map g (map (λ e. e.details) es)
-listed-as g [] = refl
-listed-as g (e ∷ es) = ap (λ l. g e.details ∷ l) (listed-as g es)
+listed-as g es = map-map (λ e. e.details) (entry_as g) es ∙ sym (map-map g (λ e. e.details) es)
 
--- how many entries of a node there are, with other details
-counted-as : {T U : Type 0} (g : T → U) (is_dead : T → Bool) (is_dead' : U → Bool)
+-- the candidates, with other details
+pub candidates-as : {T U : Type 0} (g : T → U) (is_dead : T → Bool) (is_dead' : U → Bool)
     → ((x : T) → is_dead' (g x) ≡ is_dead x) → (es : List (Entry T))
-    → length (candidates is_dead' (map (entry_as g) es)) ≡ length (candidates is_dead es)
-counted-as g is_dead is_dead' same [] = refl
-counted-as g is_dead is_dead' same (e ∷ es) =
-    rw (same e.details)
-    (elim (is_dead e.details) as
-    (λ b. length
-    (if b then entry_as g e
-    ∷ candidates is_dead' (map (entry_as g) es) else candidates is_dead' (map (entry_as g) es))
-    ≡ length (if b then e ∷ candidates is_dead es else candidates is_dead es)) [
-      | true ↦ ap suc (counted-as g is_dead is_dead' same es)
-      | false ↦ counted-as g is_dead is_dead' same es
-    ])
+    → candidates is_dead' (map (entry_as g) es) ≡ map (entry_as g) (candidates is_dead es)
+candidates-as g is_dead is_dead' same es =
+    filter-map (λ e. is_dead' e.details) (entry_as g) es
+    ∙ ap (map (entry_as g))
+    (filter_agree (λ e. is_dead' (g e.details)) (λ e. is_dead e.details)
+    (λ e. same e.details) es)
 
 pub entries_of-as : {T U : Type 0} (g : T → U) (node : T → ℕ) (node' : U → ℕ)
     → ((x : T) → node' (g x) ≡ node x) → (id : ℕ) (r : RegistryState T)
     → entries_of node' id (registry_as g r) ≡ entries_of node id r
 entries_of-as g node node' same id r =
-    counted-as g (is_of node id) (is_of node' id) (λ x. ap (λ n. n == id) (same x)) r.entries
+    ap length
+    (candidates-as g (is_of node id) (is_of node' id) (λ x. ap (λ n. n == id) (same x)) r.entries)
+    ∙ length-map (candidates (is_of node id) r.entries) (entry_as g)
 
 -- who has a handle, and whether there is room, with other details
 pub IsUnknownHandle-as : {T U : Type 0} (g : T → U) (r : RegistryState T) (handle : Handle)
@@ -158,9 +150,3 @@ HasEntry-as g r handle details h = (
   ap g h.2,
   (map (entry_as g) h.3.0, InsertsOne-as g h.3.0 r.entries h.0 h.3.1),
 )
-
-pub TakesEntry-as : {T U : Type 0} (g : T → U) (r : RegistryState T)
-    → TakesEntry (registry_as g r) ≡ TakesEntry r
-TakesEntry-as g r =
-    ap (λ n. (r.locked ≡ false) × ((n < r.capacity) × (r.used < r.budget)))
-    (length-map r.entries (entry_as g))

@@ -1,6 +1,6 @@
 -- Members of lists, and what they say of lists of entries that gain one.
-use Rattle.std.proofs.Common.{◌≡◌, ◌≢◌, ℕ, zero, suc, List, [], ◌∷◌, ◌++◌, refl, sym, ◌∙◌, ap, subst, arith, inl, inr, ◌⊎◌, Contains, Any}
-use Rattle.std.specs.Prelude.{All, AllPairs}
+use Rattle.std.proofs.Common.{◌≡◌, ◌≢◌, ℕ, zero, suc, Bool, true, false, cond, List, [], ◌∷◌, ◌++◌, refl, sym, ◌∙◌, ap, subst, arith, inl, inr, ◌⊎◌, Contains, Any}
+use Rattle.std.specs.Prelude.{All, AllPairs, filter}
 use Rattle.std.proofs.lemmas.List.Elements.{All-head, All-tail}
 use Rattle.iox2_container.specs.State.{Entry}
 use Rattle.iox2_container.specs.Steps.{InsertsOne}
@@ -137,3 +137,32 @@ one_by_ticket es v w x y differ gx gy t =
       | inl h ↦ absurd (other_differs (λ e. e.ticket) v es x y gx differ h (sym t))
       | inr e ↦ e
     ]
+
+-- what passes a test is what is in the list and passes it
+among_cond : {X : Type 0} (p : X → Bool) (b : Bool) (y : X) (ys : List X) (x : X) → p y ≡ b
+    → Among x (cond b (y ∷ ys) ys) → ((x ≡ y) × (p x ≡ true)) ⊎ Among x ys
+among_cond {X} p true y ys x e (inl q) = inl (q, ap p q ∙ e)
+among_cond p true y ys x e (inr h) = inr h
+among_cond p false y ys x e h = inr h
+
+pub filter_from : {X : Type 0} (p : X → Bool) (xs : List X) (x : X) → Among x (filter p xs) → Among x xs
+    × (p x ≡ true)
+filter_from p [] x h = absurd h
+filter_from p (y ∷ ys) x h =
+    elim (among_cond p (p y) y (filter p ys) x refl h) [
+      | inl q ↦ (inl q.0, q.1)
+      | inr k ↦ (let r = filter_from p ys x k in (inr r.0, r.1))
+    ]
+
+to_cond : {X : Type 0} (b : Bool) (y : X) (ys : List X) (x : X) → (x ≡ y) × (b ≡ true) ⊎ Among x ys
+    → Among x (cond b (y ∷ ys) ys)
+to_cond true y ys x (inl q) = inl q.0
+to_cond true y ys x (inr h) = inr h
+to_cond {X} false y ys x (inl q) = (let e : false ≡ true = q.1 in cc)
+to_cond false y ys x (inr h) = h
+
+pub filter_to : {X : Type 0} (p : X → Bool) (xs : List X) (x : X) → Among x xs → p x ≡ true
+    → Among x (filter p xs)
+filter_to p [] x h e = absurd h
+filter_to p (y ∷ ys) x (inl q) e = to_cond (p y) y (filter p ys) x (inl (q, sym (ap p q) ∙ e))
+filter_to p (y ∷ ys) x (inr h) e = to_cond (p y) y (filter p ys) x (inr (filter_to p ys x h e))

@@ -1,5 +1,5 @@
 -- What a removal does.
-use Rattle.std.proofs.Common.{◌≡◌, ℕ, zero, suc, ◌+◌, ◌-◌, Bool, Option, Some, None, Ok, Err, List, [], ◌∷◌, length, refl, sym, ◌∙◌, ap, subst, arith}
+use Rattle.std.proofs.Common.{◌≡◌, ℕ, zero, suc, ◌+◌, ◌-◌, ◌≤◌, Bool, Option, Some, None, Ok, Err, List, [], ◌∷◌, length, refl, sym, ◌∙◌, ap, subst, arith}
 use Rattle.std.specs.Prelude.{IsTrue, slice_get, slice_set}
 use Rattle.std.proofs.Math.ListN.{length-set}
 use Rattle.iox2_container.specs.declared.container.slots.cell.Occupant.{Occupant}
@@ -23,12 +23,14 @@ pub nothing_left : {T : Type 0} (es : List (Entry T)) → length es ≡ 0 → es
 nothing_left [] h = refl
 nothing_left (e ∷ es) h = absurd (omega arith)
 
--- a lock that was set just now, is set by the last that went
-pub lock_is_last : (mode : ReleaseMode) (left : ℕ) (locked : Bool)
-    → IsTrue (lock_after mode left locked) → (IsTrue locked → ⊥) → left ≡ 0
-lock_is_last LockIfLastIndex zero locked t n = refl
-lock_is_last LockIfLastIndex (suc left) locked t n = absurd (n t)
-lock_is_last Default left locked t n = absurd (n t)
+-- where an empty registry alone is locked, it is still so
+pub locks_empty : (mode : ReleaseMode) (before left : ℕ) (locked : Bool)
+    → IsTrue (lock_after mode before left locked) → (IsTrue locked → before ≡ 0) → left ≤ before
+    → left ≡ 0
+locks_empty Default before left locked t n l = (let z = n t in omega arith)
+locks_empty LockIfLastIndex zero left locked t n l = omega arith
+locks_empty LockIfLastIndex (suc before) zero locked t n l = refl
+locks_empty LockIfLastIndex (suc before) (suc left) locked t n l = (let z = n t in omega arith)
 
 -- the entry of the handle
 abbrev entry_at : {T : Type 0} → Handle → T → Entry T
@@ -71,19 +73,17 @@ some_stood a cells s handle d k shown e =
 pub kept_clear : {T : Type 0} (a : RegistryHeader) (cells s : List (Option (Occupant T)))
     (handle : Handle) (d : T) (mode : ReleaseMode) (locked : Bool) → AreRegistry a cells
     → Finds cells handle (Some d) → s ≡ slice_set cells handle.slot None
-    → locked ≡ lock_after mode (a.count - 1) a.locked
+    → locked ≡ lock_after mode a.count (a.count - 1) a.locked
     → AreRegistry (record a { count = a.count - 1; locked = locked }) s
 kept_clear {T} a cells s handle d mode locked k shown e l =
     let one : a.count ≡ length (entries_from 0 s) + 1 = some_stood a cells s handle d k shown e in
-    let was_open : IsTrue a.locked → ⊥ =
-    λ t. (let z : length (entries_from 0 cells) ≡ 0 = ap length (k.0.locked_is_empty t) in
-    omega (arith, k.1)) in
     let left : a.count - 1 ≡ length (entries_from 0 s) = omega arith in (
       kept_remove (registry_of a cells) (length s) (entries_from 0 s) (entry_at handle d) locked k.0
           (gains_of_clear cells s handle d shown e) (below_from s)
           (λ t. nothing_left (entries_from 0 s)
           (sym left
-          ∙ lock_is_last mode (a.count - 1) a.locked (subst IsTrue l t) was_open)),
+          ∙ locks_empty mode a.count (a.count - 1) a.locked (subst IsTrue l t)
+          (λ u. k.1 ∙ ap length (k.0.locked_is_empty u)) (omega arith))),
       left,
     )
 
@@ -91,7 +91,7 @@ pub remove_step : {T : Type 0} (a : RegistryHeader) (cells s : List (Option (Occ
     (handle : Handle) (d : T) (mode : ReleaseMode) (locked : Bool) (state : ReleaseState)
     → AreRegistry a cells → handle.service ≡ a.service → handle.role ≡ a.role
     → Finds cells handle (Some d) → s ≡ slice_set cells handle.slot None
-    → locked ≡ lock_after mode (a.count - 1) a.locked → state ≡ release_state locked
+    → locked ≡ lock_after mode a.count (a.count - 1) a.locked → state ≡ release_state locked
     → RemoveStep (registry_of a cells) handle mode (Ok state)
     (registry_of (record a { count = a.count - 1; locked = locked }) s)
 remove_step {T} a cells s handle d mode locked state k hs hr shown e l st =
@@ -105,7 +105,9 @@ remove_step {T} a cells s handle d mode locked state k hs hr shown e l st =
         has_parts a handle hs hr,
         gains_of_clear cells s handle d shown e,
         ap (λ n. f n locked) same
-            ∙ ap (f (length cells)) (l ∙ ap (λ n. lock_after mode n a.locked) left),
+            ∙ ap (f (length cells))
+            (l ∙ (ap (λ n. lock_after mode n (a.count - 1) a.locked) k.1
+            ∙ ap (λ n. lock_after mode (length (entries_from 0 cells)) n a.locked) left)),
       ),
       st,
     )

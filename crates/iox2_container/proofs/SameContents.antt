@@ -1,10 +1,9 @@
 -- Two registries under the same calls.
 use Rattle.std.proofs.Common.{◌≡◌, ℕ, zero, suc, ◌+◌, Bool, true, false, Option, Some, None, Result, Ok, Err, List, [], ◌∷◌, ◌++◌, length, refl, sym, ◌∙◌, ap, subst, arith, inl, inr}
-use Rattle.std.specs.Prelude.{if◌then◌else◌, not, ⊤, All, ◌≢◌}
-use Rattle.std.specs.List.{list_any}
+use Rattle.std.specs.Prelude.{not, ◌&&◌, ⊤, All, ◌≢◌}
 use Rattle.std.specs.List.Sorted.{IsPermutation}
 use Rattle.std.proofs.lemmas.List.{length-map}
-use Rattle.std.proofs.lemmas.List.Sorted.{length_permutation, list_any-IsPermutation}
+use Rattle.std.proofs.lemmas.List.Sorted.{length_permutation}
 use Rattle.iox2_container.specs.declared.container.refusal.ContainerAddFailure.{ContainerAddFailure}
 use Rattle.iox2_container.specs.declared.container.refusal.ContainerAddFailure.TheVariants.{IsLocked, OutOfSpace}
 use Rattle.iox2_container.specs.declared.container.refusal.ContainerRemoveError.{ContainerRemoveError}
@@ -17,12 +16,13 @@ use Rattle.iox2_container.specs.declared.container.comparison.calls.RegistryRepl
 use Rattle.iox2_container.specs.Handle.{Handle}
 use Rattle.iox2_container.specs.ContainerState.{ContainerState}
 use Rattle.iox2_container.specs.State.{Entry, RegistryState, IsRegistry, handle_of}
-use Rattle.iox2_container.specs.Steps.{AddStep, RemoveStep, Recovers, RecoverStep, candidates, HasRoom, IsFull, Leaves, Enters, is_of, listed, lock_after, release_state}
+use Rattle.iox2_container.specs.Steps.{AddStep, RemoveStep, RecoverStep, HasRoom, IsFull, Leaves, Enters, is_of, listed, lock_after, release_state, staying}
 use Rattle.iox2_container.specs.Histories.{IsNew}
 use Rattle.iox2_container.specs.Calls.{CallStep, CallRun, RemoveGiven, SameReply, SameKind, handle_given, is_outside, reply_of_add, reply_of_remove}
-use Rattle.iox2_container.proofs.Collecting.{answers_by, map-details}
+use Rattle.iox2_container.proofs.Collecting.{answers_by}
 use Rattle.iox2_container.proofs.Members.{of_all, gained}
-use Rattle.iox2_container.proofs.SameEntries.{AreAmong, same_members, nothing_within, within_after_add, within_after_remove, within_after_filter, passing, answers_of, goes, staying_is, any_is}
+use Rattle.iox2_container.proofs.SameEntries.{AreAmong, same_members, nothing_within, within_after_add, within_after_remove, within_after_filter, passing}
+use Rattle.iox2_container.proofs.Leaving.{staying_by}
 use Rattle.iox2_container.proofs.Histories.{new_is_registry, ticket_of}
 use Rattle.iox2_container.proofs.KnownHandles.{Knows, KnowsGiven, AllKnown, given_by, known_at, known_on}
 
@@ -166,6 +166,19 @@ one_removes {T} a b a' mode h k l e kb p q =
     of_all (λ z. k ≢ handle_of b z) b.entries w.0 q w.1
     (kb.same w.0 w.1 (sym w.2 ∙ (sym (ticket_of h (handle_of a p.0) p.1) ∙ e)))
 
+-- entries went from both, and as many are left
+locks_same : {T : Type 0} (a b a' b' : RegistryState T) (mode : ReleaseMode) → SameContents a b
+    → IsRegistry a → IsRegistry b → length a'.entries ≡ length b'.entries
+    → a'.locked ≡ lock_after mode (length a.entries) (length a'.entries) a.locked
+    → b'.locked ≡ lock_after mode (length b.entries) (length b'.entries) b.locked
+    → a'.locked ≡ b'.locked
+locks_same a b a' b' mode l v w left ea eb =
+    ea
+    ∙ (ap (λ n. lock_after mode n (length a'.entries) a.locked)
+    (same_length a b l.there l.back v w)
+    ∙ (ap (λ n. lock_after mode (length b.entries) n a.locked) left
+    ∙ (ap (lock_after mode (length b.entries) (length b'.entries)) l.locked ∙ sym eb)))
+
 remove_same : {T : Type 0} (a b a' b' : RegistryState T) (mode : ReleaseMode) (h k : Handle)
     (r s : Result ReleaseState ContainerRemoveError) → SameContents a b → IsRegistry a
     → IsRegistry b → IsRegistry a' → IsRegistry b' → h.ticket ≡ k.ticket → Knows a h → Knows b k
@@ -186,25 +199,13 @@ remove_same {T} a b a' b' mode h k (Ok t) (Ok u) l v w v' w' e ka kb p q =
     v.tickets_differ l.there in
     let f' = within_after_remove b.entries a.entries b'.entries a'.entries m.0 n.0 m.2 n.2
     (sym st) w.tickets_differ l.back in
-    let locks : a'.locked ≡ b'.locked =
-    ap (λ (r : RegistryState T). r.locked) n.3
-    ∙ (ap (λ i. lock_after mode i a.locked) (same_length a' b' f f' v' w')
-    ∙ (ap (lock_after mode (length b'.entries)) l.locked
-    ∙ sym (ap (λ (r : RegistryState T). r.locked) m.3))) in
+    let locks = locks_same a b a' b' mode l v w (same_length a' b' f f' v' w')
+    (ap (λ (r : RegistryState T). r.locked) n.3) (ap (λ (r : RegistryState T). r.locked) m.3) in
     record {
       same = ap (λ (x : ReleaseState). (let z : RegistryReply T = Reply.State x in z))
           (p.1 ∙ (ap release_state locks ∙ sym q.1));
       alike = alike_after a b a' b' l
-          (changed_so a a'
-          (record a {
-            entries = a'.entries;
-            locked = lock_after mode (length a'.entries) a.locked;
-          }) n.3 refl refl)
-          (changed_so b b'
-          (record b {
-            entries = b'.entries;
-            locked = lock_after mode (length b'.entries) b.locked;
-          }) m.3 refl refl)
+          (changed_so a a' _ n.3 refl refl) (changed_so b b' _ m.3 refl refl)
           (ap (λ (r : RegistryState T). r.used) n.3
           ∙ (l.used ∙ sym (ap (λ (r : RegistryState T). r.used) m.3)))
           locks f f';
@@ -242,45 +243,38 @@ stay_within {T} keep ea eb ea' eb' e f g =
     (subst (λ (l : List (Entry T)). AreAmong (passing keep ea) l) (sym f)
     (within_after_filter keep ea eb g))
 
+-- what stays, where the callback says of each candidate what a function says
+left_by : {T : Type 0} (is_dead answer : T → Bool) (old new : RegistryState T)
+    (mode : ReleaseMode) (state : ReleaseState)
+    → (r : RecoverStep {F = Unit {0}} (λ _ d goes _. goes ≡ answer d) is_dead old tt mode state new
+    tt)
+    → staying is_dead r.marked old.entries ≡ passing (λ d. not (is_dead d && answer d)) old.entries
+left_by is_dead answer old new mode state r =
+    staying_by is_dead answer r.marked old.entries
+    (answers_by {F = Unit {0}} {K = Unit {0}} (λ _ d goes _. goes ≡ answer d) (λ q. q) (λ _. answer)
+    (λ q x r v e. (refl, e)) tt _ _ tt r.asked)
+
 recover_same : {T : Type 0} (is_dead answer : T → Bool) (a b a' b' : RegistryState T)
     (mode : ReleaseMode) (t u : ReleaseState) → SameContents a b → IsRegistry a → IsRegistry b
     → IsRegistry a' → IsRegistry b'
-    → Recovers is_dead (answers_of is_dead answer a.entries) a mode t a'
-    → Recovers is_dead (answers_of is_dead answer b.entries) b mode u b'
+    → RecoverStep {F = Unit {0}} (λ _ d goes _. goes ≡ answer d) is_dead a tt mode t a' tt
+    → RecoverStep {F = Unit {0}} (λ _ d goes _. goes ≡ answer d) is_dead b tt mode u b' tt
     → Outcome a' b' (Reply.State t) (Reply.State u)
-recover_same {T} is_dead answer a b a' b' mode t u l v w v' w' p q =
-    let keep : T → Bool = λ d. not (goes is_dead answer d) in
-    let ea : a'.entries ≡ passing keep a.entries = ap (λ (r : RegistryState T). r.entries) p.0
-    ∙ staying_is is_dead answer a.entries in
-    let eb : b'.entries ≡ passing keep b.entries = ap (λ (r : RegistryState T). r.entries) q.0
-    ∙ staying_is is_dead answer b.entries in
+recover_same {T} is_dead answer a b a' b' mode t u l v w v' w' r s =
+    let p = r.recovers in
+    let q = s.recovers in
+    let keep : T → Bool = λ d. not (is_dead d && answer d) in
+    let ea = ap (λ (r : RegistryState T). r.entries) p.0 ∙ left_by is_dead answer a a' mode t r in
+    let eb = ap (λ (r : RegistryState T). r.entries) q.0 ∙ left_by is_dead answer b b' mode u s in
     let f = stay_within keep a.entries b.entries a'.entries b'.entries ea eb l.there in
     let f' = stay_within keep b.entries a.entries b'.entries a'.entries eb ea l.back in
-    let any_a = list_any (λ x. x) (answers_of is_dead answer a.entries) in
-    let any_b = list_any (λ x. x) (answers_of is_dead answer b.entries) in
-    let anys : any_a ≡ any_b =
-    any_is is_dead answer a.entries
-    ∙ (list_any-IsPermutation (goes is_dead answer) (listed a) (listed b)
-    (same_listed a b l.there l.back v w) ∙ sym (any_is is_dead answer b.entries)) in
-    let lock : Bool → ℕ → Bool → Bool = λ any i was. if any then lock_after mode i was else was in
-    let locks : a'.locked ≡ b'.locked =
-    ap (λ (r : RegistryState T). r.locked) p.0
-    ∙ (ap (λ c. lock c (length a'.entries) a.locked) anys
-    ∙ (ap (λ i. lock any_b i a.locked) (same_length a' b' f f' v' w')
-    ∙ (ap (lock any_b (length b'.entries)) l.locked
-    ∙ sym (ap (λ (r : RegistryState T). r.locked) q.0)))) in
+    let locks = locks_same a b a' b' mode l v w (same_length a' b' f f' v' w')
+    (ap (λ (r : RegistryState T). r.locked) p.0) (ap (λ (r : RegistryState T). r.locked) q.0) in
     record {
       same = ap (λ (x : ReleaseState). (let z : RegistryReply T = Reply.State x in z))
           (p.1 ∙ (ap release_state locks ∙ sym q.1));
       alike = alike_after a b a' b' l
-          (record {
-            capacity = ap (λ (r : RegistryState T). r.capacity) p.0;
-            budget = ap (λ (r : RegistryState T). r.budget) p.0;
-          })
-          (record {
-            capacity = ap (λ (r : RegistryState T). r.capacity) q.0;
-            budget = ap (λ (r : RegistryState T). r.budget) q.0;
-          })
+          (changed_so a a' _ p.0 refl refl) (changed_so b b' _ q.0 refl refl)
           (ap (λ (r : RegistryState T). r.used) p.0
           ∙ (l.used ∙ sym (ap (λ (r : RegistryState T). r.used) q.0)))
           locks f f';
@@ -310,17 +304,6 @@ agree_at (z ∷ zs) [] k a = absurd a
 agree_at (x ∷ xs) (y ∷ ys) zero a = a.0
 agree_at (x ∷ xs) (y ∷ ys) (suc k) a = agree_at xs ys k a.1
 
--- the answers of a callback that says of each candidate what a function says
-answered_by : {T : Type 0} (is_dead answer : T → Bool) (old new : RegistryState T)
-    (mode : ReleaseMode) (state : ReleaseState)
-    → RecoverStep {F = Unit {0}} (λ _ d goes _. goes ≡ answer d) is_dead old tt mode state new tt
-    → Recovers is_dead (answers_of is_dead answer old.entries) old mode state new
-answered_by {T} is_dead answer old new mode state s =
-    subst (λ (answers : List Bool). Recovers is_dead answers old mode state new)
-    (answers_by {F = Unit {0}} {K = Unit {0}} (λ _ d goes _. goes ≡ answer d) (λ q. q) (λ _. answer)
-    (λ q x r v e. (refl, e)) tt _ s.0 tt s.1
-    ∙ map-details answer (candidates is_dead old.entries)) s.2
-
 call_same : {T : Type 0} (node number : T → ℕ) (a b a' b' : ContainerState T)
     (xs ys : List (RegistryReply T)) (call : RegistryCall T) (r s : RegistryReply T)
     → SameContents a.registry b.registry → IsRegistry a.registry → IsRegistry b.registry
@@ -336,11 +319,8 @@ call_same node number a b a' b' xs ys (Call.Remove k mode) r s l v w v' w' ka kb
 call_same node number a b a' b' xs ys (Call.Recover dead keys mode) r s l v w v' w' ka kb e p q =
     let answer = is_outside number keys.items in
     outcome_by a'.registry b'.registry r (Reply.State p.0) s (Reply.State q.0) p.2 q.2
-    (recover_same
-    (is_of node dead) answer a.registry b.registry a'.registry b'.registry mode p.0 q.0 l v
-    w v' w'
-    (answered_by (is_of node dead) answer a.registry a'.registry mode p.0 p.1.step)
-    (answered_by (is_of node dead) answer b.registry b'.registry mode q.0 q.1.step))
+    (recover_same (is_of node dead) answer a.registry b.registry a'.registry b'.registry mode p.0 q.0
+    l v w v' w' p.1.step q.1.step)
 call_same {T} node number a b a' b' xs ys Call.List r s l v w v' w' ka kb e p q =
     outcome_by a'.registry b'.registry r (Reply.Entries p.0) s (Reply.Entries q.0) p.2 q.2 (record {
       same = subst (λ (z : List T). IsPermutation z q.0.items) (sym p.1)

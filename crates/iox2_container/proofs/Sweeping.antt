@@ -1,224 +1,128 @@
 -- What a sweep leaves.
-use Rattle.std.proofs.Common.{◌≡◌, ℕ, zero, suc, ◌+◌, ◌-◌, ◌<◌, ◌≤◌, Bool, true, false, cond, Option, Some, None, List, [], ◌∷◌, ◌++◌, length, take, refl, sym, ◌∙◌, ap, subst, arith, length-append, add-one}
+use Rattle.std.proofs.Common.{◌≡◌, ℕ, zero, suc, ◌+◌, ◌-◌, ◌<◌, ◌≤◌, Bool, true, false, Option, Some, None, List, [], ◌∷◌, ◌++◌, length, take, map, refl, sym, ◌∙◌, ap, subst, arith, length-append, add-one}
 use Rattle.std.proofs.Math.ListN.{length-set}
-use Rattle.std.specs.Prelude.{All, AllPairs, IsTrue, slice_get, slice_set, if◌then◌else◌, nat_lt, ◌||◌}
-use Rattle.std.specs.List.{list_any}
+use Rattle.std.specs.Prelude.{All, IsTrue, filter, not, slice_get, slice_set, if◌then◌else◌, ◌&&◌, ◌==◌}
 use Rattle.std.specs.Bool.{MatchBool}
-use Rattle.std.proofs.lemmas.List.Elements.{All-cons, All-head, All-tail, filter-append}
-use Rattle.std.proofs.lemmas.List.{append-nil}
-use Rattle.std.proofs.lemmas.Bool.{lt-ltb}
+use Rattle.std.proofs.lemmas.List.Elements.{All-filter, All-head, All-tail, All-weaker, filter-append}
+use Rattle.std.proofs.lemmas.List.{append-nil, length-take, map-append}
+use Rattle.std.proofs.lemmas.Bool.{eq-eqb, ne_eqb}
 use Rattle.std.proofs.lemmas.Option.{slice_get_within}
-use Rattle.std.proofs.lemmas.List.Kept.{AllPairs-cons}
 use Rattle.iox2_container.specs.declared.container.slots.cell.Occupant.{Occupant}
 use Rattle.iox2_container.specs.Cells.{occupant}
 use Rattle.iox2_container.specs.State.{Entry}
 use Rattle.iox2_container.specs.Places.{entries_from, IsTakenAt}
 use Rattle.iox2_container.specs.Passes.{AreOthers, Swept, SweptCell, cell_is_of}
-use Rattle.iox2_container.specs.Steps.{Asked, candidates, is_of, staying, is_true_first, after_first_answer}
-use Rattle.iox2_container.proofs.Gaining.{AllPairs-head, AllPairs-tail}
-use Rattle.iox2_container.proofs.ListEdits.{get_set_other}
+use Rattle.iox2_container.specs.Steps.{Asked, candidates, is_leaving, is_of, staying}
 use Rattle.iox2_container.proofs.AskedInTurn.{Asked-push, details_of, details-append, taken_more, taken_free}
+use Rattle.iox2_container.proofs.CellEntries.{below_from}
+use Rattle.iox2_container.proofs.ListEdits.{get_set_other}
 
--- one entry more, which is not a candidate
-staying-push_other : {T : Type 0} (is_dead : T → Bool) (es : List (Entry T)) (answers : List Bool)
-    (x : Entry T) → is_dead x.details ≡ false
-    → staying is_dead (es ++ x ∷ []) answers ≡ staying is_dead es answers ++ x ∷ []
-staying-push_other is_dead [] answers x h = rw h refl
-staying-push_other {T} is_dead (e ∷ es) answers x h =
-    elim (is_dead e.details) as
-    (λ b. (if b then
-    (if is_true_first answers then staying is_dead (es ++ x ∷ [])
-    (after_first_answer answers) else e
-    ∷ staying is_dead (es ++ x ∷ []) (after_first_answer answers)) else e
-    ∷ staying is_dead (es ++ x ∷ []) answers)
-    ≡ (if b then
-    (if is_true_first answers then staying is_dead es (after_first_answer answers) else e
-    ∷ staying is_dead es (after_first_answer answers)) else e ∷ staying is_dead es answers) ++ x
-    ∷ []) [
-      | true ↦ elim (is_true_first answers) as
-          (λ b. (if b then staying is_dead (es ++ x ∷ []) (after_first_answer answers) else e
-          ∷ staying is_dead (es ++ x ∷ []) (after_first_answer answers))
-          ≡ (if b then staying is_dead es (after_first_answer answers) else e
-          ∷ staying is_dead es (after_first_answer answers)) ++ x ∷ []) [
-            | true ↦ staying-push_other is_dead es (after_first_answer answers) x h
-            | false ↦ ap (λ (l : List (Entry T)). e ∷ l)
-                (staying-push_other is_dead es (after_first_answer answers) x h)
-          ]
-      | false ↦ ap (λ (l : List (Entry T)). e ∷ l) (staying-push_other is_dead es answers x h)
-    ]
+-- the same marks, but for one slot
+abbrev mark_at : (ℕ → Bool) → ℕ → Bool → ℕ → Bool
+mark_at marked slot b k = if k == slot then b else marked k
 
-pub All-staying : {T : Type 0} (P : Entry T → Type 0) (is_dead : T → Bool) (es : List (Entry T))
-    (answers : List Bool) → All P es → All P (staying is_dead es answers)
-All-staying P is_dead [] answers h = h
-All-staying {T} P is_dead (e ∷ es) answers h =
-    elim (is_dead e.details) as
-    (λ b. All P
-    (if b then
-    (if is_true_first answers then staying is_dead es (after_first_answer answers) else e
-    ∷ staying is_dead es (after_first_answer answers)) else e ∷ staying is_dead es answers)) [
-      | true ↦ elim (is_true_first answers) as
-          (λ b. All P
-          (if b then staying is_dead es (after_first_answer answers) else e
-          ∷ staying is_dead es (after_first_answer answers))) [
-            | true ↦ All-staying P is_dead es (after_first_answer answers) (All-tail P e es h)
-            | false ↦ All-cons P e (staying is_dead es (after_first_answer answers))
-                (All-head P e es h)
-                (All-staying P is_dead es (after_first_answer answers) (All-tail P e es h))
-          ]
-      | false ↦ All-cons P e (staying is_dead es answers) (All-head P e es h)
-          (All-staying P is_dead es answers (All-tail P e es h))
-    ]
+-- which are the same about slots before it
+module _ {T : Type 0} (is_dead : T → Bool) (marked : ℕ → Bool) (slot : ℕ) (b : Bool) where
+  mark_before : (k : ℕ) → k < slot → mark_at marked slot b k ≡ marked k
+  mark_before k l = ap (λ c. if c then b else marked k) (ne_eqb k slot (λ e. omega arith))
 
-pub AllPairs-staying : {T : Type 0} (R : Entry T → Entry T → Type 0) (is_dead : T → Bool)
-    (es : List (Entry T)) (answers : List Bool) → AllPairs R es
-    → AllPairs R (staying is_dead es answers)
-AllPairs-staying R is_dead [] answers h = h
-AllPairs-staying {T} R is_dead (e ∷ es) answers h =
-    elim (is_dead e.details) as
-    (λ b. AllPairs R
-    (if b then
-    (if is_true_first answers then staying is_dead es (after_first_answer answers) else e
-    ∷ staying is_dead es (after_first_answer answers)) else e ∷ staying is_dead es answers)) [
-      | true ↦ elim (is_true_first answers) as
-          (λ b. AllPairs R
-          (if b then staying is_dead es (after_first_answer answers) else e
-          ∷ staying is_dead es (after_first_answer answers))) [
-            | true ↦ AllPairs-staying R is_dead es (after_first_answer answers)
-                (AllPairs-tail R e es h)
-            | false ↦ AllPairs-cons R e (staying is_dead es (after_first_answer answers))
-                (All-staying (R e) is_dead es (after_first_answer answers) (AllPairs-head R e es h))
-                (AllPairs-staying R is_dead es (after_first_answer answers)
-                (AllPairs-tail R e es h))
-          ]
-      | false ↦ AllPairs-cons R e (staying is_dead es answers)
-          (All-staying (R e) is_dead es answers (AllPairs-head R e es h))
-          (AllPairs-staying R is_dead es answers (AllPairs-tail R e es h))
-    ]
+  answers_before : (es : List (Entry T)) → All (λ e. e.slot < slot) es
+      → map (λ e. mark_at marked slot b e.slot) es ≡ map (λ e. marked e.slot) es
+  answers_before [] h = refl
+  answers_before (e ∷ es) h =
+      rw (mark_before e.slot (All-head (λ (v : Entry T). v.slot < slot) e es h))
+      (ap (λ l. marked e.slot ∷ l)
+      (answers_before es (All-tail (λ (v : Entry T). v.slot < slot) e es h)))
 
-pub length-Asked : {F A R : Type 0} (calls : F → A → R → F → Type 0) (f : F) (items : List A)
-    (answers : List R) (g : F) → Asked calls f items answers g → length answers ≡ length items
-length-Asked calls f [] [] g a = refl
-length-Asked calls f [] (r ∷ rs) g a = absurd a
-length-Asked calls f (x ∷ xs) [] g a = absurd a
-length-Asked calls f (x ∷ xs) (r ∷ rs) g a = omega (arith, length-Asked calls a.0 xs rs g a.2)
+  staying_before : (es : List (Entry T)) → All (λ e. e.slot < slot) es
+      → staying is_dead (mark_at marked slot b) es ≡ staying is_dead marked es
+  staying_before [] h = refl
+  staying_before (e ∷ es) h =
+      rw (mark_before e.slot (All-head (λ (v : Entry T). v.slot < slot) e es h))
+      (ap (λ (l : List (Entry T)). if not (is_leaving is_dead marked e) then e ∷ l else l)
+      (staying_before es (All-tail (λ (v : Entry T). v.slot < slot) e es h)))
 
--- one entry more, that is a candidate, by whether the first one is one
-push_at : {T : Type 0} (is_dead : T → Bool) (e : Entry T) (es : List (Entry T))
-    (answers : List Bool) (x : Entry T) (goes : Bool) (b : Bool) → is_dead x.details ≡ true
-    → ((as' : List Bool) (y : Entry T) (g : Bool) → is_dead y.details ≡ true
-    → length as' ≡ length (candidates is_dead es)
-    → staying is_dead (es ++ y ∷ []) (as' ++ g ∷ []) ≡ staying is_dead es as'
-    ++ (if g then [] else y ∷ []))
-    → length answers ≡ length (cond b (e ∷ candidates is_dead es) (candidates is_dead es))
-    → (if b then
-    (if is_true_first (answers ++ goes ∷ []) then staying is_dead (es ++ x ∷ [])
-    (after_first_answer (answers ++ goes ∷ [])) else e
-    ∷ staying is_dead (es ++ x ∷ []) (after_first_answer (answers ++ goes ∷ []))) else e
-    ∷ staying is_dead (es ++ x ∷ []) (answers ++ goes ∷ []))
-    ≡ (if b then
-    (if is_true_first answers then staying is_dead es (after_first_answer answers) else e
-    ∷ staying is_dead es (after_first_answer answers)) else e ∷ staying is_dead es answers)
-    ++ (if goes then [] else x ∷ [])
-push_at is_dead e es [] x goes true h ih n = absurd (omega arith)
-push_at is_dead e es (true ∷ answers) x goes true h ih n = ih answers x goes h (omega arith)
-push_at {T} is_dead e es (false ∷ answers) x goes true h ih n =
-    ap (λ (l : List (Entry T)). e ∷ l) (ih answers x goes h (omega arith))
-push_at {T} is_dead e es answers x goes false h ih n =
-    ap (λ (l : List (Entry T)). e ∷ l) (ih answers x goes h n)
+-- one more was asked about, if it is a candidate
+asked_more : {F T : Type 0} (calls : F → T → Bool → F → Type 0) (f g h : F)
+    (asked : List (Entry T)) (answers : List Bool) (x : Entry T) (goes b : Bool)
+    → MatchBool b (calls g x.details goes h) ((goes ≡ false) × (h ≡ g))
+    → Asked calls f (details_of asked) answers g
+    → Asked calls f (details_of (asked ++ (if b then x ∷ [] else [])))
+    (answers ++ (if b then goes ∷ [] else [])) h
+asked_more {F} {T} calls f g h asked answers x goes true s a =
+    subst (λ (l : List T). Asked calls f l (answers ++ goes ∷ []) h)
+    (sym (details-append asked (x ∷ [])))
+    (Asked-push calls f (details_of asked) answers g x.details goes h a s)
+asked_more {F} {T} calls f g h asked answers x goes false s a =
+    rw (append-nil asked) (rw (append-nil answers) (rw s.1 a))
 
--- one entry more, that is a candidate
-staying-push_asked : {T : Type 0} (is_dead : T → Bool) (es : List (Entry T)) (answers : List Bool)
-    (x : Entry T) (goes : Bool) → is_dead x.details ≡ true
-    → length answers ≡ length (candidates is_dead es)
-    → staying is_dead (es ++ x ∷ []) (answers ++ goes ∷ []) ≡ staying is_dead es answers
-    ++ (if goes then [] else x ∷ [])
-staying-push_asked is_dead [] [] x goes h n = rw h refl
-staying-push_asked is_dead [] (a ∷ answers) x goes h n = absurd (omega arith)
-staying-push_asked {T} is_dead (e ∷ es) answers x goes h n =
-    push_at is_dead e es answers x goes (is_dead e.details) h (staying-push_asked is_dead es) n
+only_candidates : (A B : Type 0) (b goes : Bool) → MatchBool b A ((goes ≡ false) × B)
+    → (b && goes) ≡ goes
+only_candidates A B true goes s = refl
+only_candidates A B false goes s = sym s.0
 
-list_any-push : (answers : List Bool) (goes : Bool)
-    → list_any (λ b. b) (answers ++ goes ∷ []) ≡ list_any (λ b. b) answers || goes
-list_any-push [] goes = elim goes as (λ b. b || false ≡ false || b) [ true ↦ refl | false ↦ refl ]
-list_any-push (true ∷ answers) goes = refl
-list_any-push (false ∷ answers) goes = list_any-push answers goes
+one_place : {X : Type 0} (x : X) (goes : Bool)
+    → length (if goes then [] else x ∷ []) + (if goes then 1 else 0) ≡ 1
+one_place x true = refl
+one_place x false = refl
 
-candidates-push : {T : Type 0} (is_dead : T → Bool) (es : List (Entry T)) (x : Entry T) (b : Bool)
-    → is_dead x.details ≡ b
-    → details_of (candidates is_dead (es ++ x ∷ [])) ≡ details_of (candidates is_dead es)
-    ++ (if b then x.details ∷ [] else [])
-candidates-push {T} is_dead es x true h =
-    ap details_of (filter-append (λ (e : Entry T). is_dead e.details) es (x ∷ []))
-    ∙ (details-append (candidates is_dead es) (candidates is_dead (x ∷ [])) ∙ rw h refl)
-candidates-push {T} is_dead es x false h =
-    ap details_of (filter-append (λ (e : Entry T). is_dead e.details) es (x ∷ []))
-    ∙ (details-append (candidates is_dead es) (candidates is_dead (x ∷ [])) ∙ rw h refl)
-
--- an entry that is not a candidate comes after those swept
-swept_other : {F T : Type 0} (calls : F → T → Bool → F → Type 0) (is_dead : T → Bool) (f g : F)
-    (old new : List (Entry T)) (gone : ℕ) (x : Entry T) → is_dead x.details ≡ false
+-- one entry more, after those swept
+swept_more : {F T : Type 0} (calls : F → T → Bool → F → Type 0) (is_dead : T → Bool) (f g h : F)
+    (old new : List (Entry T)) (gone : ℕ) (x : Entry T) (goes : Bool)
+    → All (λ e. e.slot < x.slot) old
+    → MatchBool (is_dead x.details) (calls g x.details goes h) ((goes ≡ false) × (h ≡ g))
     → Swept calls is_dead f old g new gone
-    → Swept calls is_dead f (old ++ x ∷ []) g (new ++ x ∷ []) gone
-swept_other {F} {T} calls is_dead f g old new gone x h w = record {
-  answers = w.answers;
-  asked = subst (λ (l : List T). Asked calls f l w.answers g)
-      (sym (candidates-push is_dead old x false h
-      ∙ append-nil (details_of (candidates is_dead old)))) w.asked;
-  left_is = ap (λ (l : List (Entry T)). l ++ x ∷ []) w.left_is
-      ∙ sym (staying-push_other is_dead old w.answers x h);
-  gone_is = omega (arith, w.gone_is, length-append new (x ∷ []), length-append old (x ∷ []));
-  any_is = w.any_is;
-}
-
-length_details : {T : Type 0} (es : List (Entry T)) → length (details_of es) ≡ length es
-length_details [] = refl
-length_details (e ∷ es) = omega (arith, length_details es)
-
-or_false : (b : Bool) → b || false ≡ b
-or_false true = refl
-or_false false = refl
-
-or_true : (b : Bool) → b || true ≡ true
-or_true true = refl
-or_true false = refl
-
-some_gone : (gone : ℕ) → true ≡ nat_lt 0 (gone + 1)
-some_gone n = sym (lt-ltb 0 (n + 1) (omega arith))
-
--- a candidate comes after those swept
-swept_asked : {F T : Type 0} (calls : F → T → Bool → F → Type 0) (is_dead : T → Bool) (f g h : F)
-    (old new : List (Entry T)) (gone : ℕ) (x : Entry T) (goes : Bool) → is_dead x.details ≡ true
-    → calls g x.details goes h → Swept calls is_dead f old g new gone
     → Swept calls is_dead f (old ++ x ∷ []) h (new ++ (if goes then [] else x ∷ []))
     (gone + (if goes then 1 else 0))
-swept_asked {F} {T} calls is_dead f g h old new gone x goes e a w =
-    let n : length w.answers ≡ length (candidates is_dead old) =
-    length-Asked calls f (details_of (candidates is_dead old)) w.answers g w.asked
-    ∙ length_details (candidates is_dead old) in
+swept_more {F} {T} calls is_dead f g h old new gone x goes below s w =
+    let b = is_dead x.details in
+    let marks : ℕ → Bool = mark_at w.marked x.slot goes in
+    let asked : List (Entry T) = candidates is_dead old in
+    let answers : List Bool = map (λ e. w.marked e.slot) asked in
+    let stays : Entry T → Bool = λ e. not (is_leaving is_dead marks e) in
+    let its : marks x.slot ≡ goes =
+    ap (λ c. if c then goes else w.marked x.slot) (eq-eqb x.slot x.slot refl) in
+    let answers_are : map (λ e. marks e.slot) (asked ++ (if b then x ∷ [] else []))
+    ≡ answers ++ (if b then goes ∷ [] else []) =
+    map-append (λ e. marks e.slot) asked (if b then x ∷ [] else [])
+    ∙ (ap (λ l. l ++ map (λ e. marks e.slot) (if b then x ∷ [] else []))
+    (answers_before is_dead w.marked x.slot goes asked
+    (All-filter (λ e. is_dead e.details) (λ (e : Entry T). e.slot < x.slot) old below))
+    ∙ elim b as (λ c. answers ++ map (λ e. marks e.slot) (if c then x ∷ [] else [])
+    ≡ answers ++ (if c then goes ∷ [] else [])) [
+      | true ↦ ap (λ a. answers ++ a ∷ []) its
+      | false ↦ refl
+    ]) in
+    let left_are : filter stays (x ∷ []) ≡ (if goes then [] else x ∷ []) =
+    ap (λ a. if not (b && a) then x ∷ [] else []) its
+    ∙ (ap (λ a. if not a then x ∷ [] else []) (only_candidates _ _ b goes s)
+    ∙ elim goes as (λ a. (if not a then x ∷ [] else []) ≡ (if a then [] else x ∷ [])) [
+      | true ↦ refl
+      | false ↦ refl
+    ]) in
     record {
-      answers = w.answers ++ goes ∷ [];
-      asked = subst (λ (l : List T). Asked calls f l (w.answers ++ goes ∷ []) h)
-          (sym (candidates-push is_dead old x true e))
-          (Asked-push calls f
-          (details_of (candidates is_dead old)) w.answers g x.details goes h w.asked a);
+      marked = marks;
+      asked = subst (λ (l : List (Entry T)). Asked calls f (details_of l)
+          (map (λ e. marks e.slot) l) h)
+          (sym (filter-append (λ (e : Entry T). is_dead e.details) old (x ∷ [])))
+          (subst (λ l. Asked calls f (details_of (asked ++ (if b then x ∷ [] else []))) l h)
+          (sym answers_are) (asked_more calls f g h asked answers x goes b s w.asked));
       left_is = ap (λ (l : List (Entry T)). l ++ (if goes then [] else x ∷ [])) w.left_is
-          ∙ sym (staying-push_asked is_dead old w.answers x goes e n);
-      gone_is =
-          elim goes as
-          (λ b. length (new ++ (if b then [] else x ∷ [])) + (gone + (if b then 1 else 0))
-          ≡ length (old ++ x ∷ [])) [
-            | true ↦ omega (arith, w.gone_is, length-append new ([]), length-append old (x ∷ []))
-            | false ↦ omega
-                (arith, w.gone_is, length-append new (x ∷ []), length-append old (x ∷ []))
-          ];
-      any_is = list_any-push w.answers goes
-          ∙ elim goes as
-          (λ b. list_any (λ a. a) w.answers || b ≡ nat_lt 0 (gone + (if b then 1 else 0))) [
-            | true ↦ or_true (list_any (λ a. a) w.answers) ∙ some_gone gone
-            | false ↦ or_false (list_any (λ a. a) w.answers)
-                ∙ (w.any_is ∙ ap (nat_lt 0) (omega arith))
-          ];
+          ∙ sym (filter-append stays old (x ∷ [])
+          ∙ (ap (λ l. l ++ filter stays (x ∷ []))
+          (staying_before is_dead w.marked x.slot goes old below)
+          ∙ ap (λ l. staying is_dead w.marked old ++ l) left_are));
+      gone_is = omega (
+        arith,
+        w.gone_is,
+        length-append new (if goes then [] else x ∷ []),
+        length-append old (x ∷ []),
+        one_place x goes,
+      );
     }
+
+pub add_zero : (n : ℕ) → n ≡ n + 0
+add_zero n = omega arith
 
 abbrev Sweeps : {F T : Type 0} → (F → T → Bool → F → Type 0) → (T → Bool) → F
     → List (Option (Occupant T)) → ℕ → F → List (Option (Occupant T)) → ℕ → Type 0
@@ -234,46 +138,22 @@ cleared {T} low (suc i) (Some o ∷ cells) h =
     let y : Entry T = record { slot = low; ticket = o.ticket; details = o.details } in
     ap (λ (l : List (Entry T)). y ∷ l) (cleared (low + 1) i cells (omega arith))
 
-swept_dead : {F T : Type 0} (calls : F → T → Bool → F → Type 0) (is_dead : T → Bool) (f g h : F)
-    (cs m : List (Option (Occupant T))) (i gone : ℕ) (t : ℕ) (d : T) (goes b : Bool)
-    → slice_get cs i ≡ Some (Some (occupant t d)) → slice_get m i ≡ Some (Some (occupant t d))
-    → is_dead d ≡ b → MatchBool b (calls g d goes h) ((goes ≡ false) × (h ≡ g))
-    → Sweeps calls is_dead f cs i g m gone
-    → Sweeps calls is_dead f cs (suc i) h (if goes then slice_set m i None else m)
-    (gone + (if goes then 1 else 0))
-swept_dead {F} {T} calls is_dead f g h cs m i gone t d true true is im e a w =
-    let x : Entry T = record { slot = i; ticket = t; details = d } in
-    let r = swept_asked calls is_dead f g h (entries_from 0 (take i cs))
-    (entries_from 0 (take i m)) gone x true e a w in
-    subst (λ (l : List (Entry T)). Swept calls is_dead f l h
-    (entries_from 0 (take (suc i) (slice_set m i None))) (gone + 1))
-    (sym (taken_more 0 i cs x is (omega arith)))
-    (subst (λ (l : List (Entry T)). Swept calls is_dead f (entries_from 0 (take i cs) ++ x ∷ []) h l
-    (gone + 1))
-    (append-nil (entries_from 0 (take i m))
-    ∙ sym (cleared 0 i m (slice_get_within m i (Some (occupant t d)) im))) r)
-swept_dead {F} {T} calls is_dead f g h cs m i gone t d false true is im e a w =
-    let x : Entry T = record { slot = i; ticket = t; details = d } in
-    let r = swept_asked calls is_dead f g h (entries_from 0 (take i cs))
-    (entries_from 0 (take i m)) gone x false e a w in
-    subst (λ (l : List (Entry T)). Swept calls is_dead f l h (entries_from 0 (take (suc i) m))
-    (gone + 0)) (sym (taken_more 0 i cs x is (omega arith)))
-    (subst (λ (l : List (Entry T)). Swept calls is_dead f (entries_from 0 (take i cs) ++ x ∷ []) h l
-    (gone + 0)) (sym (taken_more 0 i m x im (omega arith))) r)
-swept_dead {F} {T} calls is_dead f g h cs m i gone t d goes false is im e a w =
-    let x : Entry T = record { slot = i; ticket = t; details = d } in
-    let n : gone ≡ gone + 0 = omega arith in
-    let r = swept_other calls is_dead f g (entries_from 0 (take i cs))
-    (entries_from 0 (take i m)) gone x e w in
-    subst (λ (b : Bool). Sweeps calls is_dead f cs (suc i) h (if b then slice_set m i None else m)
-    (gone + (if b then 1 else 0))) (sym a.0)
-    (subst (λ (k : F). Sweeps calls is_dead f cs (suc i) k m (gone + 0)) (sym a.1)
-    (subst (λ (k : ℕ). Sweeps calls is_dead f cs (suc i) g m k) n
-    (subst (λ (l : List (Entry T)). Swept calls is_dead f l g
-    (entries_from 0 (take (suc i) m)) gone) (sym (taken_more 0 i cs x is (omega arith)))
-    (subst (λ (l : List (Entry T)). Swept calls is_dead f
-    (entries_from 0 (take i cs) ++ x ∷ []) g l gone)
-    (sym (taken_more 0 i m x im (omega arith))) r))))
+below_taken : {T : Type 0} (i : ℕ) (cells : List (Option (Occupant T)))
+    → All (λ (e : Entry T). e.slot < i) (entries_from 0 (take i cells))
+below_taken {T} i cells =
+    All-weaker (λ (e : Entry T). e.slot < length (take i cells)) (λ (e : Entry T). e.slot < i)
+    (λ e l. omega (arith, l, length-take i cells)) (entries_from 0 (take i cells))
+    (below_from (take i cells))
+
+-- what is left of one cell
+left_more : {T : Type 0} (m : List (Option (Occupant T))) (i : ℕ) (x : Entry T) (goes : Bool)
+    → slice_get m i ≡ Some (Some (occupant x.ticket x.details)) → x.slot ≡ i
+    → entries_from 0 (take i m) ++ (if goes then [] else x ∷ [])
+    ≡ entries_from 0 (take (suc i) (if goes then slice_set m i None else m))
+left_more m i x true im e =
+    append-nil (entries_from 0 (take i m))
+    ∙ sym (cleared 0 i m (slice_get_within m i (Some (occupant x.ticket x.details)) im))
+left_more m i x false im e = sym (taken_more 0 i m x im (omega arith))
 
 swept_cell : {F T : Type 0} (calls : F → T → Bool → F → Type 0) (is_dead : T → Bool) (f g h : F)
     (cs m : List (Option (Occupant T))) (i gone : ℕ) (cell : Option (Occupant T)) (goes : Bool)
@@ -282,24 +162,19 @@ swept_cell : {F T : Type 0} (calls : F → T → Bool → F → Type 0) (is_dead
     → Sweeps calls is_dead f cs (suc i) h (if goes then slice_set m i None else m)
     (gone + (if goes then 1 else 0))
 swept_cell {F} {T} calls is_dead f g h cs m i gone (Some o) goes is im a w =
-    swept_dead calls is_dead f g h cs m i gone o.ticket o.details goes
-    (is_dead o.details) is im refl a w
+    let x : Entry T = record { slot = i; ticket = o.ticket; details = o.details } in
+    rw (taken_more 0 i cs x is (omega arith))
+    (rw (sym (left_more m i x goes im refl))
+    (swept_more calls is_dead f g h (entries_from 0 (take i cs)) (entries_from 0 (take i m)) gone x
+    goes (below_taken i cs) a w))
 swept_cell {F} {T} calls is_dead f g h cs m i gone None goes is im a w =
-    let n : gone ≡ gone + 0 = omega arith in
-    subst (λ (b : Bool). Sweeps calls is_dead f cs (suc i) h (if b then slice_set m i None else m)
-    (gone + (if b then 1 else 0))) (sym a.0)
-    (subst (λ (k : F). Sweeps calls is_dead f cs (suc i) k m (gone + 0)) (sym a.1)
-    (subst (λ (k : ℕ). Sweeps calls is_dead f cs (suc i) g m k) n
-    (subst (λ (l : List (Entry T)). Swept calls is_dead f l g
-    (entries_from 0 (take (suc i) m)) gone) (sym (taken_free 0 i cs is))
-    (subst (λ (l : List (Entry T)). Swept calls is_dead f (entries_from 0 (take i cs)) g l gone)
-    (sym (taken_free 0 i m im)) w))))
+    rw a.0 (rw a.1 (rw (taken_free 0 i cs is) (rw (taken_free 0 i m im) (rw (sym (add_zero gone)) w))))
 
 -- nothing is swept yet
 pub swept_none : {F T : Type 0} (calls : F → T → Bool → F → Type 0) (is_dead : T → Bool) (f : F)
     → Swept calls is_dead f [] f [] 0
 swept_none calls is_dead f =
-    record { answers = []; asked = refl; left_is = refl; gone_is = refl; any_is = refl }
+    record { marked = λ _. false; asked = refl; left_is = refl; gone_is = refl }
 
 -- one cell more is swept, by what a loop knows of it
 pub sweeps_more : {F T : Type 0} (calls : F → T → Bool → F → Type 0) (is_dead : T → Bool)
@@ -316,9 +191,6 @@ sweeps_more {F} {T} calls is_dead f g h cs m n i gone gone' goes same s en eg w 
     (subst (λ (k : ℕ). Sweeps calls is_dead f cs (suc i) h
     (if goes then slice_set m i None else m) k) (sym eg)
     (swept_cell calls is_dead f g h cs m i gone s.0 goes (sym same ∙ s.1) s.1 s.2 w)))
-
-pub add_zero : (n : ℕ) → n ≡ n + 0
-add_zero n = omega arith
 
 pub other_swept : {F T : Type 0} (calls : F → T → Bool → F → Type 0) (node : T → ℕ) (id : ℕ) (g : F)
     (cell : Option (Occupant T)) → false ≡ cell_is_of node id cell

@@ -1,6 +1,6 @@
 -- What holds over every list of changes of a registry.
-use Rattle.std.specs.Prelude.{◌≡◌, Bool, false, if◌then◌else◌, Option, Some, None, Result, Ok, Err}
-use Rattle.std.specs.Prelude.{List, [], ◌∷◌, ◌++◌, length, map, All, Contains, filter_map}
+use Rattle.std.specs.Prelude.{◌≡◌, ℕ, Bool, false, Option, Some, None, Result, Ok, Err}
+use Rattle.std.specs.Prelude.{List, [], ◌∷◌, ◌++◌, map, All, Contains, filter_map}
 use Rattle.iox2_container.specs.declared.container.refusal.ContainerAddFailure.{ContainerAddFailure}
 use Rattle.iox2_container.specs.declared.container.refusal.ContainerRemoveError.{ContainerRemoveError}
 use Rattle.iox2_container.specs.declared.container.refusal.ContainerRemoveError.TheVariants.{ContainerHandleNotOwnedByContainer}
@@ -8,40 +8,32 @@ use Rattle.iox2_container.specs.declared.container.release.ReleaseMode.{ReleaseM
 use Rattle.iox2_container.specs.declared.container.release.ReleaseState.{ReleaseState}
 use Rattle.iox2_container.specs.Handle.{Handle}
 use Rattle.iox2_container.specs.State.{Entry, RegistryState, IsRegistry, handle_of}
-use Rattle.iox2_container.specs.Steps.{AddStep, RemoveStep, Recovers, HasEntry, Asked, asked_about, candidates, is_true_first, after_first_answer}
-
--- the entries that go, where the candidates were answered so, in order
-abbrev pub leaving : {T : Type 0} → (T → Bool) → List (Entry T) → List Bool → List (Entry T)
-leaving is_dead [] answers = []
-leaving is_dead (e ∷ es) answers =
-    let others = leaving is_dead es (after_first_answer answers) in
-    if is_dead e.details then
-    (if is_true_first answers then e ∷ others else others) else leaving is_dead es answers
+use Rattle.iox2_container.specs.Steps.{AddStep, RemoveStep, Recovers, HasEntry, Asked, asked_about, marks_of, leaving}
 
 -- a change that was asked for, and what came of it
 pub data Change (T : Type 0) : Type 0 where
   Adding : T → Result Handle ContainerAddFailure → Change T
   Removing : Handle → ReleaseMode → Result ReleaseState ContainerRemoveError → Change T
-  -- with the answers, and the handles of the entries that went
-  Recovering : (T → Bool) → List Bool → List Handle → ReleaseMode → ReleaseState → Change T
+  -- with the marks of slots, and the handles of the entries that went
+  Recovering : (T → Bool) → (ℕ → Bool) → List Handle → ReleaseMode → ReleaseState → Change T
 
 -- the change leads from the old state to the new one
 abbrev pub ChangeStep : {T : Type 0} → RegistryState T → Change T → RegistryState T → Type 0
 ChangeStep old (Adding details result) new = AddStep old details result new
 ChangeStep old (Removing handle mode result) new = RemoveStep old handle mode result new
-ChangeStep old (Recovering is_dead answers went mode state) new =
-    (length answers ≡ length (candidates is_dead old.entries))
-    × Recovers is_dead answers old mode state new
-    × (went ≡ map (handle_of old) (leaving is_dead old.entries answers))
+ChangeStep old (Recovering is_dead marked went mode state) new =
+    Recovers is_dead marked old mode state new
+    × (went ≡ map (handle_of old) (leaving is_dead marked old.entries))
 
--- a change `Recovering`, with the answers that a callback gave about the candidates in turn, leads
--- from the old state to the new one
-abbrev pub IsRecoveryChange : {F T : Type 0} → (F → T → Bool → F → Type 0) → (T → Bool)
-    → RegistryState T → F → ReleaseMode → ReleaseState → RegistryState T → F → Type 0
-IsRecoveryChange calls is_dead old f mode state new f' =
-    (answers : List Bool) × (went : List Handle)
-    × Asked calls f (asked_about is_dead old) answers f'
-    × ChangeStep old (Recovering is_dead answers went mode state) new
+-- a change `Recovering`, with marks by the answers that a callback gave about the candidates in
+-- turn, leads from the old state to the new one
+pub record IsRecoveryChange {F T : Type 0} (calls : F → T → Bool → F → Type 0) (is_dead : T → Bool)
+    (old : RegistryState T) (f : F) (mode : ReleaseMode) (state : ReleaseState)
+    (new : RegistryState T) (f' : F) : Type 0 where
+  pub marked : ℕ → Bool
+  pub went : List Handle
+  pub asked : Asked calls f (asked_about is_dead old) (marks_of is_dead marked old.entries) f'
+  pub changes : ChangeStep old (Recovering is_dead marked went mode state) new
 
 -- one change after another; each state is that of a registry
 abbrev pub History : {T : Type 0} → RegistryState T → List (Change T) → RegistryState T → Type 0
@@ -58,7 +50,7 @@ abbrev pub TakesOut : {T : Type 0} → Handle → Change T → Type 0
 TakesOut handle (Adding details result) = ⊥
 TakesOut handle (Removing removed mode (Ok state)) = handle ≡ removed
 TakesOut handle (Removing removed mode (Err e)) = ⊥
-TakesOut handle (Recovering is_dead answers went mode state) = Contains went handle
+TakesOut handle (Recovering is_dead marked went mode state) = Contains went handle
 
 -- the details were added under the handle, and not since removed or recovered
 pub record Remains {T : Type 0} (changes : List (Change T)) (handle : Handle)
@@ -80,7 +72,7 @@ abbrev pub handle_given_by : {T : Type 0} → Change T → Option Handle
 handle_given_by (Adding details (Ok handle)) = Some handle
 handle_given_by (Adding details (Err failure)) = None
 handle_given_by (Removing handle mode result) = None
-handle_given_by (Recovering is_dead answers went mode state) = None
+handle_given_by (Recovering is_dead marked went mode state) = None
 
 -- the handles that the changes gave
 abbrev pub handles_given : {T : Type 0} → List (Change T) → List Handle

@@ -1,12 +1,11 @@
 -- What a pass over all places does with one of them, and in all.
-use Rattle.std.specs.Prelude.{◌≡◌, ℕ, ◌+◌, ◌≤◌, ◌<◌, nat_lt, Bool, false, IsTrue, Option, Some, None, List, length, map, slice_get, ⊤}
+use Rattle.std.specs.Prelude.{◌≡◌, ℕ, ◌+◌, ◌≤◌, ◌<◌, Bool, false, IsTrue, Option, Some, None, List, length, map, slice_get, ⊤}
 use Rattle.std.specs.Bool.{MatchBool}
-use Rattle.std.specs.List.{list_any}
 use Rattle.iox2_texts.specs.declared.bounded.callback_progression.CallbackProgression.{CallbackProgression}
 use Rattle.iox2_texts.specs.declared.bounded.callback_progression.CallbackProgression.TheVariants.{Continue}
 use Rattle.iox2_container.specs.declared.container.slots.cell.Occupant.{Occupant}
 use Rattle.iox2_container.specs.State.{Entry}
-use Rattle.iox2_container.specs.Steps.{Asked, candidates, staying, is_of}
+use Rattle.iox2_container.specs.Steps.{Asked, marks_of, candidates, staying, is_of}
 
 -- a callback was asked about what is in a cell, if there is anything
 abbrev pub AskedOfCell : {F A : Type 0} → (F → A → CallbackProgression → F → Type 0)
@@ -50,8 +49,8 @@ SweptCell calls is_dead f (Some o) goes f' =
 -- this many entries went, as the callback said of the candidates in turn
 pub record Swept {F T : Type 0} (calls : F → T → Bool → F → Type 0) (is_dead : T → Bool)
     (f : F) (old : List (Entry T)) (f' : F) (new : List (Entry T)) (gone : ℕ) : Type 0 where
-  pub answers : List Bool
-  pub asked : Asked calls f (map (λ e. e.details) (candidates is_dead old)) answers f'
-  pub left_is : new ≡ staying is_dead old answers
+  pub marked : ℕ → Bool
+  pub asked : Asked calls f (map (λ e. e.details) (candidates is_dead old))
+      (marks_of is_dead marked old) f'
+  pub left_is : new ≡ staying is_dead marked old
   pub gone_is : length new + gone ≡ length old
-  pub any_is : list_any (λ goes. goes) answers ≡ nat_lt 0 gone

@@ -1,7 +1,6 @@
 -- What the calls on a registry do.
-use Rattle.std.specs.Prelude.{◌≡◌, ◌≢◌, ℕ, zero, suc, ◌+◌, ◌<◌, ◌≤◌, ◌==◌, ◌⊎◌, Bool, true, false, if◌then◌else◌}
+use Rattle.std.specs.Prelude.{◌≡◌, ◌≢◌, ℕ, zero, suc, ◌+◌, ◌<◌, ◌≤◌, ◌==◌, ◌⊎◌, Bool, true, false, if◌then◌else◌, not, ◌&&◌}
 use Rattle.std.specs.Prelude.{Result, Ok, Err, List, [], ◌∷◌, ◌++◌, length, map, filter, All}
-use Rattle.std.specs.List.{list_any}
 use Rattle.iox2_texts.specs.Attribute.{Visits}
 use Rattle.iox2_texts.specs.declared.bounded.callback_progression.CallbackProgression.{CallbackProgression}
 use Rattle.iox2_container.specs.declared.container.refusal.ContainerAddFailure.{ContainerAddFailure}
@@ -54,11 +53,12 @@ AddStep old details (Ok handle) new = (old.locked ≡ false) × HasRoom old
 abbrev pub release_state : Bool → ReleaseState
 release_state locked = if locked then Locked else Unlocked
 
--- the lock, after some entry went and this many are left
-abbrev pub lock_after : ReleaseMode → ℕ → Bool → Bool
-lock_after LockIfLastIndex zero locked = true
-lock_after LockIfLastIndex (suc left) locked = locked
-lock_after Default left locked = locked
+-- the lock, where there were so many entries, and so many are left
+abbrev pub lock_after : ReleaseMode → ℕ → ℕ → Bool → Bool
+lock_after Default before left locked = locked
+lock_after LockIfLastIndex zero left locked = locked
+lock_after LockIfLastIndex (suc before) zero locked = true
+lock_after LockIfLastIndex (suc before) (suc left) locked = locked
 
 -- the entry of the handle goes
 abbrev pub Leaves : {T : Type 0} → RegistryState T → Handle → ReleaseMode → RegistryState T → Type 0
@@ -66,7 +66,7 @@ Leaves {T} old handle mode new =
     (x : Entry T) × (handle ≡ handle_of old x) × InsertsOne new.entries old.entries x
     × (new ≡ record old {
       entries = new.entries;
-      locked = lock_after mode (length new.entries) old.locked;
+      locked = lock_after mode (length old.entries) (length new.entries) old.locked;
     })
 
 -- no entry has the handle
@@ -120,39 +120,37 @@ asked_about is_dead r = map (λ e. e.details) (candidates is_dead r.entries)
 abbrev pub entries_of : {T : Type 0} → (T → ℕ) → ℕ → RegistryState T → ℕ
 entries_of node id r = length (candidates (is_of node id) r.entries)
 
--- whether the first answer was yes
-abbrev pub is_true_first : List Bool → Bool
-is_true_first [] = false
-is_true_first (answer ∷ answers) = answer
+-- whether an entry goes: a candidate does where its slot is marked, and no other entry does
+abbrev pub is_leaving : {T : Type 0} → (T → Bool) → (ℕ → Bool) → Entry T → Bool
+is_leaving is_dead marked e = is_dead e.details && marked e.slot
 
--- the answers after the first
-abbrev pub after_first_answer : List Bool → List Bool
-after_first_answer [] = []
-after_first_answer (answer ∷ answers) = answers
+-- the entries that go
+abbrev pub leaving : {T : Type 0} → (T → Bool) → (ℕ → Bool) → List (Entry T) → List (Entry T)
+leaving is_dead marked entries = filter (is_leaving is_dead marked) entries
 
--- the entries that stay, where the candidates were answered so, in order
-abbrev pub staying : {T : Type 0} → (T → Bool) → List (Entry T) → List Bool → List (Entry T)
-staying is_dead [] answers = []
-staying is_dead (e ∷ es) answers =
-    let others = staying is_dead es (after_first_answer answers) in
-    if is_dead e.details then (if is_true_first answers then others else e ∷ others) else e
-    ∷ staying is_dead es answers
+-- the entries that stay
+abbrev pub staying : {T : Type 0} → (T → Bool) → (ℕ → Bool) → List (Entry T) → List (Entry T)
+staying is_dead marked entries = filter (λ e. not (is_leaving is_dead marked e)) entries
 
--- the candidates were answered so, in order
-abbrev pub Recovers : {T : Type 0} → (T → Bool) → List Bool → RegistryState T → ReleaseMode
+-- the marks of the candidates, by rising slot, which are the answers about them
+abbrev pub marks_of : {T : Type 0} → (T → Bool) → (ℕ → Bool) → List (Entry T) → List Bool
+marks_of is_dead marked entries = map (λ e. marked e.slot) (candidates is_dead entries)
+
+-- the candidates whose slots are marked went
+abbrev pub Recovers : {T : Type 0} → (T → Bool) → (ℕ → Bool) → RegistryState T → ReleaseMode
     → ReleaseState → RegistryState T → Type 0
-Recovers is_dead answers old mode state new =
+Recovers is_dead marked old mode state new =
     (new ≡ record old {
-      entries = staying is_dead old.entries answers;
-      locked = if list_any (λ goes. goes) answers then lock_after mode
-          (length new.entries) old.locked else old.locked;
+      entries = staying is_dead marked old.entries;
+      locked = lock_after mode (length old.entries) (length new.entries) old.locked;
     })
     × (state ≡ release_state new.locked)
 
--- what `recover` may do, where `calls` are the calls of its callback
-abbrev pub RecoverStep : {T F : Type 0} → (F → T → Bool → F → Type 0) → (T → Bool)
-    → RegistryState T → F → ReleaseMode → ReleaseState → RegistryState T → F → Type 0
-RecoverStep calls is_dead old f mode state new f' =
-    (answers : List Bool)
-    × Asked calls f (map (λ e. e.details) (candidates is_dead old.entries)) answers f'
-    × Recovers is_dead answers old mode state new
+-- what `recover` may do, where `calls` are the calls of its callback: it is asked about the
+-- candidates in turn, and those go, by the mark of their slot, of which it says so
+pub record RecoverStep {T F : Type 0} (calls : F → T → Bool → F → Type 0) (is_dead : T → Bool)
+    (old : RegistryState T) (f : F) (mode : ReleaseMode) (state : ReleaseState)
+    (new : RegistryState T) (f' : F) : Type 0 where
+  pub marked : ℕ → Bool
+  pub asked : Asked calls f (asked_about is_dead old) (marks_of is_dead marked old.entries) f'
+  pub recovers : Recovers is_dead marked old mode state new

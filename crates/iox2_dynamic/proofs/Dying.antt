@@ -1,8 +1,7 @@
 -- What keeps a service one when a dead node goes.
 use Rattle.std.proofs.Common.{◌≡◌, ◌∙◌, ℕ, ◌<◌, Bool, true, false, List, [], ◌∷◌, refl, sym, ap, subst, arith}
-use Rattle.std.specs.Prelude.{All, ◌==◌, if◌then◌else◌}
-use Rattle.std.specs.List.{list_any}
-use Rattle.std.proofs.lemmas.List.Elements.{All-nil, All-cons, All-head, All-tail}
+use Rattle.std.specs.Prelude.{All, ◌==◌, not}
+use Rattle.std.proofs.lemmas.List.Elements.{All-filter, All-nil, All-cons, All-head, All-tail}
 use Rattle.std.proofs.lemmas.Bool.{eqb-true, eq-eqb, ne_eqb}
 use Rattle.iox2_config.specs.declared.hash.input.PatternKind.{PatternKind}
 use Rattle.iox2_ids.specs.declared.identifiers.port_id.UniquePortId.{UniquePortId}
@@ -10,9 +9,8 @@ use Rattle.iox2_container.specs.declared.container.release.ReleaseState.{Release
 use Rattle.iox2_container.specs.declared.container.role.Role.{Role}
 use Rattle.iox2_container.specs.ContainerState.{ContainerState}
 use Rattle.iox2_container.specs.State.{Entry, RegistryState}
-use Rattle.iox2_container.specs.Steps.{is_of, release_state, staying}
+use Rattle.iox2_container.specs.Steps.{is_leaving, is_of, release_state, staying}
 use Rattle.iox2_container.proofs.Counting.{counted}
-use Rattle.iox2_container.proofs.Sweeping.{All-staying}
 use Rattle.iox2_dynamic.specs.declared.dynamic_config.answers.DeregisterNodeState.{DeregisterNodeState}
 use Rattle.iox2_dynamic.specs.declared.dynamic_config.answers.DeregisterNodeState.TheVariants.{HasOwners}
 use Rattle.iox2_dynamic.specs.declared.dynamic_config.cleanup.PortCleanupAction.{PortCleanupAction}
@@ -27,10 +25,6 @@ use Rattle.iox2_container.proofs.Counting.{counted-staying, All-other}
 use Rattle.iox2_dynamic.proofs.Keeping.{both_none, not_false, with_nodes}
 use Rattle.iox2_dynamic.proofs.Moving.{with_ports}
 
-same : (b x : Bool) → (if b then x else x) ≡ x
-same true x = refl
-same false x = refl
-
 -- the ports that are left
 module _ {F : Type 0} (calls : F → UniquePortId → PortCleanupAction → F → Type 0) (dead : ℕ)
     (nodes : RegistryState ℕ) where
@@ -38,18 +32,17 @@ module _ {F : Type 0} (calls : F → UniquePortId → PortCleanupAction → F �
       (h : F) → RecoversPorts calls dead old f new h → IsPortRegistry nodes role old.registry
       → IsPortRegistry nodes role new.registry
   left role old f new h r p =
-      let is : new.registry.entries ≡ staying (is_of node_of dead) old.registry.entries r.1.step.0 =
-      ap (λ (r : RegistryState PortDetails). r.entries) r.1.step.2.0 in
+      let is = r.1.step.recovers.0 in
       record {
         is_registry = r.1.kept;
-        number_is = ap (λ (r : RegistryState PortDetails). r.service) r.1.step.2.0 ∙ p.number_is;
-        role_is = ap (λ (r : RegistryState PortDetails). r.role) r.1.step.2.0 ∙ p.role_is;
-        is_open = ap (λ (r : RegistryState PortDetails). r.locked) r.1.step.2.0
-            ∙ (same (list_any (λ goes. goes) r.1.step.0) old.registry.locked ∙ p.is_open);
+        number_is = ap (λ (r : RegistryState PortDetails). r.service) is ∙ p.number_is;
+        role_is = ap (λ (r : RegistryState PortDetails). r.role) is ∙ p.role_is;
+        is_open = ap (λ (r : RegistryState PortDetails). r.locked) is ∙ p.is_open;
         registered =
-            subst (Registered nodes) (sym is)
-            (All-staying (λ e. 0 < counted (is_of (λ i. i) (node_of e.details)) nodes.entries)
-            (is_of node_of dead) old.registry.entries r.1.step.0 p.registered);
+            subst (Registered nodes) (sym (ap (λ (r : RegistryState PortDetails). r.entries) is))
+            (All-filter (λ e. not (is_leaving (is_of node_of dead) r.1.step.marked e))
+            (λ e. 0 < counted (is_of (λ i. i) (node_of e.details)) nodes.entries)
+            old.registry.entries p.registered);
       }
 
   all_left : (kind : PatternKind) (old : Ports) (f : F) (new : Ports) (h : F)
@@ -66,29 +59,29 @@ others dead other n d e =
     ap (λ k. k == other) (eqb-true d dead e)
     ∙ ne_eqb dead other (λ k. not_false (sym (eq-eqb other dead (sym k)) ∙ n))
 
-still_there : (dead : ℕ) (nodes : List (Entry ℕ)) (answers : List Bool)
+still_there : (dead : ℕ) (nodes : List (Entry ℕ)) (marked : ℕ → Bool)
     (ports : List (Entry PortDetails)) → All (λ e. is_of node_of dead e.details ≡ false) ports
     → All (λ e. 0 < counted (is_of (λ i. i) (node_of e.details)) nodes) ports
     → All (λ e. 0
     < counted (is_of (λ i. i) (node_of e.details))
-    (staying (is_of (λ i. i) dead) nodes answers)) ports
-still_there dead nodes answers [] n h =
+    (staying (is_of (λ i. i) dead) marked nodes)) ports
+still_there dead nodes marked [] n h =
     All-nil (λ (e : Entry PortDetails). 0
-    < counted (is_of (λ i. i) (node_of e.details)) (staying (is_of (λ i. i) dead) nodes answers))
-still_there dead nodes answers (e ∷ ports) n h =
+    < counted (is_of (λ i. i) (node_of e.details)) (staying (is_of (λ i. i) dead) marked nodes))
+still_there dead nodes marked (e ∷ ports) n h =
     let same =
     counted-staying (is_of (λ i. i) (node_of e.details)) (is_of (λ i. i) dead)
     (others dead (node_of e.details)
     (All-head (λ (e : Entry PortDetails). is_of node_of dead e.details ≡ false) e ports n))
-    nodes answers in
+    marked nodes in
     let was : 0 < counted (is_of (λ i. i) (node_of e.details)) nodes =
     All-head (λ (e : Entry PortDetails). 0 < counted (is_of (λ i. i) (node_of e.details)) nodes)
     e ports h in
     All-cons (λ (e : Entry PortDetails). 0
     < counted (is_of (λ i. i) (node_of e.details))
-    (staying (is_of (λ i. i) dead) nodes answers)) e ports
+    (staying (is_of (λ i. i) dead) marked nodes)) e ports
     (omega arith)
-    (still_there dead nodes answers ports
+    (still_there dead nodes marked ports
     (All-tail (λ (e : Entry PortDetails). is_of node_of dead e.details ≡ false) e ports n)
     (All-tail
     (λ (e : Entry PortDetails). 0 < counted (is_of (λ i. i) (node_of e.details)) nodes) e
@@ -130,17 +123,17 @@ dead_kept calls s f dead kind ports h state nodes k r none n i =
     let z = both_none (counted (is_of node_of dead) ports.first.registry.entries)
     (counted (is_of node_of dead) ports.second.registry.entries) none in
     let is : nodes.registry.entries
-    ≡ staying (is_of (λ i. i) dead) s.nodes.registry.entries n.step.0 =
-    ap (λ (r : RegistryState ℕ). r.entries) n.step.2.0 in
+    ≡ staying (is_of (λ i. i) dead) n.step.marked s.nodes.registry.entries =
+    ap (λ (r : RegistryState ℕ). r.entries) n.step.recovers.0 in
     let stay : (l : List (Entry PortDetails)) → counted (is_of node_of dead) l ≡ 0
     → Registered s.nodes.registry l → Registered nodes.registry l =
     λ l none h. subst
     (λ (n : List (Entry ℕ)). All
     (λ e. 0 < counted (is_of (λ i. i) (node_of e.details)) n) l) (sym is)
-    (still_there dead s.nodes.registry.entries n.step.0 l
+    (still_there dead s.nodes.registry.entries n.step.marked l
     (All-other (is_of node_of dead) l none) h) in
     with_nodes (record s { pattern = kind; ports = ports }) nodes n.kept
-    (ap (λ (r : RegistryState ℕ). r.service) n.step.2.0)
-    (ap (λ (r : RegistryState ℕ). r.role) n.step.2.0)
+    (ap (λ (r : RegistryState ℕ). r.service) n.step.recovers.0)
+    (ap (λ (r : RegistryState ℕ). r.role) n.step.recovers.0)
     (stay ports.first.registry.entries z.0 a.ports_are.first.registered)
     (stay ports.second.registry.entries z.1 a.ports_are.second.registered) a

@@ -7,6 +7,8 @@ use Rattle.iox2_container.specs.declared.container.refusal.ContainerRemoveError.
 use Rattle.iox2_container.specs.declared.container.release.ReleaseMode.TheVariants.{Default}
 use Rattle.iox2_container.specs.declared.container.release.ReleaseState.{ReleaseState}
 use Rattle.iox2_container.specs.declared.container.role.Role.{Role}
+use Rattle.iox2_container.specs.Changes.{Adds, Removes}
+use Rattle.iox2_container.specs.ContainerState.{ContainerState}
 use Rattle.iox2_container.specs.Handle.{Handle}
 use Rattle.iox2_container.specs.State.{Entry, RegistryState, IsRegistry}
 use Rattle.iox2_container.specs.Steps.{AddStep, RemoveStep}
@@ -14,6 +16,8 @@ use Rattle.iox2_container.proofs.Keeping.{All-gain, All-loss}
 use Rattle.iox2_dynamic.specs.declared.dynamic_config.port_details.PortDetails.{PortDetails}
 use Rattle.iox2_dynamic.specs.Details.{node_of}
 use Rattle.iox2_dynamic.specs.Ports.{Ports, AddsTo, RemovesFrom}
+use Rattle.iox2_dynamic.specs.PortsState.{Side, of_side, other_side}
+use Rattle.iox2_dynamic.specs.PortsState.Side.{First, Second}
 use Rattle.iox2_dynamic.specs.Service.{Service, IsService, IsPortRegistry, ArePorts, entries_of_node, first_role, second_role}
 
 module _ (nodes : RegistryState ℕ) (role : Role) where
@@ -53,46 +57,25 @@ module _ (nodes : RegistryState ℕ) (role : Role) where
   removed old new handle (Err why) a k p =
       subst (λ (r : RegistryState PortDetails). IsPortRegistry nodes role r) (sym a.1) p
 
-module _ (nodes : RegistryState ℕ) (kind : PatternKind) where
-  added_to : (old new : Ports) (d : PortDetails) (answer : Result Handle ContainerAddFailure)
-      → 0 < entries_of_node (node_of d) nodes
-      → AddsTo (first_role kind) (second_role kind) old d answer new → ArePorts nodes kind old
-      → ArePorts nodes kind new
-  added_to old new d answer l (inl h) g = record {
-    first = added nodes
-        (first_role kind) old.first.registry new.first.registry d answer l h.1.step h.1.kept
-        g.first;
-    second = subst (λ (p : Ports). IsPortRegistry nodes (second_role kind) p.second.registry)
-        (sym h.2) g.second;
-  }
-  added_to old new d answer l (inr h) g = record {
-    first = subst (λ (p : Ports). IsPortRegistry nodes (first_role kind) p.first.registry)
-        (sym h.2) g.first;
-    second = added nodes
-        (second_role kind) old.second.registry new.second.registry d answer l h.1.step h.1.kept
-        g.second;
-  }
-
-  removed_from : (old new : Ports) (handle : Handle)
-      (answer : Result ReleaseState ContainerRemoveError)
-      → RemovesFrom (first_role kind) (second_role kind) old handle answer new
-      → ArePorts nodes kind old → ArePorts nodes kind new
-  removed_from old new handle answer (inl h) g = record {
-    first = removed nodes
-        (first_role kind) old.first.registry new.first.registry handle answer h.1.step h.1.kept
-        g.first;
-    second = subst (λ (p : Ports). IsPortRegistry nodes (second_role kind) p.second.registry)
-        (sym h.2) g.second;
-  }
-  removed_from old new handle answer (inr (inl h)) g = record {
-    first = subst (λ (p : Ports). IsPortRegistry nodes (first_role kind) p.first.registry)
-        (sym h.2) g.first;
-    second = removed nodes
-        (second_role kind) old.second.registry new.second.registry handle answer h.1.step h.1.kept
-        g.second;
-  }
-  removed_from old new handle answer (inr (inr h)) g =
-      subst (λ (p : Ports). ArePorts nodes kind p) (sym h.2) g
+-- a step of one side that keeps it a registry of ports
+on_side : (side : Side) (nodes : RegistryState ℕ) (kind : PatternKind) (old new : Ports)
+    (Step : ContainerState PortDetails → ContainerState PortDetails → Type 0)
+    → ((role : Role) (o n : ContainerState PortDetails) → Step o n
+    → IsPortRegistry nodes role o.registry → IsPortRegistry nodes role n.registry)
+    → Step (of_side side old.first old.second) (of_side side new.first new.second)
+    → of_side (other_side side) new.first new.second
+    ≡ of_side (other_side side) old.first old.second
+    → ArePorts nodes kind old → ArePorts nodes kind new
+on_side First nodes kind old new Step keeps step others p = record {
+  first = keeps (first_role kind) old.first new.first step p.first;
+  second = subst (λ (c : ContainerState PortDetails).
+      IsPortRegistry nodes (second_role kind) c.registry) (sym others) p.second;
+}
+on_side Second nodes kind old new Step keeps step others p = record {
+  first = subst (λ (c : ContainerState PortDetails).
+      IsPortRegistry nodes (first_role kind) c.registry) (sym others) p.first;
+  second = keeps (second_role kind) old.second new.second step p.second;
+}
 
 -- a service of the same pattern with other ports
 pub with_ports : (s : Service) (kind : PatternKind) (ports : Ports) → kind ≡ s.pattern → IsService s
@@ -111,14 +94,23 @@ pub attach_kept : (s : Service) (kind : PatternKind) (ports : Ports) (d : PortDe
     → AddsTo (first_role s.pattern) (second_role s.pattern) s.ports d answer ports → IsService s
     → IsService (record s { pattern = kind; ports = ports })
 attach_kept s kind ports d answer k l a i =
+    let nodes = s.nodes.registry in
     with_ports s kind ports k i
-    (added_to s.nodes.registry s.pattern s.ports ports d answer l a i.ports_are)
+    (on_side a.side nodes s.pattern s.ports ports (λ o n. Adds o d answer n)
+    (λ role o n c p. added nodes role o.registry n.registry d answer l c.step c.kept p)
+    a.step a.others i.ports_are)
 
 -- what releasing a port keeps
 pub release_kept : (s : Service) (kind : PatternKind) (ports : Ports) (handle : Handle)
     (answer : Result ReleaseState ContainerRemoveError) → kind ≡ s.pattern
     → RemovesFrom (first_role s.pattern) (second_role s.pattern) s.ports handle answer ports
     → IsService s → IsService (record s { pattern = kind; ports = ports })
-release_kept s kind ports handle answer k a i =
+release_kept s kind ports handle answer k (inl a) i =
+    let nodes = s.nodes.registry in
     with_ports s kind ports k i
-    (removed_from s.nodes.registry s.pattern s.ports ports handle answer a i.ports_are)
+    (on_side a.side nodes s.pattern s.ports ports (λ o n. Removes o handle Default answer n)
+    (λ role o n c p. removed nodes role o.registry n.registry handle answer c.step c.kept p)
+    a.step a.others i.ports_are)
+release_kept s kind ports handle answer k (inr a) i =
+    with_ports s kind ports k i
+    (subst (λ (p : Ports). ArePorts s.nodes.registry s.pattern p) (sym a.2) i.ports_are)

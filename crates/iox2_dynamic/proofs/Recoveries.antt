@@ -61,10 +61,10 @@ module _ {F G : Type 0} (calls : F → UniquePortId → PortCleanupAction → F 
       → I f → DeadStep calls old f dead answer new h
       → DeadStep others old (k f) dead answer new (k h) × I h
   DeadStep-through old f dead answer new h i r =
-      let p = r.0 in
+      let p = r.ports in
       let a = RecoversPorts-through dead old.ports.first f new.ports.first p.0 i p.1 in
       let b = RecoversPorts-through dead old.ports.second p.0 new.ports.second h a.1 p.2 in
-      (((k p.0, a.0, b.0), r.1, r.2), b.1)
+      (record { ports = (k p.0, a.0, b.0); nodes = r.nodes; others = r.others }, b.1)
 
 -- the same, where the calls are those of a closure
 pub DeadStep-called : {F G : Type 0} (g : Mut F (UniquePortId × Unit {0}) PortCleanupAction)

@@ -5,6 +5,7 @@ use Rattle.iox2_config.specs.declared.hash.input.PatternKind.{PatternKind}
 use Rattle.iox2_config.specs.declared.hash.input.PatternKind.TheVariants as kind
 use Rattle.iox2_container.specs.declared.container.refusal.ContainerAddFailure.{ContainerAddFailure}
 use Rattle.iox2_container.specs.declared.container.refusal.ContainerAddFailure.TheVariants.{IsLocked, OutOfSpace}
+use Rattle.iox2_container.specs.declared.container.role.Role.{Role}
 use Rattle.iox2_container.specs.Handle.{Handle}
 use Rattle.iox2_container.specs.State.{RegistryState}
 use Rattle.iox2_container.specs.Steps.{AddStep, TakesEntry}
@@ -15,6 +16,8 @@ use Rattle.iox2_dynamic.specs.declared.dynamic_config.answers.RegisterNodeResult
 use Rattle.iox2_dynamic.specs.declared.dynamic_config.port_details.PortDetails.{PortDetails}
 use Rattle.iox2_dynamic.specs.Details.{node_of, role_of}
 use Rattle.iox2_dynamic.specs.Ports.{AddsTo, Ports, TakesIn}
+use Rattle.iox2_dynamic.specs.PortsState.{Side, of_side}
+use Rattle.iox2_dynamic.specs.PortsState.Side.{First, Second}
 use Rattle.iox2_dynamic.specs.Service.{Service, TakesPort, entries_of_node, first_role, second_role}
 use Rattle.iox2_dynamic.specs.Steps.{AttachStep, RegisterStep}
 
@@ -52,33 +55,43 @@ registered_where old id (Err ExceedsMaxNumberOfNodes) new s =
     added_where old.nodes.registry id (Err OutOfSpace) new.nodes.registry s.0.step
 
 -- a port that was added, and one that was not
-taken : (pattern : PatternKind) (old new : Ports) (details : PortDetails) (handle : Handle)
-    → AddsTo (first_role pattern) (second_role pattern) old details (Ok handle) new
-    → TakesIn (first_role pattern) (second_role pattern) old (role_of details)
-taken pattern old new details handle (inl a) = inl (a.0, (a.1.step.0, a.1.step.1))
-taken pattern old new details handle (inr b) = inr (b.0, (b.1.step.0, b.1.step.1))
+taken : (side : Side) (pattern : PatternKind) (old : Ports) (role : Role)
+    → role ≡ of_side side (first_role pattern) (second_role pattern)
+    → TakesEntry (of_side side old.first old.second).registry
+    → TakesIn (first_role pattern) (second_role pattern) old role
+taken First pattern old role r t = inl (r, t)
+taken Second pattern old role r t = inr (r, t)
+
+taken_by : (side : Side) (pattern : PatternKind) (old : Ports) (role : Role)
+    → role ≡ of_side side (first_role pattern) (second_role pattern)
+    → TakesIn (first_role pattern) (second_role pattern) old role
+    → TakesEntry (of_side side old.first old.second).registry
+taken_by First pattern old role r (inl t) = t.1
+taken_by First pattern old role r (inr t) = absurd (roles_differ pattern (sym r ∙ t.0))
+taken_by Second pattern old role r (inl t) = absurd (roles_differ pattern (sym t.0 ∙ r))
+taken_by Second pattern old role r (inr t) = t.1
 
 not_taken : (pattern : PatternKind) (old new : Ports) (details : PortDetails)
     → AddsTo (first_role pattern) (second_role pattern) old details (Err OutOfSpace) new
     → TakesIn (first_role pattern) (second_role pattern) old (role_of details) → ⊥
-not_taken pattern old new details (inl a) (inl t) =
+not_taken pattern old new details a t =
     (let z : false ≡ true =
-    (added_where old.first.registry details (Err OutOfSpace) new.first.registry a.1.step).1
-    t.1 in cc)
-not_taken pattern old new details (inl a) (inr t) = roles_differ pattern (sym a.0 ∙ t.0)
-not_taken pattern old new details (inr b) (inl t) = roles_differ pattern (sym t.0 ∙ b.0)
-not_taken pattern old new details (inr b) (inr t) =
-    (let z : false ≡ true =
-    (added_where old.second.registry details (Err OutOfSpace) new.second.registry b.1.step).1
-    t.1 in cc)
+    (added_where _ details (Err OutOfSpace) _ a.step.step).1
+    (taken_by a.side pattern old (role_of details) a.role_is t) in cc)
 
 pub attached_where : (old : Service) (details : PortDetails) (answer : Result Handle AttachError)
     (new : Service) → 0 < entries_of_node (node_of details) old.nodes.registry
     → AttachStep old details answer new
     → (IsOk answer → TakesPort old (role_of details))
     × (TakesPort old (role_of details) → IsOk answer)
-attached_where old details (Ok handle) new there s =
-    (λ _. (s.0.0, taken old.pattern old.ports new.ports details handle s.1.0), λ _. refl)
+attached_where old details (Ok handle) new there s = (
+  λ _. (
+    s.0.0,
+    taken s.1.0.side old.pattern old.ports (role_of details) s.1.0.role_is
+        (s.1.0.step.step.0, s.1.0.step.step.1),
+  ),
+  λ _. refl,
+)
 attached_where old details (Err attach.ServiceIsLocked) new there s = (
   λ e. (let z : false ≡ true = e in cc),
   λ t. (let z : false ≡ true = sym t.0 ∙ s.0 in cc),

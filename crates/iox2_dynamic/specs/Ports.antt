@@ -9,7 +9,7 @@ use Rattle.iox2_container.specs.declared.container.release.ReleaseMode.TheVarian
 use Rattle.iox2_container.specs.declared.container.release.ReleaseState.{ReleaseState}
 use Rattle.iox2_container.specs.declared.container.role.Role.{Role}
 use Rattle.iox2_container.specs.Handle.{Handle}
-use Rattle.iox2_container.specs.ContainerState.{fresh}
+use Rattle.iox2_container.specs.ContainerState.{ContainerState, fresh}
 use Rattle.iox2_container.specs.Callbacks.{CanVisit}
 use Rattle.iox2_container.specs.State.{RegistryState}
 use Rattle.iox2_container.specs.Steps.{Visit, IsUnknownHandle, HasEntry, TakesEntry, asked_about, entries_of, is_of, listed}
@@ -19,7 +19,7 @@ use Rattle.iox2_container.specs.Changes.{Adds, Removes}
 use Rattle.iox2_dynamic.specs.Recoveries.{RecoversPorts, ids_asked_about}
 use Rattle.iox2_dynamic.specs.Details.{role_of, node_of}
 use Rattle.iox2_container.specs.Mapped.{container_as}
-use Rattle.iox2_dynamic.specs.PortsState.{PortsState}
+use Rattle.iox2_dynamic.specs.PortsState.{PortsState, Side, of_side, other_side}
 
 -- the ports of a service, whatever their kinds
 abbrev pub Ports : Type 0
@@ -51,23 +51,27 @@ has_ports_of id p =
     nat_lt 0 (entries_of node_of id p.first.registry) || nat_lt 0
     (entries_of node_of id p.second.registry)
 
+-- the registry of the role takes this step, and the other one is as it was
+pub record OnSide (a b : Role) (old : Ports) (role : Role)
+    (Step : ContainerState PortDetails → ContainerState PortDetails → Type 0)
+    (new : Ports) : Type 0 where
+  pub side : Side
+  pub role_is : role ≡ of_side side a b
+  pub step : Step (of_side side old.first old.second) (of_side side new.first new.second)
+  pub others : of_side (other_side side) new.first new.second
+      ≡ of_side (other_side side) old.first old.second
+
 -- what adding a port does, where these are the roles of the ports
 abbrev pub AddsTo : Role → Role → Ports → PortDetails → Result Handle ContainerAddFailure → Ports
     → Type 0
 AddsTo a b old details answer new =
-    ((role_of details ≡ a) × Adds old.first details answer new.first
-    × (new ≡ record old { first = new.first }))
-    ⊎ ((role_of details ≡ b) × Adds old.second details answer new.second
-    × (new ≡ record old { second = new.second }))
+    OnSide a b old (role_of details) (λ o n. Adds o details answer n) new
 
 -- what removing a port does, where these are the roles of the ports
 abbrev pub RemovesFrom : Role → Role → Ports → Handle → Result ReleaseState ContainerRemoveError
     → Ports → Type 0
 RemovesFrom a b old handle answer new =
-    ((handle.role ≡ a) × Removes old.first handle Default answer new.first
-    × (new ≡ record old { first = new.first }))
-    ⊎ ((handle.role ≡ b) × Removes old.second handle Default answer new.second
-    × (new ≡ record old { second = new.second }))
+    OnSide a b old handle.role (λ o n. Removes o handle Default answer n) new
     ⊎ (IsNeither a b handle.role × (answer ≡ Err ContainerHandleNotOwnedByContainer) × (new ≡ old))
 
 -- the ids of the ports of a dead node, those of the first

@@ -5,3 +5,18 @@ use Rattle.iox2_container.specs.ContainerState.{ContainerState}
 pub record PortsState (A B : Type 0) : Type 0 where
   pub first : ContainerState A
   pub second : ContainerState B
+
+-- one of the two kinds
+pub data Side : Type 0 where
+  First : Side
+  Second : Side
+
+-- of what belongs to the two kinds, what belongs to this one
+abbrev pub of_side : {A : Type 0} → Side → A → A → A
+of_side First first second = first
+of_side Second first second = second
+
+-- the other kind
+abbrev pub other_side : Side → Side
+other_side First = Second
+other_side Second = First

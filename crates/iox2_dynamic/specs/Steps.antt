@@ -88,9 +88,9 @@ NodesAfter dead false old state new = RecoversNodes dead old state new
 
 -- what the recovery of a dead node does: its ports of the first kind are asked about, then those of
 -- the second, and then all its entries go if none of its ports is left
-abbrev pub DeadStep : {F : Type 0} → (F → UniquePortId → PortCleanupAction → F → Type 0) → Service
-    → F → ℕ → DeregisterNodeState → Service → F → Type 0
-DeadStep calls old f dead answer new f' =
-    RecoversBoth calls dead old.ports f new.ports f'
-    × NodesAfter dead (has_ports_of dead new.ports) old.nodes (state_of answer) new.nodes
-    × (new ≡ record old { ports = new.ports; nodes = new.nodes })
+pub record DeadStep {F : Type 0} (calls : F → UniquePortId → PortCleanupAction → F → Type 0)
+    (old : Service) (f : F) (dead : ℕ) (answer : DeregisterNodeState) (new : Service)
+    (f' : F) : Type 0 where
+  pub ports : RecoversBoth calls dead old.ports f new.ports f'
+  pub nodes : NodesAfter dead (has_ports_of dead new.ports) old.nodes (state_of answer) new.nodes
+  pub others : new ≡ record old { ports = new.ports; nodes = new.nodes }

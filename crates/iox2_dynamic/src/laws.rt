@@ -5,7 +5,7 @@ ghost use Rattle.iox2_container.specs.declared.container.release.ReleaseMode.{Re
 ghost use Rattle.iox2_container.specs.declared.container.release.ReleaseState.{ReleaseState};
 ghost use Rattle.iox2_container.specs.Handle.{Handle};
 ghost use Rattle.iox2_container.specs.State.{RegistryState};
-ghost use Rattle.iox2_container.specs.Steps.{Recovers, TakesEntry, candidates, entries_of, is_of};
+ghost use Rattle.iox2_container.specs.Steps.{Recovers, TakesEntry, entries_of, is_of, marks_of};
 ghost use Rattle.iox2_dynamic.specs.declared.dynamic_config.answers.AttachError.{AttachError};
 ghost use Rattle.iox2_dynamic.specs.declared.dynamic_config.answers.RegisterNodeResult.{RegisterNodeResult};
 ghost use Rattle.iox2_dynamic.specs.declared.dynamic_config.port_details.PortDetails.{PortDetails};
@@ -29,11 +29,11 @@ pub fn locked_services_have_no_port()
 /// The ports of a dead node that are left by its recovery are as many as its callback kept: where a
 /// port is left, some answer was `SkipPort`, and where none was, none is left.
 pub fn skipped_ports_are_left()
-    ensures { (dead : ℕ) (old new : RegistryState PortDetails) (answers : List Bool)
+    ensures { (dead : ℕ) (old new : RegistryState PortDetails) (marked : ℕ → Bool)
         (mode : ReleaseMode) (state : ReleaseState)
-        → length answers ≡ length (candidates (is_of node_of dead) old.entries)
-        → Recovers (is_of node_of dead) answers old mode state new
-        → entries_of node_of dead new ≡ count_by not answers }
+        → Recovers (is_of node_of dead) marked old mode state new
+        → entries_of node_of dead new
+        ≡ count_by not (marks_of (is_of node_of dead) marked old.entries) }
 {}
 
 /// A node is registered exactly where `has_room_for_node` says yes.

@@ -1,13 +1,15 @@
 -- No port comes by a death.
-use Rattle.std.proofs.Common.{◌≡◌, ◌≤◌, ◌+◌, ◌-◌, ℕ, Bool, true, false, List, [], ◌∷◌, length, ap, subst, sym, arith}
-use Rattle.std.specs.Prelude.{if◌then◌else◌}
+use Rattle.std.proofs.Common.{◌≡◌, ◌≤◌, ◌+◌, ◌-◌, ℕ, Bool, List, length, ap, arith}
+use Rattle.std.specs.Prelude.{not}
+use Rattle.std.proofs.lemmas.List.Sums.{count_by-le-length, length-filter}
 use Rattle.iox2_ids.specs.declared.identifiers.port_id.UniquePortId.{UniquePortId}
 use Rattle.iox2_container.specs.State.{Entry}
 use Rattle.iox2_container.specs.ContainerState.{ContainerState}
-use Rattle.iox2_container.specs.Steps.{staying, is_true_first, after_first_answer}
+use Rattle.iox2_container.specs.Steps.{is_leaving, is_of}
 use Rattle.iox2_dynamic.specs.declared.dynamic_config.answers.DeregisterNodeState.{DeregisterNodeState}
 use Rattle.iox2_dynamic.specs.declared.dynamic_config.cleanup.PortCleanupAction.{PortCleanupAction}
 use Rattle.iox2_dynamic.specs.declared.dynamic_config.port_details.PortDetails.{PortDetails}
+use Rattle.iox2_dynamic.specs.Details.{node_of}
 use Rattle.iox2_dynamic.specs.Recoveries.{RecoversPorts}
 use Rattle.iox2_dynamic.specs.Service.{Service}
 use Rattle.iox2_dynamic.specs.Steps.{DeadStep}
@@ -16,23 +18,6 @@ use Rattle.iox2sd.specs.Deaths.{Keeps, Went}
 use Rattle.iox2sd.specs.declared.id.Id.{Id}
 use Rattle.iox2sd.specs.declared.service.roles.Counts.{Counts}
 
-one_fewer : {X : Type 0} (b c : Bool) (x : X) (s t : List X) (n : ℕ) → length s ≤ n → length t ≤ n
-    → length (if b then (if c then s else x ∷ s) else x ∷ t) ≤ n + 1
-one_fewer true true x s t n h k = omega (arith, h)
-one_fewer true false x s t n h k = omega (arith, h)
-one_fewer false c x s t n h k = omega (arith, k)
-
-staying_fewer : {T : Type 0} (is_dead : T → Bool) (es : List (Entry T)) (answers : List Bool)
-    → length (staying is_dead es answers) ≤ length es
-staying_fewer is_dead [] answers = omega arith
-staying_fewer is_dead (e ∷ es) answers =
-    let less =
-    one_fewer (is_dead e.details) (is_true_first answers) e
-    (staying is_dead es (after_first_answer answers)) (staying is_dead es answers)
-    (length es)
-    (staying_fewer is_dead es (after_first_answer answers)) (staying_fewer is_dead es answers) in
-    omega (arith, less)
-
 recovered_fewer : {F : Type 0} (calls : F → UniquePortId → PortCleanupAction → F → Type 0)
     (dead : ℕ) (old : ContainerState PortDetails) (f : F) (new : ContainerState PortDetails)
     (h : F)
@@ -40,22 +25,29 @@ recovered_fewer : {F : Type 0} (calls : F → UniquePortId → PortCleanupAction
     → length new.registry.entries ≤ length old.registry.entries
 recovered_fewer calls dead old f new h r =
     let step = r.1.step in
-    subst (λ n. n ≤ length old.registry.entries) (sym (ap (λ s. length s.entries) step.2.0))
-    (staying_fewer _ old.registry.entries step.0)
+    let stays : Entry PortDetails → Bool =
+    λ e. not (is_leaving (is_of node_of dead) step.marked e) in
+    omega (
+      arith,
+      ap (λ s. length s.entries) step.recovers.0,
+      length-filter stays old.registry.entries,
+      count_by-le-length stays old.registry.entries,
+    )
 
 first_fewer : (kept : List Id) (old : Service) (dead : ℕ) (answer : DeregisterNodeState)
     (new : Service)
     → DeadStep (Keeps kept) old tt dead answer new tt
     → length new.ports.first.registry.entries ≤ length old.ports.first.registry.entries
 first_fewer kept old dead answer new s =
-    recovered_fewer (Keeps kept) dead old.ports.first tt new.ports.first s.0.0 s.0.1
+    recovered_fewer (Keeps kept) dead old.ports.first tt new.ports.first s.ports.0 s.ports.1
 
 second_fewer : (kept : List Id) (old : Service) (dead : ℕ) (answer : DeregisterNodeState)
     (new : Service)
     → DeadStep (Keeps kept) old tt dead answer new tt
     → length new.ports.second.registry.entries ≤ length old.ports.second.registry.entries
 second_fewer kept old dead answer new s =
-    recovered_fewer (Keeps kept) dead old.ports.second s.0.0 new.ports.second tt s.0.2
+    recovered_fewer (Keeps kept) dead old.ports.second s.ports.0 new.ports.second tt
+    s.ports.2
 
 -- the same, by numbers that were counted before and after
 pub fewer_first : (kept : List Id) (old new : Service) (dead : ℕ) (answer : DeregisterNodeState)

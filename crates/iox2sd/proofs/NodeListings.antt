@@ -6,7 +6,7 @@ use Rattle.std.proofs.Math.Seq.{drop-cons, set-append_seam}
 use Rattle.iox2_texts.specs.Attribute.{Visits}
 use Rattle.iox2_texts.specs.declared.bounded.callback_progression.CallbackProgression.{CallbackProgression}
 use Rattle.iox2_texts.specs.declared.bounded.callback_progression.CallbackProgression.TheVariants.{Continue, Stop}
-use Rattle.iox2_container.proofs.Collecting.{filter-details}
+use Rattle.iox2_container.proofs.ListEdits.{filter-map}
 use Rattle.iox2_container.specs.Steps.{is_of, listed}
 use Rattle.iox2_container.specs.declared.container.role.Role.{Role}
 use Rattle.iox2_dynamic.specs.Details.{node_of}
@@ -116,7 +116,7 @@ ports_noted calls array counter k node I step s role f true h i (inl shown) =
     (listed s.ports.first.registry) h i shown.1.visits in
     let its =
     subst (λ (l : List PortDetails). NotesAll (map told_port l) (k f) (k h))
-    (filter-details (is_of node_of node) s.ports.first.registry.entries) all.2 in
+    (filter-map (is_of node_of node) (λ e. e.details) s.ports.first.registry.entries) all.2 in
     (all.0, all.1, λ e. its, λ e. absurd (roles_differ s.pattern (sym shown.0 ∙ e)))
 ports_noted calls array counter k node I step s role f true h i (inr shown) =
     let all =
@@ -124,7 +124,7 @@ ports_noted calls array counter k node I step s role f true h i (inr shown) =
     (listed s.ports.second.registry) h i shown.1.visits in
     let its =
     subst (λ (l : List PortDetails). NotesAll (map told_port l) (k f) (k h))
-    (filter-details (is_of node_of node) s.ports.second.registry.entries) all.2 in
+    (filter-map (is_of node_of node) (λ e. e.details) s.ports.second.registry.entries) all.2 in
     (all.0, all.1, λ e. absurd (roles_differ s.pattern (sym e ∙ shown.0)), λ e. its)
 
 -- the ports of both kinds

@@ -16,13 +16,15 @@ use Rattle.iox2_container.specs.declared.container.role.Role.TheVariants as role
 use Rattle.iox2_container.specs.Handle.{Handle}
 use Rattle.iox2_container.specs.ContainerState.{ContainerState}
 use Rattle.iox2_container.specs.State.{RegistryState}
-use Rattle.iox2_container.specs.Steps.{is_of}
+use Rattle.iox2_container.specs.Steps.{AddStep, is_of}
 use Rattle.iox2_dynamic.specs.declared.dynamic_config.answers.DeregisterNodeState.{DeregisterNodeState}
 use Rattle.iox2_dynamic.specs.declared.dynamic_config.answers.DeregisterNodeState.TheVariants as nodes
 use Rattle.iox2_dynamic.specs.declared.dynamic_config.port_details.PortDetails.{PortDetails}
 use Rattle.iox2_dynamic.specs.Answers.{state_of}
 use Rattle.iox2_dynamic.specs.Details.{node_of}
 use Rattle.iox2_dynamic.specs.Ports.{has_ports_of}
+use Rattle.iox2_dynamic.specs.PortsState.{Side, of_side, other_side}
+use Rattle.iox2_dynamic.specs.PortsState.Side.{First, Second}
 use Rattle.iox2_dynamic.specs.Service.{Service, IsService, first_role, second_role}
 use Rattle.iox2_dynamic.specs.Steps.{AddsPort, RemovesPort, NodesAfter}
 use Rattle.iox2_static.specs.Description.{Description}
@@ -94,6 +96,19 @@ by_ports old new given e f s next = record {
   next = next;
 }
 
+-- only the ports of one kind change
+by_side : (side : Side) (old new : Service) (given : Option Handle)
+    → new ≡ record old { ports = new.ports }
+    → Grows (of_side side old.ports.first old.ports.second).registry
+    (of_side side new.ports.first new.ports.second).registry
+    → of_side (other_side side) new.ports.first new.ports.second
+    ≡ of_side (other_side side) old.ports.first old.ports.second
+    → IfSome given (IsNext old new) → Moves old new given
+by_side First old new given e g others next =
+    by_ports old new given e g (grows_same _ _ (ap (λ c. c.registry) others)) next
+by_side Second old new given e g others next =
+    by_ports old new given e (grows_same _ _ (ap (λ c. c.registry) others)) g next
+
 first_tickets : (s : Service) (k : PatternKind)
     → tickets_of s (first_role k) ≡ s.ports.first.registry.used
 first_tickets s kind.PublishSubscribe = refl
@@ -155,26 +170,27 @@ deregisters old _ _ new s = absurd s
 adds_port : (old : Service) (details : PortDetails) (answer : Result Handle ContainerAddFailure)
     (new : Service) (given : Option Handle) → AddsPort old details answer new
     → IfSome given (IsNext old new) → Moves old new given
-adds_port old details answer new given (inl a, e) next =
-    by_ports old new given e
-    (grows_add old.ports.first.registry details answer new.ports.first.registry a.1.step)
-    (grows_same _ _ (ap (λ p. p.second.registry) a.2)) next
-adds_port old details answer new given (inr a, e) next =
-    by_ports old new given e (grows_same _ _ (ap (λ p. p.first.registry) a.2))
-    (grows_add old.ports.second.registry details answer new.ports.second.registry a.1.step) next
+adds_port old details answer new given (a, e) next =
+    by_side a.side old new given e (grows_add _ details answer _ a.step.step) a.others next
 
-next_port : (old : Service) (details : PortDetails) (h : Handle) (new : Service) → IsService old
-    → AddsPort old details (Ok h) new → IsNext old new h
-next_port old details h new i (inl a, e) =
+next_at : (side : Side) (old : Service) (details : PortDetails) (h : Handle) (new : Service)
+    → IsService old
+    → AddStep (of_side side old.ports.first old.ports.second).registry details (Ok h)
+    (of_side side new.ports.first new.ports.second).registry → IsNext old new h
+next_at First old details h new i s =
     let ports = i.ports_are.first in
     next_of old new old.ports.first.registry new.ports.first.registry (first_role old.pattern) h
     ports.number_is ports.role_is (first_tickets old old.pattern) (first_tickets new old.pattern)
-    (new_add details h a.1.step)
-next_port old details h new i (inr a, e) =
+    (new_add details h s)
+next_at Second old details h new i s =
     let ports = i.ports_are.second in
     next_of old new old.ports.second.registry new.ports.second.registry (second_role old.pattern) h
     ports.number_is ports.role_is (second_tickets old old.pattern) (second_tickets new old.pattern)
-    (new_add details h a.1.step)
+    (new_add details h s)
+
+next_port : (old : Service) (details : PortDetails) (h : Handle) (new : Service) → IsService old
+    → AddsPort old details (Ok h) new → IsNext old new h
+next_port old details h new i s = next_at s.0.side old details h new i s.0.step.step
 
 attaches : (old : Service) (details : PortDetails) (r : Reply) (new : Service) → IsService old
     → ServesAdd old details r new → Moves old new (handle_in r)
@@ -190,15 +206,8 @@ attaches old details _ new i s = absurd s
 removes_port : (old : Service) (handle : Handle) (answer : Result ReleaseState ContainerRemoveError)
     (new : Service) → RemovesPort old handle answer new → Moves old new None
 removes_port old handle answer new (inl a, e) =
-    by_ports old new None e
-    (grows_remove old.ports.first.registry handle Default answer new.ports.first.registry
-    a.1.step)
-    (grows_same _ _ (ap (λ p. p.second.registry) a.2)) tt
-removes_port old handle answer new (inr (inl a), e) =
-    by_ports old new None e (grows_same _ _ (ap (λ p. p.first.registry) a.2))
-    (grows_remove old.ports.second.registry handle Default answer new.ports.second.registry
-    a.1.step) tt
-removes_port old handle answer new (inr (inr a), e) =
+    by_side a.side old new None e (grows_remove _ handle Default answer _ a.step.step) a.others tt
+removes_port old handle answer new (inr a, e) =
     by_ports old new None e (grows_same _ _ (ap (λ p. p.first.registry) a.2))
     (grows_same _ _ (ap (λ p. p.second.registry) a.2)) tt
 
@@ -216,21 +225,23 @@ nodes_grow : (dead : ℕ) (left : Bool) (old : ContainerState ℕ) (state : Rele
 nodes_grow dead true old state new s =
     grows_same old.registry new.registry (ap (λ h. h.registry) s.1)
 nodes_grow dead false old state new s =
-    grows_recover (is_of (λ id. id) dead) s.step.0 old.registry LockIfLastIndex state new.registry
-    s.step.2
+    grows_recover (is_of (λ id. id) dead) s.step.marked old.registry LockIfLastIndex state
+    new.registry s.step.recovers
 
 cleans_up : (old : Service) (dead : ℕ) (cleanup : Cleanup) (answer : DeregisterNodeState)
     (new : Service) → CleanedUp old dead cleanup answer new → Moves old new None
-cleans_up old dead cleanup answer new (left, (ports, after, e)) =
+cleans_up old dead cleanup answer new (left, step) =
+    let first = step.ports.1 in
+    let second = step.ports.2 in
     let nodes = nodes_grow dead (has_ports_of dead new.ports) old.nodes (state_of answer) new.nodes
-    after in
+    step.nodes in
     record {
       number = nodes.service;
       tickets = tickets_rise old new nodes
-          (grows_recover (is_of node_of dead) ports.1.1.step.0 old.ports.first.registry Default
-          ports.1.0 new.ports.first.registry ports.1.1.step.2)
-          (grows_recover (is_of node_of dead) ports.2.1.step.0 old.ports.second.registry Default
-          ports.2.0 new.ports.second.registry ports.2.1.step.2);
+          (grows_recover (is_of node_of dead) first.1.step.marked old.ports.first.registry Default
+          first.0 new.ports.first.registry first.1.step.recovers)
+          (grows_recover (is_of node_of dead) second.1.step.marked old.ports.second.registry Default
+          second.0 new.ports.second.registry second.1.step.recovers);
       next = tt;
     }
 

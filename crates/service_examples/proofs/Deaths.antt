@@ -1,7 +1,6 @@
 -- What deaths leave of a service.
 use Rattle.std.proofs.Common.{◌≡◌, ◌∙◌, ℕ, Bool, true, false, List, [], ◌∷◌, ◌++◌, length, refl, sym, ap}
-use Rattle.std.specs.Prelude.{if◌then◌else◌, nat_lt, ◌||◌}
-use Rattle.std.specs.List.{list_any}
+use Rattle.std.specs.Prelude.{nat_lt, ◌||◌}
 use Rattle.std.specs.Fn.{Mut, Called}
 use Rattle.iox2_ids.specs.declared.identifiers.port_id.UniquePortId.{UniquePortId}
 use Rattle.iox2_container.specs.declared.container.release.ReleaseMode.TheVariants.{LockIfLastIndex}
@@ -20,11 +19,7 @@ use Rattle.iox2_dynamic.specs.Ports.{has_ports_of}
 use Rattle.iox2_dynamic.specs.Service.{Service}
 use Rattle.iox2_dynamic.specs.Steps.{DeadStep, NodesAfter}
 use Rattle.service_examples.specs.Removal.{OnlyOthersStay, others, last_went, ports_without, nodes_without}
-use Rattle.service_examples.proofs.Others.{all_go, all_stay, fewer, locks, lock_then, none_left, still_locked, others_then}
-
-same : (b x : Bool) → (if b then x else x) ≡ x
-same true x = refl
-same false x = refl
+use Rattle.service_examples.proofs.Others.{all_go, all_stay, fewer, lock_is, lock_then, none_left, still_locked, others_then}
 
 -- all ports of the node go where each answer is that they do
 ports_go : {F : Type 0} (calls : F → UniquePortId → PortCleanupAction → F → Type 0)
@@ -36,17 +31,10 @@ ports_go {F} calls agrees dead old f new h r =
     let asks : F → PortDetails → Bool → F → Type 0 =
     λ g d goes j. AskedToGo calls g (port_of d) goes j in
     let go = all_go asks
-    (λ g d goes j a. a.2
-    ∙ ap removes (agrees g (port_of d) a.0 j a.1)) node_of dead old.registry.entries r.1.step.0 f h
-    r.1.step.1 in
-    r.1.step.2.0
-    ∙ (ap (λ (l : Bool).
-    record old.registry {
-      entries = staying (is_of node_of dead) old.registry.entries r.1.step.0;
-      locked = l;
-    })
-    (same (list_any (λ goes. goes) r.1.step.0) old.registry.locked)
-    ∙ ap (λ (es : List (Entry PortDetails)). record old.registry { entries = es }) go)
+    (λ g d goes j a. a.2 ∙ ap removes (agrees g (port_of d) a.0 j a.1)) node_of dead
+    r.1.step.marked old.registry.entries f h r.1.step.asked in
+    r.1.step.recovers.0
+    ∙ ap (λ (es : List (Entry PortDetails)). record old.registry { entries = es }) go
 
 -- so do all entries of it
 nodes_go : (dead : ℕ) (old : ContainerState ℕ) (state : ReleaseState) (new : ContainerState ℕ)
@@ -55,20 +43,20 @@ nodes_go dead old state new r =
     let node : ℕ → ℕ = λ id. id in
     let asks : Unit {0} → ℕ → Bool → Unit {0} → Type 0 = λ _ _ goes _. goes ≡ true in
     let before : List (Entry ℕ) = old.registry.entries in
-    let answers : List Bool = r.step.0 in
     let stay : List (Entry ℕ) = others node (dead ∷ []) before in
-    let left : List (Entry ℕ) = staying (is_of node dead) before answers in
-    let lock : List (Entry ℕ) → Bool =
-    λ es. if list_any (λ goes. goes) answers then lock_after LockIfLastIndex
-    (length es) old.registry.locked else old.registry.locked in
-    let go : left ≡ stay = all_go asks (λ f x r h a. a) node dead before answers tt tt r.step.1 in
-    let entries : new.registry.entries ≡ stay = ap (λ (n : RegistryState ℕ). n.entries) r.step.2.0
-    ∙ go in
-    r.step.2.0
-    ∙ (ap (λ (es : List (Entry ℕ)). record old.registry { entries = left; locked = lock es })
-    entries
+    let left : List (Entry ℕ) = staying (is_of node dead) r.step.marked before in
+    let go : left ≡ stay =
+    all_go asks (λ f x r h a. a) node dead r.step.marked before tt tt r.step.asked in
+    let entries : new.registry.entries ≡ stay =
+    ap (λ (n : RegistryState ℕ). n.entries) r.step.recovers.0 ∙ go in
+    r.step.recovers.0
+    ∙ (ap (λ (es : List (Entry ℕ)).
+    record old.registry {
+      entries = left;
+      locked = lock_after LockIfLastIndex (length before) (length es) old.registry.locked;
+    }) entries
     ∙ (ap (λ (l : Bool). record old.registry { entries = left; locked = l })
-    (locks asks (λ f x r h a. a) node dead before answers tt tt old.registry.locked r.step.1)
+    (lock_is before stay old.registry.locked)
     ∙ ap (λ (es : List (Entry ℕ)).
     record old.registry {
       entries = es;
@@ -93,8 +81,10 @@ pub one_dies : {F : Type 0} (calls : F → UniquePortId → PortCleanupAction �
     → (old : Service) (f : F) (dead : ℕ) (answer : DeregisterNodeState) (new : Service) (h : F)
     → DeadStep calls old f dead answer new h → OnlyOthersStay (dead ∷ []) old new
 one_dies calls agrees old f dead answer new h r =
-    let first = ports_go calls agrees dead old.ports.first f new.ports.first r.0.0 r.0.1 in
-    let second = ports_go calls agrees dead old.ports.second r.0.0 new.ports.second h r.0.2 in
+    let first = ports_go calls agrees dead old.ports.first f new.ports.first r.ports.0
+    r.ports.1 in
+    let second = ports_go calls agrees dead old.ports.second r.ports.0 new.ports.second
+    h r.ports.2 in
     let a = none_of dead old.ports.first.registry new.ports.first.registry first in
     let b = none_of dead old.ports.second.registry new.ports.second.registry second in
     let none : has_ports_of dead new.ports ≡ false =
@@ -102,10 +92,10 @@ one_dies calls agrees old f dead answer new h r =
     (length (candidates (is_of node_of dead) new.ports.second.registry.entries))) a
     ∙ ap (λ n. nat_lt 0 0 || nat_lt 0 n) b in
     record {
-      pattern = ap (λ (s : Service). s.pattern) r.2;
+      pattern = ap (λ (s : Service). s.pattern) r.others;
       nodes = nodes_go dead old.nodes (state_of answer) new.nodes
           (nodes_after dead (has_ports_of dead new.ports) old.nodes
-          (state_of answer) new.nodes none r.1);
+          (state_of answer) new.nodes none r.nodes);
       first_ports = first;
       second_ports = second;
     }

@@ -1,14 +1,17 @@
 -- What stays of entries.
 use Rattle.std.proofs.Common.{◌≡◌, ◌∙◌, ℕ, ◌+◌, ◌≤◌, Bool, true, false, List, [], ◌∷◌, ◌++◌, length, map, refl, sym, ap, subst, arith}
-use Rattle.std.specs.Prelude.{if◌then◌else◌, not, ◌||◌, ◌==◌}
+use Rattle.std.specs.Prelude.{if◌then◌else◌, not, ◌||◌, ◌&&◌, ◌==◌}
 use Rattle.std.specs.List.{list_any}
 use Rattle.std.proofs.lemmas.Bool.{eqb-true, eq-eqb, ne_eqb}
 use Rattle.std.proofs.lemmas.List.Filters.{length-filter_both}
+use Rattle.std.proofs.lemmas.List.Elements.{filter_agree}
 use Rattle.std.proofs.lemmas.List.Folds.{list_any-append}
 use Rattle.iox2_container.specs.declared.container.release.ReleaseMode.TheVariants.{LockIfLastIndex}
 use Rattle.iox2_container.specs.Calls.{is_outside}
 use Rattle.iox2_container.specs.State.{Entry}
-use Rattle.iox2_container.specs.Steps.{Asked, candidates, staying, is_of, is_true_first, after_first_answer, lock_after}
+use Rattle.iox2_container.specs.Steps.{Asked, candidates, is_of, lock_after, marks_of, staying}
+use Rattle.iox2_container.proofs.Collecting.{answers_by}
+use Rattle.iox2_container.proofs.Leaving.{staying_by}
 use Rattle.service_examples.specs.Removal.{others, last_went}
 
 not_both : false ≡ true → ⊥
@@ -34,95 +37,32 @@ is_other : {T : Type 0} (node : T → ℕ) (d : ℕ) (x : T)
     → not (is_of node d x) ≡ is_outside node (d ∷ []) x
 is_other node d x = ap not (same_order (node x) d ∙ sym (or_false (d == node x)))
 
--- where each answer is yes, the first that is asked about goes
-first_goes : {F T : Type 0} (calls : F → T → Bool → F → Type 0)
-    → ((f : F) (x : T) (r : Bool) (h : F) → calls f x r h → r ≡ true)
-    → (p : T → Bool) (e : Entry T) (es stay : List (Entry T)) (answers : List Bool) (f h : F)
-    → ((later : List Bool) (g : F) → Asked calls g (map (λ e. e.details) (candidates p es)) later h
-    → staying p es later ≡ stay)
-    → Asked calls f (e.details ∷ map (λ e. e.details) (candidates p es)) answers h
-    → (if is_true_first answers then staying p es (after_first_answer answers) else e
-    ∷ staying p es (after_first_answer answers)) ≡ stay
-first_goes calls agrees p e es stay [] f h ih a = absurd a
-first_goes calls agrees p e es stay (true ∷ rs) f h ih a = ih rs a.0 a.2
-first_goes calls agrees p e es stay (false ∷ rs) f h ih a =
-    absurd (not_both (agrees f e.details false a.0 a.1))
+and_true : (b : Bool) → (b && true) ≡ b
+and_true true = refl
+and_true false = refl
 
--- so do all
+-- where each answer is yes, all candidates go
 pub all_go : {F T : Type 0} (calls : F → T → Bool → F → Type 0)
     → ((f : F) (x : T) (r : Bool) (h : F) → calls f x r h → r ≡ true)
-    → (node : T → ℕ) (d : ℕ) (es : List (Entry T)) (answers : List Bool) (f h : F)
-    → Asked calls f (map (λ e. e.details) (candidates (is_of node d) es)) answers h
-    → staying (is_of node d) es answers ≡ others node (d ∷ []) es
-all_go calls agrees node d [] answers f h a = refl
-all_go {F} {T} calls agrees node d (e ∷ es) answers f h a =
-    let p : T → Bool = is_of node d in
-    let stay : List (Entry T) = others node (d ∷ []) es in
-    subst (λ b. staying p (e ∷ es) answers ≡ (if b then e ∷ stay else stay))
-    (is_other node d e.details)
-    ((elim (p e.details) as
-    (λ b. Asked calls f
-    (map (λ e. e.details) (if b then e ∷ candidates p es else candidates p es)) answers h
-    → (if b then
-    (if is_true_first answers then staying p es (after_first_answer answers) else e
-    ∷ staying p es (after_first_answer answers)) else e ∷ staying p es answers)
-    ≡ (if not b then e ∷ stay else stay)) [
-      | true ↦ λ a. first_goes calls agrees p e es stay answers f h
-          (λ later g. all_go calls agrees node d es later g h) a
-      | false ↦ λ a. ap (λ (l : List (Entry T)). e ∷ l)
-          (all_go calls agrees node d es answers f h a)
-    ]) a)
-
--- whether there is something
-abbrev some_of : {A : Type 0} → List A → Bool
-some_of [] = false
-some_of (x ∷ xs) = true
-
--- some answer is given where there is something to ask about
-any_agrees : {F T : Type 0} (calls : F → T → Bool → F → Type 0)
-    → ((f : F) (x : T) (r : Bool) (h : F) → calls f x r h → r ≡ true)
-    → (es : List (Entry T)) (answers : List Bool) (f h : F)
-    → Asked calls f (map (λ e. e.details) es) answers h
-    → list_any (λ goes. goes) answers ≡ some_of es
-any_agrees calls agrees [] [] f h a = refl
-any_agrees calls agrees [] (r ∷ rs) f h a = absurd a
-any_agrees calls agrees (e ∷ es) [] f h a = absurd a
-any_agrees calls agrees (e ∷ es) (true ∷ rs) f h a = refl
-any_agrees calls agrees (e ∷ es) (false ∷ rs) f h a =
-    absurd (not_both (agrees f e.details false a.0 a.1))
-
--- those of the node, and the others
-pub split : {T : Type 0} (node : T → ℕ) (d : ℕ) (es : List (Entry T))
-    → length (candidates (is_of node d) es) + length (others node (d ∷ []) es) ≡ length es
-split node d es =
-    length-filter_both (λ e. is_of node d e.details) (λ e. is_outside node (d ∷ []) e.details)
-    (λ e. sym (is_other node d e.details)) es
-
-lock_is : {A : Type 0} (gone left all : List (Entry A)) (locked : Bool)
-    → length gone + length left ≡ length all
-    → (if some_of gone then lock_after LockIfLastIndex (length left) locked else locked)
-    ≡ (locked || last_went all left)
-lock_is [] left [] locked n = sym (or_false locked)
-lock_is [] [] (e ∷ all) locked n = absurd (omega arith)
-lock_is [] (l ∷ left) (e ∷ all) locked n = sym (or_false locked)
-lock_is (g ∷ gone) left [] locked n = absurd (omega arith)
-lock_is (g ∷ gone) [] (e ∷ all) locked n = sym (or_true locked)
-lock_is (g ∷ gone) (l ∷ left) (e ∷ all) locked n = sym (or_false locked)
+    → (node : T → ℕ) (d : ℕ) (marked : ℕ → Bool) (es : List (Entry T)) (f h : F)
+    → Asked calls f (map (λ e. e.details) (candidates (is_of node d) es))
+    (marks_of (is_of node d) marked es) h
+    → staying (is_of node d) marked es ≡ others node (d ∷ []) es
+all_go calls agrees node d marked es f h a =
+    staying_by (is_of node d) (λ _. true) marked es
+    (answers_by {K = Unit {0}} calls (λ _. tt) (λ _ _. true)
+    (λ q x r v c. (refl, agrees q x r v c)) f _ _ h a)
+    ∙ filter_agree (λ e. not (is_of node d e.details && true))
+    (λ e. is_outside node (d ∷ []) e.details)
+    (λ e. ap not (and_true (is_of node d e.details)) ∙ is_other node d e.details) es
 
 -- the lock, where all of a node went
-pub locks : {F T : Type 0} (calls : F → T → Bool → F → Type 0)
-    → ((f : F) (x : T) (r : Bool) (h : F) → calls f x r h → r ≡ true)
-    → (node : T → ℕ) (d : ℕ) (es : List (Entry T)) (answers : List Bool) (f h : F) (locked : Bool)
-    → Asked calls f (map (λ e. e.details) (candidates (is_of node d) es)) answers h
-    → (if list_any (λ goes. goes) answers then lock_after LockIfLastIndex
-    (length (others node (d ∷ []) es)) locked else locked)
-    ≡ (locked || last_went es (others node (d ∷ []) es))
-locks {F} {T} calls agrees node d es answers f h locked a =
-    let gone : List (Entry T) = candidates (is_of node d) es in
-    let left : List (Entry T) = others node (d ∷ []) es in
-    ap (λ b. if b then lock_after LockIfLastIndex (length left) locked else locked)
-    (any_agrees calls agrees gone answers f h a)
-    ∙ lock_is gone left es locked (split node d es)
+pub lock_is : {A : Type 0} (all left : List (Entry A)) (locked : Bool)
+    → lock_after LockIfLastIndex (length all) (length left) locked
+    ≡ (locked || last_went all left)
+lock_is [] left locked = sym (or_false locked)
+lock_is (e ∷ all) [] locked = sym (or_true locked)
+lock_is (e ∷ all) (l ∷ left) locked = sym (or_false locked)
 
 -- none of the node's is left
 pub none_left : {T : Type 0} (node : T → ℕ) (d : ℕ) (es : List (Entry T))

@@ -1,6 +1,6 @@
 //! What a container knows beside its places.
 ghost use Rattle.std.specs.Prelude.{◌≡◌, ◌+◌, ◌-◌, ◌≤◌, ◌<◌, ◌^◌, ◌↔◌};
-ghost use Rattle.std.specs.Prelude.{IsTrue, false, if◌then◌else◌, nat_lt};
+ghost use Rattle.std.specs.Prelude.{IsTrue, false};
 ghost use Rattle.iox2_container.specs.Steps.{lock_after, release_state};
 
 use super::handle::ContainerHandle;
@@ -112,9 +112,7 @@ impl RegistryHeader {
         requires { gone ≤ self.old.count }
         ensures left { self.new ≡ record self.old {
           count = self.old.count - gone;
-          locked = if nat_lt 0 gone
-              then lock_after mode (self.old.count - gone) self.old.locked
-              else self.old.locked;
+          locked = lock_after mode self.old.count (self.old.count - gone) self.old.locked;
         } }
         ensures state { result ≡ release_state self.new.locked }
     {

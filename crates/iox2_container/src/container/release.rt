@@ -1,5 +1,5 @@
 //! How entries leave, and what that does to the lock.
-ghost use Rattle.std.specs.Prelude.{◌≡◌};
+ghost use Rattle.std.specs.Prelude.{◌≡◌, ◌<◌, ℕ};
 ghost use Rattle.iox2_container.specs.Steps.{lock_after, release_state};
 
 /// Whether a container is locked when its last entry leaves.
@@ -14,7 +14,7 @@ pub enum ReleaseMode {
 impl ReleaseMode {
     /// The lock after some entry went, where this many are left.
     pub(super) fn lock_after(self, left: usize, locked: bool) -> bool
-        ensures { result ≡ lock_after self left locked }
+        ensures { (before : ℕ) → left < before → result ≡ lock_after self before left locked }
     {
         match self {
             ReleaseMode::LockIfLastIndex => left == 0 || locked,

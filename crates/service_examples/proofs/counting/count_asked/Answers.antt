@@ -21,5 +21,5 @@ returns g c =
     let registry = (g.R.Registry.state c.args.registry.now).registry in
     let is_dead = is_of g.T.Attached.node c.args.node.now in
     let t = tallied _ (λ q. q.0.ghost_name) (λ q. q.0.now)
-    (λ q x r v e. search rules) _ _ _ c.recover.new.f c.recover.ensures.recovers.step.1 in
+    (λ q x r v e. search rules) _ _ _ c.recover.new.f c.recover.ensures.recovers.step.asked in
     search (rules, t.0, t.1, length-map (candidates is_dead registry.entries) (λ e. e.details))

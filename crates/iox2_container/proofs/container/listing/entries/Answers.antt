@@ -3,7 +3,7 @@ use Rattle.std.specs.Prelude.{filter}
 use Rattle.std.proofs.lemmas.List.{length-map}
 use Rattle.iox2_container.specs.Steps.{listed}
 use Rattle.iox2_container.proofs.Collecting.{CanVisit-collecting, collects, all_pass, passes_all}
-use Rattle.iox2_container.proofs.LentCallbacks.{map-same}
+use Rattle.std.proofs.lemmas.List.{map-id}
 use Rattle.iox2_container.proofs.container.listing.entries.Goals as goal
 
 pub for_each-requires : goal.for_each-requires
@@ -32,7 +32,7 @@ returns-clause-listed g c =
     let all : c.for_each.new.f.0.now.items ≡ listed registry = t.1
     ∙ (ap (λ l. l
     ++ map (λ x. x) (filter (λ _. true) (listed registry))) c.in_ok-list.ensures.items
-    ∙ (all_pass (λ x. x) (listed registry) ∙ map-same (listed registry))) in
+    ∙ (all_pass (λ x. x) (listed registry) ∙ map-id (listed registry))) in
     search (rules, t.0, all)
 
 pub returns-clause-exact : goal.returns-clause-exact
@@ -44,7 +44,7 @@ returns-clause-exact g c =
     let all : c.for_each.new.f.0.now.items ≡ listed registry = t.1
     ∙ (ap (λ l. l
     ++ map (λ x. x) (filter (λ _. true) (listed registry))) c.in_ok-list.ensures.items
-    ∙ (all_pass (λ x. x) (listed registry) ∙ map-same (listed registry))) in
+    ∙ (all_pass (λ x. x) (listed registry) ∙ map-id (listed registry))) in
     let exact : c.for_each.new.f.0.now.cap ≡ length c.for_each.new.f.0.now.items =
     omega (
       arith,

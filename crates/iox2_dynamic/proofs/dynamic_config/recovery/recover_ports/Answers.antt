@@ -1,21 +1,17 @@
-use Rattle.std.proofs.Common.{◌≡◌, List, [], ◌∷◌, map, rules, refl, sym, ◌∙◌, ap, subst}
+use Rattle.std.proofs.Common.{map, rules, refl, sym, ◌∙◌, ap, subst}
+use Rattle.std.proofs.lemmas.Simd.{map-map}
 use Rattle.std.specs.Prelude.{◌==◌}
 use Rattle.std.specs.Fn.{Called, Takes}
 use Rattle.iox2_container.specs.declared.container.release.ReleaseMode.TheVariants.{Default}
 use Rattle.iox2_container.specs.Callbacks.{CanBeAsked}
 use Rattle.iox2_container.specs.Steps.{asked_about, is_of}
 use Rattle.iox2_container.proofs.Callable.{CanBeAsked-lent}
-use Rattle.iox2_container.proofs.LentCallbacks.{RecoversBy-lent, candidates-as}
+use Rattle.iox2_container.proofs.LentCallbacks.{RecoversBy-lent, asked-as}
 use Rattle.iox2_dynamic.specs.Recoveries.{AskedToGo}
 use Rattle.iox2_dynamic.specs.Details.{node_of, port_of}
 use Rattle.iox2_dynamic.proofs.Recoveries.{RecoversPorts-as}
 use Rattle.iox2_dynamic.proofs.Skipping.{left_noted}
 use Rattle.iox2_dynamic.proofs.dynamic_config.recovery.recover_ports.Goals as goal
-
-map-after : {A B C : Type 0} (v : B → C) (u : A → B) (xs : List A)
-    → map (λ x. v (u x)) xs ≡ map v (map u xs)
-map-after v u [] = refl
-map-after {A} {B} {C} v u (x ∷ xs) = ap (λ (l : List C). v (u x) ∷ l) (map-after v u xs)
 
 pub recover-requires : goal.recover-requires
 recover-requires g c =
@@ -28,9 +24,9 @@ recover-requires g c =
     let items = asked_about (is_of g.T.Attached.node dead) c.args.ports.now.registry in
     let seen =
     ap (map port_of)
-    (candidates-as details (is_of g.T.Attached.node dead) (is_of node_of dead)
+    (asked-as details (is_of g.T.Attached.node dead) (is_of node_of dead)
     (λ x. ap (λ n. n == dead) (g.met.T.PortKind.same_node x)) entries)
-    ∙ sym (map-after port_of details items) in
+    ∙ map-map port_of details items in
     CanBeAsked-lent _ _ takes calls (λ s. s.0.now) (λ d. port_of (details d))
     (λ s x t y e. subst (λ d. takes s.0.now (port_of (details d))) (sym e) t)
     (λ s x r h e. let a = subst

@@ -40,7 +40,7 @@ recover_ports-second-requires g c =
     (asked_about (is_of node_of dead)
     (registry_as g.A.PortKind.details c.self.inside.first.registry))
     (ids_asked_about dead (container_as g.B.PortKind.details c.self.inside.second))
-    first.1.step.0 c.recover_ports-first.new.f both first.1.step.1
+    _ c.recover_ports-first.new.f both first.1.step.asked
 
 pub returns-clause-recovered : goal.returns-clause-recovered
 returns-clause-recovered g c =

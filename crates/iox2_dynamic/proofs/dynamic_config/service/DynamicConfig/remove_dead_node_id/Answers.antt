@@ -45,13 +45,13 @@ returns-then-recover-clause-step g c =
     let some : has_ports_of c.args.dead.now new.ports ≡ true = search rules in
     subst (λ (v : Service).
     DeadStep calls v c.args.f.now c.args.dead.now HasOwners new c.recover.new.f)
-    c.self.view_is (
-      c.recover.ensures.recovered,
-      nodes_stay c.args.dead.now (has_ports_of c.args.dead.now new.ports) old.nodes some
-          (ports_open new c.args.dead.now (invariant_of-self g c) some),
-      ap (λ (k : PatternKind). record old { pattern = k; ports = new.ports })
-          c.recover.ensures.kind,
-    )
+    c.self.view_is (record {
+      ports = c.recover.ensures.recovered;
+      nodes = nodes_stay c.args.dead.now (has_ports_of c.args.dead.now new.ports) old.nodes some
+          (ports_open new c.args.dead.now (invariant_of-self g c) some);
+      others = ap (λ (k : PatternKind). record old { pattern = k; ports = new.ports })
+          c.recover.ensures.kind;
+    })
 
 pub invariant_of-self-2 : goal.invariant_of-self-2
 invariant_of-self-2 g c =
@@ -85,11 +85,12 @@ returns-clause-step g c =
     let none : has_ports_of c.args.dead.now new.ports ≡ false = search rules in
     subst (λ (v : Service).
     DeadStep calls v c.args.f.now c.args.dead.now c.of.result new c.recover.new.f)
-    c.self.view_is (
-      c.recover.ensures.recovered,
-      nodes_after c.args.dead.now
+    c.self.view_is (record {
+      ports = c.recover.ensures.recovered;
+      nodes = nodes_after c.args.dead.now
           (has_ports_of c.args.dead.now new.ports) old.nodes c.recover_nodes.result c.of.result
-          new.nodes none c.of.ensures c.recover_nodes.ensures,
-      ap (λ (k : PatternKind). record old { pattern = k; ports = new.ports; nodes = new.nodes })
-          c.recover.ensures.kind,
-    )
+          new.nodes none c.of.ensures c.recover_nodes.ensures;
+      others =
+          ap (λ (k : PatternKind). record old { pattern = k; ports = new.ports; nodes = new.nodes })
+          c.recover.ensures.kind;
+    })
