@@ -1,5 +1,5 @@
 -- What an add does.
-use Rattle.std.proofs.Common.{◌≡◌, ◌≢◌, ℕ, ◌+◌, ◌<◌, false, Option, Some, None, Ok, List, length, map, refl, sym, ◌∙◌, ap, subst, arith}
+use Rattle.std.proofs.Common.{◌≡◌, ◌≢◌, ℕ, ◌+◌, ◌<◌, false, Option, Some, None, Ok, List, length, map, refl, sym, ◌∙◌, ap, arith}
 use Rattle.std.specs.Prelude.{All, slice_get, slice_set}
 use Rattle.std.proofs.Math.ListN.{length-set}
 use Rattle.std.proofs.lemmas.List.{length-map}
@@ -31,8 +31,7 @@ gains_of_write : {T : Type 0} (a : RegistryHeader) (cells s : List (Option (Occu
     (record { slot = slot; ticket = a.used; details = d })
 gains_of_write {T} a cells s slot d free e =
     let x : Entry T = record { slot = slot; ticket = a.used; details = d } in
-    subst (λ (cs : List (Option (Occupant T))). InsertsOne (entries_from 0 cells)
-    (entries_from 0 cs) x) (sym e) (gains_write 0 cells slot x free (omega arith))
+    rw e (gains_write 0 cells slot x free (omega arith))
 
 pub kept_write : {T : Type 0} (a : RegistryHeader) (cells s : List (Option (Occupant T))) (slot : ℕ)
     (d : T) → AreRegistry a cells → slice_get cells slot ≡ Some None
@@ -68,15 +67,13 @@ pub add_step : {T : Type 0} (a : RegistryHeader) (cells s : List (Option (Occupa
 add_step {T} a cells s slot d handle free e unlocked room h =
     let new : RegistryState T =
     registry_of (record a { count = a.count + 1; used = a.used + 1 }) s in
-    let literal : Handle =
-    record { service = a.service; role = a.role; slot = slot; ticket = a.used } in
     let x : Entry T = record { slot = slot; ticket = a.used; details = d } in
     let g : InsertsOne (entries_from 0 cells) (entries_from 0 s) x =
     gains_of_write a cells s slot d free e in
     let same : length s ≡ length cells = ap length e
     ∙ length-set cells slot (Some (occupant a.used d)) in
     let f : ℕ → RegistryState T = λ n. record new { capacity = n } in
-    let goes : AddStep (registry_of a cells) d (Ok literal) new = (
+    rw h (
       unlocked,
       (
         omega (
@@ -88,5 +85,4 @@ add_step {T} a cells s slot d handle free e unlocked room h =
         room,
       ),
       (refl, free_everywhere cells slot free, g, ap f same),
-    ) in
-    subst (λ (hd : Handle). AddStep (registry_of a cells) d (Ok hd) new) (sym h) goes
+    )

@@ -1,5 +1,5 @@
 -- Callbacks that are asked in turn.
-use Rattle.std.proofs.Common.{◌≡◌, ℕ, zero, suc, ◌+◌, Option, Some, None, List, [], ◌∷◌, ◌++◌, take, map, refl, sym, ◌∙◌, ap, subst, arith, inl, inr}
+use Rattle.std.proofs.Common.{◌≡◌, ℕ, zero, suc, ◌+◌, Option, Some, None, List, [], ◌∷◌, ◌++◌, take, map, refl, sym, ◌∙◌, ap, arith, inl, inr}
 use Rattle.std.specs.Prelude.{slice_get}
 use Rattle.iox2_texts.specs.declared.bounded.callback_progression.CallbackProgression.{CallbackProgression}
 use Rattle.iox2_texts.specs.declared.bounded.callback_progression.CallbackProgression.TheVariants.{Continue, Stop}
@@ -7,7 +7,7 @@ use Rattle.iox2_container.specs.declared.container.slots.cell.Occupant.{Occupant
 use Rattle.iox2_container.specs.Cells.{occupant}
 use Rattle.iox2_container.specs.State.{Entry}
 use Rattle.iox2_container.specs.Places.{entries_from}
-use Rattle.std.proofs.lemmas.List.{append_assoc}
+use Rattle.std.proofs.lemmas.List.{append_assoc, map-append}
 use Rattle.iox2_texts.specs.Attribute.{Visits}
 use Rattle.iox2_container.specs.Passes.{AskedOfCell}
 use Rattle.iox2_container.specs.Steps.{Asked, Visit}
@@ -16,8 +16,7 @@ use Rattle.iox2_container.proofs.CellEntries.{same_entry}
 pub Asked-push : {F A R : Type 0} (calls : F → A → R → F → Type 0) (f : F) (items : List A)
     (answers : List R) (g : F) (item : A) (answer : R) (h : F) → Asked calls f items answers g
     → calls g item answer h → Asked calls f (items ++ item ∷ []) (answers ++ answer ∷ []) h
-Asked-push {F} calls f [] [] g item answer h a c =
-    (h, subst (λ (k : F). calls k item answer h) a c, refl)
+Asked-push calls f [] [] g item answer h a c = (h, rw a at c, refl)
 Asked-push calls f [] (r ∷ rs) g item answer h a c = absurd a
 Asked-push calls f (x ∷ xs) [] g item answer h a c = absurd a
 Asked-push calls f (x ∷ xs) (r ∷ rs) g item answer h a c =
@@ -69,21 +68,12 @@ taken_free {T} low (suc i) (Some o ∷ cells) h =
 -- so far each answer was `Continue`
 abbrev pub GoesOn : {F T : Type 0} → (F → T → CallbackProgression → F → Type 0) → F → List T → F
     → Type 0
-GoesOn calls f [] g = g ≡ f
-GoesOn {F} calls f (item ∷ items) g = (between : F) × calls f item Continue between
-    × GoesOn calls between items g
-
-goes_one_more : {F T : Type 0} (calls : F → T → CallbackProgression → F → Type 0) (f : F)
-    (items : List T) (g : F) (item : T) (h : F) → GoesOn calls f items g
-    → calls g item Continue h → GoesOn calls f (items ++ item ∷ []) h
-goes_one_more {F} calls f [] g item h w c =
-    (h, subst (λ (k : F). calls k item Continue h) w c, refl)
-goes_one_more calls f (x ∷ xs) g item h w c = (w.0, w.1, goes_one_more calls w.0 xs g item h w.2 c)
+GoesOn calls f items g = Asked calls f items (map (λ _. Continue) items) g
 
 visits_rest : {F T : Type 0} (calls : F → T → CallbackProgression → F → Type 0) (f : F)
     (seen : List T) (g : F) (rest : List T) (h : F) → GoesOn calls f seen g
     → Visits calls g rest h → Visits calls f (seen ++ rest) h
-visits_rest {F} calls f [] g rest h w v = subst (λ (k : F). Visits calls k rest h) w v
+visits_rest calls f [] g rest h w v = rw w at v
 visits_rest calls f (x ∷ xs) g rest h w v = inr (w.0, w.1, visits_rest calls w.0 xs g rest h w.2 v)
 
 details_more : {T : Type 0} (i : ℕ) (cells : List (Option (Occupant T))) (t : ℕ) (d : T)
@@ -101,14 +91,12 @@ pub goes_on : {F T : Type 0} (calls : F → T → CallbackProgression → F → 
     → AskedOfCell calls g cell answer h → answer ≡ Continue
     → GoesOn calls f (details_of (entries_from 0 (take i cells))) g
     → GoesOn calls f (details_of (entries_from 0 (take (suc i) cells))) h
-goes_on {F} {T} calls f g h cells i None answer is a c w =
-    subst (λ (k : F). GoesOn calls f (details_of (entries_from 0 (take (suc i) cells))) k) (sym a.1)
-    (subst (λ (l : List (Entry T)). GoesOn calls f (details_of l) g)
-    (sym (taken_free 0 i cells is)) w)
+goes_on calls f g h cells i None answer is a c w = rw a.1 (rw (taken_free 0 i cells is) w)
 goes_on {F} {T} calls f g h cells i (Some o) answer is a c w =
-    subst (λ (l : List T). GoesOn calls f l h) (sym (details_more i cells o.ticket o.details is))
-    (goes_one_more calls f (details_of (entries_from 0 (take i cells))) g o.details h w
-    (subst (λ (r : CallbackProgression). calls g o.details r h) c a))
+    let seen : List T = details_of (entries_from 0 (take i cells)) in
+    rw (details_more i cells o.ticket o.details is)
+    (rw (map-append (λ _. Continue) seen (o.details ∷ []))
+    (Asked-push calls f seen (map (λ _. Continue) seen) g o.details Continue h w (rw c at a)))
 
 pub stops : {F T : Type 0} (calls : F → T → CallbackProgression → F → Type 0) (f g h : F)
     (cells : List (Option (Occupant T))) (i : ℕ) (cell : Option (Occupant T))
@@ -128,9 +116,8 @@ stops {F} {T} calls f g h cells i (Some o) answer is a c w =
     ∙ (ap (λ (l : List T). l ++ rest) (details_more i cells o.ticket o.details is)
     ∙ append_assoc seen (o.details ∷ []) rest)) in
     record {
-      visits = subst (λ (l : List T). Visits calls f l h) (sym all_are)
-          (visits_rest calls f seen g (o.details ∷ rest) h w
-          (inl (subst (λ (r : CallbackProgression). calls g o.details r h) c a)));
+      visits = rw all_are
+          (visits_rest calls f seen g (o.details ∷ rest) h w (inl (rw c at a)));
     }
 
 visits_all : {F T : Type 0} (calls : F → T → CallbackProgression → F → Type 0) (f g : F)

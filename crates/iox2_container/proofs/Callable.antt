@@ -108,16 +108,6 @@ pub CanVisit-from_total : {F A : Type 0} {takes : F → A → Type 0} {calls : F
 CanVisit-from_total {takes = takes} {calls = calls} {f = f} {items = items} h =
     CanVisit-by takes calls (λ _ _. Unit {0}) (λ g x xs i. h g x) (λ g x xs k i c. tt) f items tt
 
--- asked about the first items, it may be asked about the others
-pub MayAsk-rest : {F A R : Type 0} (takes : F → A → Type 0) (calls : F → A → R → F → Type 0) (f : F)
-    (xs ys : List A) (answers : List R) (g : F) → MayAsk takes calls f (xs ++ ys)
-    → Asked calls f xs answers g → MayAsk takes calls g ys
-MayAsk-rest {F} takes calls f [] ys [] g m a = subst (λ (h : F). MayAsk takes calls h ys) (sym a) m
-MayAsk-rest takes calls f [] ys (r ∷ rs) g m a = absurd a
-MayAsk-rest takes calls f (x ∷ xs) ys [] g m a = absurd a
-MayAsk-rest takes calls f (x ∷ xs) ys (r ∷ rs) g m a =
-    MayAsk-rest takes calls a.0 xs ys rs g (m.1 r a.0 a.1) a.2
-
 pub MayAsk-first : {F A R : Type 0} (takes : F → A → Type 0) (calls : F → A → R → F → Type 0)
     (f : F) (xs ys : List A) → MayAsk takes calls f (xs ++ ys) → MayAsk takes calls f xs
 MayAsk-first takes calls f [] ys m = tt

@@ -60,7 +60,7 @@ same_entry {T} slot o x s h =
     let e : o ≡ occupant x.ticket x.details = (cc) in
     ap (λ n. f n o) s ∙ ap (f x.slot) e
 
-gains_later : {T : Type 0} (old new : List (Entry T)) (x y : Entry T) → InsertsOne old new x
+pub gains_later : {T : Type 0} (old new : List (Entry T)) (x y : Entry T) → InsertsOne old new x
     → InsertsOne (y ∷ old) (y ∷ new) x
 gains_later old new x y g =
     record {

@@ -2,7 +2,6 @@
 -- callbacks may be asked about what stands there.
 use Rattle.std.proofs.Common.{◌≡◌, ℕ, zero, suc, ◌+◌, ◌-◌, ◌≤◌, Bool, true, false, Option, Some, None, List, [], ◌∷◌, drop, refl, sym, ap, subst, add-one, arith}
 use Rattle.std.specs.Prelude.{slice_get, IsTrue, if◌then◌else◌}
-use Rattle.std.specs.Bool.{MatchBool}
 use Rattle.iox2_texts.specs.declared.bounded.callback_progression.CallbackProgression.{CallbackProgression}
 use Rattle.iox2_texts.specs.declared.bounded.callback_progression.CallbackProgression.TheVariants.{Continue}
 use Rattle.iox2_container.specs.declared.container.slots.cell.Occupant.{Occupant}
@@ -35,20 +34,14 @@ module _ {F T : Type 0} (takes : F → T → Type 0)
       → TakesCell takes f cell
       × ((h : F) → AskedOfCell calls f cell Continue h
       → MayVisit takes calls h (details_of (entries_from (i + 1) rest)))
-  shows f i None rest m = (
-    tt,
-    λ h a. subst (λ (k : F). MayVisit takes calls k (details_of (entries_from (i + 1) rest)))
-        (sym a.1) m,
-  )
+  shows f i None rest m = (tt, λ h a. rw a.1 m)
   shows f i (Some o) rest m = (m.0, λ h a. m.1 h a)
 
   pub visit_comes_to : (f : F) (cells : List (Option (Occupant T))) (i : ℕ)
       (cell : Option (Occupant T)) → slice_get cells i ≡ Some cell
       → MayVisit takes calls f (details_from i cells) → TakesCell takes f cell
   visit_comes_to f cells i cell is m =
-      (shows f i cell (drop (suc i) cells)
-      (subst (λ (cs : List (Option (Occupant T))). MayVisit takes calls f
-      (details_of (entries_from i cs))) (drop_one cells i cell is) m)).0
+      (shows f i cell (drop (suc i) cells) (rw (drop_one cells i cell is) at m)).0
 
   pub visit_goes_on : (f h : F) (cells : List (Option (Occupant T))) (i : ℕ)
       (cell : Option (Occupant T)) (answer : CallbackProgression)
@@ -56,12 +49,9 @@ module _ {F T : Type 0} (takes : F → T → Type 0)
       → MayVisit takes calls f (details_from i cells)
       → MayVisit takes calls h (details_from (i + 1) cells)
   visit_goes_on f h cells i cell answer is a c m =
-      subst (λ (n : ℕ). MayVisit takes calls h (details_of (entries_from (i + 1) (drop n cells))))
-      (sym (add-one i))
-      ((shows f i cell (drop (suc i) cells)
-      (subst (λ (cs : List (Option (Occupant T))). MayVisit takes calls f
-      (details_of (entries_from i cs))) (drop_one cells i cell is) m)).1 h
-      (subst (λ (r : CallbackProgression). AskedOfCell calls f cell r h) c a))
+      rw (add-one i)
+      (rw (add-one i) at
+      ((shows f i cell (drop (suc i) cells) (rw (drop_one cells i cell is) at m)).1 h (rw c at a)))
 
 -- a sweep that has come to a cell
 module _ {F T : Type 0} (takes : F → T → Type 0) (calls : F → T → Bool → F → Type 0)
@@ -74,20 +64,10 @@ module _ {F T : Type 0} (takes : F → T → Type 0) (calls : F → T → Bool �
       → SweptCell calls is_dead f
       (Some (record { ticket = x.ticket; details = x.details })) goes h
       → MayAsk takes calls h (details_of (candidates is_dead rest)))
-  asks_one f x rest true e m = (
-    λ t. m.0,
-    λ goes h s. m.1 goes h
-        (subst (λ (b : Bool). MatchBool b (calls f x.details goes h) ((goes ≡ false) × (h ≡ f)))
-        (sym e) s),
-  )
+  asks_one f x rest true e m = (λ t. m.0, λ goes h s. m.1 goes h (rw (sym e) at s))
   asks_one f x rest false e m = (
     λ t. (let z : false ≡ true = t in cc),
-    λ goes h s.
-        let skipped : (goes ≡ false) × (h ≡ f) =
-        subst (λ (b : Bool). MatchBool b (calls f x.details goes h) ((goes ≡ false) × (h ≡ f)))
-        (sym e) s in
-        subst (λ (k : F). MayAsk takes calls k (details_of (candidates is_dead rest)))
-        (sym skipped.1) m,
+    λ goes h s. (let skipped : (goes ≡ false) × (h ≡ f) = rw (sym e) at s in rw skipped.1 m),
   )
 
   sweeps_one : (f : F) (i : ℕ) (cell : Option (Occupant T)) (rest : List (Option (Occupant T)))
@@ -95,12 +75,7 @@ module _ {F T : Type 0} (takes : F → T → Type 0) (calls : F → T → Bool �
       → TakesDead takes is_dead f cell
       × ((goes : Bool) (h : F) → SweptCell calls is_dead f cell goes h
       → MayAsk takes calls h (details_of (candidates is_dead (entries_from (i + 1) rest))))
-  sweeps_one f i None rest m = (
-    tt,
-    λ goes h s. subst
-        (λ (k : F). MayAsk takes calls k
-        (details_of (candidates is_dead (entries_from (i + 1) rest)))) (sym s.1) m,
-  )
+  sweeps_one f i None rest m = (tt, λ goes h s. rw s.1 m)
   sweeps_one f i (Some o) rest m =
       asks_one f (record { slot = i; ticket = o.ticket; details = o.details })
       (entries_from (i + 1) rest) (is_dead o.details) refl m
@@ -109,10 +84,7 @@ module _ {F T : Type 0} (takes : F → T → Type 0) (calls : F → T → Bool �
       (cell : Option (Occupant T)) → slice_get cells i ≡ Some cell
       → MayAsk takes calls f (candidates_from is_dead i cells) → TakesDead takes is_dead f cell
   sweep_comes_to f cells i cell is m =
-      (sweeps_one f i cell (drop (suc i) cells)
-      (subst (λ (cs : List (Option (Occupant T))). MayAsk takes calls f
-      (details_of (candidates is_dead (entries_from i cs))))
-      (drop_one cells i cell is) m)).0
+      (sweeps_one f i cell (drop (suc i) cells) (rw (drop_one cells i cell is) at m)).0
 
   pub sweep_goes_on : (f h : F) (cells : List (Option (Occupant T))) (i : ℕ)
       (cell : Option (Occupant T)) (goes : Bool) → slice_get cells i ≡ Some cell
@@ -120,13 +92,9 @@ module _ {F T : Type 0} (takes : F → T → Type 0) (calls : F → T → Bool �
       → MayAsk takes calls f (candidates_from is_dead i cells)
       → MayAsk takes calls h (candidates_from is_dead (i + 1) cells)
   sweep_goes_on f h cells i cell goes is s m =
-      subst (λ (n : ℕ). MayAsk takes calls h
-      (details_of (candidates is_dead (entries_from (i + 1) (drop n cells)))))
-      (sym (add-one i))
-      ((sweeps_one f i cell (drop (suc i) cells)
-      (subst (λ (cs : List (Option (Occupant T))). MayAsk takes calls f
-      (details_of (candidates is_dead (entries_from i cs))))
-      (drop_one cells i cell is) m)).1 goes h s)
+      rw (add-one i)
+      (rw (add-one i) at
+      ((sweeps_one f i cell (drop (suc i) cells) (rw (drop_one cells i cell is) at m)).1 goes h s))
 
 -- a sweep that passes over cells of other nodes
 module _ {F T : Type 0} (takes : F → T → Type 0) (calls : F → T → Bool → F → Type 0) (node : T → ℕ)

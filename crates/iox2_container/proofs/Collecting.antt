@@ -6,7 +6,6 @@ use Rattle.iox2_texts.specs.declared.bounded.callback_progression.CallbackProgre
 use Rattle.iox2_texts.specs.declared.bounded.callback_progression.CallbackProgression.TheVariants.{Continue, Stop}
 use Rattle.iox2_texts.specs.Attribute.{Visits}
 use Rattle.iox2_container.specs.Callbacks.{CanVisit}
-use Rattle.iox2_container.specs.State.{Entry}
 use Rattle.iox2_container.specs.Steps.{Asked, Visit}
 use Rattle.iox2_container.proofs.Callable.{CanVisit-by}
 

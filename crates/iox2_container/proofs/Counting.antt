@@ -1,10 +1,11 @@
 -- How many entries a test holds of.
-use Rattle.std.proofs.Common.{◌≡◌, ℕ, zero, suc, ◌+◌, ◌≤◌, ◌<◌, Bool, true, false, Option, Some, None, List, [], ◌∷◌, ◌++◌, length, take, refl, sym, ◌∙◌, ap, subst, arith, add-one, inl, inr}
+use Rattle.std.proofs.Common.{◌≡◌, ℕ, zero, suc, ◌+◌, ◌≤◌, ◌<◌, Bool, true, false, Option, Some, None, List, [], ◌∷◌, ◌++◌, length, take, refl, sym, ◌∙◌, ap, arith, add-one, inl, inr}
 use Rattle.std.specs.Prelude.{All, if◌then◌else◌, nat_lt, not, slice_get, ◌&&◌}
 use Rattle.std.proofs.lemmas.List.{append-nil}
 use Rattle.std.proofs.lemmas.List.Elements.{All-nil, All-cons}
 use Rattle.iox2_container.specs.declared.container.slots.cell.Occupant.{Occupant}
-use Rattle.std.proofs.lemmas.Bool.{lt-ltb, le-ltb, cases_order}
+use Rattle.std.proofs.lemmas.Bool.{lt-ltb, le-ltb}
+use Rattle.std.proofs.lemmas.Bool.Decides.{leb_tells}
 use Rattle.iox2_container.specs.Passes.{AreOthers, PlaceIsOf, cell_is_of}
 use Rattle.iox2_container.specs.Places.{NoneFrom, entries_from}
 use Rattle.iox2_container.specs.State.{Entry}
@@ -103,31 +104,14 @@ none_counted node id (suc n) cells others =
       none_counted node id n cells (λ k l h. others k l (omega arith)),
     )
 
--- one place more
-pub others_more : {T : Type 0} (node : T → ℕ) (id from i : ℕ) (cells : List (Option (Occupant T)))
-    (b : Bool) → AreOthers node id cells from i → PlaceIsOf node id cells i b → b ≡ false
-    → AreOthers node id cells from (i + 1)
-others_more node id from i cells b others is miss k l h =
-    elim (cases_order k i) as (λ _. PlaceIsOf node id cells k false) [
-      | inl e ↦ subst (λ (n : ℕ). PlaceIsOf node id cells n false) (sym e)
-          (is.0, is.1, sym miss ∙ is.2)
-      | inr v ↦ (elim v as (λ _. PlaceIsOf node id cells k false) [
-        | inl less ↦ others k l less
-        | inr more ↦ absurd (omega arith)
-      ])
-    ]
-
 -- other places, and more of them
 pub others_join : {T : Type 0} (node : T → ℕ) (id from i j to : ℕ)
     (cells : List (Option (Occupant T))) → AreOthers node id cells from i
     → AreOthers node id cells j to → j ≤ i → AreOthers node id cells from to
 others_join {T} node id from i j to cells before after le k l h =
-    elim (cases_order k i) as (λ _. PlaceIsOf node id cells k false) [
-      | inl e ↦ after k (omega arith) h
-      | inr v ↦ (elim v as (λ _. PlaceIsOf node id cells k false) [
-        | inl less ↦ before k l less
-        | inr more ↦ after k (omega arith) h
-      ])
+    elim (leb_tells i k) as (λ _. PlaceIsOf node id cells k false) [
+      | inl later ↦ after k (omega (arith, later.1)) h
+      | inr less ↦ before k l less.1
     ]
 
 -- one other place
@@ -136,7 +120,15 @@ pub other_at : {T : Type 0} (node : T → ℕ) (id i to : ℕ) (cells : List (Op
     → AreOthers node id cells i to
 other_at node id i to cells b is miss e k l h =
     let at : i ≡ k = omega arith in
-    subst (λ (n : ℕ). PlaceIsOf node id cells n false) at (is.0, is.1, sym miss ∙ is.2)
+    rw (sym at) (is.0, is.1, sym miss ∙ is.2)
+
+-- one place more
+pub others_more : {T : Type 0} (node : T → ℕ) (id from i : ℕ) (cells : List (Option (Occupant T)))
+    (b : Bool) → AreOthers node id cells from i → PlaceIsOf node id cells i b → b ≡ false
+    → AreOthers node id cells from (i + 1)
+others_more node id from i cells b others is miss =
+    others_join node id from i i (i + 1) cells others
+    (other_at node id i (i + 1) cells b is miss refl) (omega arith)
 
 -- a search finds whether some entry is the node's
 pub found_is : {T : Type 0} (node : T → ℕ) (id end at : ℕ) (cells : List (Option (Occupant T)))
@@ -144,21 +136,15 @@ pub found_is : {T : Type 0} (node : T → ℕ) (id end at : ℕ) (cells : List (
     → (at < end → PlaceIsOf node id cells at true)
     → nat_lt at end ≡ nat_lt 0 (counted (is_of node id) (entries_from 0 cells))
 found_is {T} node id end at cells within free others found =
-    elim (cases_order at end) as
+    elim (leb_tells end at) as
     (λ _. nat_lt at end ≡ nat_lt 0 (counted (is_of node id) (entries_from 0 cells))) [
-      | inl e ↦
+      | inl later ↦
+          let same : at ≡ end = omega (arith, later.1) in
           let all : counted (is_of node id) (entries_from 0 cells) ≡ 0 =
           ap (counted (is_of node id)) (sym (all_before 0 end cells free))
-          ∙ (ap (λ (n : ℕ). counted (is_of node id) (entries_from 0 (take n cells))) (sym e)
-          ∙ none_counted node id at cells others) in
-          le-ltb at end (omega arith) ∙ ap (nat_lt 0) (sym all)
-      | inr v ↦
-          (elim v as
-          (λ _. nat_lt at end ≡ nat_lt 0 (counted (is_of node id) (entries_from 0 cells))) [
-            | inl less ↦ lt-ltb at end less
-                ∙ sym (some_counted node id at cells true (found less) refl)
-            | inr more ↦ absurd (omega arith)
-          ])
+          ∙ (rw (sym same) (none_counted node id at cells others)) in
+          le-ltb at end (omega (arith, later.1)) ∙ ap (nat_lt 0) (sym all)
+      | inr less ↦ lt-ltb at end less.1 ∙ sym (some_counted node id at cells true (found less.1) refl)
     ]
 
 -- one entry more

@@ -15,6 +15,7 @@ use Rattle.iox2_container.specs.Steps.{leaving, staying, Leaves, Enters, Recover
 use Rattle.iox2_container.specs.Histories.{IsRecoveryChange, Change, ChangeStep, History, IsNew, TakesOut, Remains, IsRefused, handles_given, handle_given_by}
 use Rattle.iox2_container.specs.Histories.Change.{Adding, Removing, Recovering}
 use Rattle.iox2_container.proofs.Members.{Among, of_all, moved, among_contained, contains_among, first_or_other, gained, among_more, among_less, without, DifferBy, other_differs}
+use Rattle.iox2_container.proofs.Keeping.{new_is_registry}
 use Rattle.iox2_container.proofs.Growing.{grows_add, grows_remove, grows_recover}
 use Rattle.iox2_container.proofs.Leaving.{stays_among, leaves_among, stays_or_leaves, stays_apart}
 
@@ -62,20 +63,17 @@ held_in : {T : Type 0} (old : RegistryState T) (es : List (Entry T)) (locked : B
     (new : RegistryState T) (handle : Handle) (details : T)
     → new ≡ record old { entries = es; locked = locked; used = used } → IsHeld new handle details
     → (x : Entry T) × Among x es × (handle ≡ handle_of old x) × (details ≡ x.details)
-held_in {T} old es locked used new handle details e h =
-    subst (λ (r : RegistryState T). IsHeld r handle details) e h
+held_in old es locked used new handle details e h = rw e at h
 
 holds : {T : Type 0} (old : RegistryState T) (es : List (Entry T)) (locked : Bool) (used : ℕ)
     (new : RegistryState T) (handle : Handle) (details : T)
     → new ≡ record old { entries = es; locked = locked; used = used } → (x : Entry T) × Among x es
     × (handle ≡ handle_of old x) × (details ≡ x.details) → IsHeld new handle details
-holds {T} old es locked used new handle details e h =
-    subst (λ (r : RegistryState T). IsHeld r handle details) (sym e) h
+holds old es locked used new handle details e h = rw e h
 
 held_still : {T : Type 0} (old new : RegistryState T) (handle : Handle) (details : T) → new ≡ old
     → IsHeld old handle details → IsHeld new handle details
-held_still {T} old new handle details e h =
-    subst (λ (r : RegistryState T). IsHeld r handle details) (sym e) h
+held_still old new handle details e h = rw e h
 
 -- what is held after a change was held before it and stayed, or was added
 abbrev Follows : {T : Type 0} → RegistryState T → Change T → Handle → T → Type 0
@@ -114,7 +112,8 @@ held_after {T} old mid (Removing key mode (Ok state)) handle details w s h =
           ∙ (slot_of handle key t ∙ slot_of key (handle_of old l.0) l.1)),
     )
 held_after {T} old mid (Recovering is_dead marked went mode state) handle details w s h =
-    let k = held_in old (staying is_dead marked old.entries) _ old.used mid handle details s.0.0 h in
+    let k =
+    held_in old (staying is_dead marked old.entries) _ old.used mid handle details s.0.0 h in
     inl (
       (k.0, stays_among is_dead marked old.entries k.0 k.1, k.2, k.3),
       λ t.
@@ -225,24 +224,6 @@ added_at_end old new [] later handle details s f =
     held_at_end s.0 new later handle details s.3 (held_new old s.0 handle details s.1) f
 added_at_end old new (c ∷ cs) later handle details s f =
     added_at_end s.0 new cs later handle details s.3 f
-
-pub new_is_registry : {T : Type 0} (r : RegistryState T) → IsNew r → IsRegistry r
-new_is_registry {T} r n = record {
-  slots_rise =
-      subst (λ (es : List (Entry T)). AllPairs (λ v w. v.slot < w.slot) es) (sym n.0)
-      (λ i j d h k. absurd (omega arith));
-  slots_below =
-      subst (λ (es : List (Entry T)). All (λ w. w.slot < r.capacity) es) (sym n.0)
-      (λ k d h. absurd (omega arith));
-  tickets_differ =
-      subst (λ (es : List (Entry T)). AllPairs (λ v w. v.ticket ≢ w.ticket) es) (sym n.0)
-      (λ i j d h k. absurd (omega arith));
-  tickets_used =
-      subst (λ (es : List (Entry T)). All (λ w. w.ticket < r.used) es) (sym n.0)
-      (λ k d h. absurd (omega arith));
-  budget_kept = (let u : r.used ≡ 0 = n.2 in omega arith);
-  locked_is_empty = λ t. n.0;
-}
 
 pub what_remains : {T : Type 0} (start now : RegistryState T) (changes : List (Change T))
     (handle : Handle) (details : T) → IsNew start → History start changes now

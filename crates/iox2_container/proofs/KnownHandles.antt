@@ -46,7 +46,7 @@ grows_given : {T : Type 0} (old new : ContainerState T) (given : Option Handle) 
 grows_given {T} old new None mode reply s =
     grows_same old.registry new.registry (ap (λ (c : ContainerState T). c.registry) s.1)
 grows_given old new (Some handle) mode reply s =
-    grows_remove old.registry handle mode s.0 new.registry s.1.step
+    grows_remove old.registry handle mode s.result new.registry s.step.step
 
 abbrev pub KnowsGiven : {T : Type 0} → RegistryState T → Option Handle → Type 0
 KnowsGiven r None = ⊤
@@ -98,7 +98,8 @@ knows_given : {T : Type 0} (old new : ContainerState T) (given : Option Handle) 
     → KnowsGiven new.registry (given_by reply)
 knows_given old new None mode reply s = knows_reply new.registry reply Reply.NoHandle s.0 tt
 knows_given {T} old new (Some handle) mode reply s =
-    knows_reply new.registry reply (reply_of_remove s.0) s.2 (knows_removed new.registry s.0)
+    knows_reply new.registry reply (reply_of_remove s.result) s.reply_is
+    (knows_removed new.registry s.result)
 
 -- what a call does for the handles that were given
 record Goes {T : Type 0} (old new : RegistryState T) (reply : RegistryReply T) : Type 0 where
@@ -111,9 +112,9 @@ goes_on : {T : Type 0} (node number : T → ℕ) (old : ContainerState T)
     → CallStep node number old earlier call reply new → Goes old.registry new.registry reply
 goes_on node number old earlier (Call.Add d) reply new w s =
     record {
-      grows = grows_add old.registry d s.0 new.registry s.1.step;
-      knows = knows_reply new.registry reply (reply_of_add s.0) s.2
-          (knows_added old.registry new.registry d s.0 w s.1.step);
+      grows = grows_add old.registry d s.result new.registry s.step.step;
+      knows = knows_reply new.registry reply (reply_of_add s.result) s.reply_is
+          (knows_added old.registry new.registry d s.result w s.step.step);
     }
 goes_on node number old earlier (Call.Remove k mode) reply new w s =
     record {
@@ -123,16 +124,16 @@ goes_on node number old earlier (Call.Remove k mode) reply new w s =
 goes_on node number old earlier (Call.Recover dead keys mode) reply new w s =
     record {
       grows =
-          grows_recover (is_of node dead) s.1.step.marked old.registry mode s.0 new.registry
-          s.1.step.recovers;
-      knows = knows_reply new.registry reply (Reply.State s.0) s.2 tt;
+          grows_recover (is_of node dead) s.step.step.marked old.registry mode s.result new.registry
+          s.step.step.recovers;
+      knows = knows_reply new.registry reply (Reply.State s.result) s.reply_is tt;
     }
 goes_on {T} node number old earlier Call.List reply new w s =
     record {
       grows = grows_same old.registry new.registry
-          (ap (λ (c : ContainerState T). c.registry) s.3);
+          (ap (λ (c : ContainerState T). c.registry) s.step.1);
       knows =
-          knows_reply new.registry reply (Reply.Entries s.0) s.2 tt;
+          knows_reply new.registry reply (Reply.Entries s.result) s.reply_is tt;
     }
 goes_on {T} node number old earlier Call.Len reply new w s =
     record {

@@ -49,7 +49,8 @@ staying_by {T} is_dead answer marked (e ∷ es) a =
     (elim (is_dead e.details) as
     (λ b. map (λ v. marked v.slot) (if b then e ∷ asked else asked)
     ≡ map answer (details_of (if b then e ∷ asked else asked))
-    → (if not (b && marked e.slot) then e ∷ staying is_dead marked es else staying is_dead marked es)
+    → (if not (b && marked e.slot) then e
+    ∷ staying is_dead marked es else staying is_dead marked es)
     ≡ (if not (b && answer e.details) then e ∷ left else left)) [
       | true ↦ λ a.
           let first : marked e.slot ≡ answer e.details = (cc) in

@@ -1,5 +1,5 @@
 -- Callbacks that are asked in turn, seen through another state or with other details.
-use Rattle.std.proofs.Common.{◌≡◌, ℕ, Bool, List, [], ◌∷◌, map, length, refl, sym, ◌∙◌, ap, subst, inl, inr}
+use Rattle.std.proofs.Common.{◌≡◌, ℕ, Bool, List, [], ◌∷◌, map, refl, sym, ◌∙◌, ap, subst, inl, inr}
 use Rattle.std.specs.Prelude.{not, ◌&&◌}
 use Rattle.std.proofs.lemmas.Simd.{map-map}
 use Rattle.std.proofs.lemmas.List.{length-map, map-id}
@@ -12,7 +12,7 @@ use Rattle.iox2_container.specs.declared.container.release.ReleaseState.{Release
 use Rattle.iox2_container.specs.Changes.{RecoversBy}
 use Rattle.iox2_container.specs.ContainerState.{ContainerState}
 use Rattle.iox2_container.specs.State.{Entry, RegistryState}
-use Rattle.iox2_container.specs.Steps.{Asked, Visit, RecoverStep, marks_of, asked_about, candidates, is_leaving, lock_after, staying}
+use Rattle.iox2_container.specs.Steps.{Asked, Visit, RecoverStep, marks_of, asked_about, candidates, is_leaving, staying}
 use Rattle.iox2_container.specs.Mapped.{entry_as, registry_as}
 use Rattle.iox2_container.proofs.ListEdits.{filter-map}
 use Rattle.iox2_container.proofs.Mapped.{candidates-as, listed-as}

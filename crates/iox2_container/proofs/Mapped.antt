@@ -1,5 +1,5 @@
 -- What a call does, it does with other details too.
-use Rattle.std.proofs.Common.{◌≡◌, ◌≢◌, ℕ, ◌<◌, Bool, length, Result, Ok, Err, List, [], ◌∷◌, map, refl, sym, ◌∙◌, ap, arith}
+use Rattle.std.proofs.Common.{◌≡◌, ◌≢◌, ℕ, ◌<◌, Bool, length, Result, Ok, Err, List, [], ◌∷◌, map, sym, ◌∙◌, ap, arith}
 use Rattle.std.specs.Prelude.{◌==◌, AllPairs}
 use Rattle.std.proofs.lemmas.List.{map-append, length-map}
 use Rattle.std.proofs.lemmas.List.Elements.{All-map, filter_agree}

@@ -4,6 +4,7 @@ use Rattle.std.specs.Prelude.{All, AllPairs, filter}
 use Rattle.std.proofs.lemmas.List.Elements.{All-head, All-tail}
 use Rattle.iox2_container.specs.State.{Entry}
 use Rattle.iox2_container.specs.Steps.{InsertsOne}
+use Rattle.iox2_container.proofs.CellEntries.{gains_later}
 use Rattle.iox2_container.proofs.Gaining.{AllPairs-head, AllPairs-tail}
 
 -- x is in the list
@@ -57,22 +58,17 @@ among_cut {X} (z ∷ b) a x y (inr h) =
 -- the entry that was gained, the others, and no third
 pub gained : {T : Type 0} (old new : List (Entry T)) (x : Entry T) → InsertsOne old new x
     → Among x new
-gained old new x g =
-    moved x (g.before ++ x ∷ g.after) new (sym g.new_is) (among_put_self g.before g.after x)
+gained old new x g = rw g.new_is (among_put_self g.before g.after x)
 
 pub among_more : {T : Type 0} (old new : List (Entry T)) (x y : Entry T) → InsertsOne old new x
     → Among y old → Among y new
 among_more old new x y g h =
-    moved y (g.before ++ x ∷ g.after) new (sym g.new_is)
-    (among_put g.before g.after x y (moved y old (g.before ++ g.after) g.old_is h))
+    rw g.new_is (among_put g.before g.after x y (rw g.old_is at h))
 
 pub among_less : {T : Type 0} (old new : List (Entry T)) (x y : Entry T) → InsertsOne old new x
     → Among y new → Among y old ⊎ (y ≡ x)
 among_less old new x y g h =
-    elim (among_cut g.before g.after x y (moved y new (g.before ++ x ∷ g.after) g.new_is h)) [
-      | inl m ↦ inl (moved y (g.before ++ g.after) old (sym g.old_is) m)
-      | inr e ↦ inr e
-    ]
+    rw g.old_is (among_cut g.before g.after x y (rw g.new_is at h))
 
 -- a list without one of its entries
 pub record Without {T : Type 0} (es : List (Entry T)) (x : Entry T) : Type 0 where
@@ -91,17 +87,9 @@ without {T} (e ∷ es) x (inl p) =
         new_is = ap (λ (y : Entry T). y ∷ es) (sym p);
       };
     }
-without {T} (e ∷ es) x (inr h) =
+without (e ∷ es) x (inr h) =
     let w = without es x h in
-    record {
-      rest = e ∷ w.rest;
-      gains = record {
-        before = e ∷ w.gains.before;
-        after = w.gains.after;
-        old_is = ap (λ (l : List (Entry T)). e ∷ l) w.gains.old_is;
-        new_is = ap (λ (l : List (Entry T)). e ∷ l) w.gains.new_is;
-      };
-    }
+    record { rest = e ∷ w.rest; gains = gains_later w.rest es x e w.gains }
 
 -- entries that differ in their number, which is the slot or the ticket
 abbrev pub DifferBy : {T : Type 0} → (Entry T → ℕ) → List (Entry T) → Type 0
@@ -124,9 +112,8 @@ cut_differs n (z ∷ b) a x y p (inr h) s = cut_differs n b a x y (rest_differ n
 
 pub other_differs : {T : Type 0} (n : Entry T → ℕ) (old new : List (Entry T)) (x y : Entry T)
     → InsertsOne old new x → DifferBy n new → Among y old → n y ≢ n x
-other_differs {T} n old new x y g p h =
-    cut_differs n g.before g.after x y (subst (λ (l : List (Entry T)). DifferBy n l) g.new_is p)
-    (moved y old (g.before ++ g.after) g.old_is h)
+other_differs n old new x y g p h =
+    cut_differs n g.before g.after x y (rw g.new_is at p) (rw g.old_is at h)
 
 -- entries of one ticket are one
 pub one_by_ticket : {T : Type 0} (es v w : List (Entry T)) (x y : Entry T)
@@ -145,8 +132,8 @@ among_cond {X} p true y ys x e (inl q) = inl (q, ap p q ∙ e)
 among_cond p true y ys x e (inr h) = inr h
 among_cond p false y ys x e h = inr h
 
-pub filter_from : {X : Type 0} (p : X → Bool) (xs : List X) (x : X) → Among x (filter p xs) → Among x xs
-    × (p x ≡ true)
+pub filter_from : {X : Type 0} (p : X → Bool) (xs : List X) (x : X) → Among x (filter p xs)
+    → Among x xs × (p x ≡ true)
 filter_from p [] x h = absurd h
 filter_from p (y ∷ ys) x h =
     elim (among_cond p (p y) y (filter p ys) x refl h) [

@@ -1,6 +1,6 @@
 -- What a removal does.
 use Rattle.std.proofs.Common.{◌≡◌, ℕ, zero, suc, ◌+◌, ◌-◌, ◌≤◌, Bool, Option, Some, None, Ok, Err, List, [], ◌∷◌, length, refl, sym, ◌∙◌, ap, subst, arith}
-use Rattle.std.specs.Prelude.{IsTrue, slice_get, slice_set}
+use Rattle.std.specs.Prelude.{IsTrue, slice_set}
 use Rattle.std.proofs.Math.ListN.{length-set}
 use Rattle.iox2_container.specs.declared.container.slots.cell.Occupant.{Occupant}
 use Rattle.iox2_container.specs.declared.container.registry_header.RegistryHeader.{RegistryHeader}
@@ -40,27 +40,19 @@ entry_at handle d = record { slot = handle.slot; ticket = handle.ticket; details
 pub taken_at : {T : Type 0} (cells read : List (Option (Occupant T))) (handle : Handle) (slot : ℕ)
     (d : T) → Finds cells handle (Some d) → read ≡ cells → slot ≡ handle.slot
     → IsTakenAt read slot
-taken_at {T} cells read handle slot d shown r e = (
-  occupant handle.ticket d,
-  ap (λ (cs : List (Option (Occupant T))). slice_get cs slot) r
-      ∙ (ap (slice_get cells) e ∙ shown),
-)
+taken_at cells read handle slot d shown r e = (occupant handle.ticket d, rw r (rw e shown))
 
 -- and it is cleared
 pub cleared : {T : Type 0} (cells read s : List (Option (Occupant T))) (handle : Handle) (slot : ℕ)
     → read ≡ cells → slot ≡ handle.slot → s ≡ slice_set read slot None
     → s ≡ slice_set cells handle.slot None
-cleared {T} cells read s handle slot r e w =
-    w ∙ (ap (λ (cs : List (Option (Occupant T))). slice_set cs slot None) r
-    ∙ ap (λ n. slice_set cells n None) e)
+cleared cells read s handle slot r e w = rw r at (rw e at w)
 
 gains_of_clear : {T : Type 0} (cells s : List (Option (Occupant T))) (handle : Handle) (d : T)
     → Finds cells handle (Some d) → s ≡ slice_set cells handle.slot None
     → InsertsOne (entries_from 0 s) (entries_from 0 cells) (entry_at handle d)
-gains_of_clear {T} cells s handle d shown e =
-    subst (λ (cs : List (Option (Occupant T))). InsertsOne (entries_from 0 cs)
-    (entries_from 0 cells) (entry_at handle d)) (sym e)
-    (gains_clear 0 cells handle.slot (entry_at handle d) shown (omega arith))
+gains_of_clear cells s handle d shown e =
+    rw e (gains_clear 0 cells handle.slot (entry_at handle d) shown (omega arith))
 
 -- an entry goes, so there was one
 pub some_stood : {T : Type 0} (a : RegistryHeader) (cells s : List (Option (Occupant T)))

@@ -1,5 +1,5 @@
 -- Two registries under the same calls.
-use Rattle.std.proofs.Common.{◌≡◌, ℕ, zero, suc, ◌+◌, Bool, true, false, Option, Some, None, Result, Ok, Err, List, [], ◌∷◌, ◌++◌, length, refl, sym, ◌∙◌, ap, subst, arith, inl, inr}
+use Rattle.std.proofs.Common.{◌≡◌, ℕ, zero, suc, ◌+◌, Bool, true, false, Option, Some, None, Result, Ok, Err, List, [], ◌∷◌, ◌++◌, length, refl, sym, ◌∙◌, ap, arith, inl, inr}
 use Rattle.std.specs.Prelude.{not, ◌&&◌, ⊤, All, ◌≢◌}
 use Rattle.std.specs.List.Sorted.{IsPermutation}
 use Rattle.std.proofs.lemmas.List.{length-map}
@@ -23,7 +23,8 @@ use Rattle.iox2_container.proofs.Collecting.{answers_by}
 use Rattle.iox2_container.proofs.Members.{of_all, gained}
 use Rattle.iox2_container.proofs.SameEntries.{AreAmong, same_members, nothing_within, within_after_add, within_after_remove, within_after_filter, passing}
 use Rattle.iox2_container.proofs.Leaving.{staying_by}
-use Rattle.iox2_container.proofs.Histories.{new_is_registry, ticket_of}
+use Rattle.iox2_container.proofs.Histories.{ticket_of}
+use Rattle.iox2_container.proofs.Keeping.{new_is_registry}
 use Rattle.iox2_container.proofs.KnownHandles.{Knows, KnowsGiven, AllKnown, given_by, known_at, known_on}
 
 -- two registries that hold the same
@@ -48,9 +49,7 @@ turned a b l =
 
 alike_still : {T : Type 0} (a b a' b' : RegistryState T) → a' ≡ a → b' ≡ b → SameContents a b
     → SameContents a' b'
-alike_still {T} a b a' b' ea eb l =
-    subst (λ (r : RegistryState T). SameContents r b') (sym ea)
-    (subst (λ (r : RegistryState T). SameContents a r) (sym eb) l)
+alike_still a b a' b' ea eb l = rw ea (rw eb l)
 
 -- one capacity and one ticket budget
 record SameBounds {T : Type 0} (old new : RegistryState T) : Type 0 where
@@ -107,9 +106,7 @@ record Outcome {T : Type 0} (a b : RegistryState T) (reply other : RegistryReply
 
 outcome_by : {T : Type 0} (a b : RegistryState T) (r r' s s' : RegistryReply T) → r ≡ r' → s ≡ s'
     → Outcome a b r' s' → Outcome a b r s
-outcome_by {T} a b r r' s s' e f o =
-    subst (λ (x : RegistryReply T). Outcome a b x s) (sym e)
-    (subst (λ (x : RegistryReply T). Outcome a b r' x) (sym f) o)
+outcome_by a b r r' s s' e f o = rw e (rw f o)
 
 clash : (x y : Bool) → x ≡ y → x ≡ true → y ≡ false → ⊥
 clash x y e t f = (let z : true ≡ false = sym t ∙ (e ∙ f) in cc)
@@ -232,16 +229,14 @@ given_same a b a' b' mode None None r s l v w v' w' e ka kb p q =
 given_same a b a' b' mode None (Some k) r s l v w v' w' e ka kb p q = absurd e
 given_same a b a' b' mode (Some h) None r s l v w v' w' e ka kb p q = absurd e
 given_same {T} a b a' b' mode (Some h) (Some k) r s l v w v' w' e ka kb p q =
-    outcome_by a'.registry b'.registry r (reply_of_remove p.0) s (reply_of_remove q.0) p.2 q.2
-    (remove_same a.registry b.registry a'.registry b'.registry mode h k p.0 q.0 l v w
-    v' w' e ka kb p.1.step q.1.step)
+    outcome_by a'.registry b'.registry r (reply_of_remove p.result) s (reply_of_remove q.result)
+    p.reply_is q.reply_is
+    (remove_same a.registry b.registry a'.registry b'.registry mode h k p.result q.result l v w
+    v' w' e ka kb p.step.step q.step.step)
 
 stay_within : {T : Type 0} (keep : T → Bool) (ea eb ea' eb' : List (Entry T))
     → ea' ≡ passing keep ea → eb' ≡ passing keep eb → AreAmong ea eb → AreAmong ea' eb'
-stay_within {T} keep ea eb ea' eb' e f g =
-    subst (λ (l : List (Entry T)). AreAmong l eb') (sym e)
-    (subst (λ (l : List (Entry T)). AreAmong (passing keep ea) l) (sym f)
-    (within_after_filter keep ea eb g))
+stay_within keep ea eb ea' eb' e f g = rw e (rw f (within_after_filter keep ea eb g))
 
 -- what stays, where the callback says of each candidate what a function says
 left_by : {T : Type 0} (is_dead answer : T → Bool) (old new : RegistryState T)
@@ -311,23 +306,25 @@ call_same : {T : Type 0} (node number : T → ℕ) (a b a' b' : ContainerState T
     → AllKnown b.registry ys → AllAgree xs ys → CallStep node number a xs call r a'
     → CallStep node number b ys call s b' → Outcome a'.registry b'.registry r s
 call_same node number a b a' b' xs ys (Call.Add d) r s l v w v' w' ka kb e p q =
-    outcome_by a'.registry b'.registry r (reply_of_add p.0) s (reply_of_add q.0) p.2 q.2
-    (add_same a.registry b.registry a'.registry b'.registry d p.0 q.0 l v w p.1.step q.1.step)
+    outcome_by a'.registry b'.registry r (reply_of_add p.result) s (reply_of_add q.result)
+    p.reply_is q.reply_is
+    (add_same a.registry b.registry a'.registry b'.registry d p.result q.result l v w p.step.step
+    q.step.step)
 call_same node number a b a' b' xs ys (Call.Remove k mode) r s l v w v' w' ka kb e p q =
     given_same a b a' b' mode (handle_given xs k) (handle_given ys k) r s l v w v' w'
     (agree_at xs ys k e) (known_at a.registry xs k ka) (known_at b.registry ys k kb) p q
 call_same node number a b a' b' xs ys (Call.Recover dead keys mode) r s l v w v' w' ka kb e p q =
     let answer = is_outside number keys.items in
-    outcome_by a'.registry b'.registry r (Reply.State p.0) s (Reply.State q.0) p.2 q.2
-    (recover_same (is_of node dead) answer a.registry b.registry a'.registry b'.registry mode p.0 q.0
-    l v w v' w' p.1.step q.1.step)
-call_same {T} node number a b a' b' xs ys Call.List r s l v w v' w' ka kb e p q =
-    outcome_by a'.registry b'.registry r (Reply.Entries p.0) s (Reply.Entries q.0) p.2 q.2 (record {
-      same = subst (λ (z : List T). IsPermutation z q.0.items) (sym p.1)
-          (subst (λ (z : List T). IsPermutation (listed a.registry) z) (sym q.1)
-          (same_listed a.registry b.registry l.there l.back v w));
-      alike = alike_still a.registry b.registry a'.registry b'.registry (unchanged p.3)
-          (unchanged q.3) l;
+    outcome_by a'.registry b'.registry r (Reply.State p.result) s (Reply.State q.result) p.reply_is
+    q.reply_is
+    (recover_same (is_of node dead) answer a.registry b.registry a'.registry b'.registry mode
+    p.result q.result l v w v' w' p.step.step q.step.step)
+call_same node number a b a' b' xs ys Call.List r s l v w v' w' ka kb e p q =
+    outcome_by a'.registry b'.registry r (Reply.Entries p.result) s (Reply.Entries q.result)
+    p.reply_is q.reply_is (record {
+      same = rw p.step.0 (rw q.step.0 (same_listed a.registry b.registry l.there l.back v w));
+      alike = alike_still a.registry b.registry a'.registry b'.registry (unchanged p.step.1)
+          (unchanged q.step.1) l;
       tickets = tt;
     })
 call_same {T} node number a b a' b' xs ys Call.Len r s l v w v' w' ka kb e p q =

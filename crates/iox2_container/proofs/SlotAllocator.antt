@@ -12,7 +12,7 @@ use Rattle.iox2_container.specs.Cells.{occupant, shown}
 use Rattle.iox2_container.specs.State.{Entry}
 use Rattle.iox2_container.proofs.CellEntries.{gains_write, gains_clear, nothing_stands}
 use Rattle.iox2_container.proofs.Gaining.{length-InsertsOne}
-use Rattle.iox2_container.proofs.FreeList.{taken_apart, threads_kept, threads_freed, cell_free, shown_free, replicate_free, taken_at}
+use Rattle.iox2_container.proofs.FreeList.{threads_free, taken_apart, threads_kept, threads_freed, cell_free, shown_free, replicate_free, taken_at}
 use Rattle.iox2_container.proofs.ListEdits.{get_set_other}
 use Rattle.iox2_container.proofs.ShownCells.{shown_at, shown_set, nothing_shown_yet}
 
@@ -60,47 +60,6 @@ pub record Took {T : Type 0} (cells : List (Linked T)) (slot : ℕ) (l : FreeLis
   pub all_counted : standing cells + 1 + length free ≡ l.fresh
   pub fresh_within : l.fresh ≤ length cells
 
-took_at : {T : Type 0} (cells : List (Linked T)) (l : FreeList) (t : IsFreeList l cells) (slot : ℕ)
-    (m : FreeList) (old : Option ℕ) (free : List ℕ) → standing cells < length cells
-    → LeadsThrough cells old free → All (λ other. other < l.fresh) free
-    → standing cells + length free ≡ l.fresh → TakesFirst cells old l.fresh slot m.head m.fresh
-    → Took cells slot m
-took_at cells l t slot m None (s ∷ slots) room th below counted takes = absurd th
-took_at cells l t slot m (Some h) [] room th below counted takes = absurd th
-took_at {T} cells l t slot m None [] room th below counted takes =
-    let at_fresh : l.fresh < length cells = omega arith in
-    let f : IsFreeAt cells l.fresh =
-    cell_free cells l.fresh at_fresh (t.fresh_are_free l.fresh (omega arith)) in
-    record {
-      at = subst (IsFreeAt cells) (sym takes.0) f;
-      free = [];
-      threads = subst (λ (o : Option ℕ). LeadsThrough cells o []) (sym takes.1) tt;
-      apart = All-nil (λ other. other ≢ slot);
-      used_before = All-nil (λ other. other < m.fresh);
-      before = omega (arith, takes.0, takes.2);
-      fresh_are_free = λ other n. t.fresh_are_free other (omega (arith, takes.2));
-      all_counted = omega (arith, takes.2);
-      fresh_within = omega (arith, takes.2);
-    }
-took_at {T} cells l t slot m (Some h) (s ∷ slots) room th below counted takes =
-    let same : slot ≡ s = takes.0 ∙ th.0 in
-    let next : th.2.0 ≡ m.head =
-    (let z : ◌≡◌ {A = Option (Linked T)} (Some (Free th.2.0)) (Some (Free m.head)) = sym th.2.1
-    ∙ (ap (slice_get cells) (sym th.0) ∙ takes.1) in cc) in
-    record {
-      at = (th.2.0, ap (slice_get cells) same ∙ th.2.1);
-      free = slots;
-      threads = subst (λ (o : Option ℕ). LeadsThrough cells o slots) next th.2.2;
-      apart = subst (λ (n : ℕ). All (λ other. other ≢ n) slots) (sym same) th.1;
-      used_before =
-          subst (λ (n : ℕ). All (λ other. other < n) slots) (sym takes.2)
-          (All-tail (λ other. other < l.fresh) s slots below);
-      before = omega (arith, takes.2, All-head (λ other. other < l.fresh) s slots below);
-      fresh_are_free = λ other n. t.fresh_are_free other (omega (arith, takes.2));
-      all_counted = omega (arith, takes.2);
-      fresh_within = omega (arith, takes.2, t.fresh_within);
-    }
-
 -- which slot that was: the one freed last, or the first fresh one
 took_last : {T : Type 0} (cells : List (Linked T)) (head : Option ℕ) (freed : List ℕ)
     (fresh slot : ℕ) (head' : Option ℕ) (fresh' : ℕ) → LeadsThrough cells head freed
@@ -109,22 +68,50 @@ took_last : {T : Type 0} (cells : List (Linked T)) (head : Option ℕ) (freed : 
     × TakesLastFreed freed fresh slot left fresh'
 took_last cells None (s ∷ slots) fresh slot head' fresh' th takes = absurd th
 took_last cells (Some h) [] fresh slot head' fresh' th takes = absurd th
-took_last {T} cells None [] fresh slot head' fresh' th takes = (
-  [],
-  subst (λ (o : Option ℕ). LeadsThrough cells o []) (sym takes.1) tt,
-  All-nil (λ other. other ≢ slot),
-  (takes.0, refl, takes.2),
-)
+took_last cells None [] fresh slot head' fresh' th takes =
+    ([], rw takes.1 tt, All-nil (λ other. other ≢ slot), (takes.0, refl, takes.2))
 took_last {T} cells (Some h) (s ∷ slots) fresh slot head' fresh' th takes =
     let same : slot ≡ s = takes.0 ∙ th.0 in
     let next : th.2.0 ≡ head' =
     (let z : ◌≡◌ {A = Option (Linked T)} (Some (Free th.2.0)) (Some (Free head')) = sym th.2.1
     ∙ (ap (slice_get cells) (sym th.0) ∙ takes.1) in cc) in (
       slots,
-      subst (λ (o : Option ℕ). LeadsThrough cells o slots) next th.2.2,
-      subst (λ (n : ℕ). All (λ other. other ≢ n) slots) (sym same) th.1,
+      rw (sym next) th.2.2,
+      rw same th.1,
       (same, refl, takes.2),
     )
+
+took_by : {T : Type 0} (cells : List (Linked T)) (l : FreeList) (t : IsFreeList l cells) (slot : ℕ)
+    (m : FreeList) (freed left : List ℕ) → standing cells < length cells
+    → All (IsFreeAt cells) freed → All (λ other. other < l.fresh) freed
+    → standing cells + length freed ≡ l.fresh → LeadsThrough cells m.head left
+    → All (λ other. other ≢ slot) left → TakesLastFreed freed l.fresh slot left m.fresh
+    → Took cells slot m
+took_by cells l t slot m [] left room free below counted th apart (at, none, next) =
+    let within : l.fresh < length cells = omega arith in
+    record {
+      at = rw at (cell_free cells l.fresh within (t.fresh_are_free l.fresh (omega arith)));
+      free = left;
+      threads = th;
+      apart = apart;
+      used_before = rw none (All-nil (λ other. other < m.fresh));
+      before = omega (arith, at, next);
+      fresh_are_free = λ other n. t.fresh_are_free other (omega (arith, next));
+      all_counted = omega (arith, next, ap length none);
+      fresh_within = omega (arith, next);
+    }
+took_by cells l t slot m (s ∷ slots) left room free below counted th apart (at, rest, next) =
+    record {
+      at = rw at (All-head (IsFreeAt cells) s slots free);
+      free = left;
+      threads = th;
+      apart = apart;
+      used_before = rw rest (rw next (All-tail (λ other. other < l.fresh) s slots below));
+      before = omega (arith, at, next, All-head (λ other. other < l.fresh) s slots below);
+      fresh_are_free = λ other n. t.fresh_are_free other (omega (arith, next));
+      all_counted = omega (arith, next, ap length rest);
+      fresh_within = omega (arith, next, t.fresh_within);
+    }
 
 pub puts_first : {T : Type 0} (cells s : List (Linked T)) (l : FreeList) (slot : ℕ) (m : FreeList)
     (ticket : ℕ) (d : T) → TakesFirst cells l.head l.fresh slot m.head m.fresh
@@ -132,8 +119,7 @@ pub puts_first : {T : Type 0} (cells s : List (Linked T)) (l : FreeList) (slot :
 puts_first {T} cells s l slot m ticket d takes e freed th =
     let w = took_last cells l.head freed l.fresh slot m.head m.fresh th takes in (
       w.0,
-      subst (λ (cs : List (Linked T)). LeadsThrough cs m.head w.0) (sym e)
-          (threads_kept cells m.head w.0 slot (Taken ticket d) w.2 w.1),
+      rw e (threads_kept cells m.head w.0 slot (Taken ticket d) w.2 w.1),
       w.3,
     )
 
@@ -160,7 +146,9 @@ pub took : {T : Type 0} (cells : List (Linked T)) (l : FreeList) (slot : ℕ) (m
     → IsFreeList l cells → standing cells < length cells
     → TakesFirst cells l.head l.fresh slot m.head m.fresh → Took cells slot m
 took cells l slot m t room takes =
-    took_at cells l t slot m l.head t.free room t.threads t.used_before t.all_counted takes
+    let w = took_last cells l.head t.free l.fresh slot m.head m.fresh t.threads takes in
+    took_by cells l t slot m t.free w.0 room (threads_free cells l.head t.free t.threads)
+    t.used_before t.all_counted w.1 w.2 w.3
 
 -- the taken slot is written
 pub threaded_put : {T : Type 0} (cells s : List (Linked T)) (slot : ℕ) (l : FreeList) (ticket : ℕ)
@@ -168,8 +156,7 @@ pub threaded_put : {T : Type 0} (cells s : List (Linked T)) (slot : ℕ) (l : Fr
 threaded_put {T} cells s slot l ticket d w e = record {
   free = w.free;
   threads =
-      subst (λ (cs : List (Linked T)). LeadsThrough cs l.head w.free) (sym e)
-      (threads_kept cells l.head w.free slot (Taken ticket d) w.apart w.threads);
+      rw e (threads_kept cells l.head w.free slot (Taken ticket d) w.apart w.threads);
   used_before = w.used_before;
   fresh_are_free = λ other n t u q. w.fresh_are_free other n t u
       (sym (get_set_other cells slot other (Taken ticket d) (λ x. omega (arith, w.before)))

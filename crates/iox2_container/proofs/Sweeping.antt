@@ -49,11 +49,10 @@ asked_more : {F T : Type 0} (calls : F → T → Bool → F → Type 0) (f g h :
     → Asked calls f (details_of asked) answers g
     → Asked calls f (details_of (asked ++ (if b then x ∷ [] else [])))
     (answers ++ (if b then goes ∷ [] else [])) h
-asked_more {F} {T} calls f g h asked answers x goes true s a =
-    subst (λ (l : List T). Asked calls f l (answers ++ goes ∷ []) h)
-    (sym (details-append asked (x ∷ [])))
+asked_more calls f g h asked answers x goes true s a =
+    rw (details-append asked (x ∷ []))
     (Asked-push calls f (details_of asked) answers g x.details goes h a s)
-asked_more {F} {T} calls f g h asked answers x goes false s a =
+asked_more calls f g h asked answers x goes false s a =
     rw (append-nil asked) (rw (append-nil answers) (rw s.1 a))
 
 only_candidates : (A B : Type 0) (b goes : Bool) → MatchBool b A ((goes ≡ false) × B)
@@ -102,11 +101,8 @@ swept_more {F} {T} calls is_dead f g h old new gone x goes below s w =
     ]) in
     record {
       marked = marks;
-      asked = subst (λ (l : List (Entry T)). Asked calls f (details_of l)
-          (map (λ e. marks e.slot) l) h)
-          (sym (filter-append (λ (e : Entry T). is_dead e.details) old (x ∷ [])))
-          (subst (λ l. Asked calls f (details_of (asked ++ (if b then x ∷ [] else []))) l h)
-          (sym answers_are) (asked_more calls f g h asked answers x goes b s w.asked));
+      asked = rw (filter-append (λ (e : Entry T). is_dead e.details) old (x ∷ []))
+          (rw answers_are (asked_more calls f g h asked answers x goes b s w.asked));
       left_is = ap (λ (l : List (Entry T)). l ++ (if goes then [] else x ∷ [])) w.left_is
           ∙ sym (filter-append stays old (x ∷ [])
           ∙ (ap (λ l. l ++ filter stays (x ∷ []))
@@ -168,7 +164,8 @@ swept_cell {F} {T} calls is_dead f g h cs m i gone (Some o) goes is im a w =
     (swept_more calls is_dead f g h (entries_from 0 (take i cs)) (entries_from 0 (take i m)) gone x
     goes (below_taken i cs) a w))
 swept_cell {F} {T} calls is_dead f g h cs m i gone None goes is im a w =
-    rw a.0 (rw a.1 (rw (taken_free 0 i cs is) (rw (taken_free 0 i m im) (rw (sym (add_zero gone)) w))))
+    rw a.0
+    (rw a.1 (rw (taken_free 0 i cs is) (rw (taken_free 0 i m im) (rw (sym (add_zero gone)) w))))
 
 -- nothing is swept yet
 pub swept_none : {F T : Type 0} (calls : F → T → Bool → F → Type 0) (is_dead : T → Bool) (f : F)
@@ -184,21 +181,16 @@ pub sweeps_more : {F T : Type 0} (calls : F → T → Bool → F → Type 0) (is
     × SweptCell calls is_dead g cell goes h
     → n ≡ (if goes then slice_set m i None else m) → gone' ≡ gone + (if goes then 1 else 0)
     → Sweeps calls is_dead f cs i g m gone → Sweeps calls is_dead f cs (i + 1) h n gone'
-sweeps_more {F} {T} calls is_dead f g h cs m n i gone gone' goes same s en eg w =
-    subst (λ (k : ℕ). Sweeps calls is_dead f cs k h n gone') (sym (add-one i))
-    (subst (λ (l : List (Option (Occupant T))). Sweeps calls is_dead f cs (suc i) h l gone')
-    (sym en)
-    (subst (λ (k : ℕ). Sweeps calls is_dead f cs (suc i) h
-    (if goes then slice_set m i None else m) k) (sym eg)
-    (swept_cell calls is_dead f g h cs m i gone s.0 goes (sym same ∙ s.1) s.1 s.2 w)))
+sweeps_more calls is_dead f g h cs m n i gone gone' goes same s en eg w =
+    rw (add-one i)
+    (rw en
+    (rw eg (swept_cell calls is_dead f g h cs m i gone s.0 goes (sym same ∙ s.1) s.1 s.2 w)))
 
 pub other_swept : {F T : Type 0} (calls : F → T → Bool → F → Type 0) (node : T → ℕ) (id : ℕ) (g : F)
     (cell : Option (Occupant T)) → false ≡ cell_is_of node id cell
     → SweptCell calls (is_of node id) g cell false g
 other_swept calls node id g None e = (refl, refl)
-other_swept calls node id g (Some o) e =
-    subst (λ (b : Bool). MatchBool b (calls g o.details false g) ((false ≡ false) × (g ≡ g))) e
-    (refl, refl)
+other_swept calls node id g (Some o) e = rw (sym e) (refl, refl)
 
 sweeps_over : {F T : Type 0} (calls : F → T → Bool → F → Type 0) (node : T → ℕ) (id : ℕ) (f g : F)
     (cs m : List (Option (Occupant T))) (i n gone : ℕ)

@@ -50,13 +50,19 @@ abbrev pub reply_of_remove : {T : Type 0} → Result ReleaseState ContainerRemov
 reply_of_remove (Ok state) = Reply.State state
 reply_of_remove (Err e) = Reply.NotOwned
 
+-- a step was taken, and the reply tells what came of it
+pub record Tells {T R : Type 0} (Step : R → Type 0) (told : R → RegistryReply T)
+    (reply : RegistryReply T) : Type 0 where
+  pub result : R
+  pub step : Step result
+  pub reply_is : reply ≡ told result
+
 -- a removal by the handle that an earlier call gave, if it gave one
 abbrev pub RemoveGiven : {T : Type 0} → ContainerState T → Option Handle → ReleaseMode
     → RegistryReply T → ContainerState T → Type 0
 RemoveGiven old None mode reply new = (reply ≡ Reply.NoHandle) × (new ≡ old)
 RemoveGiven old (Some handle) mode reply new =
-    (result : Result ReleaseState ContainerRemoveError) × Removes old handle mode result new
-    × (reply ≡ reply_of_remove result)
+    Tells (λ result. Removes old handle mode result new) reply_of_remove reply
 
 -- what a registry may reply to a call, after it gave the
 -- earlier replies, and how often it touches its slots
@@ -64,16 +70,15 @@ abbrev pub CallStep : {T : Type 0} → (T → ℕ) → (T → ℕ)
     → ContainerState T → List (RegistryReply T) → RegistryCall T → RegistryReply T
     → ContainerState T → Type 0
 CallStep node number old earlier (Call.Add details) reply new =
-    (result : Result Handle ContainerAddFailure) × Adds old details result new
-    × (reply ≡ reply_of_add result)
+    Tells (λ result. Adds old details result new) reply_of_add reply
 CallStep node number old earlier (Call.Remove k mode) reply new =
     RemoveGiven old (handle_given earlier k) mode reply new
 CallStep node number old earlier (Call.Recover dead keys mode) reply new =
-    (state : ReleaseState) × RecoversBut (is_of node dead) number keys.items old mode state new
-    × (reply ≡ Reply.State state)
+    Tells (λ state. RecoversBut (is_of node dead) number keys.items old mode state new)
+    (λ state. Reply.State state) reply
 CallStep {T} node number old earlier Call.List reply new =
-    (entries : Vec T) × (entries.items ≡ listed old.registry) × (reply ≡ Reply.Entries entries)
-    × (new ≡ old)
+    Tells (λ (entries : Vec T). (entries.items ≡ listed old.registry) × (new ≡ old))
+    (λ entries. Reply.Entries entries) reply
 CallStep node number old earlier Call.Len reply new =
     (reply ≡ Reply.Count (length old.registry.entries)) × (new ≡ old)
 

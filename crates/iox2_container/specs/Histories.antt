@@ -7,7 +7,7 @@ use Rattle.iox2_container.specs.declared.container.refusal.ContainerRemoveError.
 use Rattle.iox2_container.specs.declared.container.release.ReleaseMode.{ReleaseMode}
 use Rattle.iox2_container.specs.declared.container.release.ReleaseState.{ReleaseState}
 use Rattle.iox2_container.specs.Handle.{Handle}
-use Rattle.iox2_container.specs.State.{Entry, RegistryState, IsRegistry, handle_of}
+use Rattle.iox2_container.specs.State.{RegistryState, IsRegistry, handle_of}
 use Rattle.iox2_container.specs.Steps.{AddStep, RemoveStep, Recovers, HasEntry, Asked, asked_about, marks_of, leaving}
 
 -- a change that was asked for, and what came of it

@@ -1,5 +1,4 @@
 -- Callbacks that may be shown the ports of a role.
-use Rattle.std.proofs.Common.{true, false, Bool, sym, subst, inl, inr}
 use Rattle.std.specs.Fn.{Mut, CalledAt, TakesAt}
 use denote.Ref.{Bor}
 use denote.Param.Always.{always_mut}
@@ -8,7 +7,7 @@ use Rattle.iox2_container.specs.declared.container.role.Role.{Role}
 use Rattle.iox2_container.specs.Steps.{listed}
 use Rattle.iox2_container.proofs.Callable.{callbacks as container_callbacks, CanVisit-from_total, CanVisit-from_always, always_after_Visit}
 use Rattle.iox2_dynamic.specs.declared.dynamic_config.port_details.PortDetails.{PortDetails}
-use Rattle.iox2_dynamic.specs.Ports.{Ports, CanListIn, ListsIn}
+use Rattle.iox2_dynamic.specs.Ports.{Ports, CanListIn}
 
 pub CanListIn-from_total : {F : Type 0} {takes : F → PortDetails → Type 0} {calls : F → PortDetails
     → CallbackProgression → F → Type 0} {a b : Role} {p : Ports} {role : Role} {f : F}
@@ -24,15 +23,6 @@ CanListIn-from_always g a b p role f m =
       first = λ e. CanVisit-from_always g f (listed p.first.registry) m;
       second = λ e. CanVisit-from_always g f (listed p.second.registry) m;
     }
-
-pub always_after_ListsIn : {F : Type 0} (g : Mut F (Bor PortDetails × Unit {0}) CallbackProgression)
-    (a b : Role) (p : Ports) (role : Role) (f : F) (told : Bool) (h : F) → always_mut g f
-    → ListsIn (CalledAt g) a b p role f told h → always_mut g h
-always_after_ListsIn g a b p role f false h m l = subst (always_mut g) (sym l.1) m
-always_after_ListsIn g a b p role f true h m (inl l) =
-    always_after_Visit g f (listed p.first.registry) h m l.1
-always_after_ListsIn g a b p role f true h m (inr l) =
-    always_after_Visit g f (listed p.second.registry) h m l.1
 
 -- what a caller's proofs need whose callback may
 -- always be called: to be named by `using` on a crate

@@ -6,7 +6,7 @@ use Rattle.iox2_container.specs.declared.container.role.Role.{Role}
 use Rattle.iox2_container.specs.declared.container.role.Role.TheVariants as role
 use Rattle.iox2_container.specs.ContainerState.{ContainerState, fresh}
 use Rattle.iox2_container.specs.State.{Entry, RegistryState, IsRegistry}
-use Rattle.iox2_container.proofs.Histories.{new_is_registry}
+use Rattle.iox2_container.proofs.Keeping.{new_is_registry}
 use Rattle.iox2_dynamic.specs.declared.dynamic_config.port_details.PortDetails.{PortDetails}
 use Rattle.iox2_dynamic.specs.Details.{node_of}
 use Rattle.iox2_dynamic.specs.Ports.{Ports}

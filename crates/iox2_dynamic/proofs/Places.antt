@@ -1,5 +1,5 @@
 -- A change of one of the two registries is one of the ports.
-use Rattle.std.proofs.Common.{◌≡◌, Result, refl, inl, inr}
+use Rattle.std.proofs.Common.{◌≡◌, Result, refl, inl}
 use Rattle.iox2_container.specs.declared.container.refusal.ContainerAddFailure.{ContainerAddFailure}
 use Rattle.iox2_container.specs.declared.container.refusal.ContainerRemoveError.{ContainerRemoveError}
 use Rattle.iox2_container.specs.declared.container.release.ReleaseMode.TheVariants.{Default}

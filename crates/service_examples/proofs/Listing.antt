@@ -9,7 +9,7 @@ use Rattle.iox2_container.specs.Callbacks.{CanVisit}
 use Rattle.iox2_container.specs.Steps.{Visit, listed}
 use Rattle.iox2_container.proofs.Collecting.{CanVisit-collecting, collects, all_pass, passes_all}
 use Rattle.iox2_dynamic.specs.declared.dynamic_config.port_details.PortDetails.{PortDetails}
-use Rattle.iox2_dynamic.specs.Ports.{CanListIn, ListsIn}
+use Rattle.iox2_dynamic.specs.Ports.{ListsIn}
 use Rattle.iox2_dynamic.specs.Service.{Service, first_role, second_role}
 use Rattle.iox2_dynamic.proofs.Rooms.{roles_differ}
 use Rattle.service_examples.specs.declared.discovery.Member.{Member}

@@ -1,4 +1,4 @@
-use Rattle.std.proofs.Common.{◌≡◌, ◌∙◌, ◌+◌, ◌≤◌, List, [], ◌++◌, ap, rules, subst, arith, length}
+use Rattle.std.proofs.Common.{◌≡◌, ◌∙◌, List, [], ◌++◌, ap, rules, subst}
 use Rattle.std.specs.Prelude.{IsPermutation}
 use Rattle.std.specs.List.Sorted.{IsStableByKey}
 use Rattle.std.specs.Ordering.{nat_cmp}
@@ -6,7 +6,6 @@ use Rattle.std.proofs.lemmas.List.Sorted.{IsNonDecreasingBy-from_sort_by_key, an
 use Rattle.iox2_dynamic.specs.Service.{first_role, second_role}
 use Rattle.service_examples.specs.declared.discovery.Member.{Member}
 use Rattle.service_examples.specs.Members.{members_of, node_of_member, nodes_in, ports_in}
-use Rattle.service_examples.proofs.Listing.{members_counted}
 use Rattle.service_examples.proofs.discovery.list_attached.Goals as goal
 
 pub returns-clause-listed : goal.returns-clause-listed

@@ -1,4 +1,4 @@
-use Rattle.std.proofs.Common.{rules, arith, length, map}
+use Rattle.std.proofs.Common.{rules}
 use Rattle.std.proofs.lemmas.List.{length-map}
 use Rattle.iox2_container.specs.Steps.{listed}
 use Rattle.service_examples.specs.declared.discovery.Member.TheVariants.{Node, Port}

@@ -9,4 +9,8 @@ returns-in_ok-entries-in-List-clause-step g c =
     let registry = g.R.Registry.state c.args.registry.now in
     subst (λ call. CallStep g.T.Attached.node g.T.Attached.number registry c.args.earlier.now call
     (Entries entries) registry) (sym c.in-List.is)
-    (entries, c.in_ok-entries-in-List.ensures.listed, refl, refl)
+    (record {
+      result = entries;
+      step = (c.in_ok-entries-in-List.ensures.listed, refl);
+      reply_is = refl;
+    })

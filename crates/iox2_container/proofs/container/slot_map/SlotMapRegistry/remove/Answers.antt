@@ -48,8 +48,9 @@ returns-in-Some-clause-removes g c =
       step = subst (λ (a : RegistryHeader). RemoveStep (registry_of old cells) c.args.handle
           c.args.mode (Ok c.leave.result) (registry_of a new)) (sym c.leave.ensures.left)
           (remove_step old cells new c.args.handle c.in-Some.field-0 c.args.mode
-          (lock_after c.args.mode old.count (old.count - 1) old.locked) c.leave.result c.self.invariant.0
-          parts.0 parts.1 c.in-Some.ensures.found c.in-Some.ensures.gone refl state_is);
+          (lock_after c.args.mode old.count (old.count - 1) old.locked) c.leave.result
+          c.self.invariant.0 parts.0 parts.1 c.in-Some.ensures.found c.in-Some.ensures.gone refl
+          state_is);
       kept = (invariant_of-self g c).0.0;
       touched = (
         omega (

@@ -1,4 +1,3 @@
-use Rattle.std.proofs.Common.{◌≡◌}
 use Rattle.iox2_dynamic.proofs.dynamic_config.pattern.MessagingPattern.recover.Goals as goal
 
 pub recover-requires : goal.recover-requires

@@ -1,9 +1,7 @@
-use Rattle.std.proofs.Common.{◌≡◌, subst}
+use Rattle.std.proofs.Common.{sym}
 use Rattle.iox2_container.specs.Steps.{entries_of}
 use Rattle.iox2_dynamic.specs.Details.{node_of}
 use Rattle.iox2_container.specs.Mapped.{registry_as}
-use Rattle.iox2_dynamic.specs.PortsState.{PortsState}
-use Rattle.iox2_dynamic.specs.Ports.{ports_as, has_ports_of}
 use Rattle.iox2_container.proofs.Mapped.{entries_of-as}
 use Rattle.iox2_dynamic.proofs.Counts.{has_first, has_second}
 use Rattle.iox2_dynamic.proofs.dynamic_config.port_registries.PortRegistries.has_ports_of.Goals as goal
@@ -13,8 +11,7 @@ returns-then-has_entry_of g c =
     let id = c.args.node.now in
     let first = c.self.inside.first.registry in
     let second = c.self.inside.second.registry in
-    subst (λ (v : PortsState g.row.A.Denot g.row.B.Denot). c.has_entry_of.result
-    ≡ has_ports_of id (ports_as g.A.PortKind.details g.B.PortKind.details v)) c.self.view_is
+    rw (sym c.self.view_is)
     (has_first c.has_entry_of.result (entries_of g.A.Attached.node id first)
     (entries_of node_of id (registry_as g.A.PortKind.details first))
     (entries_of node_of id (registry_as g.B.PortKind.details second))
@@ -27,8 +24,7 @@ returns-else-has_entry_of g c =
     let id = c.args.node.now in
     let first = c.self.inside.first.registry in
     let second = c.self.inside.second.registry in
-    subst (λ (v : PortsState g.row.A.Denot g.row.B.Denot). c.has_entry_of-else-has_entry_of.result
-    ≡ has_ports_of id (ports_as g.A.PortKind.details g.B.PortKind.details v)) c.self.view_is
+    rw (sym c.self.view_is)
     (has_second c.has_entry_of.result c.has_entry_of-else-has_entry_of.result
     (entries_of g.A.Attached.node id first) (entries_of g.B.Attached.node id second)
     (entries_of node_of id (registry_as g.A.PortKind.details first))

@@ -1,12 +1,9 @@
-use Rattle.std.proofs.Common.{sym, subst}
+use Rattle.std.proofs.Common.{sym}
 use Rattle.std.specs.Fn.{Called, Takes}
-use Rattle.iox2_container.specs.Callbacks.{CanBeAsked}
 use Rattle.iox2_container.specs.Mapped.{container_as, registry_as}
 use Rattle.iox2_container.specs.Steps.{asked_about, is_of}
 use Rattle.iox2_container.proofs.Callable.{CanBeAsked-first, CanBeAsked-after}
 use Rattle.iox2_dynamic.specs.Details.{node_of, port_of}
-use Rattle.iox2_dynamic.specs.PortsState.{PortsState}
-use Rattle.iox2_dynamic.specs.Ports.{ports_as, ports_asked_about, RecoversBoth}
 use Rattle.iox2_dynamic.specs.Recoveries.{AskedToGo, ids_asked_about}
 use Rattle.iox2_dynamic.proofs.dynamic_config.port_registries.PortRegistries.recover.Goals as goal
 
@@ -16,13 +13,10 @@ recover_ports-first-requires g c =
     λ f x r h. Called g.F.FnMut f (x, tt) r h in
     let takes : g.row.F.Denot → _ → Type 0 = λ f x. Takes g.F.FnMut f (x, tt) in
     let dead = c.args.dead.now in
-    let both =
-    subst (λ (v : PortsState g.row.A.Denot g.row.B.Denot). CanBeAsked takes calls c.args.f.now
-    (ports_asked_about dead (ports_as g.A.PortKind.details g.B.PortKind.details v)))
-    (sym c.self.view_is) c.requires in
     CanBeAsked-first takes calls c.args.f.now
     (ids_asked_about dead (container_as g.A.PortKind.details c.self.inside.first))
-    (ids_asked_about dead (container_as g.B.PortKind.details c.self.inside.second)) both
+    (ids_asked_about dead (container_as g.B.PortKind.details c.self.inside.second))
+    (rw (sym c.self.view_is) at c.requires)
 
 pub recover_ports-second-requires : goal.recover_ports-second-requires
 recover_ports-second-requires g c =
@@ -30,31 +24,17 @@ recover_ports-second-requires g c =
     λ f x r h. Called g.F.FnMut f (x, tt) r h in
     let takes : g.row.F.Denot → _ → Type 0 = λ f x. Takes g.F.FnMut f (x, tt) in
     let dead = c.args.dead.now in
-    let both =
-    subst (λ (v : PortsState g.row.A.Denot g.row.B.Denot). CanBeAsked takes calls c.args.f.now
-    (ports_asked_about dead (ports_as g.A.PortKind.details g.B.PortKind.details v)))
-    (sym c.self.view_is) c.requires in
     let first = c.recover_ports-first.ensures.recovered in
     CanBeAsked-after takes calls (λ f d goes h. AskedToGo calls f (port_of d) goes h) port_of
     (λ f d goes h a. (a.0, a.1)) c.args.f.now
     (asked_about (is_of node_of dead)
     (registry_as g.A.PortKind.details c.self.inside.first.registry))
     (ids_asked_about dead (container_as g.B.PortKind.details c.self.inside.second))
-    _ c.recover_ports-first.new.f both first.1.step.asked
+    _ c.recover_ports-first.new.f (rw (sym c.self.view_is) at c.requires) first.1.step.asked
 
 pub returns-clause-recovered : goal.returns-clause-recovered
 returns-clause-recovered g c =
-    let calls : g.row.F.Denot → _ → _ → g.row.F.Denot → Type 0 =
-    λ f x r h. Called g.F.FnMut f (x, tt) r h in
-    let new : PortsState g.row.A.Denot g.row.B.Denot =
-    record {
-      first = c.recover_ports-first.new.ports;
-      second = c.recover_ports-second.new.ports;
-    } in
-    subst (λ (v : PortsState g.row.A.Denot g.row.B.Denot). RecoversBoth calls c.args.dead.now
-    (ports_as g.A.PortKind.details g.B.PortKind.details v) c.args.f.now
-    (ports_as g.A.PortKind.details g.B.PortKind.details new) c.recover_ports-second.new.f)
-    c.self.view_is (
+    rw (sym c.self.view_is) (
       c.recover_ports-first.new.f,
       c.recover_ports-first.ensures.recovered,
       c.recover_ports-second.ensures.recovered,

@@ -1,22 +1,16 @@
-use Rattle.std.proofs.Common.{rules, ◌≡◌, true, false, sym, ap, subst}
-use Rattle.std.specs.Fn.{Called, Takes}
-use Rattle.iox2_container.specs.Callbacks.{CanBeAsked}
+use Rattle.std.proofs.Common.{rules, ◌≡◌, true, false, sym, ap}
+use Rattle.std.specs.Fn.{Called}
 use Rattle.iox2_config.specs.declared.hash.input.PatternKind.{PatternKind}
 use Rattle.iox2_container.specs.Steps.{release_state}
-use Rattle.iox2_dynamic.specs.declared.dynamic_config.answers.DeregisterNodeState.TheVariants.{HasOwners}
 use Rattle.iox2_dynamic.specs.Fields.{service_in}
-use Rattle.iox2_dynamic.specs.Ports.{has_ports_of, ports_asked_about}
+use Rattle.iox2_dynamic.specs.Ports.{has_ports_of}
 use Rattle.iox2_dynamic.specs.Service.{Service}
-use Rattle.iox2_dynamic.specs.Steps.{DeadStep}
 use Rattle.iox2_dynamic.proofs.Keeping.{ports_open}
 use Rattle.iox2_dynamic.proofs.Dying.{skipped_kept, dead_kept, nodes_stay, nodes_after}
 use Rattle.iox2_dynamic.proofs.dynamic_config.service.DynamicConfig.remove_dead_node_id.Goals as goal
 
 pub recover-requires : goal.recover-requires
-recover-requires g c =
-    subst (λ (s : Service). CanBeAsked (λ f x. Takes g.F.FnMut f (x, tt))
-    (λ f x r h. Called g.F.FnMut f (x, tt) r h) c.args.f.now
-    (ports_asked_about c.args.dead.now s.ports)) (sym c.self.view_is) c.requires
+recover-requires g c = rw (sym c.self.view_is) at c.requires
 
 pub invariant_of-self : goal.invariant_of-self
 invariant_of-self g c =
@@ -43,9 +37,7 @@ returns-then-recover-clause-step g c =
     let old : Service = service_in c.self.inside in
     let new : Service = service_in (record c.self.inside { pattern = c.recover.new.self }) in
     let some : has_ports_of c.args.dead.now new.ports ≡ true = search rules in
-    subst (λ (v : Service).
-    DeadStep calls v c.args.f.now c.args.dead.now HasOwners new c.recover.new.f)
-    c.self.view_is (record {
+    rw (sym c.self.view_is) (record {
       ports = c.recover.ensures.recovered;
       nodes = nodes_stay c.args.dead.now (has_ports_of c.args.dead.now new.ports) old.nodes some
           (ports_open new c.args.dead.now (invariant_of-self g c) some);
@@ -83,9 +75,7 @@ returns-clause-step g c =
       nodes = c.recover_nodes.new.nodes;
     }) in
     let none : has_ports_of c.args.dead.now new.ports ≡ false = search rules in
-    subst (λ (v : Service).
-    DeadStep calls v c.args.f.now c.args.dead.now c.of.result new c.recover.new.f)
-    c.self.view_is (record {
+    rw (sym c.self.view_is) (record {
       ports = c.recover.ensures.recovered;
       nodes = nodes_after c.args.dead.now
           (has_ports_of c.args.dead.now new.ports) old.nodes c.recover_nodes.result c.of.result
