@@ -25,7 +25,7 @@ ChangeStep old (Recovering is_dead marked went mode state) new =
     Recovers is_dead marked old mode state new
     × (went ≡ map (handle_of old) (leaving is_dead marked old.entries))
 
--- a change `Recovering`, with marks by the answers that a callback gave about the candidates in
+-- a change `Recovering`, whose marks are the answers that a callback gave about the candidates in
 -- turn, leads from the old state to the new one
 pub record IsRecoveryChange {F T : Type 0} (calls : F → T → Bool → F → Type 0) (is_dead : T → Bool)
     (old : RegistryState T) (f : F) (mode : ReleaseMode) (state : ReleaseState)

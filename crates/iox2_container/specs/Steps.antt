@@ -120,7 +120,7 @@ asked_about is_dead r = map (λ e. e.details) (candidates is_dead r.entries)
 abbrev pub entries_of : {T : Type 0} → (T → ℕ) → ℕ → RegistryState T → ℕ
 entries_of node id r = length (candidates (is_of node id) r.entries)
 
--- whether an entry goes: a candidate does where its slot is marked, and no other entry does
+-- whether an entry goes: a candidate goes where its slot is marked, and no other entry does
 abbrev pub is_leaving : {T : Type 0} → (T → Bool) → (ℕ → Bool) → Entry T → Bool
 is_leaving is_dead marked e = is_dead e.details && marked e.slot
 
@@ -136,7 +136,7 @@ staying is_dead marked entries = filter (λ e. not (is_leaving is_dead marked e)
 abbrev pub marks_of : {T : Type 0} → (T → Bool) → (ℕ → Bool) → List (Entry T) → List Bool
 marks_of is_dead marked entries = map (λ e. marked e.slot) (candidates is_dead entries)
 
--- the candidates whose slots are marked went
+-- the candidates whose slots are marked go, and the last one locks where the mode says so
 abbrev pub Recovers : {T : Type 0} → (T → Bool) → (ℕ → Bool) → RegistryState T → ReleaseMode
     → ReleaseState → RegistryState T → Type 0
 Recovers is_dead marked old mode state new =
@@ -147,7 +147,7 @@ Recovers is_dead marked old mode state new =
     × (state ≡ release_state new.locked)
 
 -- what `recover` may do, where `calls` are the calls of its callback: it is asked about the
--- candidates in turn, and those go, by the mark of their slot, of which it says so
+-- candidates in turn, it answers by the mark of each one's slot, and those that are marked go
 pub record RecoverStep {T F : Type 0} (calls : F → T → Bool → F → Type 0) (is_dead : T → Bool)
     (old : RegistryState T) (f : F) (mode : ReleaseMode) (state : ReleaseState)
     (new : RegistryState T) (f' : F) : Type 0 where
