@@ -1,5 +1,5 @@
 -- Attributes that were read, and what no further one may be.
-use Rattle.std.proofs.Common.{◌≡◌, ℕ, ◌+◌, ◌<◌, ◌≤◌, true, false, List, [], ◌∷◌, ◌++◌, codes, length, refl, ◌∙◌, arith, length-append}
+use Rattle.std.proofs.Common.{◌≡◌, ℕ, ◌+◌, ◌<◌, ◌≤◌, true, false, List, [], ◌∷◌, ◌++◌, ◌⊎◌, inl, inr, codes, length, refl, ◌∙◌, arith, length-append}
 use Rattle.std.proofs.lemmas.List.Sorted.{IsPermutation-cons, IsPermutation-to_front, IsPermutation-trans}
 use Rattle.iox2_texts.specs.Attribute.{IsListing}
 use Rattle.iox2_texts.specs.Pair.{Pair}
@@ -47,62 +47,44 @@ one_more_line old new pair at next bytes r h added long few = record {
   few = few;
 }
 
--- all were read
-pub finished : (set : List Pair) (at bytes : List ℕ) → Reading set at bytes
-    → HasNoLine (codes "attribute ") at → HasAttributes set at bytes
-finished set at bytes r none = record {
+-- the lines that were read are those of the set
+attributes_of : (set : List Pair) (at bytes rest b : List ℕ) (r : Reading set at bytes)
+    → HasLinesOf (codes "attribute ") GivesPair r.pairs rest b → HasAttributes set rest b
+attributes_of set at bytes rest b r l = record {
   pairs = r.pairs;
-  lines = all_lines (codes "attribute ") GivesPair r.pairs at bytes r.lines none;
+  lines = l;
   few = omega (arith, r.count, r.few);
   listing = r.listing;
 }
 
-whole_attributes : (set : List Pair) (at bytes : List ℕ) (r : Reading set at bytes) (b : List ℕ)
-    → HasLinesOf (codes "attribute ") GivesPair r.pairs [] b → Whole HasAttributes b
-whole_attributes set at bytes r b l = (
-  set,
-  record {
-    pairs = r.pairs;
-    lines = l;
-    few = omega (arith, r.count, r.few);
-    listing = r.listing;
-  },
-)
+-- all were read
+pub finished : (set : List Pair) (at bytes : List ℕ) → Reading set at bytes
+    → HasNoLine (codes "attribute ") at → HasAttributes set at bytes
+finished set at bytes r none =
+    attributes_of set at bytes at bytes r
+    (all_lines (codes "attribute ") GivesPair r.pairs at bytes r.lines none)
 
--- the next line gives no pair
-pub stops_at_pair : (set : List Pair) (left at bytes text tail : List ℕ) → left ≡ at
+-- the next line is one too many, or gives no pair
+pub stops_at_attribute : (set : List Pair) (left at bytes text tail : List ℕ) → left ≡ at
     → Reading set at bytes → IsLine (codes "attribute " ++ text) tail at
-    → ((pair : Pair) → IsPair pair → ¬ (text ≡ pair_text pair))
+    → (16 ≤ length set) ⊎ ((pair : Pair) → IsPair pair → ¬ (text ≡ pair_text pair))
     → StopsAt HasAttributes left bytes
-stops_at_pair set left at bytes text tail e r l bad =
-    lines_stop (codes "attribute ") GivesPair r.pairs (Whole HasAttributes)
-    (Begins HasAttributes) left at bytes text tail
-    e r.lines l
-    (whole_attributes set at bytes r)
+stops_at_attribute set left at bytes text tail e r l bad =
+    lines_stop (codes "attribute ") GivesPair r.pairs (Whole HasAttributes) (Begins HasAttributes)
+    left at bytes text tail e r.lines l (λ b k. (set, attributes_of set at bytes [] b r k))
     (λ other next rest u k h.
     let one = goes_on (codes "attribute ") GivesPair no_key (λ x y t p q. refl) r.pairs
     h.2.pairs next h.1 other text rest u k h.2.lines in
-    bad one.one one.spelled.legal one.spelled.spelled)
-
--- the next line is one too many
-pub stops_when_full : (set : List Pair) (left at bytes text tail : List ℕ) → left ≡ at
-    → Reading set at bytes → IsLine (codes "attribute " ++ text) tail at → 16 ≤ length set
-    → StopsAt HasAttributes left bytes
-stops_when_full set left at bytes text tail e r l full =
-    lines_stop (codes "attribute ") GivesPair r.pairs (Whole HasAttributes)
-    (Begins HasAttributes) left at bytes text tail
-    e r.lines l
-    (whole_attributes set at bytes r)
-    (λ other next rest u k h.
-    let one = goes_on (codes "attribute ") GivesPair no_key (λ x y t p q. refl) r.pairs
-    h.2.pairs next h.1 other text rest u k h.2.lines in
-    omega (
-      arith,
-      longer_by_one GivesPair no_key r.pairs h.2.pairs text one,
-      full,
-      r.count,
-      h.2.few,
-    ))
+    elim bad [
+      | inl full ↦ omega (
+        arith,
+        longer_by_one GivesPair no_key r.pairs h.2.pairs text one,
+        full,
+        r.count,
+        h.2.few,
+      )
+      | inr none ↦ none one.one one.spelled.legal one.spelled.spelled
+    ])
 
 unequal : false ≡ true → ⊥
 unequal e = cc

@@ -160,7 +160,8 @@ stops_after_user_header prefix t left mid bytes h s =
 
 abbrev pub StopsInPayload : List ℕ → TypeVariant → List ℕ → List ℕ → Type 0
 StopsInPayload prefix v left bytes =
-    Stops (AfterPayload prefix v (Closed prefix)) (AfterPayload prefix v (Opening prefix)) left bytes
+    Stops (AfterPayload prefix v (Closed prefix)) (AfterPayload prefix v (Opening prefix)) left
+    bytes
 
 pub stops_after_payload : (prefix : List ℕ) (t : TypeDetailParts) (left mid bytes : List ℕ)
     → HasPayload prefix t mid bytes → StopsInPayload prefix t.variant left mid
@@ -195,7 +196,10 @@ some_described = record {
   size = omega arith;
   alignment = (omega arith, refl);
   named = omega arith;
-  type_name = (omega arith, All-cons IsTextByte 97 [] (omega arith, omega arith) (All-nil IsTextByte));
+  type_name = (
+    omega arith,
+    All-cons IsTextByte 97 [] (omega arith, omega arith) (All-nil IsTextByte),
+  );
 }
 
 pub some_line : (prefix word text rest : List ℕ) → IsPlain prefix
@@ -260,7 +264,12 @@ some_user_header : (prefix : List ℕ) → IsPlain prefix
 some_user_header prefix p =
     let next = some_payload prefix p in (
       (prefix ++ codes "user-header " ++ type_text some_type) ++ 10 ∷ next.0,
-      (some_type, next.0, some_has_type prefix (codes "user-header ") next.0 p plain_user_header, next.1),
+      (
+        some_type,
+        next.0,
+        some_has_type prefix (codes "user-header ") next.0 p plain_user_header,
+        next.1,
+      ),
     )
 
 pub some_message : (prefix : List ℕ) → IsPlain prefix

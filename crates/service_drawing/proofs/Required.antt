@@ -5,7 +5,7 @@ use Rattle.std.proofs.lemmas.List.Elements.{filter_map-append}
 use Rattle.std.proofs.lemmas.List.Sorted.{length_permutation}
 use Rattle.iox2_texts.specs.Attribute.{IsListing}
 use Rattle.iox2_texts.specs.Verify.{Requirements}
-use Rattle.service_drawing.specs.Lines.{IsLine, HasNoLine, Requirement, OfPair, OfKey, GivesRequirement, Adds, number_required, RequiresMore, RequiresNoMore, pair_of, key_of, HasRequirements, Whole, Begins, StopsAt}
+use Rattle.service_drawing.specs.Lines.{IsLine, HasNoLine, HasLinesOf, Requirement, OfPair, OfKey, GivesRequirement, Adds, number_required, RequiresMore, RequiresNoMore, pair_of, key_of, HasRequirements, Whole, Begins, StopsAt}
 use Rattle.service_drawing.proofs.Attributes.{listed_more}
 use Rattle.service_drawing.proofs.LinesOf.{UpTo, more_lines, all_lines, lines_stop, goes_on, longer_by_one, no_key}
 
@@ -54,16 +54,24 @@ one_more_required old new at next bytes text r l more = record {
         length-append old.keys (key ∷ []) in
         rw a (omega (arith, r.count, long))
 
--- all were read
-pub required_whole : (required : Requirements) (at bytes : List ℕ) → Requiring required at bytes
-    → HasNoLine (codes "require") at → HasRequirements required at bytes
-required_whole required at bytes r none = record {
+-- the lines that were read are those of what is required
+requirements_of : (required : Requirements) (at bytes rest b : List ℕ)
+    (r : Requiring required at bytes) → HasLinesOf (codes "require") GivesRequirement r.each rest b
+    → HasRequirements required rest b
+requirements_of required at bytes rest b r l = record {
   each = r.each;
-  lines = all_lines (codes "require") GivesRequirement r.each at bytes r.lines none;
+  lines = l;
   few = r.few;
   pairs = r.pairs;
   keys = r.keys;
 }
+
+-- all were read
+pub required_whole : (required : Requirements) (at bytes : List ℕ) → Requiring required at bytes
+    → HasNoLine (codes "require") at → HasRequirements required at bytes
+required_whole required at bytes r none =
+    requirements_of required at bytes at bytes r
+    (all_lines (codes "require") GivesRequirement r.each at bytes r.lines none)
 
 -- the next line is one too many, or requires nothing
 pub stops_at_required : (required : Requirements) (left at bytes text tail : List ℕ) → left ≡ at
@@ -71,18 +79,8 @@ pub stops_at_required : (required : Requirements) (left at bytes text tail : Lis
     → RequiresNoMore required text → StopsAt HasRequirements left bytes
 stops_at_required required left at bytes text tail e r l bad =
     lines_stop (codes "require") GivesRequirement r.each (Whole HasRequirements)
-    (Begins HasRequirements) left at bytes text
-    tail e r.lines l
-    (λ b k. (
-      required,
-      record {
-        each = r.each;
-        lines = k;
-        few = r.few;
-        pairs = r.pairs;
-        keys = r.keys;
-      },
-    ))
+    (Begins HasRequirements) left at bytes text tail e r.lines l
+    (λ b k. (required, requirements_of required at bytes [] b r k))
     (λ other next rest u k h.
     let one = goes_on (codes "require") GivesRequirement no_key (λ x y t p q. refl) r.each
     h.2.each next h.1 other text rest u k h.2.lines in

@@ -6,7 +6,7 @@ use Rattle.std.proofs.lemmas.Cmp.{nat_eq_equiv}
 use Rattle.std.proofs.lemmas.List.{append_cancel_left, map-append}
 use Rattle.std.proofs.lemmas.List.Folds.{list_any-append}
 use Rattle.std.proofs.lemmas.Map.Keys.{IsDistinct-push}
-use Rattle.service_drawing.specs.Lines.{IsLine, HasNoLine, Begins, Stops}
+use Rattle.service_drawing.specs.Lines.{IsLine, HasNoLine, HasLinesOf, Begins, Stops}
 use Rattle.service_drawing.specs.Settings.{IsSetting, MayBecome, Assignment, GivesSetting, assigned, HasSettings, Sets, NamesMarked, IsNotSet, word_of, value_text}
 use Rattle.service_drawing.specs.declared.reading.cause.Reason.{Reason}
 use Rattle.service_drawing.specs.declared.reading.cause.Reason.TheVariants.{InternalName, UnknownSetting, SetTwice, OtherForm}
@@ -175,12 +175,14 @@ one_more_setting names defaults old new given marked at next bytes text r l s =
     let fresh : list_any (nat_eq s.set.index) (numbers r.sets) ≡ false =
     sym (r.marks s.set.index false s.first) in
     let same : slice_get old s.set.index ≡ slice_get defaults s.set.index =
-    ap (λ (l : List Value). slice_get l s.set.index) r.changed ∙ kept defaults r.sets s.set.index fresh in
+    ap (λ (l : List Value). slice_get l s.set.index) r.changed
+    ∙ kept defaults r.sets s.set.index fresh in
     let long : numbers (r.sets ++ s.set ∷ []) ≡ numbers r.sets ++ s.set.index ∷ [] =
     map-append (λ (set : Assignment). set.index) r.sets (s.set ∷ []) in
     record {
       sets = r.sets ++ s.set ∷ [];
-      lines = more_lines (codes "set ") (GivesSetting names defaults) r.sets s.set at next bytes r.lines
+      lines = more_lines (codes "set ") (GivesSetting names defaults) r.sets s.set at next bytes
+          r.lines
           (record {
             text = text;
             line = l;
@@ -192,16 +194,25 @@ one_more_setting names defaults old new given marked at next bytes text r l s =
       marks = rw (long, s.noted) (mark_more given (numbers r.sets) s.set.index r.marks);
     }
 
+-- the lines that were read are those of the settings
+settings_of : (names : List (List ℕ)) (defaults values : List Value) (given : List Bool)
+    (at bytes rest b : List ℕ) (r : Setting names defaults values given at bytes)
+    → HasLinesOf (codes "set ") (GivesSetting names defaults) r.sets rest b
+    → HasSettings names defaults values rest b
+settings_of names defaults values given at bytes rest b r l = record {
+  sets = r.sets;
+  lines = l;
+  once = r.once;
+  changed = r.changed;
+}
+
 -- all were read
 pub settings_whole : (names : List (List ℕ)) (defaults values : List Value) (given : List Bool)
     (at bytes : List ℕ) → Setting names defaults values given at bytes → HasNoLine (codes "set ") at
     → HasSettings names defaults values at bytes
-settings_whole names defaults values given at bytes r none = record {
-  sets = r.sets;
-  lines = all_lines (codes "set ") (GivesSetting names defaults) r.sets at bytes r.lines none;
-  once = r.once;
-  changed = r.changed;
-}
+settings_whole names defaults values given at bytes r none =
+    settings_of names defaults values given at bytes at bytes r
+    (all_lines (codes "set ") (GivesSetting names defaults) r.sets at bytes r.lines none)
 
 -- the next line sets nothing
 not_set : (names : List (List ℕ)) (defaults values : List Value) (given : List Bool)
@@ -254,8 +265,9 @@ pub stops_at_setting : (names : List (List ℕ)) (defaults values : List Value) 
     → Stops (HasSettings names defaults values []) (Begins (HasSettings names defaults)) left bytes
 stops_at_setting names defaults values given reason left at bytes text tail e r l bad =
     lines_stop (codes "set ") (GivesSetting names defaults) r.sets
-    (HasSettings names defaults values []) (Begins (HasSettings names defaults)) left at bytes text tail e r.lines l
-    (λ b k. record { sets = r.sets; lines = k; once = r.once; changed = r.changed })
+    (HasSettings names defaults values []) (Begins (HasSettings names defaults)) left at bytes
+    text tail e r.lines l
+    (λ b k. settings_of names defaults values given at bytes [] b r k)
     (λ other next rest u k h.
     not_set names defaults values given reason next other text rest
     (record {

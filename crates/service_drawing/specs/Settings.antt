@@ -230,4 +230,6 @@ HasConfiguration kind.RequestResponse c rest bytes =
 HasConfiguration kind.Blackboard c rest bytes =
     HasSettings blackboard_names (blackboard_values default_blackboard)
     (blackboard_values c.defaults.blackboard) rest bytes
-    × IsDefaultConfig (record c { defaults = record c.defaults { blackboard = default_blackboard } })
+    × IsDefaultConfig (record c {
+      defaults = record c.defaults { blackboard = default_blackboard };
+    })

@@ -35,6 +35,6 @@ pub(crate) trait Settings {
     fn set(&mut self, index: usize, value: Value) -> bool
         ensures set { IsTrue result → values self.new ≡ slice_set (values self.old) index value }
         ensures kept { result ≡ false → self.new ≡ self.old }
-        ensures refused { result ≡ false → (old : Value) → slice_get (values self.old) index ≡ Some old
-            → ¬ MayBecome old value };
+        ensures refused { result ≡ false → (old : Value)
+            → slice_get (values self.old) index ≡ Some old → ¬ MayBecome old value };
 }

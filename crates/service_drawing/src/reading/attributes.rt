@@ -88,7 +88,8 @@ pub(super) fn required_before(bytes: &[u8]) -> Result<(AttributeVerifier, &[u8])
 
 /// The verifier that requires also what a text spells after `require`.
 fn requiring(required: AttributeVerifier, text: &str) -> Option<AttributeVerifier>
-    ensures { MatchOption result (RequiresNoMore required text.now) (RequiresMore required text.now) }
+    ensures { MatchOption result (RequiresNoMore required text.now)
+        (RequiresMore required text.now) }
 {
     if let Some(text) = after_word(text, " ") {
         let Some((key, value)) = pair_in(text) else {

@@ -65,8 +65,8 @@ fn set<S: Settings>(settings: &mut S, given: &mut [bool; 32], text: &str) -> Res
     ensures set { IfOk result (λ done. Sets S.names (S.values settings.old) given.old text.now
         (S.values settings.new) given.new) }
     ensures kept { IfErr result (λ reason. settings.new ≡ settings.old) }
-    ensures refused { IfErr result (λ reason. IsNotSet S.names (S.values settings.old) given.old text.now
-        reason) }
+    ensures refused { IfErr result (λ reason.
+        IsNotSet S.names (S.values settings.old) given.old text.now reason) }
 {
     let Some((word, text)) = split_word(text) else {
         return Err(Reason::OtherForm);

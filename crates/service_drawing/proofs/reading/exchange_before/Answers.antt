@@ -5,37 +5,37 @@ use Rattle.service_drawing.proofs.reading.exchange_before.Goals as goal
 
 pub returns-in_err-message-in-PublishSubscribe : goal.returns-in_err-message-in-PublishSubscribe
 returns-in_err-message-in-PublishSubscribe c =
-    let stops : StopsAt (HasExchange c.args.kind) c.in_err-message-in-PublishSubscribe.field-0.0.rest.now
-    c.args.bytes.now =
+    let at = c.in_err-message-in-PublishSubscribe in
+    let stops : StopsAt (HasExchange c.args.kind) at.field-0.0.rest.now c.args.bytes.now =
     rw c.in-PublishSubscribe.is
-    (message_stops c.in_err-message-in-PublishSubscribe.field-0.0.rest.now c.args.bytes.now
-    c.in_err-message-in-PublishSubscribe.ensures) in
+    (message_stops at.field-0.0.rest.now c.args.bytes.now
+    at.ensures) in
     search rules
 
 pub returns-in_err-request-in-RequestResponse : goal.returns-in_err-request-in-RequestResponse
 returns-in_err-request-in-RequestResponse c =
-    let stops : StopsAt (HasExchange c.args.kind) c.in_err-request-in-RequestResponse.field-0.0.rest.now
-    c.args.bytes.now =
+    let at = c.in_err-request-in-RequestResponse in
+    let stops : StopsAt (HasExchange c.args.kind) at.field-0.0.rest.now c.args.bytes.now =
     rw c.in-RequestResponse.is
-    (request_stops c.in_err-request-in-RequestResponse.field-0.0.rest.now c.args.bytes.now
-    c.in_err-request-in-RequestResponse.ensures) in
+    (request_stops at.field-0.0.rest.now c.args.bytes.now
+    at.ensures) in
     search rules
 
 pub returns-in_err-response-in-RequestResponse : goal.returns-in_err-response-in-RequestResponse
 returns-in_err-response-in-RequestResponse c =
-    let stops : StopsAt (HasExchange c.args.kind) c.in_err-response-in-RequestResponse.field-0.0.rest.now
-    c.args.bytes.now =
+    let first = c.in_ok-request-in-RequestResponse in
+    let at = c.in_err-response-in-RequestResponse in
+    let stops : StopsAt (HasExchange c.args.kind) at.field-0.0.rest.now c.args.bytes.now =
     rw c.in-RequestResponse.is
-    (response_stops c.in_ok-request-in-RequestResponse.request
-    c.in_err-response-in-RequestResponse.field-0.0.rest.now c.in_ok-request-in-RequestResponse.rest.now
-    c.args.bytes.now c.in_ok-request-in-RequestResponse.ensures c.in_err-response-in-RequestResponse.ensures) in
+    (response_stops first.request at.field-0.0.rest.now first.rest.now c.args.bytes.now
+    first.ensures at.ensures) in
     search rules
 
 pub returns-in_err-key-in-Blackboard : goal.returns-in_err-key-in-Blackboard
 returns-in_err-key-in-Blackboard c =
-    let stops : StopsAt (HasExchange c.args.kind) c.in_err-key-in-Blackboard.field-0.0.rest.now
-    c.args.bytes.now =
+    let at = c.in_err-key-in-Blackboard in
+    let stops : StopsAt (HasExchange c.args.kind) at.field-0.0.rest.now c.args.bytes.now =
     rw c.in-Blackboard.is
-    (key_stops c.in_err-key-in-Blackboard.field-0.0.rest.now c.args.bytes.now
-    c.in_err-key-in-Blackboard.ensures.place c.in_err-key-in-Blackboard.ensures.spelled) in
+    (key_stops at.field-0.0.rest.now c.args.bytes.now
+    at.ensures.place at.ensures.spelled) in
     search rules

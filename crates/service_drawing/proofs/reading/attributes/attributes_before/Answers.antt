@@ -1,6 +1,6 @@
-use Rattle.std.proofs.Common.{length, rules}
+use Rattle.std.proofs.Common.{length, inl, inr, rules}
 use Rattle.iox2_texts.specs.Pair.{Pair}
-use Rattle.service_drawing.proofs.Attributes.{found_attribute, one_more_line, finished, stops_at_pair, stops_when_full, many}
+use Rattle.service_drawing.proofs.Attributes.{found_attribute, one_more_line, finished, stops_at_attribute, many}
 use Rattle.service_drawing.proofs.reading.attributes.attributes_before.Goals as goal
 
 pub loop-text-preserved : goal.loop-text-preserved
@@ -14,16 +14,17 @@ loop-text-preserved c =
 
 pub returns-in_default-pair_in : goal.returns-in_default-pair_in
 returns-in_default-pair_in c =
-    stops_at_pair c.loop-text.attributes c.plain-expected.result.rest.now c.loop-text.rest.now
-    c.args.bytes.now c.in-Some.text.now c.in-Some.tail.now c.plain-expected.ensures
-    c.loop-text.invariant (search rules) c.in_default-pair_in.ensures
+    stops_at_attribute c.loop-text.attributes c.plain-expected.result.rest.now
+    c.loop-text.rest.now c.args.bytes.now c.in-Some.text.now c.in-Some.tail.now
+    c.plain-expected.ensures c.loop-text.invariant (search rules)
+    (inr c.in_default-pair_in.ensures)
 
 pub returns-in-Err : goal.returns-in-Err
 returns-in-Err c =
-    stops_when_full c.loop-text.attributes c.plain-expected.result.rest.now c.loop-text.rest.now
-    c.args.bytes.now c.in-Some.text.now c.in-Some.tail.now c.plain-expected.ensures
-    c.loop-text.invariant (search rules)
-    (many (length c.loop-text.attributes) (λ few. c.in-Err.ensures.variant.1 few))
+    stops_at_attribute c.loop-text.attributes c.plain-expected.result.rest.now
+    c.loop-text.rest.now c.args.bytes.now c.in-Some.text.now c.in-Some.tail.now
+    c.plain-expected.ensures c.loop-text.invariant (search rules)
+    (inl (many (length c.loop-text.attributes) (λ few. c.in-Err.ensures.variant.1 few)))
 
 pub returns : goal.returns
 returns c =
