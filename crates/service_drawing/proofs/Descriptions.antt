@@ -17,7 +17,7 @@ use Rattle.service_drawing.specs.declared.settings.value.Value.{Value}
 use Rattle.service_drawing.proofs.Exchanges.{exchange_rest, exchange_end, exchange_moves, exchange_apart, ends_in_opener, some_exchange}
 use Rattle.service_drawing.proofs.LinesOf.{lines_rest, lines_move, lines_apart}
 use Rattle.service_drawing.proofs.ServiceNames.{same_pattern}
-use Rattle.service_drawing.proofs.Stops.{EndsAt, AreApart, Moves, Then, moves_as, line_moves, line_later, ends_later, after, stops_as, stops_with, stops_here, whole_then, none_begins}
+use Rattle.service_drawing.proofs.Stops.{EndsAt, AreApart, IsPart, Then, moves_as, line_moves, line_later, ends_later, stops_after, stops_as, stops_with, stops_here, whole_then, none_begins}
 use Rattle.service_drawing.proofs.Words.{line_one}
 
 -- the line of a service, by its pattern and name
@@ -60,7 +60,7 @@ service_same j k m n x y bytes p q =
     ((same_pattern j k m n same.0).0, same.1)
 
 service_moves : (k : PatternKind) (name rest bytes : List ℕ) → HasService k name rest bytes
-    → Moves None (HasService k name) rest bytes
+    → IsPart None (HasService k name) rest bytes
 service_moves k name rest bytes h =
     moves_as None (IsLine (pattern_word k ++ name)) (HasService k name) rest bytes
     (λ r b l. record { line = l; named = h.named }) (line_moves _ rest bytes h.line)
@@ -72,7 +72,7 @@ settings_rest names defaults v w x y bytes p q =
 
 settings_move : (names : List (List ℕ)) (defaults v : List Value) (rest bytes : List ℕ)
     → HasSettings names defaults v rest bytes
-    → Moves (Some (codes "set ")) (HasSettings names defaults v) rest bytes
+    → IsPart (Some (codes "set ")) (HasSettings names defaults v) rest bytes
 settings_move names defaults v rest bytes h =
     moves_as (Some (codes "set "))
     (HasLinesOf (codes "set ") (GivesSetting names defaults) h.sets)
@@ -90,7 +90,7 @@ configuration_rest kind.Blackboard c d x y bytes p q = settings_rest _ _ _ _ x y
 
 configuration_moves : (k : PatternKind) (c : Config) (rest bytes : List ℕ)
     → HasConfiguration k c rest bytes
-    → Moves (Some (codes "set ")) (HasConfiguration k c) rest bytes
+    → IsPart (Some (codes "set ")) (HasConfiguration k c) rest bytes
 configuration_moves kind.PublishSubscribe c rest bytes h =
     moves_as _ _ (HasConfiguration kind.PublishSubscribe c) rest bytes (λ r b s. (s, h.1))
     (settings_move _ _ _ rest bytes h.0)
@@ -129,7 +129,7 @@ attributes_rest s t x y bytes p q =
     lines_rest (codes "attribute ") GivesPair p.pairs q.pairs x y bytes p.lines q.lines
 
 attributes_move : (s : List Pair) (rest bytes : List ℕ) → HasAttributes s rest bytes
-    → Moves (Some (codes "attribute ")) (HasAttributes s) rest bytes
+    → IsPart (Some (codes "attribute ")) (HasAttributes s) rest bytes
 attributes_move s rest bytes h =
     moves_as (Some (codes "attribute ")) (HasLinesOf (codes "attribute ") GivesPair h.pairs)
     (HasAttributes s) rest bytes
@@ -137,7 +137,7 @@ attributes_move s rest bytes h =
     (lines_move (codes "attribute ") GivesPair h.pairs rest bytes h.lines)
 
 requirements_move : (v : Requirements) (rest bytes : List ℕ) → HasRequirements v rest bytes
-    → Moves (Some (codes "require")) (HasRequirements v) rest bytes
+    → IsPart (Some (codes "require")) (HasRequirements v) rest bytes
 requirements_move v rest bytes h =
     moves_as (Some (codes "require")) (HasLinesOf (codes "require") GivesRequirement h.each)
     (HasRequirements v) rest bytes
@@ -256,8 +256,8 @@ pub stops_after_service : (k : PatternKind) (name left mid bytes : List ℕ)
 stops_after_service k name left mid bytes h s =
     stops_as InTurn InTurn IsDescriptionOrNothing IsDescription left bytes
     (λ b w. inl (description_of b w)) in_turn
-    (after HasLineOfService (λ s. AfterService s.0) (λ s. AfterService s.0) None (k, name) left mid
-    bytes
+    (stops_after HasLineOfService (λ s. AfterService s.0) (λ s. AfterService s.0) None (k, name)
+    left mid bytes
     (λ t x y b p q n.
     let same = service_same t.0 k t.1 name y x b q p in
     subst (λ j. AfterService j x) same.0 (subst (AfterService t.0) same.1 n))
@@ -286,8 +286,8 @@ pub stops_after_settings : (k : PatternKind) (c : Config) (left mid bytes : List
     → HasConfiguration k c mid bytes → Stops (AfterSettings k) (AfterSettings k) left mid
     → Stops (AfterService k) (AfterService k) left bytes
 stops_after_settings k c left mid bytes h s =
-    after (HasConfiguration k) (λ c. AfterSettings k) (λ c. AfterSettings k) (Some (codes "set ")) c
-    left mid bytes
+    stops_after (HasConfiguration k) (λ c. AfterSettings k) (λ c. AfterSettings k)
+    (Some (codes "set ")) c left mid bytes
     (λ d x y b p q n. subst (AfterSettings k) (configuration_rest k d c y x b q p) n)
     (settings_apart k) (configuration_moves k c mid bytes h) s
 
@@ -302,8 +302,9 @@ pub stops_after_exchange : (k : PatternKind) (x : Exchange) (left mid bytes : Li
     → HasExchange k x mid bytes → Stops AfterExchange AfterExchange left mid
     → Stops (AfterSettings k) (AfterSettings k) left bytes
 stops_after_exchange k x left mid bytes h s =
-    after (HasExchange k) (λ x. AfterExchange) (λ x. AfterExchange) (exchange_end k x mid bytes h) x
-    left mid bytes (λ e r t b p q n. subst AfterExchange (exchange_rest k e x t r b q p) n)
+    stops_after (HasExchange k) (λ x. AfterExchange) (λ x. AfterExchange)
+    (exchange_end k x mid bytes h) x left mid bytes
+    (λ e r t b p q n. subst AfterExchange (exchange_rest k e x t r b q p) n)
     (exchange_ends k x mid bytes h) (exchange_moves k x mid bytes h) s
 
 pub stops_in_attributes : (left bytes : List ℕ) → StopsAt HasAttributes left bytes
@@ -316,7 +317,7 @@ pub stops_after_attributes : (set : List Pair) (left mid bytes : List ℕ)
     → HasAttributes set mid bytes → Stops AfterAttributes AfterAttributes left mid
     → Stops AfterExchange AfterExchange left bytes
 stops_after_attributes set left mid bytes h s =
-    after HasAttributes (λ set. AfterAttributes) (λ set. AfterAttributes)
+    stops_after HasAttributes (λ set. AfterAttributes) (λ set. AfterAttributes)
     (Some (codes "attribute ")) set left mid bytes
     (λ t x y b p q n. subst AfterAttributes (attributes_rest t set y x b q p) n)
     (λ b w. required_apart (codes "attribute ") b

@@ -12,7 +12,7 @@ use Rattle.service_drawing.specs.declared.description.Exchange.TheVariants as ex
 use Rattle.service_drawing.specs.declared.description.Message.{Message}
 use Rattle.service_drawing.proofs.MessageParts.{opener_end, message_rest, message_moves, type_moves, no_type_here, some_type, plain_key, some_has_type, some_message, message_apart}
 use Rattle.service_drawing.proofs.Messages.{type_rest}
-use Rattle.service_drawing.proofs.Stops.{EndsAt, Moves, Both, Then, moves_as, moves_then, after, stops_as, stops_with, whole_then, other_line}
+use Rattle.service_drawing.proofs.Stops.{EndsAt, IsPart, Both, Then, moves_as, moves_then, stops_after, stops_as, stops_with, whole_then, other_line}
 
 abbrev request : List ℕ
 request = codes "request-"
@@ -81,7 +81,7 @@ response_stops m left mid bytes h s =
     (Whole (HasExchange RequestResponse)) (Begins (HasExchange RequestResponse)) left bytes
     (λ b w. (exchange.RequestResponse w.0 w.3.0, (w.0, w.3.0, refl, w.1, w.2, w.3.1)))
     (λ b g. (g.2.0, g.2.3, g.2.4, (g.2.1, g.1, g.2.5)))
-    (after (HasMessage request) (λ n. Whole (HasMessage response))
+    (stops_after (HasMessage request) (λ n. Whole (HasMessage response))
     (λ n. Begins (HasMessage response)) (opener_end request m.opener) m left mid bytes
     (λ n x y b p q k. subst (Begins (HasMessage response)) (message_rest request n m y x b q p) k)
     (λ b w. response_apart m.opener w.0 [] b w.1) (message_moves request m mid bytes h) s)
@@ -152,7 +152,7 @@ exchange_end Blackboard e rest bytes h = None
 
 pub exchange_moves : (k : PatternKind) (e : Exchange) (rest bytes : List ℕ)
     (h : HasExchange k e rest bytes)
-    → Moves (exchange_end k e rest bytes h) (HasExchange k e) rest bytes
+    → IsPart (exchange_end k e rest bytes h) (HasExchange k e) rest bytes
 exchange_moves PublishSubscribe e rest bytes h =
     moves_as (opener_end [] h.0.opener) (HasMessage [] h.0) (HasExchange PublishSubscribe e) rest
     bytes (λ r b m. (h.0, h.1, m)) (message_moves [] h.0 rest bytes h.2)

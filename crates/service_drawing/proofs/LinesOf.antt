@@ -3,7 +3,7 @@ use Rattle.std.proofs.Common.{◌≡◌, ◌<◌, ℕ, List, [], ◌∷◌, ◌+
 use Rattle.std.proofs.lemmas.List.{length-map}
 use Rattle.service_drawing.specs.Lines.{IsLine, HasNoLine, HasSameLine, Stops, HasLineOf, HasLinesOf}
 use Rattle.service_drawing.proofs.Messages.{same_text}
-use Rattle.service_drawing.proofs.Stops.{Moves, moves_as, line_moves, moves_then, line_later, none_begins, AreApart, other_line}
+use Rattle.service_drawing.proofs.Stops.{IsPart, moves_as, line_moves, moves_then, line_later, none_begins, AreApart, other_line}
 use Rattle.service_drawing.proofs.Words.{line_one}
 
 -- these lines stand before this place
@@ -97,7 +97,7 @@ lines_rest begin Spells (x ∷ xs) (y ∷ ys) r s bytes h k =
 -- the lines are read before other bytes too
 one_moves : {A : Type 0} (begin : List ℕ) (Spells : A → List ℕ → Type 0) (x : A)
     (rest bytes : List ℕ) → HasLineOf begin Spells x rest bytes
-    → Moves None (HasLineOf begin Spells x) rest bytes
+    → IsPart None (HasLineOf begin Spells x) rest bytes
 one_moves begin Spells x rest bytes h =
     moves_as None (IsLine (begin ++ h.text)) (HasLineOf begin Spells x) rest bytes
     (λ r b l. record { text = h.text; line = l; spelled = h.spelled })
@@ -105,7 +105,7 @@ one_moves begin Spells x rest bytes h =
 
 pub up_moves : {A : Type 0} (begin : List ℕ) (Spells : A → List ℕ → Type 0) (xs : List A)
     (at bytes : List ℕ) → UpTo begin Spells xs at bytes
-    → Moves None (UpTo begin Spells xs) at bytes
+    → IsPart None (UpTo begin Spells xs) at bytes
 up_moves begin Spells [] at bytes e = record {
   front = [];
   parts = e;
@@ -118,7 +118,7 @@ up_moves begin Spells (x ∷ xs) at bytes u =
 
 pub lines_move : {A : Type 0} (begin : List ℕ) (Spells : A → List ℕ → Type 0) (xs : List A)
     (rest bytes : List ℕ) → HasLinesOf begin Spells xs rest bytes
-    → Moves (Some begin) (HasLinesOf begin Spells xs) rest bytes
+    → IsPart (Some begin) (HasLinesOf begin Spells xs) rest bytes
 lines_move begin Spells [] rest bytes h = record {
   front = [];
   parts = sym h.0;

@@ -14,7 +14,7 @@ use Rattle.service_drawing.specs.Causes.{is_plain}
 use Rattle.service_drawing.specs.Lines.{IsLine, IsPlain, HasNoLine, HasSameLine, Begins, Whole, Stops, StopsAt, IsDescribed, type_text, payload_text, alignments_text, HasType, HasPayload, HasElements, HasOpener, HasMessage}
 use Rattle.service_drawing.specs.declared.description.Message.{Message}
 use Rattle.service_drawing.proofs.Messages.{type_rest, payload_same, elements_rest, opener_rest}
-use Rattle.service_drawing.proofs.Stops.{Both, Moves, Then, moves_as, line_moves, moves_then, after, stops_as, stops_here, line_later, none_later, none_begins, AreApart, other_line}
+use Rattle.service_drawing.proofs.Stops.{Both, IsPart, Then, moves_as, line_moves, moves_then, stops_after, stops_as, stops_here, line_later, none_later, none_begins, AreApart, other_line}
 
 -- the same line, of the same variant
 pub elements_at : (prefix : List ℕ) (v w : TypeVariant) (n : ℕ) (x a b : List ℕ) → v ≡ w → a ≡ b
@@ -25,20 +25,20 @@ elements_at prefix v w n x a b e f h =
 
 -- the parts of a message are read before other bytes too
 pub type_moves : (begin : List ℕ) (t : TypeDetailParts) (rest bytes : List ℕ)
-    → HasType begin t rest bytes → Moves None (HasType begin t) rest bytes
+    → HasType begin t rest bytes → IsPart None (HasType begin t) rest bytes
 type_moves begin t rest bytes h =
     moves_as None (IsLine (begin ++ type_text t)) (HasType begin t) rest bytes
     (λ r b l. record { line = l; one_value = h.one_value; described = h.described })
     (line_moves _ rest bytes h.line)
 
 payload_moves : (prefix : List ℕ) (t : TypeDetailParts) (rest bytes : List ℕ)
-    → HasPayload prefix t rest bytes → Moves None (HasPayload prefix t) rest bytes
+    → HasPayload prefix t rest bytes → IsPart None (HasPayload prefix t) rest bytes
 payload_moves prefix t rest bytes h =
     moves_as None (IsLine (prefix ++ codes "payload " ++ payload_text t)) (HasPayload prefix t) rest
     bytes (λ r b l. record { line = l; described = h.described }) (line_moves _ rest bytes h.line)
 
 elements_moves : (prefix : List ℕ) (v : TypeVariant) (n : ℕ) (rest bytes : List ℕ)
-    → HasElements prefix v n rest bytes → Moves None (HasElements prefix v n) rest bytes
+    → HasElements prefix v n rest bytes → IsPart None (HasElements prefix v n) rest bytes
 elements_moves prefix FixedSize n rest bytes h = record {
   front = [];
   parts = sym h.1;
@@ -55,7 +55,7 @@ opener_end prefix None = Some (prefix ++ codes "opener ")
 opener_end prefix (Some opener) = None
 
 opener_moves : (prefix : List ℕ) (o : Option MessageTypeDetails) (rest bytes : List ℕ)
-    → HasOpener prefix o rest bytes → Moves (opener_end prefix o) (HasOpener prefix o) rest bytes
+    → HasOpener prefix o rest bytes → IsPart (opener_end prefix o) (HasOpener prefix o) rest bytes
 opener_moves prefix None rest bytes h = record {
   front = [];
   parts = sym h.0;
@@ -142,7 +142,7 @@ stops_after_header prefix t left mid bytes h s =
     stops_as (InTurn prefix (Closed prefix)) (InTurn prefix (Opening prefix))
     (Whole (HasMessage prefix)) (Begins (HasMessage prefix)) left bytes (message_of prefix)
     (in_turn prefix)
-    (after (HasType (prefix ++ codes "header ")) (λ h. AfterHeader prefix (Closed prefix))
+    (stops_after (HasType (prefix ++ codes "header ")) (λ h. AfterHeader prefix (Closed prefix))
     (λ h. AfterHeader prefix (Opening prefix)) None t left mid bytes
     (λ u x y b p q n.
     subst (AfterHeader prefix (Opening prefix)) (type_rest _ u t y x b q p) n)
@@ -152,8 +152,9 @@ pub stops_after_user_header : (prefix : List ℕ) (t : TypeDetailParts) (left mi
     → HasType (prefix ++ codes "user-header ") t mid bytes
     → StopsIn AfterUserHeader prefix left mid → StopsIn AfterHeader prefix left bytes
 stops_after_user_header prefix t left mid bytes h s =
-    after (HasType (prefix ++ codes "user-header ")) (λ u. AfterUserHeader prefix (Closed prefix))
-    (λ u. AfterUserHeader prefix (Opening prefix)) None t left mid bytes
+    stops_after (HasType (prefix ++ codes "user-header "))
+    (λ u. AfterUserHeader prefix (Closed prefix)) (λ u. AfterUserHeader prefix (Opening prefix))
+    None t left mid bytes
     (λ u x y b p q n.
     subst (AfterUserHeader prefix (Opening prefix)) (type_rest _ u t y x b q p) n)
     (λ b w. tt) (type_moves _ t mid bytes h) s
@@ -167,7 +168,7 @@ pub stops_after_payload : (prefix : List ℕ) (t : TypeDetailParts) (left mid by
     → HasPayload prefix t mid bytes → StopsInPayload prefix t.variant left mid
     → StopsIn AfterUserHeader prefix left bytes
 stops_after_payload prefix t left mid bytes h s =
-    after (HasPayload prefix) (λ t. AfterPayload prefix t.variant (Closed prefix))
+    stops_after (HasPayload prefix) (λ t. AfterPayload prefix t.variant (Closed prefix))
     (λ t. AfterPayload prefix t.variant (Opening prefix)) None t left mid bytes
     (λ u x y b p q n.
     let same = payload_same prefix u t y x b q p in
@@ -179,8 +180,8 @@ pub stops_after_elements : (prefix : List ℕ) (v : TypeVariant) (n : ℕ) (left
     → HasElements prefix v n mid bytes → Stops (Closed prefix) (Opening prefix) left mid
     → StopsInPayload prefix v left bytes
 stops_after_elements prefix v n left mid bytes h s =
-    after (HasElements prefix v) (λ n. Closed prefix) (λ n. Opening prefix) None n left mid bytes
-    (λ m x y b p q k. subst (Opening prefix) (elements_rest prefix v m n y x b q p) k)
+    stops_after (HasElements prefix v) (λ n. Closed prefix) (λ n. Opening prefix) None n left mid
+    bytes (λ m x y b p q k. subst (Opening prefix) (elements_rest prefix v m n y x b q p) k)
     (λ b w. tt) (elements_moves prefix v n mid bytes h) s
 
 -- a plain example of each part
@@ -414,7 +415,7 @@ message_rest prefix m n x y bytes l k =
 -- a message is read before other bytes too
 pub message_moves : (prefix : List ℕ) (m : Message) (rest bytes : List ℕ)
     → HasMessage prefix m rest bytes
-    → Moves (opener_end prefix m.opener) (HasMessage prefix m) rest bytes
+    → IsPart (opener_end prefix m.opener) (HasMessage prefix m) rest bytes
 message_moves prefix m rest bytes h =
     let end = opener_end prefix m.opener in
     let Header : List ℕ → List ℕ → Type 0 =
@@ -425,17 +426,17 @@ message_moves prefix m rest bytes h =
     let Elements : List ℕ → List ℕ → Type 0 =
     HasElements prefix m.details.payload.variant m.elements in
     let Opener : List ℕ → List ℕ → Type 0 = HasOpener prefix m.opener in
-    let at_opener : Moves end Opener rest h.at_opener =
+    let at_opener : IsPart end Opener rest h.at_opener =
     opener_moves prefix m.opener rest h.at_opener h.opener in
-    let at_elements : Moves end (Both Elements Opener) rest h.at_elements =
+    let at_elements : IsPart end (Both Elements Opener) rest h.at_elements =
     moves_then None end Elements Opener h.at_opener rest h.at_elements
     (elements_moves prefix _ m.elements h.at_opener h.at_elements h.elements) at_opener
     (λ o n k. tt) in
-    let at_payload : Moves end (Both Payload (Both Elements Opener)) rest h.at_payload =
+    let at_payload : IsPart end (Both Payload (Both Elements Opener)) rest h.at_payload =
     moves_then None end Payload (Both Elements Opener) h.at_elements rest h.at_payload
     (payload_moves prefix m.details.payload h.at_elements h.at_payload h.payload) at_elements
     (λ o n k. tt) in
-    let at_user_header : Moves end (Both UserHeader (Both Payload (Both Elements Opener))) rest
+    let at_user_header : IsPart end (Both UserHeader (Both Payload (Both Elements Opener))) rest
     h.at_user_header =
     moves_then None end UserHeader (Both Payload (Both Elements Opener)) h.at_payload rest
     h.at_user_header

@@ -5,7 +5,7 @@ use Rattle.std.proofs.lemmas.List.Elements.{filter_map-append}
 use Rattle.std.proofs.lemmas.List.Sorted.{length_permutation}
 use Rattle.iox2_texts.specs.Attribute.{IsListing}
 use Rattle.iox2_texts.specs.Verify.{Requirements}
-use Rattle.service_drawing.specs.Lines.{IsLine, HasNoLine, HasLinesOf, Requirement, OfPair, OfKey, GivesRequirement, Adds, number_required, RequiresMore, RequiresNoMore, pair_of, key_of, HasRequirements, Whole, Begins, StopsAt}
+use Rattle.service_drawing.specs.Lines.{IsLine, HasNoLine, HasLinesOf, Requirement, OfPair, OfKey, GivesRequirement, RequiresToo, number_required, RequiresMore, RequiresNoMore, pair_of, key_of, HasRequirements, Whole, Begins, StopsAt}
 use Rattle.service_drawing.proofs.Attributes.{listed_more}
 use Rattle.service_drawing.proofs.LinesOf.{UpTo, more_lines, all_lines, lines_stop, goes_on, longer_by_one, no_key}
 
@@ -32,18 +32,18 @@ one_more_required old new at next bytes text r l more = record {
   few = omega (arith, length-append r.each (more.each ∷ []), r.count, more.room);
 }
   where
-    pairs : (one : Requirement) → Adds old one new
+    pairs : (one : Requirement) → RequiresToo old one new
         → IsListing (filter_map pair_of r.each ++ filter_map pair_of (one ∷ [])) new.pairs
     pairs (OfPair pair) a = listed_more _ old.pairs new.pairs pair r.pairs a.0
     pairs (OfKey key) a =
         rw (append-nil (filter_map pair_of r.each), a) r.pairs
 
-    keys : (one : Requirement) → Adds old one new
+    keys : (one : Requirement) → RequiresToo old one new
         → filter_map key_of r.each ++ filter_map key_of (one ∷ []) ≡ new.keys
     keys (OfPair pair) a = append-nil (filter_map key_of r.each) ∙ r.keys ∙ sym a.1
     keys (OfKey key) a = rw (r.keys, a) refl
 
-    count : (one : Requirement) → Adds old one new
+    count : (one : Requirement) → RequiresToo old one new
         → length r.each + 1 ≡ number_required new
     count (OfPair pair) a =
         let long : length new.pairs ≡ length (pair ∷ old.pairs) =

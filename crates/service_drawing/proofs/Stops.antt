@@ -63,8 +63,8 @@ pub ends_later : (end : Option (List ℕ)) (read left other : List ℕ) → HasS
 ends_later None read left other same e = tt
 ends_later (Some begin) read left other same none = none_later read left other begin same none
 
--- a part was read, and is read before other bytes too if it may end there
-pub record Moves (end : Option (List ℕ)) (Has : List ℕ → List ℕ → Type 0)
+-- a part stands before the rest, and would stand so before other bytes where it may end
+pub record IsPart (end : Option (List ℕ)) (Has : List ℕ → List ℕ → Type 0)
     (rest bytes : List ℕ) : Type 0 where
   pub front : List ℕ
   pub parts : bytes ≡ front ++ rest
@@ -72,8 +72,8 @@ pub record Moves (end : Option (List ℕ)) (Has : List ℕ → List ℕ → Type
   pub moved : (other : List ℕ) → EndsAt end other → Has other (front ++ other)
 
 pub moves_as : (end : Option (List ℕ)) (Has Other : List ℕ → List ℕ → Type 0)
-    (rest bytes : List ℕ) → ((r b : List ℕ) → Has r b → Other r b) → Moves end Has rest bytes
-    → Moves end Other rest bytes
+    (rest bytes : List ℕ) → ((r b : List ℕ) → Has r b → Other r b) → IsPart end Has rest bytes
+    → IsPart end Other rest bytes
 moves_as end Has Other rest bytes to m = record {
   front = m.front;
   parts = m.parts;
@@ -82,7 +82,7 @@ moves_as end Has Other rest bytes to m = record {
 }
 
 pub line_moves : (text rest bytes : List ℕ) → IsLine text rest bytes
-    → Moves None (IsLine text) rest bytes
+    → IsPart None (IsLine text) rest bytes
 line_moves text rest bytes l = record {
   front = text ++ 10 ∷ [];
   parts = l.spelled ∙ sym (append_assoc text (10 ∷ []) rest);
@@ -96,9 +96,9 @@ abbrev pub Both : (List ℕ → List ℕ → Type 0) → (List ℕ → List ℕ 
 Both Has Next rest bytes = (mid : List ℕ) × Has mid bytes × Next rest mid
 
 pub moves_then : (one end : Option (List ℕ)) (Has Next : List ℕ → List ℕ → Type 0)
-    (mid rest bytes : List ℕ) → Moves one Has mid bytes → Moves end Next rest mid
+    (mid rest bytes : List ℕ) → IsPart one Has mid bytes → IsPart end Next rest mid
     → ((other m : List ℕ) → Next other m → EndsAt one m)
-    → Moves end (Both Has Next) rest bytes
+    → IsPart end (Both Has Next) rest bytes
 moves_then one end Has Next mid rest bytes h k apart = record {
   front = h.front ++ k.front;
   parts = h.parts ∙ ap (λ (l : List ℕ). h.front ++ l) k.parts
@@ -120,14 +120,14 @@ abbrev pub Then : {A : Type 0} → (A → List ℕ → List ℕ → Type 0) → 
 Then {A} Has Next bytes = (x : A) × (mid : List ℕ) × Has x mid bytes × Next x mid
 
 -- where a part was read whole, it stops where the next ones do
-pub after : {A : Type 0} (Has : A → List ℕ → List ℕ → Type 0)
+pub stops_after : {A : Type 0} (Has : A → List ℕ → List ℕ → Type 0)
     (WholeNext Next : A → List ℕ → Type 0) (end : Option (List ℕ)) (x : A)
     (left mid bytes : List ℕ)
     → ((y : A) (r s b : List ℕ) → Has x r b → Has y s b → Next y s → Next x r)
-    → ((b : List ℕ) → WholeNext x b → EndsAt end b) → Moves end (Has x) mid bytes
+    → ((b : List ℕ) → WholeNext x b → EndsAt end b) → IsPart end (Has x) mid bytes
     → Stops (WholeNext x) (Next x) left mid
     → Stops (Then Has WholeNext) (Then Has Next) left bytes
-after Has WholeNext Next end x left mid bytes one apart m s = record {
+stops_after Has WholeNext Next end x left mid bytes one apart m s = record {
   read = m.front ++ s.read;
   more = s.more;
   parts = m.parts ∙ ap (λ (l : List ℕ). m.front ++ l) s.parts
@@ -188,7 +188,7 @@ stops_here IsWhole IsGood left bytes whole e begun to none = record {
 
 -- a part that was read to its end is read before more
 pub whole_then : (end : Option (List ℕ)) (Has : List ℕ → List ℕ → Type 0) (rest bytes : List ℕ)
-    → Moves end Has [] bytes → EndsAt end rest → Has rest (bytes ++ rest)
+    → IsPart end Has [] bytes → EndsAt end rest → Has rest (bytes ++ rest)
 whole_then end Has rest bytes m ends =
     let front : m.front ≡ bytes = sym (append-nil m.front) ∙ sym m.parts in
     subst (λ (b : List ℕ). Has rest (b ++ rest)) front (m.moved rest ends)

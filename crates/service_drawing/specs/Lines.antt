@@ -66,7 +66,7 @@ pub record Stops (IsWhole IsGood : List ℕ → Type 0) (left bytes : List ℕ) 
   pub begun : IsWhole (read ++ more)
   pub stops : (other : List ℕ) → HasSameLine left other → ¬ IsGood (read ++ other)
 
--- the bytes are read up to the first line that this has nowhere there
+-- what is left begins with the first line that nothing of this kind has there
 abbrev pub StopsAt : {A : Type 0} → (A → List ℕ → List ℕ → Type 0) → List ℕ → List ℕ → Type 0
 StopsAt Has left bytes = Stops (Whole Has) (Begins Has) left bytes
 
@@ -220,9 +220,9 @@ GivesRequirement (OfPair pair) text = IsPair pair × (text ≡ 32 ∷ pair_text 
 GivesRequirement (OfKey key) text = IsKey key × (text ≡ codes "-key " ++ key)
 
 -- the pair or the key is required besides
-abbrev pub Adds : Requirements → Requirement → Requirements → Type 0
-Adds old (OfPair pair) new = IsListing (pair ∷ old.pairs) new.pairs × (new.keys ≡ old.keys)
-Adds old (OfKey key) new = new ≡ record { pairs = old.pairs; keys = old.keys ++ key ∷ [] }
+abbrev pub RequiresToo : Requirements → Requirement → Requirements → Type 0
+RequiresToo old (OfPair pair) new = IsListing (pair ∷ old.pairs) new.pairs × (new.keys ≡ old.keys)
+RequiresToo old (OfKey key) new = new ≡ record { pairs = old.pairs; keys = old.keys ++ key ∷ [] }
 
 -- how many pairs and keys are required
 abbrev pub number_required : Requirements → ℕ
@@ -233,7 +233,7 @@ pub record RequiresMore (old : Requirements) (text : List ℕ) (new : Requiremen
   pub each : Requirement
   pub gives : GivesRequirement each text
   pub room : number_required old < 16
-  pub added : Adds old each new
+  pub added : RequiresToo old each new
 
 -- there is no room for one more, or the text gives none
 abbrev pub RequiresNoMore : Requirements → List ℕ → Type 0
