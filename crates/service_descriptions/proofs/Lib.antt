@@ -1,14 +1,10 @@
 pub mod Appending
-pub mod CommandLines
-pub mod Fronts
 pub mod Growing
-pub mod Ids
+pub mod Lines
+pub mod Services
 pub mod Moves
-pub mod Numerals
 pub mod OneReading
 pub mod Runs
 pub mod Scripts
-pub mod Services
 pub mod Serving
-pub mod Words
 pub mod SameReply

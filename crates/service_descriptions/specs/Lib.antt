@@ -6,7 +6,6 @@ pub mod Descriptions
 pub mod Handles
 pub mod Listings
 pub mod Lines
-pub mod Reading
 pub mod Replies
 pub mod Script
 pub mod Streams
@@ -14,3 +13,6 @@ pub mod Streams
 pub mod Laws
 -- An inner fact: how private fields make a state.
 pub mod Fields
+-- The phrases of the lines, and that no two values of one have one text.
+pub mod Phrases
+pub mod OneWay

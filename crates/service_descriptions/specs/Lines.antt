@@ -14,10 +14,11 @@ use Rattle.service_descriptions.specs.declared.replay.machine.command.Cleanup.Th
 use Rattle.service_descriptions.specs.declared.replay.machine.command.Command.{Command}
 use Rattle.service_descriptions.specs.declared.replay.machine.command.Command.TheVariants as command
 use Rattle.service_descriptions.specs.declared.replay.lines.id.Parts.{Parts}
-use Rattle.service_descriptions.specs.declared.replay.lines.id.ScriptPort.{ScriptPort}
+use Rattle.service_descriptions.specs.declared.replay.lines.port.ScriptPort.{ScriptPort}
 use Rattle.service_descriptions.specs.declared.replay.machine.line_command.LineCommand.{LineCommand}
 use Rattle.service_descriptions.specs.declared.replay.machine.line_command.LineCommand.TheVariants as spelled
-use Rattle.service_descriptions.specs.Reading.{EndsNumber}
+use Rattle.line_streams.specs.declared.end.LineEnd.{LineEnd}
+use Rattle.line_streams.specs.Spelling.{line_end}
 
 -- the four parts of an id, joined by dots
 abbrev pub id_text : ℕ → List ℕ
@@ -122,67 +123,6 @@ HasLine (command.Dead id (ByPort kept)) = IsNodeId id × AllByRecursion IsId kep
 -- the others have none
 HasLine _ = ⊥
 
--- an id, and what follows it
-abbrev pub IsIdFront : ℕ × List ℕ → Type 0
-IsIdFront front = IsId front.0 × EndsNumber front.1
-
--- a node's id, and what follows it
-abbrev pub IsNodeFront : ℕ × List ℕ → Type 0
-IsNodeFront front = IsNodeId front.0 × EndsNumber front.1
-
--- the text of an id and what follows it
-abbrev pub id_front : ℕ × List ℕ → List ℕ
-id_front front = id_text front.0 ++ front.1
-
--- a role, and what follows it
-abbrev pub IsRoleFront : Role × List ℕ → Type 0
-IsRoleFront front = front.0 ≢ role.Node
-
--- the word for a role and what follows it
-abbrev pub role_front : Role × List ℕ → List ℕ
-role_front front = role_word front.0 ++ front.1
-
--- what follows these ports does not go on with them
-abbrev pub EndsPorts : List ℕ → List ℕ → Type 0
-EndsPorts [] rest = (tail : List ℕ) → rest ≢ codes " skip " ++ tail
-EndsPorts (port ∷ ports) rest = get_or rest 0 0 ≢ 32
-
--- ports that stay, and what follows them
-abbrev pub IsSkipFront : List ℕ × List ℕ → Type 0
-IsSkipFront front = AllByRecursion IsId front.0 × EndsPorts front.0 front.1 × EndsNumber front.1
-
--- a word, and a space before it
-abbrev pub spaced : List ℕ → List ℕ → List ℕ
-spaced word rest = 32 ∷ (word ++ rest)
-
--- the text of the ports that stay after the word for them, each with a space before it
-abbrev pub ports_then : List ℕ → List ℕ → List ℕ
-ports_then [] rest = rest
-ports_then (port ∷ ports) rest = spaced (id_text port) (ports_then ports rest)
-
--- the text of the ports that stay, and what follows it
-abbrev pub skip_front : List ℕ × List ℕ → List ℕ
-skip_front ([], rest) = rest
-skip_front (port ∷ ports, rest) = codes " skip" ++ ports_then (port ∷ ports) rest
-
--- a dead node, the ports that stay, and what follows them
-abbrev pub IsDeadFront : ℕ × List ℕ × List ℕ → Type 0
-IsDeadFront front = IsNodeId front.0 × IsSkipFront (front.1, front.2)
-
--- the text of a dead node and the ports that stay, and what follows it
-abbrev pub dead_front : ℕ × List ℕ × List ℕ → List ℕ
-dead_front front = id_text front.0 ++ skip_front (front.1, front.2)
-
--- Ports were read after others, and what is left does not go on with them. Where `None` is
--- answered, the bytes have no such ports at their front.
-abbrev pub GoesOn : List ℕ → List ℕ → Option (List ℕ) → List ℕ → Type 0
-GoesOn before bytes (Some rest) after =
-    (ports : List ℕ) × (after ≡ before ++ ports) × AllByRecursion IsId ports
-    × (bytes ≡ ports_then ports rest) × (get_or rest 0 0 ≢ 32) × EndsNumber rest
-GoesOn before bytes None after =
-    (ports : List ℕ) (rest : List ℕ) → AllByRecursion IsId ports → get_or rest 0 0 ≢ 32
-    → EndsNumber rest → bytes ≢ ports_then ports rest
-
 -- the number that the parts of an id make
 abbrev pub value_of : Parts → ℕ
 value_of p = packed p.process p.seconds p.nanoseconds p.counter
@@ -191,45 +131,19 @@ value_of p = packed p.process p.seconds p.nanoseconds p.counter
 abbrev pub plain_of : ScriptPort → PortDetails
 plain_of p = plain p.role (value_of p.port) p.node
 
--- the details of a port, and what follows them
-abbrev pub IsPlainFront : PortDetails × List ℕ → Type 0
-IsPlainFront front = IsPlain front.0 × EndsNumber front.1
-
--- the text of the details of a port, and what follows it
-abbrev pub plain_front : PortDetails × List ℕ → List ℕ
-plain_front front = role_word (role_of front.0)
-    ++ spaced (id_text (port_value (port_of front.0))) (spaced (id_text (node_of front.0)) front.1)
-
--- what follows a command does not go on with it
-abbrev pub EndsCommand : Command → List ℕ → Type 0
-EndsCommand (command.Register id) rest = EndsNumber rest
-EndsCommand (command.Deregister k) rest = EndsNumber rest
-EndsCommand (command.Add d) rest = EndsNumber rest
-EndsCommand (command.Release k) rest = EndsNumber rest
-EndsCommand (command.Dead id (ByPort kept)) rest = EndsPorts kept.items rest × EndsNumber rest
-EndsCommand _ rest = Unit {0}
-
 -- commands with one line: the same command, with the same list in it
 abbrev pub SameCommand : Command → Command → Type 0
 SameCommand (command.Dead a (ByPort kept)) (command.Dead b (ByPort other)) = (a ≡ b)
     × (kept.items ≡ other.items)
 SameCommand c d = c ≡ d
 
--- a command, and what follows it
-abbrev pub IsCommandFront : Command × List ℕ → Type 0
-IsCommandFront front = HasLine front.0 × EndsCommand front.0 front.1
+-- a command, and what follows the end of its line
+abbrev pub IsLine : LineEnd → Command × List ℕ → Type 0
+IsLine end line = HasLine line.0 × (line_end end).Fits (tt, line.1)
 
--- the text of a command, and what follows it
-abbrev pub command_front : Command × List ℕ → List ℕ
-command_front front = line_of front.0 ++ front.1
-
--- a command, and what follows its newline
-abbrev pub IsLine : Command × List ℕ → Type 0
-IsLine line = HasLine line.0
-
--- the text of a command, its newline and what follows it
-abbrev pub line_text : Command × List ℕ → List ℕ
-line_text line = line_of line.0 ++ 10 ∷ line.1
+-- the text of a command, of the end of its line and of what follows it
+abbrev pub line_text : LineEnd → Command × List ℕ → List ℕ
+line_text end line = line_of line.0 ++ (line_end end).text (tt, line.1)
 
 -- the command that is spelled
 abbrev pub command_of : LineCommand → Command

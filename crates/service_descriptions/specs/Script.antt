@@ -36,14 +36,6 @@ first_state l =
     new_state (record { pattern = l.pattern; first = l.first; second = l.second }) l.max_nodes
     l.number
 
--- a pattern, and what follows the space after its word
-abbrev pub IsPatternFront : PatternKind × List ℕ → Type 0
-IsPatternFront front = Unit {0}
-
--- the text of its word, the space and what follows it
-abbrev pub pattern_front : PatternKind × List ℕ → List ℕ
-pattern_front front = pattern_word front.0 ++ 32 ∷ front.1
-
 -- a first line, and what follows its newline
 abbrev pub IsServiceFront : ServiceLine × List ℕ → Type 0
 IsServiceFront front = IsServiceLine front.0

@@ -1,7 +1,7 @@
 -- Known bytes over two writes.
 use Rattle.std.proofs.Common.{◌≡◌, ℕ, List, ◌++◌, Option, Result, Ok, Err, OnOk, subst, sym}
 use Rattle.std.specs.Io.KnownBytes.{Appends}
-use Rattle.byte_streams.proofs.Written.{appends_more}
+use Rattle.line_streams.proofs.Written.{appends_more}
 
 -- one text was appended, and then another unless that failed
 pub appends_then : {E : Type 0} (a b c : Option (List ℕ)) (xs ys zs : List ℕ)

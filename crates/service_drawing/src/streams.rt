@@ -10,7 +10,7 @@ use crate::fault::{Fault, bad_line, write_fault};
 use crate::reading::read_description;
 use crate::svg::write_svg;
 use crate::text::write_text;
-use byte_streams::{read_all, write_whole};
+use line_streams::{read_all, write_whole};
 use std::alloc::Global;
 use std::env::Args;
 use std::io;

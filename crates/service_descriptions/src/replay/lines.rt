@@ -2,13 +2,12 @@
 
 mod id;
 mod line;
-mod number;
+mod port;
 mod reply_line;
 mod script;
 mod service_line;
-mod word;
 
-pub(crate) use id::ScriptPort;
 pub use line::read_line;
+pub(crate) use port::ScriptPort;
 pub use reply_line::write_reply;
 pub use script::{ScriptError, run_script};

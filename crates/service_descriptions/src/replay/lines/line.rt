@@ -1,96 +1,77 @@
 //! Command lines.
-
-ghost use Rattle.std.specs.Prelude.{◌≡◌, ℕ, List, IfOk};
+ghost use Rattle.std.specs.Prelude.{IfOk};
 ghost use Rattle.std.specs.Option.{option_map};
-ghost use Rattle.service_descriptions.specs.Reading.{Reads};
-ghost use Rattle.service_descriptions.specs.Lines.{command_of, line_of, HasLine, IsCommandFront};
-ghost use Rattle.service_descriptions.specs.Lines.{command_front, IsLine, line_text};
+ghost use Rattle.line_streams.specs.Spelling.{Reads};
+ghost use Rattle.service_descriptions.specs.Lines.{command_of, line_of, HasLine, IsLine, line_text};
 
-use super::id::{dead_before, id_before, plain_before, role_before};
-use super::number::number_before;
-use super::word::{after, after_word};
+use super::id::{DeadNode, NodeId};
+use super::port::{Port, RoleName};
 use crate::replay::machine::{Cleanup, Command, LineCommand};
+use line_streams::{Line, LineEnd, Number, Phrase, after_word};
 use std::alloc::{AllocError, Global};
 
-/// The command that is spelled at the front, and what follows it.
+/// The name of an earlier command: how many commands stand before it.
+const EARLIER: Number = Number(u64::MAX);
+
+/// The command whose line begins these bytes, and what follows its end.
 #[inline(always)]
-fn command_before(alloc: Global, bytes: &[u8]) -> Result<Option<(LineCommand, &[u8])>, AllocError>
-    ensures { IfOk result (λ found. Reads IsCommandFront command_front
+pub(super) fn command_before(
+    alloc: Global,
+    bytes: &[u8],
+    end: LineEnd,
+) -> Result<Option<(LineCommand, &[u8])>, AllocError>
+    ensures { IfOk result (λ found. Reads (IsLine end) (line_text end)
         (option_map (λ found. (command_of found.0, found.1.now)) found) bytes.now) }
 {
     if let Some(rest) = after_word(bytes, b"register ") {
-        let Some((id, rest)) = id_before(rest) else {
-            return Ok(None);
-        };
-        Ok(Some((LineCommand::Register(id), rest)))
+        match Line(NodeId, end).read(alloc, rest) {
+            Ok(Some((id, rest))) => Ok(Some((LineCommand::Register(id), rest))),
+            Ok(None) => Ok(None),
+            Err(refused) => Err(refused),
+        }
     } else if let Some(rest) = after_word(bytes, b"deregister ") {
-        let Some((k, rest)) = number_before(rest, u64::MAX) else {
+        let Some((k, rest)) = Line(EARLIER, end).read(alloc, rest)? else {
             return Ok(None);
         };
         Ok(Some((LineCommand::Deregister(k as usize), rest)))
     } else if let Some(rest) = after_word(bytes, b"add ") {
-        let Some((port, rest)) = plain_before(rest) else {
-            return Ok(None);
-        };
-        Ok(Some((LineCommand::Add(port), rest)))
+        match Line(Port, end).read(alloc, rest) {
+            Ok(Some((port, rest))) => Ok(Some((LineCommand::Add(port), rest))),
+            Ok(None) => Ok(None),
+            Err(refused) => Err(refused),
+        }
     } else if let Some(rest) = after_word(bytes, b"release ") {
-        let Some((k, rest)) = number_before(rest, u64::MAX) else {
+        let Some((k, rest)) = Line(EARLIER, end).read(alloc, rest)? else {
             return Ok(None);
         };
         Ok(Some((LineCommand::Release(k as usize), rest)))
     } else if let Some(rest) = after_word(bytes, b"list ") {
-        let Some((role, rest)) = role_before(rest) else {
+        let Some((role, rest)) = Line(RoleName, end).read(alloc, rest)? else {
             return Ok(None);
         };
         Ok(Some((LineCommand::List(role), rest)))
     } else if let Some(rest) = after_word(bytes, b"count ") {
-        let Some((role, rest)) = role_before(rest) else {
+        let Some((role, rest)) = Line(RoleName, end).read(alloc, rest)? else {
             return Ok(None);
         };
         Ok(Some((LineCommand::Count(role), rest)))
     } else if let Some(rest) = after_word(bytes, b"nodes") {
-        Ok(Some((LineCommand::Nodes, rest)))
-    } else if let Some(rest) = after_word(bytes, b"dead ") {
-        let Some((id, kept, rest)) = dead_before(alloc, rest)? else {
+        let Some(((), rest)) = end.read(alloc, rest)? else {
             return Ok(None);
         };
-        Ok(Some((LineCommand::Dead(id, Cleanup::ByPort(kept)), rest)))
+        Ok(Some((LineCommand::Nodes, rest)))
+    } else if let Some(rest) = after_word(bytes, b"dead ") {
+        match Line(DeadNode, end).read(alloc, rest) {
+            Ok(Some((dead, rest))) => {
+                let (id, kept) = dead;
+                Ok(Some((LineCommand::Dead(id, Cleanup::ByPort(kept)), rest)))
+            }
+            Ok(None) => Ok(None),
+            Err(refused) => Err(refused),
+        }
     } else {
         Ok(None)
     }
-}
-
-/// The command whose line with its newline begins these bytes, and what follows the newline.
-#[inline(always)]
-pub(super) fn next_command(
-    alloc: Global,
-    bytes: &[u8],
-) -> Result<Option<(LineCommand, &[u8])>, AllocError>
-    ensures { IfOk result (λ found. Reads IsLine line_text
-        (option_map (λ found. (command_of found.0, found.1.now)) found) bytes.now) }
-{
-    let Some((command, rest)) = command_before(alloc, bytes)? else {
-        return Ok(None);
-    };
-    let Some(rest) = after(rest, b'\n') else {
-        return Ok(None);
-    };
-    Ok(Some((command, rest)))
-}
-
-/// The same as [`read_line`], small.
-#[inline(always)]
-fn line_command(alloc: Global, line: &[u8]) -> Result<Option<LineCommand>, AllocError>
-    ensures { IfOk result
-        (λ found. Reads HasLine line_of (option_map command_of found) line.now) }
-{
-    let Some((command, rest)) = command_before(alloc, line)? else {
-        return Ok(None);
-    };
-    if rest.len() != 0 {
-        return Ok(None);
-    }
-    Ok(Some(command))
 }
 
 /// The command that a line without its newline spells, or `None` where it spells none.
@@ -104,8 +85,8 @@ fn line_command(alloc: Global, line: &[u8]) -> Result<Option<LineCommand>, Alloc
 pub fn read_line(alloc: Global, line: &[u8]) -> Result<Option<Command>, AllocError>
     ensures { IfOk result (λ found. Reads HasLine line_of found line.now) }
 {
-    match line_command(alloc, line)? {
-        Some(command) => Ok(Some(command.command())),
+    match command_before(alloc, line, LineEnd::Bytes)? {
+        Some((command, _)) => Ok(Some(command.command())),
         None => Ok(None),
     }
 }

@@ -4,11 +4,12 @@ ghost use Rattle.std.specs.Option.{option_map};
 ghost use Rattle.service_descriptions.specs.declared.replay.lines.script.ScriptError.TheVariants.{NoMemory};
 ghost use Rattle.service_descriptions.specs.Script.{LinesEnd, RanLine, Scripted};
 
-use super::line::next_command;
+use super::line::command_before;
 use super::reply_line::write_line;
 use super::service_line::service_before;
 use crate::replay::machine::ServiceState;
 use iox2_dynamic::dynamic_config::MessagingPatternSettings;
+use line_streams::LineEnd;
 use std::alloc::{AllocError, Global};
 use thiserror::Error;
 
@@ -60,7 +61,7 @@ fn run_line<'a>(
         (option_map (λ rest. rest.now) found) state.new out.new.items) }
     ensures err { OnErr result (out.new.items ≡ out.old.items) }
 {
-    let Some((command, rest)) = next_command(alloc, lines)? else {
+    let Some((command, rest)) = command_before(alloc, lines, LineEnd::Newline)? else {
         return Ok(None);
     };
     let reply = state.serve_line(alloc, &command)?;
@@ -104,7 +105,7 @@ pub fn run_script(alloc: Global, script: &[u8], out: &mut Vec<u8>) -> Result<(),
     ensures { (text : List ℕ) × (out.new.items ≡ out.old.items ++ text)
         × Scripted script.now result text }
 {
-    let Some((service, lines)) = service_before(script) else {
+    let Some((service, lines)) = service_before(alloc, script) else {
         return Err(ScriptError::BadLine(1));
     };
     let settings = MessagingPatternSettings::new(service.pattern, service.first, service.second);

@@ -1,12 +1,15 @@
 //! The first line of a script.
+ghost use Rattle.std.specs.Prelude.{false};
 ghost use Rattle.std.specs.Option.{option_map};
-ghost use Rattle.service_descriptions.specs.Reading.{Reads};
-ghost use Rattle.service_descriptions.specs.Script.{IsPatternFront, pattern_front};
+ghost use Rattle.iox2_config.specs.declared.hash.input.PatternKind.{PatternKind as Kind};
+ghost use Rattle.line_streams.specs.Spelling.{Reads};
 ghost use Rattle.service_descriptions.specs.Script.{IsServiceFront, service_front};
+ghost use Rattle.service_descriptions.specs.Phrases.{pattern_phrase};
+ghost use Rattle.service_descriptions.specs.OneWay.{pattern_one};
 
-use super::number::number_then;
-use super::word::{after, after_word};
 use iox2_config::hash::PatternKind;
+use line_streams::{After, Line, LineEnd, Number, Phrase, Then, after_word};
+use std::alloc::{AllocError, Global};
 
 /// What the first line of a script says of its service.
 #[derive(Clone, Copy)]
@@ -23,42 +26,55 @@ pub(super) struct ServiceLine {
     pub(super) second: usize,
 }
 
-/// The pattern whose word stands at the front, and what follows the space after it.
-fn pattern_before(bytes: &[u8]) -> Option<(PatternKind, &[u8])>
-    ensures { Reads IsPatternFront pattern_front
-        (option_map (λ found. (found.0, found.1.now)) result) bytes.now }
-{
-    for kind in PatternKind::ALL {
-        if let Some(rest) = after_word(bytes, kind.word().as_bytes())
-            && let Some(rest) = after(rest, b' ')
-        {
-            return Some((kind, rest));
+/// The word for a pattern, and a space.
+#[derive(Clone, Copy)]
+struct PatternName;
+
+impl<'a> Phrase<'a> for PatternName {
+    type Value = PatternKind;
+
+    ghost Seen = { Kind };
+
+    ghost view = { λ kind. kind };
+
+    ghost spelling = { λ s. pattern_phrase };
+
+    ghost takes_memory = { false };
+
+    fn read(
+        &self,
+        _alloc: Global,
+        bytes: &'a [u8],
+    ) -> Result<Option<(PatternKind, &'a [u8])>, AllocError> {
+        for kind in PatternKind::ALL {
+            if let Some(rest) = after_word(bytes, kind.word().as_bytes())
+                && let Some(rest) = after_word(rest, b" ")
+            {
+                return Ok(Some((kind, rest)));
+            }
         }
+        Ok(None)
     }
-    None
+
+    ghost one_way = { λ s. pattern_one };
 }
 
+/// A number.
+const NUMBER: Number = Number(u64::MAX);
+
 /// The service line with its newline that begins these bytes, and what follows the newline.
-pub(super) fn service_before(bytes: &[u8]) -> Option<(ServiceLine, &[u8])>
+pub(super) fn service_before(alloc: Global, bytes: &[u8]) -> Option<(ServiceLine, &[u8])>
     ensures { Reads IsServiceFront service_front
         (option_map (λ found. (found.0, found.1.now)) result) bytes.now }
 {
-    let Some(rest) = after_word(bytes, b"service ") else {
-        return None;
+    let second = After(b" ", Line(NUMBER, LineEnd::Newline));
+    let first = After(b" ", Then(NUMBER, second));
+    let max_nodes = After(b" ", Then(NUMBER, first));
+    let service = After(b"service ", Then(PatternName, Then(NUMBER, max_nodes)));
+    let Ok(found) = service.read(alloc, bytes) else {
+        unreachable!();
     };
-    let Some((pattern, rest)) = pattern_before(rest) else {
-        return None;
-    };
-    let Some((number, rest)) = number_then(rest, u64::MAX, b' ') else {
-        return None;
-    };
-    let Some((max_nodes, rest)) = number_then(rest, u64::MAX, b' ') else {
-        return None;
-    };
-    let Some((first, rest)) = number_then(rest, u64::MAX, b' ') else {
-        return None;
-    };
-    let Some((second, rest)) = number_then(rest, u64::MAX, b'\n') else {
+    let Some(((pattern, (number, (max_nodes, (first, second)))), rest)) = found else {
         return None;
     };
     let service = ServiceLine {

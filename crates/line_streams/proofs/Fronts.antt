@@ -1,0 +1,142 @@
+-- Numbers at the front of a text.
+use Rattle.std.proofs.Common.{◌≡◌, ◌≢◌, ℕ, zero, suc, ◌<◌, ◌≤◌, ◌^◌, ◌+◌, List, [], ◌∷◌, ◌++◌, length, get_or, take, drop, ◌-◌, ◌*◌, ◌%◌, ◌⊎◌, inl, inr, Fits, w8, arith, sym, ◌∙◌, refl, ap}
+use Rattle.std.specs.Fmt.{decimal}
+use Rattle.std.specs.Str.Parse.{AllDigits, digits_value}
+use Rattle.std.proofs.lemmas.Fmt.{digits_value-decimal, decimal_nonempty, decimal-digits_value}
+use Rattle.std.proofs.lemmas.Str.Parse.{digit_from_value, digits_value-take-le}
+use Rattle.std.proofs.lemmas.Str.{digit_value_digit}
+use Rattle.std.proofs.lemmas.Int.Digits.{digits_more, digits_value_more}
+use Rattle.std.proofs.lemmas.List.{length-append, length-take-le, take-append-drop, get_or-take, length-drop, get_or-drop}
+use Rattle.std.proofs.Math.Seq.{take-length}
+use Rattle.line_streams.specs.Spelling.{EndsNumber, IsDigit}
+use Rattle.line_streams.specs.Numerals.{own, decimal_first, decimal_no_zero}
+
+-- digits at the front of a text are those of its number
+covers : (a rest : List ℕ) (k : ℕ) → EndsNumber rest → AllDigits 10 (take k (a ++ rest))
+    → k ≤ length (a ++ rest) → k ≤ length a
+covers a rest zero u d le = omega arith
+covers [] [] (suc k) u d le = absurd (omega arith)
+covers [] (r ∷ rest) (suc k) u d le = absurd (u (digit_from_value r d.0))
+covers (b ∷ bs) rest (suc k) u d le = let shorter = covers bs rest k u d.1 (omega arith) in
+    omega arith
+
+take_front : (a rest : List ℕ) (k : ℕ) → k ≤ length a → take k (a ++ rest) ≡ take k a
+take_front a rest zero le = refl
+take_front [] rest (suc k) le = absurd (omega arith)
+take_front (b ∷ bs) rest (suc k) le =
+    ap (λ (xs : List ℕ). b ∷ xs) (take_front bs rest k (omega arith))
+
+-- and write no larger number
+pub front_value : (n : ℕ) (rest bytes : List ℕ) (k : ℕ) → n < 2 ^ 64 → EndsNumber rest
+    → bytes ≡ decimal n ++ rest → AllDigits 10 (take k bytes) → k ≤ length bytes
+    → digits_value 10 (take k bytes) ≤ n
+front_value n rest bytes k h u e d le =
+    let short = covers (decimal n) rest k u (rw e at d) (rw e at le) in
+    let value = digits_value-take-le 10 (decimal n) k (omega arith) in
+    rw (e, take_front (decimal n) rest k short) (rw (digits_value-decimal own n h) at value)
+
+spare : (ds rest : List ℕ) → 0 < length ds → (get_or ds 0 0 ≡ 48 → length ds ≡ 1) → EndsNumber rest
+    → get_or (ds ++ rest) 0 0 ≡ 48 → IsDigit (get_or (ds ++ rest) 1 0) → ⊥
+spare [] rest some alone u naught digit = omega arith
+spare (d ∷ []) rest some alone u naught digit = u digit
+spare (d ∷ e ∷ ds) rest some alone u naught digit = let one = alone naught in omega arith
+
+-- no number has a zero before a digit
+pub no_spare_zero : (n : ℕ) (rest bytes : List ℕ) → n < 2 ^ 64 → EndsNumber rest → bytes ≡ decimal n
+    ++ rest → get_or bytes 0 0 ≡ 48 → IsDigit (get_or bytes 1 0) → ⊥
+no_spare_zero n rest bytes h u e naught digit =
+    spare (decimal n) rest (decimal_nonempty n h) (decimal_no_zero n h) u (rw e at naught)
+    (rw e at digit)
+
+starts : (ds rest : List ℕ) → 0 < length ds → IsDigit (get_or ds 0 0)
+    → IsDigit (get_or (ds ++ rest) 0 0)
+starts [] rest some digit = absurd (omega arith)
+starts (d ∷ ds) rest some digit = digit
+
+pub starts_with_digit : (n : ℕ) (rest bytes : List ℕ) → n < 2 ^ 64 → bytes ≡ decimal n ++ rest
+    → IsDigit (get_or bytes 0 0)
+starts_with_digit n rest bytes h e =
+    rw e (starts (decimal n) rest (decimal_nonempty n h) (decimal_first n h))
+
+pub slice_tail : (bs : List ℕ) (i : ℕ) → take (length bs - i) (drop i bs) ≡ drop i bs
+slice_tail bs i = rw (← length-drop i bs) (take-length (drop i bs))
+
+-- all digits at the front, with no spare zero, are their number's spelling
+pub number_found : (bytes : List ℕ) (i value most : ℕ) → 0 < i → i ≤ length bytes
+    → AllDigits 10 (take i bytes) → value ≡ digits_value 10 (take i bytes) → value ≤ most
+    → most < 2 ^ 64
+    → (1 < i → get_or bytes 0 0 ≢ 48) → EndsNumber (drop i bytes)
+    → ((value ≤ most) × (value < 2 ^ 64) × EndsNumber (take (length bytes - i) (drop i bytes)))
+    × (bytes ≡ decimal value ++ take (length bytes - i) (drop i bytes))
+number_found bytes i value most some le d is small fits plain ends =
+    let h : value < 2 ^ 64 = omega (arith, small, fits) in
+    let len : length (take i bytes) ≡ i = length-take-le i bytes le in
+    let alone : get_or (take i bytes) 0 0 ≡ 48 → length (take i bytes) ≡ 1 =
+    λ naught. elim (one_or_more i some) [
+      | inl one ↦ len ∙ one
+      | inr more ↦ absurd (plain more (sym (get_or-take i bytes 0 0 some) ∙ naught))
+    ] in
+    let text : decimal (digits_value 10 (take i bytes)) ≡ take i bytes =
+    decimal-digits_value own (take i bytes) d (omega arith) alone (rw is at h) in
+    let tail = slice_tail bytes i in
+    ((small, h, rw tail ends), rw (tail, is, text) (sym (take-append-drop i bytes)))
+  where
+    one_or_more : (k : ℕ) → 0 < k → (k ≡ 1) ⊎ (1 < k)
+    one_or_more zero some = absurd (omega arith)
+    one_or_more (suc zero) some = inl refl
+    one_or_more (suc (suc k)) some = inr (omega arith)
+
+-- one more digit
+pub digit_more : (bytes : List ℕ) (i value : ℕ) → i < length bytes → AllDigits 10 (take i bytes)
+    → value ≡ digits_value 10 (take i bytes) → IsDigit (get_or bytes i 0)
+    → AllDigits 10 (take (i + 1) bytes)
+    × (value * 10 + (get_or bytes i 0 - 48) ≡ digits_value 10 (take (i + 1) bytes))
+digit_more bytes i value lt d is digit =
+    let v = digit_value_digit (get_or bytes i 0) digit in (
+      digits_more 10 bytes i lt d (omega arith),
+      rw (is, digits_value_more 10 bytes i lt) (omega arith),
+    )
+
+-- a number's spelling has no digits that write more
+pub too_large : (n : ℕ) (rest bytes : List ℕ) (i value : ℕ) → n < 2 ^ 64 → EndsNumber rest
+    → bytes ≡ decimal n ++ rest → i < length bytes
+    → AllDigits 10 (take i bytes) → value ≡ digits_value 10 (take i bytes)
+    → IsDigit (get_or bytes i 0) → value * 10 + (get_or bytes i 0 - 48) ≤ n
+too_large n rest bytes i value h u e lt d is digit =
+    let more = digit_more bytes i value lt d is digit in
+    let least = front_value n rest bytes (i + 1) h u e more.0 (omega arith) in
+    omega (arith, more.1)
+
+pub ends_at : (bytes : List ℕ) (i : ℕ) → ¬ (IsDigit (get_or bytes i 0)) → EndsNumber (drop i bytes)
+ends_at bytes i out = λ r. let same = get_or-drop i bytes 0 0 in let plus : i + 0 ≡ i =
+    omega arith in out (rw (same, plus) at r)
+
+past_end : (bytes : List ℕ) (i : ℕ) → length bytes ≤ i → get_or bytes i 0 ≡ 0
+past_end [] i le = refl
+past_end (b ∷ bs) zero le = absurd (omega arith)
+past_end (b ∷ bs) (suc i) le = past_end bs i (omega arith)
+
+pub ends_there : (bytes : List ℕ) (i : ℕ) → length bytes ≤ i → EndsNumber (drop i bytes)
+ends_there bytes i le = ends_at bytes i (λ r. let zero = past_end bytes i le in omega arith)
+
+pub starts_somewhere : (n : ℕ) (rest bytes : List ℕ) → n < 2 ^ 64 → bytes ≡ decimal n ++ rest
+    → 0 < length bytes
+starts_somewhere n rest bytes h e = let some = decimal_nonempty n h in let both =
+    length-append (decimal n) rest in rw e (omega (arith, some, both))
+
+-- the first digit is a zero where the number of one digit is 0
+pub first_value : (bytes : List ℕ) (value : ℕ) → 0 < length bytes → AllDigits 10 (take 1 bytes)
+    → value ≡ digits_value 10 (take 1 bytes) → get_or bytes 0 0 ≡ value + 48
+first_value [] value some d is = absurd (omega arith)
+first_value (b ∷ bs) value some d is = let v = digit_value_digit b (digit_from_value b d.0) in
+    omega (arith, v, is)
+
+-- what the wrapped difference to `0` says of a byte
+pub digit_below : (b : ℕ) → Fits w8 b → (b + 208) % 256 ≤ 9 → IsDigit b
+digit_below b small low = (omega (arith, small), omega (arith, small))
+
+pub digit_above : (b : ℕ) → Fits w8 b → 9 < (b + 208) % 256 → IsDigit b → ⊥
+digit_above b small high digit = omega (arith, small)
+
+pub digit_is : (b : ℕ) → IsDigit b → (b + 208) % 256 ≡ b - 48
+digit_is b digit = omega arith

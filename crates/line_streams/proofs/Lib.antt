@@ -1,0 +1,5 @@
+pub mod Written
+pub mod Fronts
+pub mod Words
+pub mod Lists
+pub mod Choices

@@ -1,0 +1,17 @@
+//! Streams of lines: bytes that come whole and go whole, and phrases,
+//! of which the readers of a language of lines are built.
+#![tactic(auto)]
+
+mod end;
+mod list;
+mod number;
+mod phrase;
+mod streams;
+mod word;
+
+pub use end::{Line, LineEnd};
+pub use list::Listed;
+pub use number::Number;
+pub use phrase::{Phrase, Then};
+pub use streams::{read_all, write_whole};
+pub use word::{After, after_word};

@@ -1,0 +1,86 @@
+//! Words, and what stands after them.
+ghost use Rattle.std.specs.Prelude.{◌≡◌, ◌≢◌, ℕ, ◌∷◌, ◌++◌, List, IfSome, IfNone};
+ghost use Rattle.line_streams.specs.Spelling.{after as after_it};
+ghost use Rattle.line_streams.specs.OneWay.{after_one};
+
+use super::phrase::Phrase;
+use std::alloc::{AllocError, Global};
+
+/// What follows this byte.
+#[inline(always)]
+pub(crate) fn after_byte(bytes: &[u8], byte: u8) -> Option<&[u8]>
+    ensures some { IfSome result (λ rest. bytes.now ≡ byte ∷ rest.now) }
+    ensures none { IfNone result ((rest : List ℕ) → bytes.now ≢ byte ∷ rest) }
+{
+    match bytes {
+        [first, rest @ ..] if *first == byte => Some(rest),
+        _ => None,
+    }
+}
+
+/// What follows this word, which is compared byte by byte.
+#[inline(always)]
+fn after_bytes<'a>(bytes: &'a [u8], word: &[u8]) -> Option<&'a [u8]>
+    ensures some { IfSome result (λ rest. bytes.now ≡ word.now ++ rest.now) }
+    ensures none { IfNone result ((rest : List ℕ) → bytes.now ≢ word.now ++ rest) }
+{
+    let mut rest = bytes;
+    for byte in word {
+        let Some(next) = after_byte(rest, *byte) else {
+            return None;
+        };
+        rest = next;
+    }
+    Some(rest)
+}
+
+/// What follows this word. Its first eight bytes, where it has so many, are compared as one number.
+#[inline(always)]
+pub fn after_word<'a>(bytes: &'a [u8], word: &[u8]) -> Option<&'a [u8]>
+    ensures some { IfSome result (λ rest. bytes.now ≡ word.now ++ rest.now) }
+    ensures none { IfNone result ((rest : List ℕ) → bytes.now ≢ word.now ++ rest) }
+{
+    let Some((wanted, more)) = word.split_first_chunk::<8>() else {
+        return after_bytes(bytes, word);
+    };
+    let Some((front, rest)) = bytes.split_first_chunk::<8>() else {
+        return None;
+    };
+    if u64::from_le_bytes(*front) != u64::from_le_bytes(*wanted) {
+        return None;
+    }
+    after_bytes(rest, more)
+}
+
+/// A phrase after a word.
+#[derive(Clone, Copy)]
+pub struct After<'w, P>(pub &'w [u8], pub P);
+
+impl<'a, 'w, P: Phrase<'a>> Phrase<'a> for After<'w, P> {
+    type Value = P::Value;
+
+    ghost Seen = { P.Seen };
+
+    ghost view = { P.view };
+
+    ghost spelling = { λ s. after_it s.0.now (P.spelling s.1) };
+
+    ghost takes_memory = { P.takes_memory };
+
+    #[inline(always)]
+    fn read(
+        &self,
+        alloc: Global,
+        bytes: &'a [u8],
+    ) -> Result<Option<(P::Value, &'a [u8])>, AllocError> {
+        let Some(rest) = after_word(bytes, self.0) else {
+            return Ok(None);
+        };
+        let Some((value, rest)) = self.1.read(alloc, rest)? else {
+            return Ok(None);
+        };
+        Ok(Some((value, rest)))
+    }
+
+    ghost one_way = { λ s. after_one s.0.now (P.one_way s.1) };
+}

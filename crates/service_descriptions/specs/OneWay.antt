@@ -1,0 +1,157 @@
+-- No two values have one word.
+use Rattle.std.proofs.Common.{◌≡◌, ◌≢◌, ℕ, ◌≤◌, ◌<◌, ◌^◌, List, [], ◌∷◌, ◌++◌, codes, get_or, arith, refl, sym, ◌∙◌, ap, subst, append_assoc}
+use Rattle.std.specs.Prelude.{◌==◌, if◌then◌else◌}
+use Rattle.iox2_config.specs.declared.hash.input.PatternKind.{PatternKind}
+use Rattle.iox2_config.specs.declared.hash.input.PatternKind.TheVariants as pattern
+use Rattle.iox2_config.specs.Hashing.{pattern_word}
+use Rattle.iox2_container.specs.declared.container.role.Role.{Role}
+use Rattle.iox2_container.specs.declared.container.role.Role.TheVariants as role
+use Rattle.iox2_dynamic.specs.declared.dynamic_config.port_details.PortDetails.{PortDetails}
+use Rattle.iox2_dynamic.specs.declared.dynamic_config.port_details.PortDetails.TheVariants as of
+use Rattle.iox2_dynamic.specs.Details.{role_of, node_of}
+use Rattle.iox2_ids.specs.Packing.{packed, process_of, seconds_of, nanoseconds_of, counter_of}
+use Rattle.line_streams.specs.Spelling.{OneWay, EndsNumber, number, sequence, after}
+use Rattle.line_streams.specs.Numerals.{cancel, cons_same}
+use Rattle.line_streams.specs.OneWay.{number_one, sequence_one, after_one, listed_one}
+use Rattle.service_descriptions.specs.Lines.{id_text, IsId, role_word, IsPlain, plain}
+use Rattle.service_descriptions.specs.Phrases.{id_phrase, node_id_phrase, dead_phrase, parts_phrase, role_phrase, three_phrase, spelled_of, port_phrase, pattern_phrase}
+
+-- the parts of an id
+abbrev pub parts_of : ℕ → ℕ × (ℕ × (ℕ × ℕ))
+parts_of id = (process_of id, (seconds_of id, (nanoseconds_of id, counter_of id)))
+
+-- the number that parts make
+abbrev pub made_of : ℕ × (ℕ × (ℕ × ℕ)) → ℕ
+made_of p = packed p.0 p.1.0 p.1.1.0 p.1.1.1
+
+whole : (id : ℕ) → made_of (parts_of id) ≡ id
+whole id = omega arith
+
+pub id_then : (id : ℕ) (rest : List ℕ) → id_text id ++ rest ≡ parts_phrase.text (parts_of id, rest)
+id_then id rest = simp append_assoc
+
+pub parts_fit : (id : ℕ) (rest : List ℕ) → IsId id → EndsNumber rest
+    → parts_phrase.Fits (parts_of id, rest)
+parts_fit id rest fits ends = (
+  (omega (arith, fits), omega (arith, fits), (λ digit. omega arith)),
+  (
+    (omega arith, omega arith, (λ digit. omega arith)),
+    ((omega arith, omega arith, (λ digit. omega arith)), (omega arith, omega arith, ends)),
+  ),
+)
+
+parts_one : OneWay parts_phrase
+parts_one =
+    let part = number_one 4294967295 in
+    sequence_one part (after_one (codes ".") (sequence_one part (after_one (codes ".")
+    (sequence_one part (after_one (codes ".") part)))))
+
+pub id_one : OneWay id_phrase
+id_one = record { same = same }
+  where
+    same : (a b : ℕ × List ℕ) → id_phrase.Fits a → id_phrase.Fits b → id_phrase.text a ≡ id_phrase.text b → (a.0 ≡ b.0)
+        × (a.1 ≡ b.1)
+    same a b p q e =
+        let both =
+        parts_one.same (parts_of a.0, a.1) (parts_of b.0, b.1) (parts_fit a.0 a.1 p.0 p.1)
+        (parts_fit b.0 b.1 q.0 q.1) (sym (id_then a.0 a.1) ∙ e ∙ id_then b.0 b.1) in
+        (sym (whole a.0) ∙ ap made_of both.0 ∙ whole b.0, both.1)
+
+pub node_id_one : OneWay node_id_phrase
+node_id_one = record { same = λ a b p q e. id_one.same a b (p.0.0, p.1) (q.0.0, q.1) e }
+
+pub dead_one : OneWay dead_phrase
+dead_one = sequence_one node_id_one (listed_one (codes " skip ") 32 id_one)
+
+-- what tells roles apart: the first two bytes
+abbrev role_by : List ℕ → Role
+role_by bytes =
+    if get_or bytes 0 0 == 112 then role.Publisher
+    else if get_or bytes 0 0 == 108 then role.Listener
+    else if get_or bytes 0 0 == 110 then role.Notifier
+    else if get_or bytes 0 0 == 99 then role.Client
+    else if get_or bytes 0 0 == 114 then role.Reader
+    else if get_or bytes 0 0 == 119 then role.Writer
+    else if get_or bytes 1 0 == 117 then role.Subscriber
+    else role.Server
+
+role_by_is : (r : Role) (rest : List ℕ) → r ≢ role.Node → role_by (role_word r ++ rest) ≡ r
+role_by_is role.Publisher rest p = refl
+role_by_is role.Subscriber rest p = refl
+role_by_is role.Listener rest p = refl
+role_by_is role.Notifier rest p = refl
+role_by_is role.Server rest p = refl
+role_by_is role.Client rest p = refl
+role_by_is role.Reader rest p = refl
+role_by_is role.Writer rest p = refl
+role_by_is role.Node rest p = absurd (p refl)
+
+pub role_one : OneWay role_phrase
+role_one = record { same = same }
+  where
+    same : (a b : Role × List ℕ) → role_phrase.Fits a → role_phrase.Fits b
+        → role_phrase.text a ≡ role_phrase.text b → (a.0 ≡ b.0) × (a.1 ≡ b.1)
+    same (r, x) (s, y) p q e =
+        let is : r ≡ s = sym (role_by_is r x p) ∙ ap role_by e ∙ role_by_is s y q in
+        (is, cancel (role_word s) x y (subst (λ t. role_word t ++ x ≡ role_word s ++ y) is e))
+
+role_no_node : (d : PortDetails) → role_of d ≢ role.Node
+role_no_node (of.Publisher d) e = (cc)
+role_no_node (of.Subscriber d) e = (cc)
+role_no_node (of.Listener d) e = (cc)
+role_no_node (of.Notifier d) e = (cc)
+role_no_node (of.Server d) e = (cc)
+role_no_node (of.Client d) e = (cc)
+role_no_node (of.Reader d) e = (cc)
+role_no_node (of.Writer d) e = (cc)
+
+pub three_fit : (d : PortDetails) (rest : List ℕ) → IsPlain d → EndsNumber rest
+    → three_phrase.Fits (spelled_of d, rest)
+three_fit d rest p ends =
+    (role_no_node d, ((p.port, (λ digit. omega arith)), (p.node, ends)))
+
+three_one : OneWay three_phrase
+three_one =
+    sequence_one role_one
+    (after_one (codes " ") (sequence_one id_one (after_one (codes " ") node_id_one)))
+
+pub port_one : OneWay port_phrase
+port_one = record { same = same }
+  where
+    same : (a b : PortDetails × List ℕ) → port_phrase.Fits a → port_phrase.Fits b → port_phrase.text a ≡ port_phrase.text b
+        → (a.0 ≡ b.0) × (a.1 ≡ b.1)
+    same a b p q e =
+        let both =
+        three_one.same (spelled_of a.0, a.1) (spelled_of b.0, b.1) (three_fit a.0 a.1 p.0 p.1)
+        (three_fit b.0 b.1 q.0 q.1) e in
+        (p.0.others ∙ ap (λ t. plain t.0 t.1.0 t.1.1) both.0 ∙ sym q.0.others, both.1)
+
+-- the pattern whose word begins with this byte
+abbrev pattern_by : ℕ → PatternKind
+pattern_by first =
+    if first == 112 then pattern.PublishSubscribe
+    else if first == 101 then pattern.Event
+    else if first == 114 then pattern.RequestResponse
+    else pattern.Blackboard
+
+pattern_by_is : (k : PatternKind) (rest : List ℕ)
+    → pattern_by (get_or (pattern_word k ++ rest) 0 0) ≡ k
+pattern_by_is pattern.PublishSubscribe rest = refl
+pattern_by_is pattern.Event rest = refl
+pattern_by_is pattern.RequestResponse rest = refl
+pattern_by_is pattern.Blackboard rest = refl
+
+pub pattern_one : OneWay pattern_phrase
+pattern_one = record { same = same }
+  where
+    same : (a b : PatternKind × List ℕ) → pattern_phrase.Fits a → pattern_phrase.Fits b
+        → pattern_phrase.text a ≡ pattern_phrase.text b → (a.0 ≡ b.0) × (a.1 ≡ b.1)
+    same (k, x) (l, y) p q e =
+        let is : k ≡ l =
+        sym (pattern_by_is k (32 ∷ x)) ∙ ap (λ bytes. pattern_by (get_or bytes 0 0)) e
+        ∙ pattern_by_is l (32 ∷ y) in (
+          is,
+          (cons_same
+              (cancel (pattern_word l) (32 ∷ x) (32 ∷ y)
+              (subst (λ t. pattern_word t ++ 32 ∷ x ≡ pattern_word l ++ 32 ∷ y) is e))).1,
+        )
