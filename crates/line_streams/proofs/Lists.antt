@@ -35,7 +35,8 @@ goes_on {A} word byte P tail bytes b = record { ends = ends; goes = goes }
 
 -- after one more and the byte
 pub goes_on_more : {A : Type 0} (word : List ℕ) (byte : ℕ) (P : Spelling A) → OneWay P
-    → (items : List A) (v : A) (tail next after bytes : List ℕ) → GoesOn word byte P items tail bytes
+    → (items : List A) (v : A) (tail next after bytes : List ℕ)
+    → GoesOn word byte P items tail bytes
     → P.Fits (v, next) → tail ≡ P.text (v, next) → next ≡ byte ∷ after
     → GoesOn word byte P (items ++ v ∷ []) after bytes
 goes_on_more {A} word byte P one items v tail next after bytes so p e n =

@@ -1,5 +1,5 @@
 -- Command lines, as their phrases spell them.
-use Rattle.std.proofs.Common.{◌≡◌, ◌≢◌, ℕ, ◌<◌, ◌^◌, Bool, true, false, cond, eqb, eq-eqb, List, [], ◌∷◌, ◌++◌, Option, Some, None, Vec, arith, refl, sym, ◌∙◌, ap, subst, append_assoc, codes, map}
+use Rattle.std.proofs.Common.{◌≡◌, ◌≢◌, ℕ, List, [], ◌∷◌, ◌++◌, Some, Vec, arith, refl, sym, ◌∙◌, ap, subst, append_assoc, codes, map}
 use Rattle.std.specs.declared.alloc.Global.{Global}
 use Rattle.std.specs.List.{AllByRecursion, join_with_byte}
 use Rattle.either.specs.declared.Either.{Either}
@@ -8,29 +8,32 @@ use Rattle.iox2_container.specs.declared.container.role.Role.{Role}
 use Rattle.iox2_dynamic.specs.declared.dynamic_config.port_details.PortDetails.{PortDetails}
 use Rattle.line_streams.specs.declared.end.LineEnd.{LineEnd}
 use Rattle.line_streams.specs.declared.end.LineEnd.TheVariants.{Newline, Bytes}
-use Rattle.line_streams.proofs.Choices.{Nowhere, no_this, no_other, lacks}
+use Rattle.line_streams.proofs.Choices.{Nowhere, no_other, lacks}
 use Rattle.line_streams.specs.Numerals.{cons_same}
 use Rattle.line_streams.specs.OneWay.{number_one, line_end_one, ended_one, after_one, choice_one}
-use Rattle.line_streams.specs.Spelling.{Spelling, OneWay, Reads, Lacks, EndsNumber, OthersFit, ListedFits, others_text, listed_text, number, line_end, ended, after, choice, listed}
-use Rattle.service_descriptions.specs.declared.replay.machine.command.Cleanup.TheVariants.{ByOrder, ByPort}
+use Rattle.line_streams.specs.Spelling.{Spelling, OneWay, Reads, Lacks, EndsNumber, OthersFit, others_text, number, line_end, ended, after, choice, listed}
+use Rattle.service_descriptions.specs.declared.replay.machine.command.Cleanup.TheVariants.{ByPort}
 use Rattle.service_descriptions.specs.declared.replay.machine.command.Command.{Command}
 use Rattle.service_descriptions.specs.declared.replay.machine.command.Command.TheVariants as command
-use Rattle.service_descriptions.specs.Lines.{id_text, IsId, line_of, line_text, HasLine, IsLine, IsNodeId, SameCommand, skip_words}
+use Rattle.service_descriptions.specs.Lines.{id_text, IsId, line_of, line_text, HasLine, IsLine, SameCommand, skip_words}
 use Rattle.service_descriptions.specs.OneWay.{dead_one, node_id_one, role_one, port_one}
 use Rattle.service_descriptions.specs.Phrases.{id_phrase, node_id_phrase, dead_phrase, role_phrase, port_phrase, three_phrase, spelled_of}
 
--- what the phrases of commands see
-abbrev pub Seen : Type 0
-Seen =
-    Either ℕ (Either ℕ (Either PortDetails (Either ℕ (Either Role (Either Role (Either (Unit {0})
-    (ℕ × List ℕ)))))))
-
--- the phrases of commands, from each word on
+-- the phrases of commands, from each word on, and what they see
 abbrev pub earlier_phrase : Spelling ℕ
 earlier_phrase = number 18446744073709551615
 
 abbrev kept_phrase : Spelling (List ℕ)
 kept_phrase = listed (codes " skip ") 32 id_phrase
+
+abbrev Questions : Type 0
+Questions = Either Role (Either Role (Either (Unit {0}) (ℕ × List ℕ)))
+
+abbrev Ports : Type 0
+Ports = Either PortDetails (Either ℕ Questions)
+
+abbrev pub Seen : Type 0
+Seen = Either ℕ (Either ℕ Ports)
 
 abbrev pub from_dead : LineEnd → Spelling (ℕ × List ℕ)
 from_dead end = after (codes "dead ") (ended dead_phrase end)
@@ -41,16 +44,16 @@ from_nodes end = choice (codes "nodes") (line_end end) (from_dead end)
 abbrev pub from_count : LineEnd → Spelling (Either Role (Either (Unit {0}) (ℕ × List ℕ)))
 from_count end = choice (codes "count ") (ended role_phrase end) (from_nodes end)
 
-abbrev pub from_list : LineEnd → Spelling (Either Role (Either Role (Either (Unit {0}) (ℕ × List ℕ))))
+abbrev pub from_list : LineEnd → Spelling Questions
 from_list end = choice (codes "list ") (ended role_phrase end) (from_count end)
 
-abbrev pub from_release : LineEnd → Spelling (Either ℕ (Either Role (Either Role (Either (Unit {0}) (ℕ × List ℕ)))))
+abbrev pub from_release : LineEnd → Spelling (Either ℕ Questions)
 from_release end = choice (codes "release ") (ended earlier_phrase end) (from_list end)
 
-abbrev pub from_add : LineEnd → Spelling (Either PortDetails (Either ℕ (Either Role (Either Role (Either (Unit {0}) (ℕ × List ℕ))))))
+abbrev pub from_add : LineEnd → Spelling Ports
 from_add end = choice (codes "add ") (ended port_phrase end) (from_release end)
 
-abbrev pub from_deregister : LineEnd → Spelling (Either ℕ (Either PortDetails (Either ℕ (Either Role (Either Role (Either (Unit {0}) (ℕ × List ℕ)))))))
+abbrev pub from_deregister : LineEnd → Spelling (Either ℕ Ports)
 from_deregister end = choice (codes "deregister ") (ended earlier_phrase end) (from_add end)
 
 abbrev pub commands : LineEnd → Spelling Seen
@@ -85,7 +88,8 @@ seen _ = Right (Right (Right (Right (Right (Right (Left tt))))))
 
 -- what follows the name of a port
 join_ports : (word : List ℕ) (ports rest : List ℕ)
-    → join_with_byte 32 (word ∷ map id_text ports) ++ rest ≡ word ++ others_text 32 id_phrase ports rest
+    → join_with_byte 32 (word ∷ map id_text ports) ++ rest ≡ word
+    ++ others_text 32 id_phrase ports rest
 join_ports word [] rest = refl
 join_ports word (port ∷ ports) rest =
     append_assoc word (32 ∷ join_with_byte 32 (map id_text (port ∷ ports))) rest
@@ -131,14 +135,16 @@ no_space Newline rest fits tail e = omega (arith, (cons_same e).0)
 no_space Bytes rest fits tail e = let none = sym fits ∙ e in cc
 
 others_fit : (ports rest : List ℕ) → AllByRecursion IsId ports → EndsNumber rest
-    → Lacks (32 ∷ []) rest → OthersFit 32 id_phrase ports rest × EndsNumber (others_text 32 id_phrase ports rest)
+    → Lacks (32 ∷ []) rest → OthersFit 32 id_phrase ports rest
+    × EndsNumber (others_text 32 id_phrase ports rest)
 others_fit [] rest p ends none = (none, ends)
 others_fit (port ∷ ports) rest p ends none =
     let more = others_fit ports rest p.1 ends none in
     (((p.0, more.1), more.0), (λ digit. omega arith))
 
 kept_fit : (ports rest : List ℕ) → AllByRecursion IsId ports → EndsNumber rest
-    → Lacks (32 ∷ []) rest → kept_phrase.Fits (ports, rest) × EndsNumber (kept_phrase.text (ports, rest))
+    → Lacks (32 ∷ []) rest → kept_phrase.Fits (ports, rest)
+    × EndsNumber (kept_phrase.text (ports, rest))
 kept_fit [] rest p ends none = (λ tail e. none (codes "skip " ++ tail) e, ends)
 kept_fit (port ∷ ports) rest p ends none =
     ((others_fit (port ∷ ports) rest p ends none).0, (λ digit. omega arith))
@@ -173,7 +179,10 @@ fit end (command.Count r) rest p = (
   lacks (codes "register ") _ refl,
   (
     lacks (codes "deregister ") _ refl,
-    (lacks (codes "add ") _ refl, (lacks (codes "release ") _ refl, (lacks (codes "list ") _ refl, p))),
+    (
+      lacks (codes "add ") _ refl,
+      (lacks (codes "release ") _ refl, (lacks (codes "list ") _ refl, p)),
+    ),
   ),
 )
 fit end command.Nodes rest p = (
@@ -219,31 +228,38 @@ no_line end bytes none a fits e =
 
 pub not_register : (end : LineEnd) (bytes : List ℕ) → Lacks (codes "register ") bytes
     → Nowhere (from_deregister end) bytes → Nowhere (commands end) bytes
-not_register end bytes = no_other (codes "register ") (ended node_id_phrase end) (from_deregister end) bytes
+not_register end bytes =
+    no_other (codes "register ") (ended node_id_phrase end) (from_deregister end) bytes
 
 pub not_deregister : (end : LineEnd) (bytes : List ℕ) → Lacks (codes "deregister ") bytes
     → Nowhere (from_add end) bytes → Nowhere (from_deregister end) bytes
-not_deregister end bytes = no_other (codes "deregister ") (ended earlier_phrase end) (from_add end) bytes
+not_deregister end bytes =
+    no_other (codes "deregister ") (ended earlier_phrase end) (from_add end) bytes
 
 pub not_add : (end : LineEnd) (bytes : List ℕ) → Lacks (codes "add ") bytes
     → Nowhere (from_release end) bytes → Nowhere (from_add end) bytes
-not_add end bytes = no_other (codes "add ") (ended port_phrase end) (from_release end) bytes
+not_add end bytes =
+    no_other (codes "add ") (ended port_phrase end) (from_release end) bytes
 
 pub not_release : (end : LineEnd) (bytes : List ℕ) → Lacks (codes "release ") bytes
     → Nowhere (from_list end) bytes → Nowhere (from_release end) bytes
-not_release end bytes = no_other (codes "release ") (ended earlier_phrase end) (from_list end) bytes
+not_release end bytes =
+    no_other (codes "release ") (ended earlier_phrase end) (from_list end) bytes
 
 pub not_list : (end : LineEnd) (bytes : List ℕ) → Lacks (codes "list ") bytes
     → Nowhere (from_count end) bytes → Nowhere (from_list end) bytes
-not_list end bytes = no_other (codes "list ") (ended role_phrase end) (from_count end) bytes
+not_list end bytes =
+    no_other (codes "list ") (ended role_phrase end) (from_count end) bytes
 
 pub not_count : (end : LineEnd) (bytes : List ℕ) → Lacks (codes "count ") bytes
     → Nowhere (from_nodes end) bytes → Nowhere (from_count end) bytes
-not_count end bytes = no_other (codes "count ") (ended role_phrase end) (from_nodes end) bytes
+not_count end bytes =
+    no_other (codes "count ") (ended role_phrase end) (from_nodes end) bytes
 
 pub not_nodes : (end : LineEnd) (bytes : List ℕ) → Lacks (codes "nodes") bytes
     → Nowhere (from_dead end) bytes → Nowhere (from_nodes end) bytes
-not_nodes end bytes = no_other (codes "nodes") (line_end end) (from_dead end) bytes
+not_nodes end bytes =
+    no_other (codes "nodes") (line_end end) (from_dead end) bytes
 
 -- what was read as the words of a dead node is its line
 all_others : (ports rest : List ℕ) → OthersFit 32 id_phrase ports rest → AllByRecursion IsId ports

@@ -1,5 +1,5 @@
 -- How ids, commands and services are spelled in a script.
-use Rattle.std.specs.Prelude.{◌≡◌, ◌≢◌, ℕ, ◌<◌, ◌^◌, List, [], ◌∷◌, ◌++◌, codes, get_or, map, Option, Some, None}
+use Rattle.std.specs.Prelude.{◌≡◌, ◌≢◌, ℕ, ◌<◌, ◌^◌, List, [], ◌∷◌, ◌++◌, codes, map}
 use Rattle.std.specs.Fmt.{decimal}
 use Rattle.std.specs.List.{AllByRecursion, join_with_byte}
 use Rattle.iox2_ids.specs.Packing.{packed, process_of, seconds_of, nanoseconds_of, counter_of, owner_of}

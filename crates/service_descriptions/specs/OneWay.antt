@@ -1,5 +1,5 @@
 -- No two values have one word.
-use Rattle.std.proofs.Common.{◌≡◌, ◌≢◌, ℕ, ◌≤◌, ◌<◌, ◌^◌, List, [], ◌∷◌, ◌++◌, codes, get_or, arith, refl, sym, ◌∙◌, ap, subst, append_assoc}
+use Rattle.std.proofs.Common.{◌≡◌, ◌≢◌, ℕ, List, ◌∷◌, ◌++◌, codes, get_or, arith, refl, sym, ◌∙◌, ap, subst, append_assoc}
 use Rattle.std.specs.Prelude.{◌==◌, if◌then◌else◌}
 use Rattle.iox2_config.specs.declared.hash.input.PatternKind.{PatternKind}
 use Rattle.iox2_config.specs.declared.hash.input.PatternKind.TheVariants as pattern
@@ -8,9 +8,9 @@ use Rattle.iox2_container.specs.declared.container.role.Role.{Role}
 use Rattle.iox2_container.specs.declared.container.role.Role.TheVariants as role
 use Rattle.iox2_dynamic.specs.declared.dynamic_config.port_details.PortDetails.{PortDetails}
 use Rattle.iox2_dynamic.specs.declared.dynamic_config.port_details.PortDetails.TheVariants as of
-use Rattle.iox2_dynamic.specs.Details.{role_of, node_of}
+use Rattle.iox2_dynamic.specs.Details.{role_of}
 use Rattle.iox2_ids.specs.Packing.{packed, process_of, seconds_of, nanoseconds_of, counter_of}
-use Rattle.line_streams.specs.Spelling.{OneWay, EndsNumber, number, sequence, after}
+use Rattle.line_streams.specs.Spelling.{OneWay, EndsNumber}
 use Rattle.line_streams.specs.Numerals.{cancel, cons_same}
 use Rattle.line_streams.specs.OneWay.{number_one, sequence_one, after_one, listed_one}
 use Rattle.service_descriptions.specs.Lines.{id_text, IsId, role_word, IsPlain, plain}
@@ -49,8 +49,8 @@ parts_one =
 pub id_one : OneWay id_phrase
 id_one = record { same = same }
   where
-    same : (a b : ℕ × List ℕ) → id_phrase.Fits a → id_phrase.Fits b → id_phrase.text a ≡ id_phrase.text b → (a.0 ≡ b.0)
-        × (a.1 ≡ b.1)
+    same : (a b : ℕ × List ℕ) → id_phrase.Fits a → id_phrase.Fits b
+        → id_phrase.text a ≡ id_phrase.text b → (a.0 ≡ b.0) × (a.1 ≡ b.1)
     same a b p q e =
         let both =
         parts_one.same (parts_of a.0, a.1) (parts_of b.0, b.1) (parts_fit a.0 a.1 p.0 p.1)
@@ -118,8 +118,8 @@ three_one =
 pub port_one : OneWay port_phrase
 port_one = record { same = same }
   where
-    same : (a b : PortDetails × List ℕ) → port_phrase.Fits a → port_phrase.Fits b → port_phrase.text a ≡ port_phrase.text b
-        → (a.0 ≡ b.0) × (a.1 ≡ b.1)
+    same : (a b : PortDetails × List ℕ) → port_phrase.Fits a → port_phrase.Fits b
+        → port_phrase.text a ≡ port_phrase.text b → (a.0 ≡ b.0) × (a.1 ≡ b.1)
     same a b p q e =
         let both =
         three_one.same (spelled_of a.0, a.1) (spelled_of b.0, b.1) (three_fit a.0 a.1 p.0 p.1)

@@ -1,5 +1,5 @@
 -- How the words of lines are spelled, each with what follows it.
-use Rattle.std.specs.Prelude.{◌≡◌, ◌≢◌, ℕ, ◌^◌, List, ◌∷◌, ◌++◌, codes}
+use Rattle.std.specs.Prelude.{◌≢◌, ℕ, List, ◌∷◌, ◌++◌, codes}
 use Rattle.iox2_config.specs.declared.hash.input.PatternKind.{PatternKind}
 use Rattle.iox2_config.specs.Hashing.{pattern_word}
 use Rattle.iox2_container.specs.declared.container.role.Role.{Role}

@@ -1,4 +1,4 @@
-use Rattle.std.proofs.Common.{ℕ, ◌++◌, codes}
+use Rattle.std.proofs.Common.{ℕ, codes}
 use Rattle.std.proofs.lemmas.List.{map-id}
 use Rattle.line_streams.proofs.Choices.{no_after, no_this}
 use Rattle.line_streams.specs.Spelling.{ended}
@@ -11,8 +11,9 @@ returns-in-Ok-None c =
     let end = c.args.end in
     let bytes = c.args.bytes.now in
     no_line end bytes
-    (no_this (codes "register ") (ended node_id_phrase end) (from_deregister end) c.in-Some.rest.now bytes
-    c.in-Some.ensures.some (rw c.in-Ok-None.field-0-is at c.in-Ok-None.ensures.read))
+    (no_this (codes "register ") (ended node_id_phrase end) (from_deregister end)
+    c.in-Some.rest.now bytes c.in-Some.ensures.some
+    (rw c.in-Ok-None.field-0-is at c.in-Ok-None.ensures.read))
 
 pub returns-in_default-2 : goal.returns-in_default-2
 returns-in_default-2 c =
@@ -20,8 +21,9 @@ returns-in_default-2 c =
     let bytes = c.args.bytes.now in
     no_line end bytes
     (not_register end bytes c.in_default.ensures.none
-    (no_this (codes "deregister ") (ended earlier_phrase end) (from_add end) c.in-Some-after_word.rest.now bytes
-    c.in-Some-after_word.ensures.some (rw c.in_default-2.is at c.in_ok-k.ensures.read)))
+    (no_this (codes "deregister ") (ended earlier_phrase end) (from_add end)
+    c.in-Some-after_word.rest.now bytes c.in-Some-after_word.ensures.some
+    (rw c.in_default-2.is at c.in_ok-k.ensures.read)))
 
 pub returns-in-Ok-None-read : goal.returns-in-Ok-None-read
 returns-in-Ok-None-read c =
@@ -30,8 +32,9 @@ returns-in-Ok-None-read c =
     no_line end bytes
     (not_register end bytes c.in_default.ensures.none
     (not_deregister end bytes c.in_default-after_word.ensures.none
-    (no_this (codes "add ") (ended port_phrase end) (from_release end) c.in-Some-after_word-2.rest.now bytes
-    c.in-Some-after_word-2.ensures.some (rw c.in-Ok-None-read.field-0-is at c.in-Ok-None-read.ensures.read))))
+    (no_this (codes "add ") (ended port_phrase end) (from_release end)
+    c.in-Some-after_word-2.rest.now bytes c.in-Some-after_word-2.ensures.some
+    (rw c.in-Ok-None-read.field-0-is at c.in-Ok-None-read.ensures.read))))
 
 pub returns-in_default-3 : goal.returns-in_default-3
 returns-in_default-3 c =
@@ -41,8 +44,9 @@ returns-in_default-3 c =
     (not_register end bytes c.in_default.ensures.none
     (not_deregister end bytes c.in_default-after_word.ensures.none
     (not_add end bytes c.in_default-after_word-2.ensures.none
-    (no_this (codes "release ") (ended earlier_phrase end) (from_list end) c.in-Some-after_word-3.rest.now bytes
-    c.in-Some-after_word-3.ensures.some (rw c.in_default-3.is at c.in_ok-k-2.ensures.read)))))
+    (no_this (codes "release ") (ended earlier_phrase end) (from_list end)
+    c.in-Some-after_word-3.rest.now bytes c.in-Some-after_word-3.ensures.some
+    (rw c.in_default-3.is at c.in_ok-k-2.ensures.read)))))
 
 pub returns-in_default-4 : goal.returns-in_default-4
 returns-in_default-4 c =
@@ -53,8 +57,9 @@ returns-in_default-4 c =
     (not_deregister end bytes c.in_default-after_word.ensures.none
     (not_add end bytes c.in_default-after_word-2.ensures.none
     (not_release end bytes c.in_default-after_word-3.ensures.none
-    (no_this (codes "list ") (ended role_phrase end) (from_count end) c.in-Some-after_word-4.rest.now bytes
-    c.in-Some-after_word-4.ensures.some (rw c.in_default-4.is at c.in_ok-role.ensures.read))))))
+    (no_this (codes "list ") (ended role_phrase end) (from_count end)
+    c.in-Some-after_word-4.rest.now bytes c.in-Some-after_word-4.ensures.some
+    (rw c.in_default-4.is at c.in_ok-role.ensures.read))))))
 
 pub returns-in_default-5 : goal.returns-in_default-5
 returns-in_default-5 c =
@@ -66,8 +71,9 @@ returns-in_default-5 c =
     (not_add end bytes c.in_default-after_word-2.ensures.none
     (not_release end bytes c.in_default-after_word-3.ensures.none
     (not_list end bytes c.in_default-after_word-4.ensures.none
-    (no_this (codes "count ") (ended role_phrase end) (from_nodes end) c.in-Some-after_word-5.rest.now bytes
-    c.in-Some-after_word-5.ensures.some (rw c.in_default-5.is at c.in_ok-role-2.ensures.read)))))))
+    (no_this (codes "count ") (ended role_phrase end) (from_nodes end)
+    c.in-Some-after_word-5.rest.now bytes c.in-Some-after_word-5.ensures.some
+    (rw c.in_default-5.is at c.in_ok-role-2.ensures.read)))))))
 
 pub returns-in-Ok-None-read-2 : goal.returns-in-Ok-None-read-2
 returns-in-Ok-None-read-2 c =
