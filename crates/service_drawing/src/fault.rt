@@ -7,8 +7,8 @@ ghost use Rattle.service_drawing.specs.declared.reading.cause.Cause.TheVariants.
 
 use crate::reading::Expected;
 use crate::reading::cause::{Cause, Reason, cause_of};
-use line_streams::write_whole;
 use itoa::Buffer;
+use line_streams::write_whole;
 use std::io;
 use std::io::Write;
 
