@@ -71,32 +71,6 @@ pub same_variant : (v w : TypeVariant) (x y : List ℕ) → variant_word v ++ x 
     → v ≡ w
 same_variant v w x y e = sym (variant_front v x) ∙ ap variant_at e ∙ variant_front w y
 
--- a payload of this variant that is refused
-pub no_payload_of : (v : TypeVariant) (text rest : List ℕ) → text ≡ variant_word v ++ rest
-    → ((t : TypeDetailParts) → t.variant ≡ v → IsDescribed t → ¬ (rest ≡ type_text t))
-    → (t : TypeDetailParts) → IsDescribed t → ¬ (text ≡ payload_text t)
-no_payload_of v text rest e bad t d is =
-    let same = same_variant v t.variant rest (type_text t) (sym e ∙ is) in
-    bad t (sym same) d
-    (append_cancel_left (variant_word v) rest (type_text t)
-    (sym e ∙ is ∙ ap (λ w. variant_word w ++ type_text t) (sym same)))
-
--- a payload of no variant
-pub no_variant : (text : List ℕ) → ((x : List ℕ) → ¬ (text ≡ codes "fixed " ++ x))
-    → ((x : List ℕ) → ¬ (text ≡ codes "dynamic " ++ x)) → (t : TypeDetailParts)
-    → ¬ (text ≡ payload_text t)
-no_variant text fixed dynamic t is = go t.variant is
-  where
-    go : (v : TypeVariant) → ¬ (text ≡ variant_word v ++ type_text t)
-    go FixedSize e = fixed (type_text t) e
-    go Dynamic e = dynamic (type_text t) e
-
-pub found_payload : (v : TypeVariant) (text rest : List ℕ) (t : TypeDetailParts)
-    → text ≡ variant_word v ++ rest → t.variant ≡ v → rest ≡ type_text t → text ≡ payload_text t
-found_payload v text rest t e same is =
-    e ∙ ap (λ (x : List ℕ). variant_word v ++ x) is
-    ∙ ap (λ w. variant_word w ++ type_text t) (sym same)
-
 -- the last of three alignments is no number
 pub no_third : (text payload : List ℕ) (a b : ℕ) → a < 2 ^ 64 → b < 2 ^ 64
     → text ≡ decimal a ++ 32 ∷ (decimal b ++ 32 ∷ payload)

@@ -48,11 +48,6 @@ second : (b : Bool) (P Q : Type 0) → b ≡ false → MatchBool b P Q → Q
 second true P Q e h = cc
 second false P Q e h = h
 
--- the name of an internal service
-pub not_internal : (k : PatternKind) (name : List ℕ)
-    → starts_with nat_eq name (codes "iox2://") ≡ true → ¬ MayBeNamed k name
-not_internal k name e may = may.from_outside e
-
 -- a name that is refused
 refused : (name : List ℕ) (why : ServiceNameError) → MakesServiceName name (Err why)
     → ¬ IsName 255 name

@@ -121,9 +121,10 @@ fn run<R: Read, W: Write, E: Write>(
 /// one argument `svg`. With `--help` or `--version` it reads nothing and writes how it is used, or
 /// the version. The first argument is the program's name.
 ///
-/// - 0: the whole input was read, the drawing was written, and nothing to `errors`.
+/// - 0: the whole input was read, is a description, the drawing was written, and nothing to
+///   `errors`.
 /// - 1: an argument or a line is bad. Nothing was written to `output`, and to `errors` the number
-///   of the line, why it is bad and what was expected.
+///   of the first line that no description has there, why it is bad and what was expected.
 /// - 2: memory was refused. Nothing was written to `output`, and `no memory` to `errors`.
 /// - 3: a read, a write or a flush failed, for any cause. Nothing was written after it.
 pub fn describe_streams<R: Read, W: Write, E: Write>(
