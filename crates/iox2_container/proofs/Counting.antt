@@ -123,12 +123,13 @@ other_at node id i to cells b is miss e k l h =
     rw (sym at) (is.0, is.1, sym miss ∙ is.2)
 
 -- one place more
-pub others_more : {T : Type 0} (node : T → ℕ) (id from i : ℕ) (cells : List (Option (Occupant T)))
+pub others_more : {T : Type 0} (node : T → ℕ) (id from i to : ℕ)
+    (cells : List (Option (Occupant T)))
     (b : Bool) → AreOthers node id cells from i → PlaceIsOf node id cells i b → b ≡ false
-    → AreOthers node id cells from (i + 1)
-others_more node id from i cells b others is miss =
-    others_join node id from i i (i + 1) cells others
-    (other_at node id i (i + 1) cells b is miss refl) (omega arith)
+    → to ≡ i + 1 → AreOthers node id cells from to
+others_more node id from i to cells b others is miss e =
+    others_join node id from i i to cells others (other_at node id i to cells b is miss e)
+    (omega arith)
 
 -- a search finds whether some entry is the node's
 pub found_is : {T : Type 0} (node : T → ℕ) (id end at : ℕ) (cells : List (Option (Occupant T)))

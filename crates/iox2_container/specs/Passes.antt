@@ -1,5 +1,5 @@
 -- What a pass over all places does with one of them, and in all.
-use Rattle.std.specs.Prelude.{◌≡◌, ℕ, ◌+◌, ◌≤◌, ◌<◌, Bool, false, IsTrue, Option, Some, None, List, length, map, slice_get, ⊤}
+use Rattle.std.specs.Prelude.{◌≡◌, ℕ, ◌+◌, ◌≤◌, ◌<◌, Bool, true, false, IsTrue, Option, Some, None, List, length, map, slice_get, ⊤}
 use Rattle.std.specs.Bool.{MatchBool}
 use Rattle.iox2_texts.specs.declared.bounded.callback_progression.CallbackProgression.{CallbackProgression}
 use Rattle.iox2_texts.specs.declared.bounded.callback_progression.CallbackProgression.TheVariants.{Continue}
@@ -38,6 +38,14 @@ PlaceIsOf {T} node id cells slot is = (cell : Option (Occupant T))
 abbrev pub AreOthers : {T : Type 0} → (T → ℕ) → ℕ → List (Option (Occupant T)) → ℕ → ℕ → Type 0
 AreOthers node id cells from to = (slot : ℕ) → from ≤ slot → slot < to
     → PlaceIsOf node id cells slot false
+
+-- the first place from `from` on and before `to` where an entry of the node stands
+pub record IsNextOf {T : Type 0} (node : T → ℕ) (id : ℕ) (cells : List (Option (Occupant T)))
+    (from to slot : ℕ) : Type 0 where
+  pub order : from ≤ slot
+  pub before : slot < to
+  pub others : AreOthers node id cells from slot
+  pub here : PlaceIsOf node id cells slot true
 
 -- whether what is in a cell goes, where a callback is asked about it if it is the dead node's
 abbrev pub SweptCell : {F T : Type 0} → (F → T → Bool → F → Type 0) → (T → Bool) → F

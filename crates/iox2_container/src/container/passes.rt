@@ -1,13 +1,13 @@
 //! What a container does with all its places, one after another.
 ghost use Rattle.std.specs.Prelude.{◌≡◌, ◌+◌, ◌*◌, ◌≤◌, ◌<◌, ℕ, Option, Some, None, IsTrue, true, false, nat_lt};
-ghost use Rattle.std.specs.Prelude.{length, map, slice_get, slice_set};
+ghost use Rattle.std.specs.Prelude.{MatchOption, length, map, slice_get, slice_set};
 ghost use Rattle.std.specs.Fn.{CalledAt, TakesAt};
 ghost use Rattle.iox2_container.specs.declared.container.slots.cell.Occupant.{Occupant};
 ghost use Rattle.iox2_container.specs.Cells.{shown};
 ghost use Rattle.iox2_container.specs.Places.{details_in, entries_from};
 ghost use Rattle.iox2_container.specs.Callbacks.{CanBeAsked, CanVisit};
 ghost use Rattle.iox2_container.specs.Passes.{AskedOfCell, AreOthers, PlaceIsOf, SweptCell, Swept, cell_is_of};
-ghost use Rattle.iox2_container.specs.Passes.{TakesCell, TakesDead};
+ghost use Rattle.iox2_container.specs.Passes.{IsNextOf, TakesCell, TakesDead};
 ghost use Rattle.iox2_container.specs.Steps.{Visit, candidates, is_of};
 
 use super::attached::Attached;
@@ -101,40 +101,41 @@ fn next_by_one<T: Attached + Copy, N: Copy>(
     end
 }
 
-/// Whether no entry of the node stands in four places. It may say no where none does.
+/// The first of four places where an entry of the node stands.
 #[inline(always)]
-fn are_four_others<T: Attached + Copy, N: Copy>(
+fn next_of_four<T: Attached + Copy, N: Copy>(
     places: &Places<T, N>,
     slot: usize,
     node: &UniqueNodeId,
-) -> bool
+) -> Option<usize>
     requires { slot + 4 ≤ length places.now.cells }
-    ensures { IsTrue result →
-        AreOthers T.node node.now (map shown places.now.cells) slot (slot + 4) }
+    ensures { MatchOption result
+        (AreOthers T.node node.now (map shown places.now.cells) slot (slot + 4))
+        (IsNextOf T.node node.now (map shown places.now.cells) slot (slot + 4)) }
 {
     // For the proof: the number of places fits a `usize`.
     let _fits = places.len();
     let first = is_of_node(places, slot, node);
     if first {
-        return false;
+        return Some(slot);
     }
     let second = is_of_node(places, slot + 1, node);
     if second {
-        return false;
+        return Some(slot + 1);
     }
     let third = is_of_node(places, slot + 2, node);
     if third {
-        return false;
+        return Some(slot + 2);
     }
     let fourth = is_of_node(places, slot + 3, node);
     if fourth {
-        return false;
+        return Some(slot + 3);
     }
-    true
+    None
 }
 
 /// The first place from one on where an entry of the node stands; the end, where none stands before
-/// it. Eight places are passed over at once where none stands in them.
+/// it. Eight places are looked at in one turn.
 fn next_of<T: Attached + Copy, N: Copy>(
     places: &Places<T, N>,
     start: usize,
@@ -149,10 +150,13 @@ fn next_of<T: Attached + Copy, N: Copy>(
         PlaceIsOf T.node node.now (map shown places.now.cells) result true }
 {
     let mut slot = start;
-    while end - slot >= 8
-        && are_four_others(places, slot, node)
-        && are_four_others(places, slot + 4, node)
-    {
+    while end - slot >= 8 {
+        if let Some(found) = next_of_four(places, slot, node) {
+            return found;
+        }
+        if let Some(found) = next_of_four(places, slot + 4, node) {
+            return found;
+        }
         slot += 8;
     }
     next_by_one(places, slot, end, node)
