@@ -24,14 +24,15 @@ fn after_bytes<'a>(bytes: &'a [u8], word: &[u8]) -> Option<&'a [u8]>
     ensures some { IfSome result (λ rest. bytes.now ≡ word.now ++ rest.now) }
     ensures none { IfNone result ((rest : List ℕ) → bytes.now ≢ word.now ++ rest) }
 {
-    let mut rest = bytes;
-    for byte in word {
-        let Some(next) = after_byte(rest, *byte) else {
-            return None;
-        };
-        rest = next;
+    if bytes.len() < word.len() {
+        return None;
     }
-    Some(rest)
+    for i in 0..word.len() {
+        if bytes[i] != word[i] {
+            return None;
+        }
+    }
+    Some(&bytes[word.len()..])
 }
 
 /// What follows this word. Its first eight bytes, where it has so many, are compared as one number.
