@@ -1,18 +1,42 @@
 #!/usr/bin/env bash
 # Builds into bindings/out the library for C: libiox2sd.a and libiox2sd.so.0, of which iox2sd_* alone can be seen from
 # outside. It needs the C library alone. The first time takes as long as the proof of all crates below.
+# With --after-gate it proves the exports alone, over what `rt ci` left of the crates below, which
+# it has just proved.
 set -euo pipefail
 cd "$(dirname "$0")"
 CC=${CC:-cc}
-heap=$(dirname "$(rt doc)")/c/liblibc_c.a
+crates=$(cd ../crates && pwd)
+kit=$(dirname "$(rt doc)")
+heap=$kit/c/liblibc_c.a
 rm -rf out
 mkdir -p out
+
+# Proves and builds one crate of exports over the libraries that it uses, as `crates.txt` has them.
+build_over_proved() {
+    local words=(--crate-name "$1" --crate-type staticlib) name
+    for name in std $(sed -n "s/^$1 staticlib: //p" ../crates.txt); do
+        if [ -d "$crates/$name" ]; then
+            words+=(--extern "$name=$crates/$name/out/rlib/$name.rlib")
+        else
+            words+=(--extern "$name=$kit/rlibs/$name.rlib")
+        fi
+    done
+    for name in "$kit/rlibs" "$crates"/*/out/rlib; do words+=(-L "dependency=$name"); done
+    words+=(--antt-project "$kit/rattle/logic/antt-project.json" --logic-built "$kit/logic_built")
+    words+=(--links "$1=" --toolchain "$kit/toolchain" -o "out/lib$1.a")
+    (cd "$crates/$1" && mkdir -p out && "$kit/bin/rattle" build "${words[@]}" src/lib.rt)
+}
 
 # One object of each crate and its heap.
 objects=()
 for crate in iox2sd iox2sd_values iox2sd_script; do
-    (cd "../crates/$crate" && rt lib)
-    ld -r -o "out/$crate.o" --whole-archive "../crates/$crate/out/lib$crate.a" "$heap"
+    if [ "${1:-}" = --after-gate ]; then
+        build_over_proved "$crate"
+    else
+        (cd "$crates/$crate" && rt lib)
+    fi
+    ld -r -o "out/$crate.o" --whole-archive "$crates/$crate/out/lib$crate.a" "$heap"
     objcopy --wildcard --keep-global-symbol='iox2sd_*' "out/$crate.o"
     objects+=("out/$crate.o")
 done
