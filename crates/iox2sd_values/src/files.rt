@@ -1,12 +1,12 @@
 //! Where the system's files lie and how they are called, where nothing else is said.
-ghost use Rattle.iox2_config.specs.Defaults.{default_service, default_node};
+ghost use Rattle.iox2_config.specs.Defaults.{IsDefaultGlobal, default_service, default_node};
 ghost use Rattle.iox2sd_values.specs.Answers.{Written};
 ghost use Rattle.iox2sd_values.specs.Files.{named, ReadsNamed, TellsNamed, Roots, JoinsBelow};
 ghost use Rattle.iox2sd_values.specs.Files.{TellsBelow};
 
 use super::answers::{TextAnswer, no_text, write};
 use super::status::Status;
-use iox2_config::config::{Config, Global, Node, Service};
+use iox2_config::config::{Config, Global};
 use iox2_texts::paths::Path;
 
 /// A text of the configuration.
@@ -83,11 +83,12 @@ fn named_of(number: u32) -> Option<Named>
     }
 }
 
-/// Writes the text.
-fn write_named(text: Named, out: &mut [u8]) -> TextAnswer
+/// Writes the text of these settings, which are the default ones.
+fn write_text(text: Named, global: &Global, out: &mut [u8]) -> TextAnswer
+    requires { IsDefaultGlobal global.now }
     ensures { Written (named text) out.old result out.new }
 {
-    let (global, service, node) = (Global::default(), Service::default(), Node::default());
+    let (service, node) = (&global.service, &global.node);
     match text {
         Named::RootPath => write(global.root_path().as_bytes(), out),
         Named::Prefix => write(global.prefix.as_bytes(), out),
@@ -116,6 +117,13 @@ fn write_named(text: Named, out: &mut [u8]) -> TextAnswer
         Named::RelativeConfigPath => write(Config::relative_config_path().as_bytes(), out),
         Named::UserConfigFilePath => write(Config::default_user_config_file_path().as_bytes(), out),
     }
+}
+
+/// Writes the text.
+fn write_named(text: Named, out: &mut [u8]) -> TextAnswer
+    ensures { Written (named text) out.old result out.new }
+{
+    write_text(text, &Global::default(), out)
 }
 
 /// Writes a text of the configuration that stands where nothing else is said.
