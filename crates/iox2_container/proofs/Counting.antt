@@ -12,7 +12,7 @@ use Rattle.iox2_container.specs.State.{Entry}
 use Rattle.iox2_container.specs.Steps.{InsertsOne, candidates, is_of, staying}
 use Rattle.iox2_container.proofs.AskedInTurn.{entries_split, taken_free, taken_more}
 use Rattle.iox2_container.proofs.CellEntries.{all_before}
-use Rattle.iox2_container.proofs.Sweeping.{add_zero}
+use Rattle.iox2_container.proofs.Sweeping.{add_zero, over_others}
 
 -- how many entries the test holds of
 abbrev pub counted : {T : Type 0} → (T → Bool) → List (Entry T) → ℕ
@@ -94,15 +94,11 @@ some_counted {T} node id i cells b p t =
 -- none is, where none stands in any place
 pub none_counted : {T : Type 0} (node : T → ℕ) (id n : ℕ) (cells : List (Option (Occupant T)))
     → AreOthers node id cells 0 n → counted (is_of node id) (entries_from 0 (take n cells)) ≡ 0
-none_counted node id zero cells others = refl
-none_counted node id (suc n) cells others =
-    let o = others n (omega arith) (omega arith) in
-    omega (
-      arith,
-      counted_cell node id n cells o.0 o.1,
-      ap one_if (sym o.2),
-      none_counted node id n cells (λ k l h. others k l (omega arith)),
-    )
+none_counted node id n cells others =
+    over_others node id cells
+    (λ k. counted (is_of node id) (entries_from 0 (take k cells)) ≡ 0) 0 n (omega arith) others
+    (λ k h o e. rw (add-one k)
+    (omega (arith, counted_cell node id k cells o.0 o.1, ap one_if (sym o.2), e))) refl
 
 -- other places, and more of them
 pub others_join : {T : Type 0} (node : T → ℕ) (id from i j to : ℕ)

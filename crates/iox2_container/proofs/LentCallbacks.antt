@@ -14,6 +14,7 @@ use Rattle.iox2_container.specs.ContainerState.{ContainerState}
 use Rattle.iox2_container.specs.State.{Entry, RegistryState}
 use Rattle.iox2_container.specs.Steps.{Asked, Visit, RecoverStep, marks_of, asked_about, candidates, is_leaving, staying}
 use Rattle.iox2_container.specs.Mapped.{entry_as, registry_as}
+use Rattle.iox2_container.proofs.Callable.{Asked-keeps}
 use Rattle.iox2_container.proofs.ListEdits.{filter-map}
 use Rattle.iox2_container.proofs.Mapped.{candidates-as, listed-as}
 
@@ -23,12 +24,12 @@ pub Asked-as : {F G A B R : Type 0} (calls : F → A → R → F → Type 0)
     → ((f : F) (x : A) (r : R) (h : F) → I f → calls f x r h → others (k f) (u x) r (k h) × I h)
     → (f : F) (items : List A) (answers : List R) (h : F) → I f → Asked calls f items answers h
     → Asked others (k f) (map u items) answers (k h) × I h
-Asked-as calls others k u I step f [] [] h i a = (ap k a, subst I (sym a) i)
-Asked-as calls others k u I step f [] (r ∷ rs) h i a = absurd a
-Asked-as calls others k u I step f (x ∷ xs) [] h i a = absurd a
-Asked-as calls others k u I step f (x ∷ xs) (r ∷ rs) h i a =
-    let s = step f x r a.0 i a.1 in
-    let t = Asked-as calls others k u I step a.0 xs rs h s.1 a.2 in ((k a.0, s.0, t.0), t.1)
+Asked-as calls others k u I step f items answers h i a =
+    let t = Asked-keeps calls (λ q xs rs. I q × (Asked others (k q) (map u xs) rs (k h)
+    → Asked others (k f) (map u items) answers (k h)))
+    (λ q x xs r rs v p c.
+    let s = step q x r v p.0 c in (s.1, λ rest. p.1 (k v, s.0, rest)))
+    f items answers h (i, λ rest. rest) a in (t.1 refl, t.0)
 
 -- a recovery by a callback that holds another one
 pub RecoversBy-through : {F G T : Type 0} (calls : F → T → Bool → F → Type 0)
