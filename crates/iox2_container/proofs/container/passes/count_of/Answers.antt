@@ -1,4 +1,4 @@
-use Rattle.std.proofs.Common.{◌≡◌, ◌+◌, sym, ◌∙◌, ap, arith, map}
+use Rattle.std.proofs.Common.{◌≡◌, ◌+◌, ◌∙◌, ap, arith, map}
 use Rattle.iox2_container.specs.Cells.{shown}
 use Rattle.iox2_container.specs.Steps.{is_of}
 use Rattle.iox2_container.proofs.CellEntries.{all_before}
