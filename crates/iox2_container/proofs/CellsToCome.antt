@@ -39,21 +39,14 @@ module _ {F T : Type 0} (takes : F → T → Type 0)
   shows f i None rest m = (tt, λ h a. rw a.1 m)
   shows f i (Some o) rest m = (m.0, λ h a. m.1 h a)
 
-  pub visit_comes_to : (f : F) (cells : List (Option (Occupant T))) (i : ℕ)
-      (cell : Option (Occupant T)) → slice_get cells i ≡ Some cell
-      → MayVisit takes calls f (details_from i cells) → TakesCell takes f cell
-  visit_comes_to f cells i cell is m =
-      (shows f i cell (drop (suc i) cells) (rw (drop_one cells i cell is) at m)).0
-
-  pub visit_goes_on : (f h : F) (cells : List (Option (Occupant T))) (i : ℕ)
-      (cell : Option (Occupant T)) (answer : CallbackProgression)
-      → slice_get cells i ≡ Some cell → AskedOfCell calls f cell answer h → answer ≡ Continue
-      → MayVisit takes calls f (details_from i cells)
-      → MayVisit takes calls h (details_from (i + 1) cells)
-  visit_goes_on f h cells i cell answer is a c m =
+  pub visit_at : (f : F) (cells : List (Option (Occupant T))) (i : ℕ) (cell : Option (Occupant T))
+      → slice_get cells i ≡ Some cell → MayVisit takes calls f (details_from i cells)
+      → TakesCell takes f cell
+      × ((h : F) → AskedOfCell calls f cell Continue h
+      → MayVisit takes calls h (details_from (i + 1) cells))
+  visit_at f cells i cell is m =
       rw (add-one i)
-      (rw (add-one i) at
-      ((shows f i cell (drop (suc i) cells) (rw (drop_one cells i cell is) at m)).1 h (rw c at a)))
+      (rw (add-one i) at (shows f i cell (drop (suc i) cells) (rw (drop_one cells i cell is) at m)))
 
 -- a sweep that has come to a cell
 module _ {F T : Type 0} (takes : F → T → Type 0) (calls : F → T → Bool → F → Type 0)
@@ -82,21 +75,15 @@ module _ {F T : Type 0} (takes : F → T → Type 0) (calls : F → T → Bool �
       asks_one f (record { slot = i; ticket = o.ticket; details = o.details })
       (entries_from (i + 1) rest) (is_dead o.details) refl m
 
-  pub sweep_comes_to : (f : F) (cells : List (Option (Occupant T))) (i : ℕ)
-      (cell : Option (Occupant T)) → slice_get cells i ≡ Some cell
-      → MayAsk takes calls f (candidates_from is_dead i cells) → TakesDead takes is_dead f cell
-  sweep_comes_to f cells i cell is m =
-      (sweeps_one f i cell (drop (suc i) cells) (rw (drop_one cells i cell is) at m)).0
-
-  pub sweep_goes_on : (f h : F) (cells : List (Option (Occupant T))) (i : ℕ)
-      (cell : Option (Occupant T)) (goes : Bool) → slice_get cells i ≡ Some cell
-      → SweptCell calls is_dead f cell goes h
-      → MayAsk takes calls f (candidates_from is_dead i cells)
-      → MayAsk takes calls h (candidates_from is_dead (i + 1) cells)
-  sweep_goes_on f h cells i cell goes is s m =
+  pub sweep_at : (f : F) (cells : List (Option (Occupant T))) (i : ℕ) (cell : Option (Occupant T))
+      → slice_get cells i ≡ Some cell → MayAsk takes calls f (candidates_from is_dead i cells)
+      → TakesDead takes is_dead f cell
+      × ((goes : Bool) (h : F) → SweptCell calls is_dead f cell goes h
+      → MayAsk takes calls h (candidates_from is_dead (i + 1) cells))
+  sweep_at f cells i cell is m =
       rw (add-one i)
       (rw (add-one i) at
-      ((sweeps_one f i cell (drop (suc i) cells) (rw (drop_one cells i cell is) at m)).1 goes h s))
+      (sweeps_one f i cell (drop (suc i) cells) (rw (drop_one cells i cell is) at m)))
 
 -- a sweep that has come to a place: what it did so far, and whom it may still ask
 pub record HasSwept {F T : Type 0} (takes : F → T → Type 0) (calls : F → T → Bool → F → Type 0)
@@ -119,8 +106,7 @@ pub sweep_more : {F T : Type 0} (takes : F → T → Type 0) (calls : F → T �
 sweep_more takes calls is_dead f g h cs m n i gone gone' goes s en eg w =
     let same : slice_get m i ≡ slice_get cs i = w.later i (omega arith) in
     record {
-      callable = sweep_goes_on takes calls is_dead g h cs i s.0 goes (sym same ∙ s.1) s.2
-          w.callable;
+      callable = (sweep_at takes calls is_dead g cs i s.0 (sym same ∙ s.1) w.callable).1 goes h s.2;
       swept = rw (add-one i)
           (rw en
           (rw eg (swept_cell calls is_dead f g h cs m i gone s.0 goes (sym same ∙ s.1) s.1 s.2

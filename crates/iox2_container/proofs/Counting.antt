@@ -149,8 +149,8 @@ module _ {T : Type 0} (node : T → ℕ) (id at : ℕ) (cells : List (Option (Oc
     here = rw (sym g) third;
   }
 
-  pub found_fourth : {d : Bool} → a ≡ false → b ≡ false → c ≡ false → PlaceIsOf node id cells (at + 3) d
-      → d ≡ true → IsNextOf node id cells at (at + 4) (at + 3)
+  pub found_fourth : {d : Bool} → a ≡ false → b ≡ false → c ≡ false
+      → PlaceIsOf node id cells (at + 3) d → d ≡ true → IsNextOf node id cells at (at + 4) (at + 3)
   found_fourth e f g fourth h = record {
     order = omega arith;
     before = omega arith;
@@ -158,8 +158,8 @@ module _ {T : Type 0} (node : T → ℕ) (id at : ℕ) (cells : List (Option (Oc
     here = rw (sym h) fourth;
   }
 
-  pub none_of_four : {d : Bool} → a ≡ false → b ≡ false → c ≡ false → PlaceIsOf node id cells (at + 3) d
-      → d ≡ false → AreOthers node id cells at (at + 4)
+  pub none_of_four : {d : Bool} → a ≡ false → b ≡ false → c ≡ false
+      → PlaceIsOf node id cells (at + 3) d → d ≡ false → AreOthers node id cells at (at + 4)
   none_of_four e f g fourth h =
       others_more node id at (at + 3) (at + 4) cells _ (others_three e f g) fourth h (omega arith)
 

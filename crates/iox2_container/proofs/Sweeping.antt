@@ -14,7 +14,7 @@ use Rattle.iox2_container.specs.State.{Entry}
 use Rattle.iox2_container.specs.Places.{entries_from, IsTakenAt}
 use Rattle.iox2_container.specs.Passes.{AreOthers, PlaceIsOf, Swept, SweptCell, cell_is_of}
 use Rattle.iox2_container.specs.Steps.{Asked, candidates, is_leaving, is_of, staying}
-use Rattle.iox2_container.proofs.AskedInTurn.{Asked-push, details_of, details-append, taken_more, taken_free}
+use Rattle.iox2_container.proofs.AskedInTurn.{Asked-push, details_of, taken_more, taken_free}
 use Rattle.iox2_container.proofs.CellEntries.{below_from}
 use Rattle.iox2_container.proofs.ListEdits.{get_set_other}
 
@@ -51,7 +51,7 @@ asked_more : {F T : Type 0} (calls : F → T → Bool → F → Type 0) (f g h :
     → Asked calls f (details_of (asked ++ (if b then x ∷ [] else [])))
     (answers ++ (if b then goes ∷ [] else [])) h
 asked_more calls f g h asked answers x goes true s a =
-    rw (details-append asked (x ∷ []))
+    rw (map-append (λ e. e.details) asked (x ∷ []))
     (Asked-push calls f (details_of asked) answers g x.details goes h a s)
 asked_more calls f g h asked answers x goes false s a =
     rw (append-nil asked) (rw (append-nil answers) (rw s.1 a))

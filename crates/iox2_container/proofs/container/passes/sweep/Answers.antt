@@ -5,7 +5,7 @@ use Rattle.iox2_container.specs.Cells.{shown}
 use Rattle.iox2_container.specs.Passes.{AreOthers}
 use Rattle.iox2_container.specs.Steps.{is_of}
 use Rattle.iox2_container.proofs.Sweeping.{cells_swept}
-use Rattle.iox2_container.proofs.CellsToCome.{HasSwept, sweep_comes_to, sweep_ends, sweep_more, sweep_past}
+use Rattle.iox2_container.proofs.CellsToCome.{HasSwept, sweep_at, sweep_ends, sweep_more, sweep_past}
 use Rattle.iox2_container.proofs.container.passes.sweep.Goals as goal
 use Rattle.iox2_container.proofs.container.passes.sweep.Goals.{then-sweep_place, else-sweep_place}
 
@@ -41,10 +41,10 @@ loop-slot-init g c =
 pub sweep_place-requires-clause-callable : goal.sweep_place-requires-clause-callable
 sweep_place-requires-clause-callable g c =
     let so_far = c.loop-slot.invariant.so_far in
-    λ cell is. sweep_comes_to (TakesAt g.F.FnMut) (CalledAt g.F.FnMut)
+    λ cell is. (sweep_at (TakesAt g.F.FnMut) (CalledAt g.F.FnMut)
     (is_of g.T.Attached.node c.args.dead.now) c.loop-slot.f
     (map shown c.args.places.now.cells) c.loop-slot.slot cell
-    (sym (so_far.later c.loop-slot.slot (omega arith)) ∙ is) so_far.callable
+    (sym (so_far.later c.loop-slot.slot (omega arith)) ∙ is) so_far.callable).0
 
 pub loop-slot-preserved : goal.loop-slot-preserved
 loop-slot-preserved g c =
