@@ -33,7 +33,7 @@ returns g c =
     ++ map (λ x. x) (filter (λ _. true) (listed registry))) c.in_ok-list.ensures.items
     ∙ (all_pass (λ x. x) (listed registry) ∙ map-id (listed registry))) in
     let exact : c.for_each.new.f.0.now.cap ≡ length c.for_each.new.f.0.now.items =
-    omega (
+    search (
       arith,
       t.3,
       c.in_ok-list.ensures.exact,

@@ -37,7 +37,7 @@ returns g c =
     c.in_ok-list.ensures.items
     ∙ (all_pass details (listed registry) ∙ sym (listed-as details registry.entries))) in
     let exact : c.for_each.new.f.0.now.cap ≡ length c.for_each.new.f.0.now.items =
-    omega (
+    search (
       arith,
       t.3,
       c.in_ok-list.ensures.exact,
