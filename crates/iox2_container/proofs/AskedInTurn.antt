@@ -1,5 +1,5 @@
 -- Callbacks that are asked in turn.
-use Rattle.std.proofs.Common.{◌≡◌, ℕ, zero, suc, ◌+◌, Option, Some, None, List, [], ◌∷◌, ◌++◌, take, map, refl, sym, ◌∙◌, ap, arith, inl, inr}
+use Rattle.std.proofs.Common.{◌≡◌, ℕ, zero, suc, ◌+◌, Option, Some, None, List, [], ◌∷◌, ◌++◌, take, map, refl, sym, ◌∙◌, ap, subst, arith, inl, inr}
 use Rattle.std.specs.Prelude.{slice_get}
 use Rattle.iox2_texts.specs.declared.bounded.callback_progression.CallbackProgression.{CallbackProgression}
 use Rattle.iox2_texts.specs.declared.bounded.callback_progression.CallbackProgression.TheVariants.{Continue, Stop}
@@ -7,7 +7,7 @@ use Rattle.iox2_container.specs.declared.container.slots.cell.Occupant.{Occupant
 use Rattle.iox2_container.specs.Cells.{occupant}
 use Rattle.iox2_container.specs.State.{Entry}
 use Rattle.iox2_container.specs.Places.{entries_from}
-use Rattle.std.proofs.lemmas.List.{append_assoc, map-append}
+use Rattle.std.proofs.lemmas.List.{append-nil, append_assoc, map-append}
 use Rattle.iox2_texts.specs.Attribute.{Visits}
 use Rattle.iox2_container.specs.Passes.{AskedOfCell}
 use Rattle.iox2_container.specs.Steps.{Asked, Visit}
@@ -35,11 +35,6 @@ entries_split {T} low (suc i) (Some o ∷ cells) =
 
 abbrev pub details_of : {T : Type 0} → List (Entry T) → List T
 details_of es = map (λ e. e.details) es
-
-pub details-append : {T : Type 0} (xs ys : List (Entry T)) → details_of (xs ++ ys) ≡ details_of xs
-    ++ details_of ys
-details-append [] ys = refl
-details-append (x ∷ xs) ys = ap (λ l. x.details ∷ l) (details-append xs ys)
 
 -- one cell more
 pub taken_more : {T : Type 0} (low i : ℕ) (cells : List (Option (Occupant T))) (x : Entry T)
@@ -83,7 +78,7 @@ details_more : {T : Type 0} (i : ℕ) (cells : List (Option (Occupant T))) (t : 
 details_more {T} i cells t d h =
     let x : Entry T = record { slot = i; ticket = t; details = d } in
     ap details_of (taken_more 0 i cells x h (omega arith))
-    ∙ details-append (entries_from 0 (take i cells)) (x ∷ [])
+    ∙ map-append (λ e. e.details) (entries_from 0 (take i cells)) (x ∷ [])
 
 pub goes_on : {F T : Type 0} (calls : F → T → CallbackProgression → F → Type 0) (f g h : F)
     (cells : List (Option (Occupant T))) (i : ℕ) (cell : Option (Occupant T))
@@ -112,7 +107,7 @@ stops {F} {T} calls f g h cells i (Some o) answer is a c w =
     let rest : List T = details_of split.0 in
     let all_are : details_of (entries_from 0 cells) ≡ seen ++ o.details ∷ rest =
     ap details_of split.1
-    ∙ (details-append (entries_from 0 (take (suc i) cells)) split.0
+    ∙ (map-append (λ e. e.details) (entries_from 0 (take (suc i) cells)) split.0
     ∙ (ap (λ (l : List T). l ++ rest) (details_more i cells o.ticket o.details is)
     ∙ append_assoc seen (o.details ∷ []) rest)) in
     record {
@@ -120,14 +115,12 @@ stops {F} {T} calls f g h cells i (Some o) answer is a c w =
           (visits_rest calls f seen g (o.details ∷ rest) h w (inl (rw c at a)));
     }
 
-visits_all : {F T : Type 0} (calls : F → T → CallbackProgression → F → Type 0) (f g : F)
-    (items : List T) → GoesOn calls f items g → Visits calls f items g
-visits_all calls f g [] w = w
-visits_all calls f g (x ∷ xs) w = inr (w.0, w.1, visits_all calls w.0 g xs w.2)
-
 pub ends : {F T : Type 0} (calls : F → T → CallbackProgression → F → Type 0) (f g : F)
     (items : List T) → GoesOn calls f items g → Visit calls f items g
-ends calls f g items w = record { visits = visits_all calls f g items w }
+ends {F} {T} calls f g items w = record {
+  visits = subst (λ (l : List T). Visits calls f l g) (append-nil items)
+      (visits_rest calls f items g [] g w refl);
+}
 
 pub not_stop : (a : CallbackProgression) → (a ≡ Stop → ⊥) → a ≡ Continue
 not_stop Continue h = refl

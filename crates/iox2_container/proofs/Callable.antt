@@ -9,66 +9,6 @@ use Rattle.iox2_texts.specs.declared.bounded.callback_progression.CallbackProgre
 use Rattle.iox2_container.specs.Steps.{Asked, Visit}
 use Rattle.iox2_container.specs.Callbacks.{MayAsk, CanBeAsked, MayVisit, CanVisit}
 
--- a callback that may always be called may be asked
--- about any items, and always be called afterwards
-module _ {F A R : Type 0} (g : Mut F (Bor A × Unit {0}) R) where
-  takes_always : (f : F) (x : A) → always_mut g f → TakesAt g f x
-  takes_always f x m = λ y e. (m.at ((y, tt) ∷ [])).0
-
-  next_always : (f : F) (x : A) (r : R) (h : F) → always_mut g f → CalledAt g f x r h
-      → always_mut g h
-  next_always f x r h m c = mut_next g f (c.shown, tt) r h h c.called refl m
-
-  may_ask : (f : F) (items : List A) → always_mut g f → MayAsk (TakesAt g) (CalledAt g) f items
-  may_ask f [] m = tt
-  may_ask f (x ∷ xs) m = (takes_always f x m, λ r h c. may_ask h xs (next_always f x r h m c))
-
-  pub CanBeAsked-from_always : (f : F) (items : List A) → always_mut g f
-      → CanBeAsked (TakesAt g) (CalledAt g) f items
-  CanBeAsked-from_always f items m = record { asks = may_ask f items m }
-
-  pub always_after_Asked : (f : F) (items : List A) (answers : List R) (h : F) → always_mut g f
-      → Asked (CalledAt g) f items answers h → always_mut g h
-  always_after_Asked f [] [] h m a = subst (always_mut g) (sym a) m
-  always_after_Asked f [] (r ∷ rs) h m a = absurd a
-  always_after_Asked f (x ∷ xs) [] h m a = absurd a
-  always_after_Asked f (x ∷ xs) (r ∷ rs) h m a =
-      always_after_Asked a.0 xs rs h (next_always f x r a.0 m a.1) a.2
-
--- the same, where it takes the items by value
-module _ {F A R : Type 0} (g : Mut F (A × Unit {0}) R) where
-  may_ask_values : (f : F) (items : List A) → always_mut g f
-      → MayAsk (λ h x. Takes g h (x, tt)) (λ h x r h'. Called g h (x, tt) r h') f items
-  may_ask_values f [] m = tt
-  may_ask_values f (x ∷ xs) m =
-      ((m.at ((x, tt) ∷ [])).0, λ r h c. may_ask_values h xs (mut_next g f (x, tt) r h h c refl m))
-
-  pub CanBeAsked-from_always_values : (f : F) (items : List A) → always_mut g f
-      → CanBeAsked (λ h x. Takes g h (x, tt)) (λ h x r h'. Called g h (x, tt) r h') f items
-  CanBeAsked-from_always_values f items m = record { asks = may_ask_values f items m }
-
--- and where it is shown items
-module _ {F A : Type 0} (g : Mut F (Bor A × Unit {0}) CallbackProgression) where
-  may_visit : (f : F) (items : List A) → always_mut g f → MayVisit (TakesAt g) (CalledAt g) f items
-  may_visit f [] m = tt
-  may_visit f (x ∷ xs) m =
-      (takes_always g f x m, λ h c. may_visit h xs (next_always g f x Continue h m c))
-
-  pub CanVisit-from_always : (f : F) (items : List A) → always_mut g f
-      → CanVisit (TakesAt g) (CalledAt g) f items
-  CanVisit-from_always f items m = record { visits = may_visit f items m }
-
-  always_after_visits : (f : F) (items : List A) (h : F) → always_mut g f
-      → Visits (CalledAt g) f items h → always_mut g h
-  always_after_visits f [] h m done = subst (always_mut g) (sym done) m
-  always_after_visits f (x ∷ xs) h m (inl stopped) = next_always g f x Stop h m stopped
-  always_after_visits f (x ∷ xs) h m (inr goes) =
-      always_after_visits goes.0 xs h (next_always g f x Continue goes.0 m goes.1) goes.2
-
-  pub always_after_Visit : (f : F) (items : List A) (h : F) → always_mut g f
-      → Visit (CalledAt g) f items h → always_mut g h
-  always_after_Visit f items h m visit = always_after_visits f items h m visit.visits
-
 -- what each state takes, and what each call leaves it in, gives it for any items
 module _ {F A R : Type 0} (takes : F → A → Type 0) (calls : F → A → R → F → Type 0)
     (I : F → List A → Type 0)
@@ -94,6 +34,69 @@ module _ {F A : Type 0} (takes : F → A → Type 0) (calls : F → A → Callba
   pub CanVisit-by : (f : F) (items : List A) → I f items → CanVisit takes calls f items
   CanVisit-by f items i = record { visits = may_visit_by f items i }
 
+-- what holds at first, and what each call keeps, holds in the end
+pub Asked-keeps : {F A R : Type 0} (calls : F → A → R → F → Type 0)
+    (I : F → List A → List R → Type 0)
+    → ((f : F) (x : A) (xs : List A) (r : R) (rs : List R) (h : F) → I f (x ∷ xs) (r ∷ rs)
+    → calls f x r h → I h xs rs)
+    → (f : F) (items : List A) (answers : List R) (h : F) → I f items answers
+    → Asked calls f items answers h → I h [] []
+Asked-keeps calls I keeps f [] [] h i a = subst (λ g. I g [] []) (sym a) i
+Asked-keeps calls I keeps f [] (r ∷ rs) h i a = absurd a
+Asked-keeps calls I keeps f (x ∷ xs) [] h i a = absurd a
+Asked-keeps calls I keeps f (x ∷ xs) (r ∷ rs) h i a =
+    Asked-keeps calls I keeps a.0 xs rs h (keeps f x xs r rs a.0 i a.1) a.2
+
+-- a callback that may always be called may be asked
+-- about any items, and always be called afterwards
+module _ {F A R : Type 0} (g : Mut F (Bor A × Unit {0}) R) where
+  takes_always : (f : F) (x : A) → always_mut g f → TakesAt g f x
+  takes_always f x m = λ y e. (m.at ((y, tt) ∷ [])).0
+
+  next_always : (f : F) (x : A) (r : R) (h : F) → always_mut g f → CalledAt g f x r h
+      → always_mut g h
+  next_always f x r h m c = mut_next g f (c.shown, tt) r h h c.called refl m
+
+  pub CanBeAsked-from_always : (f : F) (items : List A) → always_mut g f
+      → CanBeAsked (TakesAt g) (CalledAt g) f items
+  CanBeAsked-from_always =
+      CanBeAsked-by (TakesAt g) (CalledAt g) (λ f _. always_mut g f)
+      (λ f x xs m. takes_always f x m) (λ f x xs r h m c. next_always f x r h m c)
+
+  pub always_after_Asked : (f : F) (items : List A) (answers : List R) (h : F) → always_mut g f
+      → Asked (CalledAt g) f items answers h → always_mut g h
+  always_after_Asked =
+      Asked-keeps (CalledAt g) (λ f _ _. always_mut g f)
+      (λ f x xs r rs h m c. next_always f x r h m c)
+
+-- the same, where it takes the items by value
+pub CanBeAsked-from_always_values : {F A R : Type 0} (g : Mut F (A × Unit {0}) R) (f : F)
+    (items : List A) → always_mut g f
+    → CanBeAsked (λ h x. Takes g h (x, tt)) (λ h x r h'. Called g h (x, tt) r h') f items
+CanBeAsked-from_always_values g =
+    CanBeAsked-by (λ h x. Takes g h (x, tt)) (λ h x r h'. Called g h (x, tt) r h')
+    (λ f _. always_mut g f) (λ f x xs m. (m.at ((x, tt) ∷ [])).0)
+    (λ f x xs r h m c. mut_next g f (x, tt) r h h c refl m)
+
+-- and where it is shown items
+module _ {F A : Type 0} (g : Mut F (Bor A × Unit {0}) CallbackProgression) where
+  pub CanVisit-from_always : (f : F) (items : List A) → always_mut g f
+      → CanVisit (TakesAt g) (CalledAt g) f items
+  CanVisit-from_always =
+      CanVisit-by (TakesAt g) (CalledAt g) (λ f _. always_mut g f)
+      (λ f x xs m. takes_always g f x m) (λ f x xs h m c. next_always g f x Continue h m c)
+
+  always_after_visits : (f : F) (items : List A) (h : F) → always_mut g f
+      → Visits (CalledAt g) f items h → always_mut g h
+  always_after_visits f [] h m done = subst (always_mut g) (sym done) m
+  always_after_visits f (x ∷ xs) h m (inl stopped) = next_always g f x Stop h m stopped
+  always_after_visits f (x ∷ xs) h m (inr goes) =
+      always_after_visits goes.0 xs h (next_always g f x Continue goes.0 m goes.1) goes.2
+
+  pub always_after_Visit : (f : F) (items : List A) (h : F) → always_mut g f
+      → Visit (CalledAt g) f items h → always_mut g h
+  always_after_Visit f items h m visit = always_after_visits f items h m visit.visits
+
 -- a callback that takes any item in any state
 pub CanBeAsked-from_total : {F A R : Type 0} {takes : F → A → Type 0} {calls : F → A → R → F
     → Type 0} {f : F} {items : List A} → ((g : F) (x : A) → takes g x)
@@ -108,27 +111,18 @@ pub CanVisit-from_total : {F A : Type 0} {takes : F → A → Type 0} {calls : F
 CanVisit-from_total {takes = takes} {calls = calls} {f = f} {items = items} h =
     CanVisit-by takes calls (λ _ _. Unit {0}) (λ g x xs i. h g x) (λ g x xs k i c. tt) f items tt
 
-pub MayAsk-first : {F A R : Type 0} (takes : F → A → Type 0) (calls : F → A → R → F → Type 0)
-    (f : F) (xs ys : List A) → MayAsk takes calls f (xs ++ ys) → MayAsk takes calls f xs
-MayAsk-first takes calls f [] ys m = tt
-MayAsk-first takes calls f (x ∷ xs) ys m =
-    (m.0, λ r g c. MayAsk-first takes calls g xs ys (m.1 r g c))
-
 -- a callback that asks another one about each item, seen in another way
 module _ {F G A B R S : Type 0} (takes : F → A → Type 0) (calls : F → A → R → F → Type 0)
     (takes' : G → B → Type 0) (others : G → B → S → G → Type 0) (k : F → G) (u : A → B)
     (asks : (f : F) (x : A) → takes' (k f) (u x) → takes f x)
     (steps : (f : F) (x : A) (r : R) (h : F) → calls f x r h → (s : S)
     × others (k f) (u x) s (k h)) where
-  may_ask_lent : (f : F) (items : List A) → MayAsk takes' others (k f) (map u items)
-      → MayAsk takes calls f items
-  may_ask_lent f [] m = tt
-  may_ask_lent f (x ∷ xs) m =
-      (asks f x m.0, λ r h c. (let s = steps f x r h c in may_ask_lent h xs (m.1 s.0 (k h) s.1)))
-
   pub CanBeAsked-lent : (f : F) (items : List A) → CanBeAsked takes' others (k f) (map u items)
       → CanBeAsked takes calls f items
-  CanBeAsked-lent f items m = record { asks = may_ask_lent f items m.asks }
+  CanBeAsked-lent f items m =
+      CanBeAsked-by takes calls (λ f xs. MayAsk takes' others (k f) (map u xs))
+      (λ f x xs m. asks f x m.0)
+      (λ f x xs r h m c. let s = steps f x r h c in m.1 s.0 (k h) s.1) f items m.asks
 
 module _ {F G A B : Type 0} (takes : F → A → Type 0)
     (calls : F → A → CallbackProgression → F → Type 0) (takes' : G → B → Type 0)
@@ -136,37 +130,29 @@ module _ {F G A B : Type 0} (takes : F → A → Type 0)
     (asks : (f : F) (x : A) → takes' (k f) (u x) → takes f x)
     (steps : (f : F) (x : A) (h : F) → calls f x Continue h
     → others (k f) (u x) Continue (k h)) where
-  may_visit_lent : (f : F) (items : List A) → MayVisit takes' others (k f) (map u items)
-      → MayVisit takes calls f items
-  may_visit_lent f [] m = tt
-  may_visit_lent f (x ∷ xs) m =
-      (asks f x m.0, λ h c. may_visit_lent h xs (m.1 (k h) (steps f x h c)))
-
   pub CanVisit-lent : (f : F) (items : List A) → CanVisit takes' others (k f) (map u items)
       → CanVisit takes calls f items
-  CanVisit-lent f items m = record { visits = may_visit_lent f items m.visits }
+  CanVisit-lent f items m =
+      CanVisit-by takes calls (λ f xs. MayVisit takes' others (k f) (map u xs))
+      (λ f x xs m. asks f x m.0) (λ f x xs h m c. m.1 (k h) (steps f x h c)) f items m.visits
 
 -- asked about the first items by such a callback, it may be asked about the others
 module _ {F A B R S : Type 0} (takes : F → B → Type 0) (calls : F → B → S → F → Type 0)
     (asked : F → A → R → F → Type 0) (u : A → B)
     (steps : (f : F) (x : A) (r : R) (h : F) → asked f x r h → (s : S) × calls f (u x) s h) where
-  may_ask_after : (f : F) (xs : List A) (ys : List B) (answers : List R) (g : F)
-      → MayAsk takes calls f (map u xs ++ ys) → Asked asked f xs answers g → MayAsk takes calls g ys
-  may_ask_after f [] ys [] g m a = subst (λ (h : F). MayAsk takes calls h ys) (sym a) m
-  may_ask_after f [] ys (r ∷ rs) g m a = absurd a
-  may_ask_after f (x ∷ xs) ys [] g m a = absurd a
-  may_ask_after f (x ∷ xs) ys (r ∷ rs) g m a =
-      let s = steps f x r a.0 a.1 in may_ask_after a.0 xs ys rs g (m.1 s.0 a.0 s.1) a.2
-
   pub CanBeAsked-after : (f : F) (xs : List A) (ys : List B) (answers : List R) (g : F)
       → CanBeAsked takes calls f (map u xs ++ ys) → Asked asked f xs answers g
       → CanBeAsked takes calls g ys
-  CanBeAsked-after f xs ys answers g m a =
-      record { asks = may_ask_after f xs ys answers g m.asks a }
+  CanBeAsked-after f xs ys answers g m a = record {
+    asks = Asked-keeps asked (λ f xs _. MayAsk takes calls f (map u xs ++ ys))
+        (λ f x xs r rs h m c. let s = steps f x r h c in m.1 s.0 h s.1) f xs answers g m.asks a;
+  }
 
 pub CanBeAsked-first : {F A R : Type 0} (takes : F → A → Type 0) (calls : F → A → R → F → Type 0)
     (f : F) (xs ys : List A) → CanBeAsked takes calls f (xs ++ ys) → CanBeAsked takes calls f xs
-CanBeAsked-first takes calls f xs ys m = record { asks = MayAsk-first takes calls f xs ys m.asks }
+CanBeAsked-first takes calls f xs ys m =
+    CanBeAsked-by takes calls (λ f xs. MayAsk takes calls f (xs ++ ys)) (λ f x xs m. m.0)
+    (λ f x xs r h m c. m.1 r h c) f xs m.asks
 
 -- what a caller's proofs need whose callback may always be called: to be named by `using` on a
 -- crate, so that its calls need no answer

@@ -1,14 +1,16 @@
 -- The entries that stand in cells.
-use Rattle.std.proofs.Common.{◌≡◌, ◌≢◌, ℕ, zero, suc, ◌+◌, ◌<◌, ◌≤◌, Option, Some, None, List, [], ◌∷◌, length, take, refl, ◌∙◌, ap, arith}
+use Rattle.std.proofs.Common.{◌≡◌, ◌≢◌, ℕ, zero, suc, ◌+◌, ◌<◌, ◌≤◌, Option, Some, None, List, [], ◌∷◌, length, take, refl, sym, ◌∙◌, ap, subst, arith}
 use Rattle.std.specs.Prelude.{All, AllPairs, slice_get, slice_set, replicate}
+use Rattle.std.proofs.lemmas.List.{set-get_or, set-set}
 use Rattle.std.proofs.lemmas.List.Elements.{All-nil, All-cons, All-weaker}
 use Rattle.std.proofs.lemmas.List.Kept.{AllPairs-cons}
-use Rattle.std.proofs.lemmas.Option.{slice_get_within}
+use Rattle.std.proofs.lemmas.Option.{get_or_from_slice_get, slice_get_within}
 use Rattle.iox2_container.specs.declared.container.slots.cell.Occupant.{Occupant}
 use Rattle.iox2_container.specs.Cells.{occupant}
 use Rattle.iox2_container.specs.State.{Entry}
 use Rattle.iox2_container.specs.Steps.{InsertsOne}
 use Rattle.iox2_container.specs.Places.{NoneFrom, entries_from}
+use Rattle.iox2_container.proofs.ListEdits.{get_set_same}
 
 -- the entry is that of a cell
 pub record HasEntry {T : Type 0} (low : ℕ) (cells : List (Option (Occupant T)))
@@ -99,21 +101,15 @@ gains_write {T} low (Some o ∷ cells) (suc i) x h s =
 pub gains_clear : {T : Type 0} (low : ℕ) (cells : List (Option (Occupant T))) (i : ℕ) (x : Entry T)
     → slice_get cells i ≡ Some (Some (occupant x.ticket x.details)) → x.slot ≡ low + i
     → InsertsOne (entries_from low (slice_set cells i None)) (entries_from low cells) x
-gains_clear low [] i x h s = (cc)
-gains_clear low (None ∷ cells) zero x h s = (cc)
-gains_clear {T} low (Some o ∷ cells) zero x h s =
-    let e : low ≡ x.slot = omega arith in
-    record {
-      before = [];
-      after = entries_from (low + 1) cells;
-      old_is = refl;
-      new_is = ap (λ (y : Entry T). y ∷ entries_from (low + 1) cells) (same_entry low o x e h);
-    }
-gains_clear low (None ∷ cells) (suc i) x h s = gains_clear (low + 1) cells i x h (omega arith)
-gains_clear {T} low (Some o ∷ cells) (suc i) x h s =
-    gains_later (entries_from (low + 1) (slice_set cells i None)) (entries_from (low + 1) cells) x
-    (record { slot = low; ticket = o.ticket; details = o.details })
-    (gains_clear (low + 1) cells i x h (omega arith))
+gains_clear {T} low cells i x h s =
+    let o : Option (Occupant T) = Some (occupant x.ticket x.details) in
+    let back : slice_set (slice_set cells i None) i o ≡ cells = set-set cells i None o
+    ∙ (ap (slice_set cells i) (sym (get_or_from_slice_get cells i o None h))
+    ∙ set-get_or cells i None) in
+    let left = slice_set cells i None in
+    subst (λ cs. InsertsOne (entries_from low left) (entries_from low cs) x) back
+    (gains_write low left i x
+    (get_set_same cells i None (slice_get_within cells i o h)) s)
 
 -- a free cell is room
 pub room_from : {T : Type 0} (low : ℕ) (cells : List (Option (Occupant T)))

@@ -1,17 +1,19 @@
 -- Passes over cells, as far as the cells to come, whose
 -- callbacks may be asked about what stands there.
-use Rattle.std.proofs.Common.{◌≡◌, ℕ, zero, suc, ◌+◌, ◌-◌, ◌≤◌, Bool, true, false, Option, Some, None, List, [], ◌∷◌, drop, refl, sym, ap, subst, add-one, arith}
-use Rattle.std.specs.Prelude.{slice_get, IsTrue, if◌then◌else◌}
+use Rattle.std.proofs.Common.{◌≡◌, ℕ, zero, suc, ◌+◌, ◌≤◌, Bool, true, false, Option, Some, None, List, [], ◌∷◌, length, drop, take, refl, sym, ◌∙◌, ap, add-one, arith}
+use Rattle.std.specs.Prelude.{slice_get, slice_set, IsTrue, if◌then◌else◌}
 use Rattle.iox2_texts.specs.declared.bounded.callback_progression.CallbackProgression.{CallbackProgression}
 use Rattle.iox2_texts.specs.declared.bounded.callback_progression.CallbackProgression.TheVariants.{Continue}
 use Rattle.iox2_container.specs.declared.container.slots.cell.Occupant.{Occupant}
 use Rattle.iox2_container.specs.State.{Entry}
-use Rattle.iox2_container.specs.Places.{entries_from}
-use Rattle.iox2_container.specs.Passes.{AreOthers, AskedOfCell, SweptCell, TakesCell, TakesDead}
+use Rattle.iox2_container.specs.Places.{NoneFrom, entries_from}
+use Rattle.iox2_container.specs.Passes.{AreOthers, AskedOfCell, Swept, SweptCell, TakesCell, TakesDead}
 use Rattle.iox2_container.specs.Steps.{candidates, is_of}
 use Rattle.iox2_container.specs.Callbacks.{MayAsk, MayVisit}
 use Rattle.iox2_container.proofs.AskedInTurn.{details_of}
-use Rattle.iox2_container.proofs.Sweeping.{add_zero, other_swept}
+use Rattle.iox2_container.proofs.CellEntries.{all_before}
+use Rattle.iox2_container.proofs.Counting.{few_more}
+use Rattle.iox2_container.proofs.Sweeping.{add_zero, later_kept, length_kept, other_swept, over_others, swept_cell}
 
 -- the cells from one on
 drop_one : {C : Type 0} (cells : List C) (i : ℕ) (cell : C) → slice_get cells i ≡ Some cell
@@ -37,21 +39,14 @@ module _ {F T : Type 0} (takes : F → T → Type 0)
   shows f i None rest m = (tt, λ h a. rw a.1 m)
   shows f i (Some o) rest m = (m.0, λ h a. m.1 h a)
 
-  pub visit_comes_to : (f : F) (cells : List (Option (Occupant T))) (i : ℕ)
-      (cell : Option (Occupant T)) → slice_get cells i ≡ Some cell
-      → MayVisit takes calls f (details_from i cells) → TakesCell takes f cell
-  visit_comes_to f cells i cell is m =
-      (shows f i cell (drop (suc i) cells) (rw (drop_one cells i cell is) at m)).0
-
-  pub visit_goes_on : (f h : F) (cells : List (Option (Occupant T))) (i : ℕ)
-      (cell : Option (Occupant T)) (answer : CallbackProgression)
-      → slice_get cells i ≡ Some cell → AskedOfCell calls f cell answer h → answer ≡ Continue
-      → MayVisit takes calls f (details_from i cells)
-      → MayVisit takes calls h (details_from (i + 1) cells)
-  visit_goes_on f h cells i cell answer is a c m =
+  pub visit_at : (f : F) (cells : List (Option (Occupant T))) (i : ℕ) (cell : Option (Occupant T))
+      → slice_get cells i ≡ Some cell → MayVisit takes calls f (details_from i cells)
+      → TakesCell takes f cell
+      × ((h : F) → AskedOfCell calls f cell Continue h
+      → MayVisit takes calls h (details_from (i + 1) cells))
+  visit_at f cells i cell is m =
       rw (add-one i)
-      (rw (add-one i) at
-      ((shows f i cell (drop (suc i) cells) (rw (drop_one cells i cell is) at m)).1 h (rw c at a)))
+      (rw (add-one i) at (shows f i cell (drop (suc i) cells) (rw (drop_one cells i cell is) at m)))
 
 -- a sweep that has come to a cell
 module _ {F T : Type 0} (takes : F → T → Type 0) (calls : F → T → Bool → F → Type 0)
@@ -80,44 +75,62 @@ module _ {F T : Type 0} (takes : F → T → Type 0) (calls : F → T → Bool �
       asks_one f (record { slot = i; ticket = o.ticket; details = o.details })
       (entries_from (i + 1) rest) (is_dead o.details) refl m
 
-  pub sweep_comes_to : (f : F) (cells : List (Option (Occupant T))) (i : ℕ)
-      (cell : Option (Occupant T)) → slice_get cells i ≡ Some cell
-      → MayAsk takes calls f (candidates_from is_dead i cells) → TakesDead takes is_dead f cell
-  sweep_comes_to f cells i cell is m =
-      (sweeps_one f i cell (drop (suc i) cells) (rw (drop_one cells i cell is) at m)).0
-
-  pub sweep_goes_on : (f h : F) (cells : List (Option (Occupant T))) (i : ℕ)
-      (cell : Option (Occupant T)) (goes : Bool) → slice_get cells i ≡ Some cell
-      → SweptCell calls is_dead f cell goes h
-      → MayAsk takes calls f (candidates_from is_dead i cells)
-      → MayAsk takes calls h (candidates_from is_dead (i + 1) cells)
-  sweep_goes_on f h cells i cell goes is s m =
+  pub sweep_at : (f : F) (cells : List (Option (Occupant T))) (i : ℕ) (cell : Option (Occupant T))
+      → slice_get cells i ≡ Some cell → MayAsk takes calls f (candidates_from is_dead i cells)
+      → TakesDead takes is_dead f cell
+      × ((goes : Bool) (h : F) → SweptCell calls is_dead f cell goes h
+      → MayAsk takes calls h (candidates_from is_dead (i + 1) cells))
+  sweep_at f cells i cell is m =
       rw (add-one i)
       (rw (add-one i) at
-      ((sweeps_one f i cell (drop (suc i) cells) (rw (drop_one cells i cell is) at m)).1 goes h s))
+      (sweeps_one f i cell (drop (suc i) cells) (rw (drop_one cells i cell is) at m)))
 
--- a sweep that passes over cells of other nodes
-module _ {F T : Type 0} (takes : F → T → Type 0) (calls : F → T → Bool → F → Type 0) (node : T → ℕ)
-    (id : ℕ) where
-  passes : (f : F) (cells : List (Option (Occupant T))) (i n : ℕ)
-      → AreOthers node id cells i (i + n)
-      → MayAsk takes calls f (candidates_from (is_of node id) i cells)
-      → MayAsk takes calls f (candidates_from (is_of node id) (i + n) cells)
-  passes f cells i zero others m =
-      subst (λ (k : ℕ). MayAsk takes calls f (candidates_from (is_of node id) k cells))
-      (add_zero i) m
-  passes f cells i (suc n) others m =
-      let o = others i (omega arith) (omega arith) in
-      let e : (i + 1) + n ≡ i + suc n = omega arith in
-      subst (λ (k : ℕ). MayAsk takes calls f (candidates_from (is_of node id) k cells)) e
-      (passes f cells (i + 1) n (λ k l h. others k (omega arith) (omega arith))
-      (sweep_goes_on takes calls (is_of node id) f f cells i o.0 false o.1
-      (other_swept calls node id f o.0 o.2) m))
+-- a sweep that has come to a place: what it did so far, and whom it may still ask
+pub record HasSwept {F T : Type 0} (takes : F → T → Type 0) (calls : F → T → Bool → F → Type 0)
+    (is_dead : T → Bool) (f : F) (cs : List (Option (Occupant T))) (i : ℕ) (g : F)
+    (m : List (Option (Occupant T))) (gone : ℕ) : Type 0 where
+  pub callable : MayAsk takes calls g (candidates_from is_dead i cs)
+  pub swept : Swept calls is_dead f (entries_from 0 (take i cs)) g (entries_from 0 (take i m)) gone
+  pub later : (k : ℕ) → i ≤ k → slice_get m k ≡ slice_get cs k
+  pub len : length m ≡ length cs
+  pub few : gone ≤ i
 
-  pub sweep_passes_to : (f : F) (cells : List (Option (Occupant T))) (i j : ℕ) → i ≤ j
-      → AreOthers node id cells i j → MayAsk takes calls f (candidates_from (is_of node id) i cells)
-      → MayAsk takes calls f (candidates_from (is_of node id) j cells)
-  sweep_passes_to f cells i j l others m =
-      let e : i + (j - i) ≡ j = omega arith in
-      subst (λ (k : ℕ). MayAsk takes calls f (candidates_from (is_of node id) k cells)) e
-      (passes f cells i (j - i) (λ k a b. others k a (omega arith)) m)
+-- one place more is swept, by what a loop knows of it
+pub sweep_more : {F T : Type 0} (takes : F → T → Type 0) (calls : F → T → Bool → F → Type 0)
+    (is_dead : T → Bool) (f g h : F) (cs m n : List (Option (Occupant T))) (i gone gone' : ℕ)
+    (goes : Bool) → (cell : Option (Occupant T)) × (slice_get m i ≡ Some cell)
+    × SweptCell calls is_dead g cell goes h
+    → n ≡ (if goes then slice_set m i None else m) → gone' ≡ gone + (if goes then 1 else 0)
+    → HasSwept takes calls is_dead f cs i g m gone
+    → HasSwept takes calls is_dead f cs (i + 1) h n gone'
+sweep_more takes calls is_dead f g h cs m n i gone gone' goes s en eg w =
+    let same : slice_get m i ≡ slice_get cs i = w.later i (omega arith) in
+    record {
+      callable = (sweep_at takes calls is_dead g cs i s.0 (sym same ∙ s.1) w.callable).1 goes h s.2;
+      swept = rw (add-one i)
+          (rw en
+          (rw eg (swept_cell calls is_dead f g h cs m i gone s.0 goes (sym same ∙ s.1) s.1 s.2
+          w.swept)));
+      later = later_kept cs m n i goes en w.later;
+      len = length_kept m n i goes en ∙ w.len;
+      few = few_more gone gone' i goes eg w.few;
+    }
+
+-- places where no entry of the node stands are passed over
+pub sweep_past : {F T : Type 0} (takes : F → T → Type 0) (calls : F → T → Bool → F → Type 0)
+    (node : T → ℕ) (id : ℕ) (f g : F) (cs m : List (Option (Occupant T))) (i j gone : ℕ) → i ≤ j
+    → AreOthers node id m i j → HasSwept takes calls (is_of node id) f cs i g m gone
+    → HasSwept takes calls (is_of node id) f cs j g m gone
+sweep_past takes calls node id f g cs m i j gone l others =
+    over_others node id m (λ k. HasSwept takes calls (is_of node id) f cs k g m gone) i j l others
+    (λ k h o. sweep_more takes calls (is_of node id) f g g cs m m k gone gone false
+    (o.0, o.1, other_swept calls node id g o.0 o.2) refl (add_zero gone))
+
+-- after the last entry all are swept
+pub sweep_ends : {F T : Type 0} (takes : F → T → Type 0) (calls : F → T → Bool → F → Type 0)
+    (is_dead : T → Bool) (f g : F) (cs m : List (Option (Occupant T))) (i gone : ℕ)
+    → NoneFrom cs i → HasSwept takes calls is_dead f cs i g m gone
+    → Swept calls is_dead f (entries_from 0 cs) g (entries_from 0 m) gone
+sweep_ends takes calls is_dead f g cs m i gone none w =
+    rw (sym (all_before 0 i cs none))
+    (rw (sym (all_before 0 i m (λ k l t. none k l (t.0, sym (w.later k l) ∙ t.1)))) w.swept)

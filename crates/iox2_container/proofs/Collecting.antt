@@ -7,7 +7,7 @@ use Rattle.iox2_texts.specs.declared.bounded.callback_progression.CallbackProgre
 use Rattle.iox2_texts.specs.Attribute.{Visits}
 use Rattle.iox2_container.specs.Callbacks.{CanVisit}
 use Rattle.iox2_container.specs.Steps.{Asked, Visit}
-use Rattle.iox2_container.proofs.Callable.{CanVisit-by}
+use Rattle.iox2_container.proofs.Callable.{Asked-keeps, CanVisit-by}
 
 -- a callback that puts what it makes of each item that
 -- passes a test at the end of a list, and goes on
@@ -97,11 +97,8 @@ pub answers_by : {F A R K : Type 0} (calls : F → A → R → F → Type 0) (he
     → ((q : F) (x : A) (r : R) (v : F) → calls q x r v → (held v ≡ held q)
     × (r ≡ answer (held q) x)) → (f : F) (items : List A) (answers : List R) (g : F)
     → Asked calls f items answers g → answers ≡ map (answer (held f)) items
-answers_by calls held answer step f [] [] g a = refl
-answers_by calls held answer step f [] (r ∷ rs) g a = absurd a
-answers_by calls held answer step f (x ∷ xs) [] g a = absurd a
-answers_by {F} {A} {R} {K} calls held answer step f (x ∷ xs) (r ∷ rs) g a =
-    let s = step f x r a.0 a.1 in
-    let rest : rs ≡ map (answer (held f)) xs = answers_by calls held answer step a.0 xs rs g a.2
-    ∙ ap (λ (k : K). map (answer k) xs) s.0 in
-    ap (λ (l : List R). r ∷ l) rest ∙ ap (λ (b : R). b ∷ map (answer (held f)) xs) s.1
+answers_by calls held answer step f items answers g a =
+    (Asked-keeps calls (λ q xs rs. (held q ≡ held f)
+    × (rs ≡ map (answer (held f)) xs → answers ≡ map (answer (held f)) items))
+    (λ q x xs r rs v i c. let s = step q x r v c in (s.0 ∙ i.0, λ e. i.1 (cc))) f items answers g
+    (refl, λ e. e) a).1 refl

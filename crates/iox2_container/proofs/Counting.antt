@@ -1,18 +1,18 @@
 -- How many entries a test holds of.
-use Rattle.std.proofs.Common.{◌≡◌, ℕ, zero, suc, ◌+◌, ◌≤◌, ◌<◌, Bool, true, false, Option, Some, None, List, [], ◌∷◌, ◌++◌, length, take, refl, sym, ◌∙◌, ap, arith, add-one, inl, inr}
+use Rattle.std.proofs.Common.{◌≡◌, ℕ, suc, ◌+◌, ◌≤◌, ◌<◌, Bool, true, false, Option, Some, None, List, [], ◌∷◌, ◌++◌, length, take, refl, sym, ◌∙◌, ap, arith, add-one, inl, inr}
 use Rattle.std.specs.Prelude.{All, if◌then◌else◌, nat_lt, not, slice_get, ◌&&◌}
 use Rattle.std.proofs.lemmas.List.{append-nil}
 use Rattle.std.proofs.lemmas.List.Elements.{All-nil, All-cons}
 use Rattle.iox2_container.specs.declared.container.slots.cell.Occupant.{Occupant}
 use Rattle.std.proofs.lemmas.Bool.{lt-ltb, le-ltb}
 use Rattle.std.proofs.lemmas.Bool.Decides.{leb_tells}
-use Rattle.iox2_container.specs.Passes.{AreOthers, PlaceIsOf, cell_is_of}
+use Rattle.iox2_container.specs.Passes.{AreOthers, IsNextOf, PlaceIsOf, cell_is_of}
 use Rattle.iox2_container.specs.Places.{NoneFrom, entries_from}
 use Rattle.iox2_container.specs.State.{Entry}
 use Rattle.iox2_container.specs.Steps.{InsertsOne, candidates, is_of, staying}
 use Rattle.iox2_container.proofs.AskedInTurn.{entries_split, taken_free, taken_more}
 use Rattle.iox2_container.proofs.CellEntries.{all_before}
-use Rattle.iox2_container.proofs.Sweeping.{add_zero}
+use Rattle.iox2_container.proofs.Sweeping.{add_zero, over_others}
 
 -- how many entries the test holds of
 abbrev pub counted : {T : Type 0} → (T → Bool) → List (Entry T) → ℕ
@@ -94,15 +94,11 @@ some_counted {T} node id i cells b p t =
 -- none is, where none stands in any place
 pub none_counted : {T : Type 0} (node : T → ℕ) (id n : ℕ) (cells : List (Option (Occupant T)))
     → AreOthers node id cells 0 n → counted (is_of node id) (entries_from 0 (take n cells)) ≡ 0
-none_counted node id zero cells others = refl
-none_counted node id (suc n) cells others =
-    let o = others n (omega arith) (omega arith) in
-    omega (
-      arith,
-      counted_cell node id n cells o.0 o.1,
-      ap one_if (sym o.2),
-      none_counted node id n cells (λ k l h. others k l (omega arith)),
-    )
+none_counted node id n cells others =
+    over_others node id cells
+    (λ k. counted (is_of node id) (entries_from 0 (take k cells)) ≡ 0) 0 n (omega arith) others
+    (λ k h o e. rw (add-one k)
+    (omega (arith, counted_cell node id k cells o.0 o.1, ap one_if (sym o.2), e))) refl
 
 -- other places, and more of them
 pub others_join : {T : Type 0} (node : T → ℕ) (id from i j to : ℕ)
@@ -130,6 +126,42 @@ pub others_more : {T : Type 0} (node : T → ℕ) (id from i to : ℕ)
 others_more node id from i to cells b others is miss e =
     others_join node id from i i to cells others (other_at node id i to cells b is miss e)
     (omega arith)
+
+-- what looks at four places in turn told
+module _ {T : Type 0} (node : T → ℕ) (id at : ℕ) (cells : List (Option (Occupant T)))
+    {a b c : Bool} (first : PlaceIsOf node id cells at a)
+    (second : PlaceIsOf node id cells (at + 1) b)
+    (third : PlaceIsOf node id cells (at + 2) c) where
+  others_two : a ≡ false → b ≡ false → AreOthers node id cells at (at + 2)
+  others_two e f =
+      others_more node id at (at + 1) (at + 2) cells b
+      (other_at node id at (at + 1) cells a first e refl) second f (omega arith)
+
+  others_three : a ≡ false → b ≡ false → c ≡ false → AreOthers node id cells at (at + 3)
+  others_three e f g =
+      others_more node id at (at + 2) (at + 3) cells c (others_two e f) third g (omega arith)
+
+  pub found_third : a ≡ false → b ≡ false → c ≡ true → IsNextOf node id cells at (at + 4) (at + 2)
+  found_third e f g = record {
+    order = omega arith;
+    before = omega arith;
+    others = others_two e f;
+    here = rw (sym g) third;
+  }
+
+  pub found_fourth : {d : Bool} → a ≡ false → b ≡ false → c ≡ false
+      → PlaceIsOf node id cells (at + 3) d → d ≡ true → IsNextOf node id cells at (at + 4) (at + 3)
+  found_fourth e f g fourth h = record {
+    order = omega arith;
+    before = omega arith;
+    others = others_three e f g;
+    here = rw (sym h) fourth;
+  }
+
+  pub none_of_four : {d : Bool} → a ≡ false → b ≡ false → c ≡ false
+      → PlaceIsOf node id cells (at + 3) d → d ≡ false → AreOthers node id cells at (at + 4)
+  none_of_four e f g fourth h =
+      others_more node id at (at + 3) (at + 4) cells _ (others_three e f g) fourth h (omega arith)
 
 -- a search finds whether some entry is the node's
 pub found_is : {T : Type 0} (node : T → ℕ) (id end at : ℕ) (cells : List (Option (Occupant T)))

@@ -14,26 +14,6 @@ use Rattle.iox2_container.specs.HeaderAndPlaces.{registry_of}
 use Rattle.iox2_container.proofs.CellEntries.{shown_from, gains_clear}
 use Rattle.iox2_container.proofs.Members.{of_all, gained}
 
--- what was found in the handle's place, by the names that its calls have
-pub finds : {T : Type 0} (cells : List (Option (Occupant T))) (handle : Handle) (slot ticket : ℕ)
-    (cell : Option (Occupant T)) (found : Option T) → slot ≡ handle.slot
-    → ticket ≡ handle.ticket → slice_get cells slot ≡ Some cell
-    → MatchOption found ((d : T) → cell ≢ Some (occupant ticket d))
-    (λ d. cell ≡ Some (occupant ticket d)) → Finds cells handle found
-finds {T} cells handle slot ticket cell None es et shown f =
-    λ d q. f d
-    (let z : ◌≡◌ {A = Option (Option (Occupant T))} (Some cell)
-    (Some (Some (occupant ticket d))) = sym shown
-    ∙ (ap (slice_get cells) es
-    ∙ (q ∙ ap
-    (λ (t : ℕ). (let o : Option (Option (Occupant T)) = Some (Some (occupant t d)) in o))
-    (sym et))) in cc)
-finds {T} cells handle slot ticket cell (Some d) es et shown f =
-    ap (slice_get cells) (sym es)
-    ∙ (shown ∙ (ap (λ (o : Option (Occupant T)). Some o) f
-    ∙ ap (λ (t : ℕ). (let o : Option (Option (Occupant T)) = Some (Some (occupant t d)) in o))
-    et))
-
 -- nothing was found, so no entry has the handle
 pub foreign_by_ticket : {T : Type 0} (a : RegistryHeader) (cells : List (Option (Occupant T)))
     (handle : Handle) → Finds cells handle None → IsUnknownHandle (registry_of a cells) handle

@@ -1,23 +1,21 @@
 -- What histories of registries say of their entries.
-use Rattle.std.proofs.Common.{◌≡◌, ◌≢◌, ℕ, ◌+◌, ◌<◌, ◌≤◌, Bool, List, [], ◌∷◌, ◌++◌, map, refl, sym, ◌∙◌, ap, subst, arith, inl, inr, ◌⊎◌, ◌↔◌, Result, Ok, Err, Any}
+use Rattle.std.proofs.Common.{◌≡◌, ◌≢◌, ◌+◌, ◌<◌, ◌≤◌, List, [], ◌∷◌, ◌++◌, refl, sym, ◌∙◌, ap, subst, arith, inl, inr, ◌⊎◌, ◌↔◌, Result, Ok, Err, Any}
 use Rattle.std.specs.Prelude.{All, AllPairs}
 use Rattle.std.specs.List.{cons_option}
 use Rattle.std.proofs.lemmas.List.Elements.{All-nil, All-cons, All-head, All-tail, All-weaker}
 use Rattle.std.proofs.lemmas.List.Kept.{AllPairs-cons}
-use Rattle.iox2_container.specs.declared.container.refusal.ContainerAddFailure.TheVariants.{IsLocked, OutOfSpace}
 use Rattle.iox2_container.specs.declared.container.refusal.ContainerRemoveError.{ContainerRemoveError}
 use Rattle.iox2_container.specs.declared.container.refusal.ContainerRemoveError.TheVariants.{ContainerHandleNotOwnedByContainer}
 use Rattle.iox2_container.specs.declared.container.release.ReleaseMode.{ReleaseMode}
 use Rattle.iox2_container.specs.declared.container.release.ReleaseState.{ReleaseState}
 use Rattle.iox2_container.specs.Handle.{Handle}
 use Rattle.iox2_container.specs.State.{Entry, RegistryState, IsRegistry, handle_of}
-use Rattle.iox2_container.specs.Steps.{leaving, staying, Leaves, Enters, RecoverStep, RemoveStep, HasEntry}
-use Rattle.iox2_container.specs.Histories.{IsRecoveryChange, Change, ChangeStep, History, IsNew, TakesOut, Remains, IsRefused, handles_given, handle_given_by}
+use Rattle.iox2_container.specs.Steps.{Leaves, Enters, RemoveStep, HasEntry}
+use Rattle.iox2_container.specs.Histories.{Change, ChangeStep, History, IsNew, TakesOut, Remains, IsRefused, handles_given, handle_given_by}
 use Rattle.iox2_container.specs.Histories.Change.{Adding, Removing, Recovering}
-use Rattle.iox2_container.proofs.Members.{Among, of_all, moved, among_contained, contains_among, first_or_other, gained, among_more, among_less, without, DifferBy, other_differs}
+use Rattle.iox2_container.proofs.Members.{Among, of_all, moved, first_or_other, gained, without}
 use Rattle.iox2_container.proofs.Keeping.{new_is_registry}
-use Rattle.iox2_container.proofs.Growing.{grows_add, grows_remove, grows_recover}
-use Rattle.iox2_container.proofs.Leaving.{stays_among, leaves_among, stays_or_leaves, stays_apart}
+use Rattle.iox2_container.proofs.Growing.{Edits, edits, same_key}
 
 -- the map has these details under this handle
 abbrev IsHeld : {T : Type 0} → RegistryState T → Handle → T → Type 0
@@ -34,42 +32,8 @@ stands_held : {T : Type 0} (r : RegistryState T) (handle : Handle) (details : T)
     → HasEntry r handle details → IsHeld r handle details
 stands_held r handle details h = (h.0, gained h.3.0 r.entries h.0 h.3.1, h.1, sym h.2)
 
-slots_differ : {T : Type 0} (r : RegistryState T) → IsRegistry r → DifferBy (λ v. v.slot) r.entries
-slots_differ r w i j d h l e = omega (arith, e, w.slots_rise i j d h l)
-
-slot_of : (h k : Handle) → h ≡ k → h.slot ≡ k.slot
-slot_of h k e = ap (λ (n : Handle). n.slot) e
-
 pub ticket_of : (h k : Handle) → h ≡ k → h.ticket ≡ k.ticket
 ticket_of h k e = ap (λ (n : Handle). n.ticket) e
-
--- a handle among those of some entries
-handle_among : {T : Type 0} (r : RegistryState T) (es : List (Entry T)) (handle : Handle)
-    → Among handle (map (handle_of r) es) → (x : Entry T) × Among x es × (handle ≡ handle_of r x)
-handle_among r [] handle h = absurd h
-handle_among r (e ∷ es) handle (inl p) = (e, inl refl, p)
-handle_among r (e ∷ es) handle (inr h) =
-    let k = handle_among r es handle h in
-    (k.0, inr k.1, k.2)
-
-among_handles : {T : Type 0} (r : RegistryState T) (es : List (Entry T)) (x : Entry T) → Among x es
-    → Among (handle_of r x) (map (handle_of r) es)
-among_handles r [] x h = absurd h
-among_handles r (e ∷ es) x (inl p) = inl (ap (handle_of r) p)
-among_handles r (e ∷ es) x (inr h) = inr (among_handles r es x h)
-
--- what a registry that was changed so holds
-held_in : {T : Type 0} (old : RegistryState T) (es : List (Entry T)) (locked : Bool) (used : ℕ)
-    (new : RegistryState T) (handle : Handle) (details : T)
-    → new ≡ record old { entries = es; locked = locked; used = used } → IsHeld new handle details
-    → (x : Entry T) × Among x es × (handle ≡ handle_of old x) × (details ≡ x.details)
-held_in old es locked used new handle details e h = rw e at h
-
-holds : {T : Type 0} (old : RegistryState T) (es : List (Entry T)) (locked : Bool) (used : ℕ)
-    (new : RegistryState T) (handle : Handle) (details : T)
-    → new ≡ record old { entries = es; locked = locked; used = used } → (x : Entry T) × Among x es
-    × (handle ≡ handle_of old x) × (details ≡ x.details) → IsHeld new handle details
-holds old es locked used new handle details e h = rw e h
 
 held_still : {T : Type 0} (old new : RegistryState T) (handle : Handle) (details : T) → new ≡ old
     → IsHeld old handle details → IsHeld new handle details
@@ -82,80 +46,23 @@ Follows {T} old change handle details =
     ⊎ (◌≡◌ {A = Change T} change (Adding details (Ok handle)))
 
 held_after : {T : Type 0} (old mid : RegistryState T) (change : Change T) (handle : Handle)
-    (details : T) → IsRegistry old → ChangeStep old change mid → IsHeld mid handle details
+    (details : T) → IsRegistry old → Edits old change mid → IsHeld mid handle details
     → Follows old change handle details
-held_after old mid (Adding d (Err IsLocked)) handle details w s h =
-    inl (held_still mid old handle details (sym s.1) h, λ t. t)
-held_after old mid (Adding d (Err OutOfSpace)) handle details w s h =
-    inl (held_still mid old handle details (sym s.2) h, λ t. t)
-held_after {T} old mid (Adding d (Ok key)) handle details w s h =
-    let n : Enters old d key mid = s.2 in
-    let y : Entry T = record { slot = key.slot; ticket = old.used; details = d } in
-    let k = held_in old mid.entries old.locked (old.used + 1) mid handle details n.3 h in
-    elim (among_less old.entries mid.entries y k.0 n.2 k.1) [
-      | inl m ↦ inl ((k.0, m, k.2, k.3), λ t. t)
-      | inr m ↦ inr (
-          let keys : key ≡ handle = n.0 ∙ (sym (ap (handle_of old) m) ∙ sym k.2) in
-          let same : d ≡ details = sym (k.3 ∙ ap (λ (z : Entry T). z.details) m) in
-          ap (λ (z : T). Adding z (Ok key)) same ∙ ap (λ (z : Handle). Adding details (Ok z)) keys
-          )
+held_after {T} old mid change handle details w m h =
+    let key : handle ≡ handle_of old h.0 = h.2 ∙ sym (same_key old mid h.0 m.grows) in
+    elim (m.was h.0 h.1) [
+      | inl k ↦ inl ((h.0, k.0, key, h.3), λ t. k.1 w (subst (λ n. TakesOut n change) key t))
+      | inr e ↦ inr (rw key (rw h.3 e))
     ]
-held_after old mid (Removing key mode (Err e)) handle details w s h =
-    inl (held_still mid old handle details (sym s.1) h, λ t. t)
-held_after {T} old mid (Removing key mode (Ok state)) handle details w s h =
-    let l : Leaves old key mode mid = s.0 in
-    let k = held_in old mid.entries _ old.used mid handle details l.3 h in
-    inl (
-      (k.0, among_more mid.entries old.entries l.0 k.0 l.2 k.1, k.2, k.3),
-      λ t. other_differs (λ v. v.slot) mid.entries old.entries l.0 k.0 l.2 (slots_differ old w) k.1
-          (sym (slot_of handle (handle_of old k.0) k.2)
-          ∙ (slot_of handle key t ∙ slot_of key (handle_of old l.0) l.1)),
-    )
-held_after {T} old mid (Recovering is_dead marked went mode state) handle details w s h =
-    let k =
-    held_in old (staying is_dead marked old.entries) _ old.used mid handle details s.0.0 h in
-    inl (
-      (k.0, stays_among is_dead marked old.entries k.0 k.1, k.2, k.3),
-      λ t.
-          let z = handle_among old (leaving is_dead marked old.entries) handle
-          (moved handle went (map (handle_of old) (leaving is_dead marked old.entries)) s.1
-          (among_contained went handle t)) in
-          stays_apart is_dead marked old.entries (λ v. v.slot) k.0 z.0 (slots_differ old w) k.1 z.1
-          (sym (slot_of handle (handle_of old k.0) k.2)
-          ∙ slot_of handle (handle_of old z.0) z.2),
-    )
 
 -- what stayed is still held
 held_on : {T : Type 0} (old mid : RegistryState T) (change : Change T) (handle : Handle)
-    (details : T) → ChangeStep old change mid → IsHeld old handle details
+    (details : T) → Edits old change mid → IsHeld old handle details
     → (TakesOut handle change → ⊥) → IsHeld mid handle details
-held_on old mid (Adding d (Err IsLocked)) handle details s k f =
-    held_still old mid handle details s.1 k
-held_on old mid (Adding d (Err OutOfSpace)) handle details s k f =
-    held_still old mid handle details s.2 k
-held_on {T} old mid (Adding d (Ok key)) handle details s k f =
-    let n : Enters old d key mid = s.2 in
-    let y : Entry T = record { slot = key.slot; ticket = old.used; details = d } in
-    holds old mid.entries old.locked (old.used + 1) mid handle details n.3
-    (k.0, among_more old.entries mid.entries y k.0 n.2 k.1, k.2, k.3)
-held_on old mid (Removing key mode (Err e)) handle details s k f =
-    held_still old mid handle details s.1 k
-held_on {T} old mid (Removing key mode (Ok state)) handle details s k f =
-    let l : Leaves old key mode mid = s.0 in
-    elim (among_less mid.entries old.entries l.0 k.0 l.2 k.1) [
-      | inl m ↦ holds old mid.entries _ old.used mid handle details l.3 (k.0, m, k.2, k.3)
-      | inr e ↦ absurd (f (k.2 ∙ (ap (handle_of old) e ∙ sym l.1)))
-    ]
-held_on {T} old mid (Recovering is_dead marked went mode state) handle details s k f =
-    let gone = leaving is_dead marked old.entries in
-    elim (stays_or_leaves is_dead marked old.entries k.0 k.1) [
-      | inl m ↦ holds old (staying is_dead marked old.entries) _ old.used mid handle details s.0.0
-          (k.0, m, k.2, k.3)
-      | inr m ↦ absurd
-          (f (contains_among went handle
-          (moved handle (map (handle_of old) gone) went (sym s.1)
-          (subst (λ (n : Handle). Among n (map (handle_of old) gone)) (sym k.2)
-          (among_handles old gone k.0 m)))))
+held_on {T} old mid change handle details m h f =
+    elim (m.stays h.0 h.1) [
+      | inl k ↦ (h.0, k, h.2 ∙ same_key old mid h.0 m.grows, h.3)
+      | inr t ↦ absurd (f (subst (λ n. TakesOut n change) (sym h.2) t))
     ]
 
 -- what was added is held
@@ -164,8 +71,7 @@ held_new : {T : Type 0} (old mid : RegistryState T) (handle : Handle) (details :
 held_new {T} old mid handle details s =
     let n : Enters old details handle mid = s.2 in
     let y : Entry T = record { slot = handle.slot; ticket = old.used; details = details } in
-    holds old mid.entries old.locked (old.used + 1) mid handle details n.3
-    (y, gained old.entries mid.entries y n.2, n.0, refl)
+    rw n.3 (y, gained old.entries mid.entries y n.2, n.0, refl)
 
 remains_more : {T : Type 0} (change : Change T) (changes : List (Change T)) (handle : Handle)
     (details : T) → Remains changes handle details → Remains (change ∷ changes) handle details
@@ -194,7 +100,7 @@ stays_of old new [] handle details w s h =
 stays_of {T} old new (c ∷ cs) handle details w s h =
     let kept : Change T → Type 0 = λ change. TakesOut handle change → ⊥ in
     elim (stays_of s.0 new cs handle details s.2 s.3 h) [
-      | inl p ↦ elim (held_after old s.0 c handle details w s.1 p.0) [
+      | inl p ↦ elim (held_after old s.0 c handle details w (edits old c s.0 s.1) p.0) [
         | inl q ↦ inl (q.0, All-cons kept c cs q.1 p.1)
         | inr e ↦ inr
             (record {
@@ -214,7 +120,8 @@ held_at_end old new [] handle details s k f = held_still old new handle details 
 held_at_end {T} old new (c ∷ cs) handle details s k f =
     let kept : Change T → Type 0 = λ change. TakesOut handle change → ⊥ in
     held_at_end s.0 new cs handle details s.3
-    (held_on old s.0 c handle details s.1 k (All-head kept c cs f)) (All-tail kept c cs f)
+    (held_on old s.0 c handle details (edits old c s.0 s.1) k (All-head kept c cs f))
+    (All-tail kept c cs f)
 
 added_at_end : {T : Type 0} (old new : RegistryState T) (earlier later : List (Change T))
     (handle : Handle) (details : T)
@@ -248,13 +155,6 @@ record IsSpent {T : Type 0} (r : RegistryState T) (handle : Handle) : Type 0 whe
 used_of : {T : Type 0} (r s : RegistryState T) → r ≡ s → r.used ≡ s.used
 used_of {T} r s e = ap (λ (x : RegistryState T). x.used) e
 
-used_grows : {T : Type 0} (old mid : RegistryState T) (change : Change T)
-    → ChangeStep old change mid → old.used ≤ mid.used
-used_grows old mid (Adding d result) s = (grows_add old d result mid s).used
-used_grows old mid (Removing key mode result) s = (grows_remove old key mode result mid s).used
-used_grows old mid (Recovering is_dead marked went mode state) s =
-    (grows_recover is_dead marked old mode state mid s.0).used
-
 -- what is added has the next ticket
 new_ticket : {T : Type 0} (old mid : RegistryState T) (handle : Handle) (details : T)
     → ChangeStep old (Adding details (Ok handle)) mid → handle.ticket ≡ old.used
@@ -264,30 +164,16 @@ new_ticket {T} old mid handle details s =
     (handle_of old (record { slot = handle.slot; ticket = old.used; details = details }))
     n.0
 
--- what is taken out was held
-taken_held : {T : Type 0} (old mid : RegistryState T) (change : Change T) (handle : Handle)
-    → ChangeStep old change mid → TakesOut handle change → (x : Entry T) × Among x old.entries
-    × (handle ≡ handle_of old x)
-taken_held old mid (Adding d result) handle s t = absurd t
-taken_held {T} old mid (Removing key mode (Ok state)) handle s t =
-    let l : Leaves old key mode mid = s.0 in
-    (l.0, gained mid.entries old.entries l.0 l.2, t ∙ l.1)
-taken_held old mid (Removing key mode (Err e)) handle s t = absurd t
-taken_held {T} old mid (Recovering is_dead marked went mode state) handle s t =
-    let gone = leaving is_dead marked old.entries in
-    let z = handle_among old gone handle
-    (moved handle went (map (handle_of old) gone) s.1 (among_contained went handle t)) in
-    (z.0, leaves_among is_dead marked old.entries z.0 z.1, z.2)
-
 spent_after : {T : Type 0} (old mid : RegistryState T) (change : Change T) (handle : Handle)
     → IsRegistry old → ChangeStep old change mid → TakesOut handle change → IsSpent mid handle
 spent_after {T} old mid change handle w s t =
-    let k = taken_held old mid change handle s t in
+    let m = edits old change mid s in
+    let k = m.out handle t in
     let below : k.0.ticket < old.used =
     of_all (λ (e : Entry T). e.ticket < old.used) old.entries k.0 w.tickets_used k.1 in
     record {
-      ticket = omega (arith, ticket_of handle (handle_of old k.0) k.2, used_grows old mid change s);
-      gone = λ details h. elim (held_after old mid change handle details w s h) [
+      ticket = omega (arith, ticket_of handle (handle_of old k.0) k.2, m.grows.used);
+      gone = λ details h. elim (held_after old mid change handle details w m h) [
         | inl p ↦ p.1 t
         | inr e ↦ subst (λ (c : Change T). TakesOut handle c) e t
       ];
@@ -295,18 +181,21 @@ spent_after {T} old mid change handle w s t =
 
 spent_stays : {T : Type 0} (old mid : RegistryState T) (change : Change T) (handle : Handle)
     → IsRegistry old → ChangeStep old change mid → IsSpent old handle → IsSpent mid handle
-spent_stays {T} old mid change handle w s p = record {
-  ticket = omega (arith, p.ticket, used_grows old mid change s);
-  gone = λ details h. elim (held_after old mid change handle details w s h) [
-    | inl q ↦ p.gone details q.0
-    | inr e ↦ absurd
-        (omega (
-          arith,
-          p.ticket,
-          new_ticket old mid handle details (subst (λ (c : Change T). ChangeStep old c mid) e s),
-        ))
-  ];
-}
+spent_stays {T} old mid change handle w s p =
+    let m = edits old change mid s in
+    record {
+      ticket = omega (arith, p.ticket, m.grows.used);
+      gone = λ details h. elim (held_after old mid change handle details w m h) [
+        | inl q ↦ p.gone details q.0
+        | inr e ↦ absurd
+            (omega (
+              arith,
+              p.ticket,
+              new_ticket old mid handle details
+                  (subst (λ (c : Change T). ChangeStep old c mid) e s),
+            ))
+      ];
+    }
 
 spent_at_end : {T : Type 0} (old new : RegistryState T) (changes : List (Change T))
     (handle : Handle) → IsRegistry old → History old changes new → IsSpent old handle
@@ -365,7 +254,7 @@ tickets_to_come {T} old new (c ∷ cs) s =
           (subst (λ (change : Change T). ChangeStep old change s.0) e s.1),
     ))
     (All-weaker (λ (h : Handle). s.0.used ≤ h.ticket) (λ (h : Handle). old.used ≤ h.ticket)
-    (λ h l. omega (arith, l, used_grows old s.0 c s.1)) (handles_given cs)
+    (λ h l. omega (arith, l, (edits old c s.0 s.1).grows.used)) (handles_given cs)
     (tickets_to_come s.0 new cs s.3))
 
 first_differs : {T : Type 0} (old mid : RegistryState T) (change : Change T) (given : List Handle)
@@ -393,19 +282,3 @@ handles_differ old new [] s = λ i j d h l. absurd (omega (arith, l))
 handles_differ old new (c ∷ cs) s =
     first_differs old s.0 c (handles_given cs) s.1 (tickets_to_come s.0 new cs s.3)
     (handles_differ s.0 new cs s.3)
-
--- a recovery is a change, with the marks by the callback's answers and the handles of the entries
--- that went, and such a change is a recovery
-pub recovery_changes : {F T : Type 0} (calls : F → T → Bool → F → Type 0) (is_dead : T → Bool)
-    (old new : RegistryState T) (f f' : F) (mode : ReleaseMode) (state : ReleaseState)
-    → RecoverStep calls is_dead old f mode state new f'
-    ↔ IsRecoveryChange calls is_dead old f mode state new f'
-recovery_changes calls is_dead old new f f' mode state = (
-  λ r. record {
-    marked = r.marked;
-    went = map (handle_of old) (leaving is_dead r.marked old.entries);
-    asked = r.asked;
-    changes = (r.recovers, refl);
-  },
-  λ r. record { marked = r.marked; asked = r.asked; recovers = r.changes.0 },
-)

@@ -1,7 +1,6 @@
 -- The handles that a registry gave: what it knows of them while it is called.
 use Rattle.std.proofs.Common.{◌≡◌, ℕ, zero, suc, ◌+◌, ◌<◌, Option, Some, None, Result, Ok, Err, List, [], ◌∷◌, ◌++◌, sym, ◌∙◌, ap, subst, arith, inl, inr}
 use Rattle.std.specs.Prelude.{⊤}
-use Rattle.iox2_container.specs.declared.container.role.Role.{Role}
 use Rattle.iox2_container.specs.declared.container.refusal.ContainerAddFailure.{ContainerAddFailure}
 use Rattle.iox2_container.specs.declared.container.refusal.ContainerRemoveError.{ContainerRemoveError}
 use Rattle.iox2_container.specs.declared.container.release.ReleaseMode.{ReleaseMode}
@@ -15,27 +14,21 @@ use Rattle.iox2_container.specs.ContainerState.{ContainerState}
 use Rattle.iox2_container.specs.State.{Entry, RegistryState, IsRegistry, handle_of}
 use Rattle.iox2_container.specs.Steps.{AddStep, Enters, is_of}
 use Rattle.iox2_container.specs.Calls.{CallStep, RemoveGiven, handle_given, handle_in, reply_of_add, reply_of_remove}
-use Rattle.iox2_container.proofs.Members.{Among, of_all, among_less}
-use Rattle.iox2_container.proofs.Growing.{Grows, grows_same, grows_add, grows_remove, grows_recover}
+use Rattle.iox2_container.specs.Histories.Change.{Adding}
+use Rattle.iox2_container.proofs.Members.{Among, of_all}
+use Rattle.iox2_container.proofs.Growing.{Grows, edits, grows_same, grows_add, grows_remove, grows_recover, same_key}
 
 -- a handle whose ticket was handed out is determined by its ticket
 pub record Knows {T : Type 0} (r : RegistryState T) (handle : Handle) : Type 0 where
   pub ticket : handle.ticket < r.used
   pub same : (x : Entry T) → Among x r.entries → x.ticket ≡ handle.ticket → handle ≡ handle_of r x
 
-same_key : {T : Type 0} (old new : RegistryState T) (x : Entry T) → new.service ≡ old.service
-    → new.role ≡ old.role → handle_of old x ≡ handle_of new x
-same_key {T} old new x s r =
-    let make : ℕ → Role → Handle =
-    λ n q. record { service = n; role = q; slot = x.slot; ticket = x.ticket } in
-    ap (λ n. make n old.role) (sym s) ∙ ap (make new.service) (sym r)
-
 knows_on : {T : Type 0} (old new : RegistryState T) (handle : Handle) → Grows old new
     → Knows old handle → Knows new handle
 knows_on {T} old new handle m k = record {
   ticket = omega (arith, k.ticket, m.used);
   same = λ x a e. elim (m.entries x a) [
-    | inl o ↦ k.same x o e ∙ same_key old new x m.service m.role
+    | inl o ↦ k.same x o e ∙ same_key old new x m
     | inr n ↦ absurd (omega (arith, k.ticket, n, e))
   ];
 }
@@ -62,23 +55,20 @@ knows_added : {T : Type 0} (old new : RegistryState T) (d : T)
 knows_added old new d (Err f) w s = tt
 knows_added {T} old new d (Ok key) w s =
     let n : Enters old d key new = s.2 in
-    let y : Entry T = record { slot = key.slot; ticket = old.used; details = d } in
     let k : key.ticket ≡ old.used = ap (λ (h : Handle). h.ticket) n.0 in
     let u : new.used ≡ old.used + 1 = ap (λ (r : RegistryState T). r.used) n.3 in
+    let m = edits old (Adding d (Ok key)) new s in
     record {
       ticket = omega (arith, k, u);
-      same = λ x a e. elim (among_less old.entries new.entries y x n.2 a) [
-        | inl m ↦ absurd
+      same = λ x a e. elim (m.was x a) [
+        | inl o ↦ absurd
             (omega (
               arith,
               k,
               e,
-              of_all (λ (z : Entry T). z.ticket < old.used) old.entries x w.tickets_used m,
+              of_all (λ (z : Entry T). z.ticket < old.used) old.entries x w.tickets_used o.0,
             ))
-        | inr q ↦ n.0
-            ∙ (ap (handle_of old) (sym q)
-            ∙ same_key old new x (ap (λ (r : RegistryState T). r.service) n.3)
-            (ap (λ (r : RegistryState T). r.role) n.3))
+        | inr q ↦ (let one : key ≡ handle_of old x = (cc) in one ∙ same_key old new x m.grows)
       ];
     }
 

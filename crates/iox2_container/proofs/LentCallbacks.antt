@@ -1,5 +1,5 @@
 -- Callbacks that are asked in turn, seen through another state or with other details.
-use Rattle.std.proofs.Common.{◌≡◌, ℕ, Bool, List, [], ◌∷◌, map, refl, sym, ◌∙◌, ap, subst, inl, inr}
+use Rattle.std.proofs.Common.{◌≡◌, ℕ, Bool, List, [], ◌∷◌, map, refl, ◌∙◌, ap, subst, inl, inr}
 use Rattle.std.specs.Prelude.{not, ◌&&◌}
 use Rattle.std.proofs.lemmas.Simd.{map-map}
 use Rattle.std.proofs.lemmas.List.{length-map, map-id}
@@ -14,6 +14,7 @@ use Rattle.iox2_container.specs.ContainerState.{ContainerState}
 use Rattle.iox2_container.specs.State.{Entry, RegistryState}
 use Rattle.iox2_container.specs.Steps.{Asked, Visit, RecoverStep, marks_of, asked_about, candidates, is_leaving, staying}
 use Rattle.iox2_container.specs.Mapped.{entry_as, registry_as}
+use Rattle.iox2_container.proofs.Callable.{Asked-keeps}
 use Rattle.iox2_container.proofs.ListEdits.{filter-map}
 use Rattle.iox2_container.proofs.Mapped.{candidates-as, listed-as}
 
@@ -23,12 +24,12 @@ pub Asked-as : {F G A B R : Type 0} (calls : F → A → R → F → Type 0)
     → ((f : F) (x : A) (r : R) (h : F) → I f → calls f x r h → others (k f) (u x) r (k h) × I h)
     → (f : F) (items : List A) (answers : List R) (h : F) → I f → Asked calls f items answers h
     → Asked others (k f) (map u items) answers (k h) × I h
-Asked-as calls others k u I step f [] [] h i a = (ap k a, subst I (sym a) i)
-Asked-as calls others k u I step f [] (r ∷ rs) h i a = absurd a
-Asked-as calls others k u I step f (x ∷ xs) [] h i a = absurd a
-Asked-as calls others k u I step f (x ∷ xs) (r ∷ rs) h i a =
-    let s = step f x r a.0 i a.1 in
-    let t = Asked-as calls others k u I step a.0 xs rs h s.1 a.2 in ((k a.0, s.0, t.0), t.1)
+Asked-as calls others k u I step f items answers h i a =
+    let t = Asked-keeps calls (λ q xs rs. I q × (Asked others (k q) (map u xs) rs (k h)
+    → Asked others (k f) (map u items) answers (k h)))
+    (λ q x xs r rs v p c.
+    let s = step q x r v p.0 c in (s.1, λ rest. p.1 (k v, s.0, rest)))
+    f items answers h (i, λ rest. rest) a in (t.1 refl, t.0)
 
 -- a recovery by a callback that holds another one
 pub RecoversBy-through : {F G T : Type 0} (calls : F → T → Bool → F → Type 0)
@@ -103,35 +104,32 @@ module _ {T U : Type 0} (g : T → U) (is_dead : T → Bool) (is_dead' : U → B
 
 -- a recovery by a callback that holds a `&mut` to another one
 pub RecoversBy-lent : {F G T : Type 0} (calls : F → T → Bool → F → Type 0)
-    (others : G → T → Bool → G → Type 0) (k : F → G) (name : F → ℕ) (ok : G → Type 0)
+    (others : G → T → Bool → G → Type 0) (k : F → G) (name : F → ℕ)
     → ((f : F) (x : T) (r : Bool) (h : F) → calls f x r h → (name h ≡ name f)
-    × others (k f) x r (k h) × ok (k h))
+    × others (k f) x r (k h))
     → (is_dead : T → Bool) (old : ContainerState T) (f : F) (mode : ReleaseMode)
     (state : ReleaseState) (new : ContainerState T) (h : F)
-    → ok (k f) → RecoversBy calls is_dead old f mode state new h → (name h ≡ name f)
-    × RecoversBy others is_dead old (k f) mode state new (k h) × ok (k h)
-RecoversBy-lent calls others k name ok step is_dead old f mode state new h o r =
-    let t = RecoversBy-through calls others k (λ s. (name s ≡ name f) × ok (k s))
-    (λ s x b u i c. let e = step s x b u c in
-    (e.1, (e.0 ∙ i.0, e.2))) is_dead old f mode state new h (refl, o) r in
-    (t.1.0, t.0, t.1.1)
+    → RecoversBy calls is_dead old f mode state new h → (name h ≡ name f)
+    × RecoversBy others is_dead old (k f) mode state new (k h)
+RecoversBy-lent calls others k name step is_dead old f mode state new h r =
+    let t = RecoversBy-through calls others k (λ s. name s ≡ name f)
+    (λ s x b u i c. let e = step s x b u c in (e.1, e.0 ∙ i)) is_dead old f mode state new h refl r
+    in (t.1, t.0)
 
 -- a visit by a callback that holds a `&mut` to another one, which sees other details
 module _ {F G A B : Type 0} (calls : F → A → CallbackProgression → F → Type 0)
     (others : G → B → CallbackProgression → G → Type 0) (k : F → G) (u : A → B) (name : F → ℕ)
-    (ok : G → Type 0)
     (step : (f : F) (x : A) (r : CallbackProgression) (h : F) → calls f x r h → (name h ≡ name f)
-    × others (k f) (u x) r (k h) × ok (k h)) where
-  visits-lent : (f : F) (items : List A) (h : F) → ok (k f) → Visits calls f items h
-      → (name h ≡ name f) × Visits others (k f) (map u items) (k h) × ok (k h)
-  visits-lent f [] h o done = (ap name done, ap k done, subst (λ s. ok (k s)) (sym done) o)
-  visits-lent f (x ∷ xs) h o (inl stopped) = let s = step f x Stop h stopped in (s.0, inl s.1, s.2)
-  visits-lent f (x ∷ xs) h o (inr goes) =
+    × others (k f) (u x) r (k h)) where
+  visits-lent : (f : F) (items : List A) (h : F) → Visits calls f items h
+      → (name h ≡ name f) × Visits others (k f) (map u items) (k h)
+  visits-lent f [] h done = (ap name done, ap k done)
+  visits-lent f (x ∷ xs) h (inl stopped) = let s = step f x Stop h stopped in (s.0, inl s.1)
+  visits-lent f (x ∷ xs) h (inr goes) =
       let s = step f x Continue goes.0 goes.1 in
-      let rest = visits-lent goes.0 xs h s.2 goes.2 in
-      (rest.0 ∙ s.0, inr (k goes.0, s.1, rest.1), rest.2)
+      let rest = visits-lent goes.0 xs h goes.2 in (rest.0 ∙ s.0, inr (k goes.0, s.1, rest.1))
 
-  pub Visit-lent : (f : F) (items : List A) (h : F) → ok (k f) → Visit calls f items h
-      → (name h ≡ name f) × Visit others (k f) (map u items) (k h) × ok (k h)
-  Visit-lent f items h o visit =
-      let all = visits-lent f items h o visit.visits in (all.0, record { visits = all.1 }, all.2)
+  pub Visit-lent : (f : F) (items : List A) (h : F) → Visit calls f items h
+      → (name h ≡ name f) × Visit others (k f) (map u items) (k h)
+  Visit-lent f items h visit =
+      let all = visits-lent f items h visit.visits in (all.0, record { visits = all.1 })

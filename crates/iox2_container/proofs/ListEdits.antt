@@ -1,6 +1,9 @@
 -- Lists in which one element was written, and lists that were mapped and filtered.
-use Rattle.std.proofs.Common.{◌≡◌, ◌≢◌, ℕ, zero, suc, ◌<◌, Bool, true, false, Some, List, [], ◌∷◌, length, map, refl, ap, arith}
+use Rattle.std.proofs.Common.{◌≡◌, ◌≢◌, ℕ, zero, suc, ◌<◌, Bool, true, false, Some, List, [], ◌∷◌, length, map, refl, sym, ap}
 use Rattle.std.specs.Prelude.{filter, if◌then◌else◌, slice_get, slice_set}
+use Rattle.std.proofs.Math.ListN.{length-set}
+use Rattle.std.proofs.lemmas.List.{get_or-set_same}
+use Rattle.std.proofs.lemmas.Option.{slice_get_read}
 
 -- the others are as they were
 pub get_set_other : {A : Type 0} (xs : List A) (i j : ℕ) (a : A) → j ≢ i
@@ -14,9 +17,9 @@ get_set_other (x ∷ xs) (suc i) (suc j) a n = get_set_other xs i j a (λ e. n (
 -- it is what was written
 pub get_set_same : {A : Type 0} (xs : List A) (i : ℕ) (a : A) → i < length xs
     → slice_get (slice_set xs i a) i ≡ Some a
-get_set_same [] i a h = absurd (omega arith)
-get_set_same (x ∷ xs) zero a h = refl
-get_set_same (x ∷ xs) (suc i) a h = get_set_same xs i a (omega arith)
+get_set_same xs i a h =
+    slice_get_read (slice_set xs i a) (length xs) i a (sym (length-set xs i a)) h
+    (sym (get_or-set_same xs i a a h))
 
 pub filter-map : {A B : Type 0} (p : B → Bool) (u : A → B) (xs : List A)
     → filter p (map u xs) ≡ map u (filter (λ x. p (u x)) xs)

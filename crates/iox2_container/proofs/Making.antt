@@ -1,20 +1,14 @@
 -- New containers.
-use Rattle.std.proofs.Common.{◌≡◌, ℕ, false, Option, None, List, [], length, sym, ◌∙◌, ap}
+use Rattle.std.proofs.Common.{◌≡◌, ℕ, false, Option, None, List, length, refl, sym, ◌∙◌, ap}
 use Rattle.std.specs.Prelude.{replicate}
 use Rattle.std.proofs.lemmas.List.{length-replicate}
 use Rattle.iox2_container.specs.declared.container.slots.cell.Occupant.{Occupant}
 use Rattle.iox2_container.specs.declared.container.registry_header.RegistryHeader.{RegistryHeader}
 use Rattle.iox2_container.specs.declared.container.role.Role.{Role}
 use Rattle.iox2_container.specs.ContainerState.{ContainerState, container, fresh}
-use Rattle.iox2_container.specs.Places.{entries_from}
 use Rattle.iox2_container.specs.HeaderAndPlaces.{registry_of, AreRegistry}
 use Rattle.iox2_container.proofs.CellEntries.{nothing_stands}
 use Rattle.iox2_container.proofs.Keeping.{new_is_registry}
-
-kept_new : {T : Type 0} (a : RegistryHeader) (cells : List (Option (Occupant T)))
-    → entries_from 0 cells ≡ [] → a.locked ≡ false → a.used ≡ 0 → a.count ≡ 0 → AreRegistry a cells
-kept_new a cells e l u n =
-    (new_is_registry (registry_of a cells) (e, l, u), n ∙ sym (ap length e))
 
 -- a new header, and free places
 pub new_kept : {T : Type 0} (a : RegistryHeader) (cells : List (Option (Occupant T))) (service : ℕ)
@@ -28,9 +22,8 @@ pub new_kept : {T : Type 0} (a : RegistryHeader) (cells : List (Option (Occupant
       used = 0;
     } → cells ≡ replicate n None → AreRegistry a cells
 new_kept {T} a cells service role tickets n e h =
-    kept_new a cells (ap (entries_from 0) h ∙ nothing_stands 0 n)
-    (ap (λ (b : RegistryHeader). b.locked) e) (ap (λ (b : RegistryHeader). b.used) e)
-    (ap (λ (b : RegistryHeader). b.count) e)
+    let none = nothing_stands {T = T} 0 n in
+    rw e (rw h (new_is_registry _ (none, refl, refl), sym (ap length none)))
 
 pub new_is_fresh : {T : Type 0} (a : RegistryHeader) (cells : List (Option (Occupant T)))
     (touches service : ℕ) (role : Role) (tickets n : ℕ)

@@ -126,30 +126,27 @@ one_by_ticket es v w x y differ gx gy t =
     ]
 
 -- what passes a test is what is in the list and passes it
-among_cond : {X : Type 0} (p : X → Bool) (b : Bool) (y : X) (ys : List X) (x : X) → p y ≡ b
-    → Among x (cond b (y ∷ ys) ys) → ((x ≡ y) × (p x ≡ true)) ⊎ Among x ys
-among_cond {X} p true y ys x e (inl q) = inl (q, ap p q ∙ e)
-among_cond p true y ys x e (inr h) = inr h
-among_cond p false y ys x e h = inr h
-
 pub filter_from : {X : Type 0} (p : X → Bool) (xs : List X) (x : X) → Among x (filter p xs)
     → Among x xs × (p x ≡ true)
 filter_from p [] x h = absurd h
-filter_from p (y ∷ ys) x h =
-    elim (among_cond p (p y) y (filter p ys) x refl h) [
-      | inl q ↦ (inl q.0, q.1)
-      | inr k ↦ (let r = filter_from p ys x k in (inr r.0, r.1))
-    ]
-
-to_cond : {X : Type 0} (b : Bool) (y : X) (ys : List X) (x : X) → (x ≡ y) × (b ≡ true) ⊎ Among x ys
-    → Among x (cond b (y ∷ ys) ys)
-to_cond true y ys x (inl q) = inl q.0
-to_cond true y ys x (inr h) = inr h
-to_cond {X} false y ys x (inl q) = (let e : false ≡ true = q.1 in cc)
-to_cond false y ys x (inr h) = h
+filter_from {X} p (y ∷ ys) x h =
+    (elim (p y) as (λ b. p y ≡ b → Among x (cond b (y ∷ filter p ys) (filter p ys))
+    → Among x (y ∷ ys) × (p x ≡ true)) [
+      | true ↦ λ e a. elim a [
+        | inl q ↦ (inl q, ap p q ∙ e)
+        | inr k ↦ (let r = filter_from p ys x k in (inr r.0, r.1))
+      ]
+      | false ↦ λ e a. let r = filter_from p ys x a in (inr r.0, r.1)
+    ]) refl h
 
 pub filter_to : {X : Type 0} (p : X → Bool) (xs : List X) (x : X) → Among x xs → p x ≡ true
     → Among x (filter p xs)
 filter_to p [] x h e = absurd h
-filter_to p (y ∷ ys) x (inl q) e = to_cond (p y) y (filter p ys) x (inl (q, sym (ap p q) ∙ e))
-filter_to p (y ∷ ys) x (inr h) e = to_cond (p y) y (filter p ys) x (inr (filter_to p ys x h e))
+filter_to {X} p (y ∷ ys) x a e =
+    (elim (p y) as (λ b. p y ≡ b → Among x (cond b (y ∷ filter p ys) (filter p ys))) [
+      | true ↦ λ _. elim a [ inl q ↦ inl q | inr k ↦ inr (filter_to p ys x k e) ]
+      | false ↦ λ n. elim a [
+        | inl q ↦ (let z : false ≡ true = sym n ∙ (sym (ap p q) ∙ e) in cc)
+        | inr k ↦ filter_to p ys x k e
+      ]
+    ]) refl

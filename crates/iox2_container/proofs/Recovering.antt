@@ -1,6 +1,6 @@
 -- What a recovery does.
 use Rattle.std.proofs.Common.{◌≡◌, ◌≢◌, ℕ, ◌-◌, ◌<◌, Bool, false, Option, List, [], length, map, refl, sym, ◌∙◌, ap, subst, arith}
-use Rattle.std.specs.Prelude.{All, AllPairs, IsTrue, not}
+use Rattle.std.specs.Prelude.{IsTrue, not}
 use Rattle.std.proofs.lemmas.List.Elements.{All-filter}
 use Rattle.std.proofs.lemmas.List.Kept.{AllPairs-filter}
 use Rattle.iox2_container.specs.declared.container.slots.cell.Occupant.{Occupant}
@@ -30,12 +30,10 @@ kept_recover {F} {T} calls is_dead f h a cells s gone mode locked k w l =
         slots_rise = slots_from 0 s;
         slots_below = below_from s;
         tickets_differ =
-            subst (λ (es : List (Entry T)). AllPairs (λ v u. v.ticket ≢ u.ticket) es)
-            (sym w.left_is)
-            (AllPairs-filter (λ v u. v.ticket ≢ u.ticket) stays (entries_from 0 cells)
+            rw w.left_is (AllPairs-filter (λ v u. v.ticket ≢ u.ticket) stays (entries_from 0 cells)
             k.0.tickets_differ);
         tickets_used =
-            subst (λ (es : List (Entry T)). All (λ e. e.ticket < a.used) es) (sym w.left_is)
+            rw w.left_is
             (All-filter stays (λ e. e.ticket < a.used) (entries_from 0 cells) k.0.tickets_used);
         budget_kept = k.0.budget_kept;
         locked_is_empty =

@@ -4,7 +4,6 @@ use Rattle.std.specs.Prelude.{IsTrue, slice_set}
 use Rattle.std.proofs.Math.ListN.{length-set}
 use Rattle.iox2_container.specs.declared.container.slots.cell.Occupant.{Occupant}
 use Rattle.iox2_container.specs.declared.container.registry_header.RegistryHeader.{RegistryHeader}
-use Rattle.iox2_container.specs.Cells.{occupant}
 use Rattle.iox2_container.specs.declared.container.refusal.ContainerRemoveError.{ContainerRemoveError}
 use Rattle.iox2_container.specs.declared.container.release.ReleaseMode.{ReleaseMode}
 use Rattle.iox2_container.specs.declared.container.release.ReleaseMode.TheVariants.{Default, LockIfLastIndex}
@@ -12,7 +11,7 @@ use Rattle.iox2_container.specs.declared.container.release.ReleaseState.{Release
 use Rattle.iox2_container.specs.Handle.{Handle}
 use Rattle.iox2_container.specs.State.{Entry, RegistryState}
 use Rattle.iox2_container.specs.Steps.{InsertsOne, IsUnknownHandle, RemoveStep, lock_after, release_state}
-use Rattle.iox2_container.specs.Places.{Finds, IsTakenAt, entries_from}
+use Rattle.iox2_container.specs.Places.{Finds, entries_from}
 use Rattle.iox2_container.specs.HeaderAndPlaces.{registry_of, AreRegistry}
 use Rattle.iox2_container.proofs.CellEntries.{gains_clear, below_from}
 use Rattle.iox2_container.proofs.Gaining.{length-InsertsOne}
@@ -35,18 +34,6 @@ locks_empty LockIfLastIndex (suc before) (suc left) locked t n l = (let z = n t 
 -- the entry of the handle
 abbrev entry_at : {T : Type 0} → Handle → T → Entry T
 entry_at handle d = record { slot = handle.slot; ticket = handle.ticket; details = d }
-
--- the place of the handle is taken, by the names that its calls have
-pub taken_at : {T : Type 0} (cells read : List (Option (Occupant T))) (handle : Handle) (slot : ℕ)
-    (d : T) → Finds cells handle (Some d) → read ≡ cells → slot ≡ handle.slot
-    → IsTakenAt read slot
-taken_at cells read handle slot d shown r e = (occupant handle.ticket d, rw r (rw e shown))
-
--- and it is cleared
-pub cleared : {T : Type 0} (cells read s : List (Option (Occupant T))) (handle : Handle) (slot : ℕ)
-    → read ≡ cells → slot ≡ handle.slot → s ≡ slice_set read slot None
-    → s ≡ slice_set cells handle.slot None
-cleared cells read s handle slot r e w = rw r at (rw e at w)
 
 gains_of_clear : {T : Type 0} (cells s : List (Option (Occupant T))) (handle : Handle) (d : T)
     → Finds cells handle (Some d) → s ≡ slice_set cells handle.slot None

@@ -1,8 +1,10 @@
 -- Two registries under the same calls.
-use Rattle.std.proofs.Common.{◌≡◌, ℕ, zero, suc, ◌+◌, Bool, true, false, Option, Some, None, Result, Ok, Err, List, [], ◌∷◌, ◌++◌, length, refl, sym, ◌∙◌, ap, arith, inl, inr}
+use Rattle.std.proofs.Common.{◌≡◌, ℕ, zero, suc, ◌+◌, Bool, Option, Some, None, Result, Ok, Err, List, [], ◌∷◌, ◌++◌, length, refl, sym, ◌∙◌, ap, arith, inl, inr}
 use Rattle.std.specs.Prelude.{not, ◌&&◌, ⊤, All, ◌≢◌}
+use Rattle.std.specs.List.{AllZip}
 use Rattle.std.specs.List.Sorted.{IsPermutation}
 use Rattle.std.proofs.lemmas.List.{length-map}
+use Rattle.std.proofs.lemmas.List.Elements.{AllZip-push}
 use Rattle.std.proofs.lemmas.List.Sorted.{length_permutation}
 use Rattle.iox2_container.specs.declared.container.refusal.ContainerAddFailure.{ContainerAddFailure}
 use Rattle.iox2_container.specs.declared.container.refusal.ContainerAddFailure.TheVariants.{IsLocked, OutOfSpace}
@@ -51,29 +53,21 @@ alike_still : {T : Type 0} (a b a' b' : RegistryState T) → a' ≡ a → b' ≡
     → SameContents a' b'
 alike_still a b a' b' ea eb l = rw ea (rw eb l)
 
--- one capacity and one ticket budget
-record SameBounds {T : Type 0} (old new : RegistryState T) : Type 0 where
-  pub capacity : new.capacity ≡ old.capacity
-  pub budget : new.budget ≡ old.budget
-
-alike_after : {T : Type 0} (a b a' b' : RegistryState T) → SameContents a b → SameBounds a a'
-    → SameBounds b b' → a'.used ≡ b'.used → a'.locked ≡ b'.locked → AreAmong a'.entries b'.entries
-    → AreAmong b'.entries a'.entries → SameContents a' b'
-alike_after a b a' b' l ka kb used locked there back = record {
-  capacity = ka.capacity ∙ (l.capacity ∙ sym kb.capacity);
-  budget = ka.budget ∙ (l.budget ∙ sym kb.budget);
-  used = used;
-  locked = locked;
-  there = there;
-  back = back;
-}
-
-changed_so : {T : Type 0} (old new changed : RegistryState T) → new ≡ changed
-    → changed.capacity ≡ old.capacity → changed.budget ≡ old.budget → SameBounds old new
-changed_so {T} old new changed e c g =
+-- they still do, where only entries, locks and tickets changed
+alike_after : {T : Type 0} (a b a' b' : RegistryState T) {es fs : List (Entry T)} {k m : Bool}
+    {u v : ℕ} → SameContents a b → a' ≡ record a { entries = es; locked = k; used = u }
+    → b' ≡ record b { entries = fs; locked = m; used = v } → u ≡ v → k ≡ m
+    → AreAmong a'.entries b'.entries → AreAmong b'.entries a'.entries → SameContents a' b'
+alike_after a b a' b' l ea eb used locked there back =
+    let same : (a'.capacity ≡ b'.capacity) × (a'.budget ≡ b'.budget) × (a'.used ≡ b'.used)
+    × (a'.locked ≡ b'.locked) = rw ea (rw eb (l.capacity, l.budget, used, locked)) in
     record {
-      capacity = ap (λ (r : RegistryState T). r.capacity) e ∙ c;
-      budget = ap (λ (r : RegistryState T). r.budget) e ∙ g;
+      capacity = same.0;
+      budget = same.1;
+      used = same.2;
+      locked = same.3;
+      there = there;
+      back = back;
     }
 
 same_listed : {T : Type 0} (a b : RegistryState T) → AreAmong a.entries b.entries
@@ -108,9 +102,6 @@ outcome_by : {T : Type 0} (a b : RegistryState T) (r r' s s' : RegistryReply T) 
     → Outcome a b r' s' → Outcome a b r s
 outcome_by a b r r' s s' e f o = rw e (rw f o)
 
-clash : (x y : Bool) → x ≡ y → x ≡ true → y ≡ false → ⊥
-clash x y e t f = (let z : true ≡ false = sym t ∙ (e ∙ f) in cc)
-
 no_room : {T : Type 0} (a b : RegistryState T) → SameContents a b → IsRegistry a → IsRegistry b
     → IsFull a → HasRoom b → ⊥
 no_room a b l v w (inl e) q = omega (arith, e, q.0, l.capacity, same_length a b l.there l.back v w)
@@ -123,14 +114,10 @@ add_same a b a' b' d (Err IsLocked) (Err IsLocked) l v w p q =
     record { same = refl; alike = alike_still a b a' b' p.1 q.1 l; tickets = tt }
 add_same a b a' b' d (Err OutOfSpace) (Err OutOfSpace) l v w p q =
     record { same = refl; alike = alike_still a b a' b' p.2 q.2 l; tickets = tt }
-add_same a b a' b' d (Err IsLocked) (Err OutOfSpace) l v w p q =
-    absurd (clash a.locked b.locked l.locked p.0 q.0)
-add_same a b a' b' d (Err OutOfSpace) (Err IsLocked) l v w p q =
-    absurd (clash b.locked a.locked (sym l.locked) q.0 p.0)
-add_same a b a' b' d (Err IsLocked) (Ok k) l v w p q =
-    absurd (clash a.locked b.locked l.locked p.0 q.0)
-add_same a b a' b' d (Ok h) (Err IsLocked) l v w p q =
-    absurd (clash b.locked a.locked (sym l.locked) q.0 p.0)
+add_same a b a' b' d (Err IsLocked) (Err OutOfSpace) l v w p q = cc (l.locked, p.0, q.0)
+add_same a b a' b' d (Err OutOfSpace) (Err IsLocked) l v w p q = cc (l.locked, p.0, q.0)
+add_same a b a' b' d (Err IsLocked) (Ok k) l v w p q = cc (l.locked, p.0, q.0)
+add_same a b a' b' d (Ok h) (Err IsLocked) l v w p q = cc (l.locked, p.0, q.0)
 add_same a b a' b' d (Err OutOfSpace) (Ok k) l v w p q = absurd (no_room a b l v w p.1 q.1)
 add_same a b a' b' d (Ok h) (Err OutOfSpace) l v w p q =
     absurd (no_room b a (turned a b l) w v q.1 p.1)
@@ -141,13 +128,7 @@ add_same {T} a b a' b' d (Ok h) (Ok k) l v w p q =
     let y : Entry T = record { slot = k.slot; ticket = b.used; details = d } in
     record {
       same = tt;
-      alike = alike_after a b a' b' l
-          (changed_so a a' (record a { entries = a'.entries; used = a.used + 1 }) n.3 refl refl)
-          (changed_so b b' (record b { entries = b'.entries; used = b.used + 1 }) m.3 refl refl)
-          (ap (λ (r : RegistryState T). r.used) n.3
-          ∙ (ap (λ u. u + 1) l.used ∙ sym (ap (λ (r : RegistryState T). r.used) m.3)))
-          (ap (λ (r : RegistryState T). r.locked) n.3
-          ∙ (l.locked ∙ sym (ap (λ (r : RegistryState T). r.locked) m.3)))
+      alike = alike_after a b a' b' l n.3 m.3 (ap (λ u. u + 1) l.used) l.locked
           (within_after_add a.entries b.entries a'.entries b'.entries x y n.2 m.2 l.used refl
           l.there)
           (within_after_add b.entries a.entries b'.entries a'.entries y x m.2 n.2
@@ -163,18 +144,30 @@ one_removes {T} a b a' mode h k l e kb p q =
     of_all (λ z. k ≢ handle_of b z) b.entries w.0 q w.1
     (kb.same w.0 w.1 (sym w.2 ∙ (sym (ticket_of h (handle_of a p.0) p.1) ∙ e)))
 
--- entries went from both, and as many are left
-locks_same : {T : Type 0} (a b a' b' : RegistryState T) (mode : ReleaseMode) → SameContents a b
-    → IsRegistry a → IsRegistry b → length a'.entries ≡ length b'.entries
-    → a'.locked ≡ lock_after mode (length a.entries) (length a'.entries) a.locked
-    → b'.locked ≡ lock_after mode (length b.entries) (length b'.entries) b.locked
-    → a'.locked ≡ b'.locked
-locks_same a b a' b' mode l v w left ea eb =
-    ea
-    ∙ (ap (λ n. lock_after mode n (length a'.entries) a.locked)
+-- entries went from both, and what is left is the same
+released_same : {T : Type 0} (a b a' b' : RegistryState T) (mode : ReleaseMode) (t u : ReleaseState)
+    {es fs : List (Entry T)} → SameContents a b → IsRegistry a → IsRegistry b → IsRegistry a'
+    → IsRegistry b' → a' ≡ record a {
+      entries = es;
+      locked = lock_after mode (length a.entries) (length a'.entries) a.locked;
+    } → b' ≡ record b {
+      entries = fs;
+      locked = lock_after mode (length b.entries) (length b'.entries) b.locked;
+    } → t ≡ release_state a'.locked → u ≡ release_state b'.locked
+    → AreAmong a'.entries b'.entries → AreAmong b'.entries a'.entries
+    → Outcome a' b' (Reply.State t) (Reply.State u)
+released_same a b a' b' mode t u l v w v' w' ea eb st su there back =
+    let alike = alike_after a b a' b' l ea eb l.used
+    (ap (λ n. lock_after mode n (length a'.entries) a.locked)
     (same_length a b l.there l.back v w)
-    ∙ (ap (λ n. lock_after mode (length b.entries) n a.locked) left
-    ∙ (ap (lock_after mode (length b.entries) (length b'.entries)) l.locked ∙ sym eb)))
+    ∙ (ap (λ n. lock_after mode (length b.entries) n a.locked)
+    (same_length a' b' there back v' w')
+    ∙ ap (lock_after mode (length b.entries) (length b'.entries)) l.locked)) there back in
+    record {
+      same = ap Reply.State (st ∙ (ap release_state alike.locked ∙ sym su));
+      alike = alike;
+      tickets = tt;
+    }
 
 remove_same : {T : Type 0} (a b a' b' : RegistryState T) (mode : ReleaseMode) (h k : Handle)
     (r s : Result ReleaseState ContainerRemoveError) → SameContents a b → IsRegistry a
@@ -196,22 +189,14 @@ remove_same {T} a b a' b' mode h k (Ok t) (Ok u) l v w v' w' e ka kb p q =
     v.tickets_differ l.there in
     let f' = within_after_remove b.entries a.entries b'.entries a'.entries m.0 n.0 m.2 n.2
     (sym st) w.tickets_differ l.back in
-    let locks = locks_same a b a' b' mode l v w (same_length a' b' f f' v' w')
-    (ap (λ (r : RegistryState T). r.locked) n.3) (ap (λ (r : RegistryState T). r.locked) m.3) in
-    record {
-      same = ap (λ (x : ReleaseState). (let z : RegistryReply T = Reply.State x in z))
-          (p.1 ∙ (ap release_state locks ∙ sym q.1));
-      alike = alike_after a b a' b' l
-          (changed_so a a' _ n.3 refl refl) (changed_so b b' _ m.3 refl refl)
-          (ap (λ (r : RegistryState T). r.used) n.3
-          ∙ (l.used ∙ sym (ap (λ (r : RegistryState T). r.used) m.3)))
-          locks f f';
-      tickets = tt;
-    }
+    released_same a b a' b' mode t u l v w v' w' n.3 m.3 p.1 q.1 f f'
 
--- the registry of a container that did not change
-unchanged : {T : Type 0} {old new : ContainerState T} → new ≡ old → new.registry ≡ old.registry
-unchanged {T} e = ap (λ (c : ContainerState T). c.registry) e
+-- where nothing changed
+outcome_still : {T : Type 0} (a b a' b' : ContainerState T) (r r' s s' : RegistryReply T) → r ≡ r'
+    → s ≡ s' → a' ≡ a → b' ≡ b → SameContents a.registry b.registry → SameReply r' s'
+    → TicketsAgree (given_by r') (given_by s') → Outcome a'.registry b'.registry r s
+outcome_still a b a' b' r r' s s' e f ea eb l same t =
+    rw e (rw f (rw ea (rw eb (record { same = same; alike = l; tickets = t }))))
 
 given_same : {T : Type 0} (a b a' b' : ContainerState T) (mode : ReleaseMode) (o p : Option Handle)
     (r s : RegistryReply T) → SameContents a.registry b.registry → IsRegistry a.registry
@@ -219,13 +204,7 @@ given_same : {T : Type 0} (a b a' b' : ContainerState T) (mode : ReleaseMode) (o
     → KnowsGiven a.registry o → KnowsGiven b.registry p → RemoveGiven a o mode r a'
     → RemoveGiven b p mode s b' → Outcome a'.registry b'.registry r s
 given_same a b a' b' mode None None r s l v w v' w' e ka kb p q =
-    outcome_by a'.registry b'.registry r Reply.NoHandle s Reply.NoHandle p.0 q.0
-    (record {
-      same = refl;
-      alike = alike_still a.registry b.registry a'.registry b'.registry (unchanged p.1)
-          (unchanged q.1) l;
-      tickets = tt;
-    })
+    outcome_still a b a' b' r Reply.NoHandle s Reply.NoHandle p.0 q.0 p.1 q.1 l refl tt
 given_same a b a' b' mode None (Some k) r s l v w v' w' e ka kb p q = absurd e
 given_same a b a' b' mode (Some h) None r s l v w v' w' e ka kb p q = absurd e
 given_same {T} a b a' b' mode (Some h) (Some k) r s l v w v' w' e ka kb p q =
@@ -261,35 +240,13 @@ recover_same {T} is_dead answer a b a' b' mode t u l v w v' w' r s =
     let keep : T → Bool = λ d. not (is_dead d && answer d) in
     let ea = ap (λ (r : RegistryState T). r.entries) p.0 ∙ left_by is_dead answer a a' mode t r in
     let eb = ap (λ (r : RegistryState T). r.entries) q.0 ∙ left_by is_dead answer b b' mode u s in
-    let f = stay_within keep a.entries b.entries a'.entries b'.entries ea eb l.there in
-    let f' = stay_within keep b.entries a.entries b'.entries a'.entries eb ea l.back in
-    let locks = locks_same a b a' b' mode l v w (same_length a' b' f f' v' w')
-    (ap (λ (r : RegistryState T). r.locked) p.0) (ap (λ (r : RegistryState T). r.locked) q.0) in
-    record {
-      same = ap (λ (x : ReleaseState). (let z : RegistryReply T = Reply.State x in z))
-          (p.1 ∙ (ap release_state locks ∙ sym q.1));
-      alike = alike_after a b a' b' l
-          (changed_so a a' _ p.0 refl refl) (changed_so b b' _ q.0 refl refl)
-          (ap (λ (r : RegistryState T). r.used) p.0
-          ∙ (l.used ∙ sym (ap (λ (r : RegistryState T). r.used) q.0)))
-          locks f f';
-      tickets = tt;
-    }
+    released_same a b a' b' mode t u l v w v' w' p.0 q.0 p.1 q.1
+    (stay_within keep a.entries b.entries a'.entries b'.entries ea eb l.there)
+    (stay_within keep b.entries a.entries b'.entries a'.entries eb ea l.back)
 
 -- the handles in two lists of replies, place by place
 abbrev AllAgree : {T : Type 0} → List (RegistryReply T) → List (RegistryReply T) → Type 0
-AllAgree [] [] = ⊤
-AllAgree (x ∷ xs) (y ∷ ys) = TicketsAgree (given_by x) (given_by y) × AllAgree xs ys
-AllAgree [] (y ∷ ys) = ⊥
-AllAgree (x ∷ xs) [] = ⊥
-
-agree_push : {T : Type 0} (xs ys : List (RegistryReply T)) (x y : RegistryReply T)
-    → TicketsAgree (given_by x) (given_by y) → AllAgree xs ys
-    → AllAgree (xs ++ x ∷ []) (ys ++ y ∷ [])
-agree_push [] [] x y t a = (t, tt)
-agree_push [] (z ∷ zs) x y t a = absurd a
-agree_push (z ∷ zs) [] x y t a = absurd a
-agree_push (v ∷ vs) (z ∷ zs) x y t a = (a.0, agree_push vs zs x y t a.1)
+AllAgree xs ys = AllZip (λ x y. TicketsAgree (given_by x) (given_by y)) xs ys
 
 agree_at : {T : Type 0} (xs ys : List (RegistryReply T)) (k : ℕ) → AllAgree xs ys
     → TicketsAgree (handle_given xs k) (handle_given ys k)
@@ -320,22 +277,13 @@ call_same node number a b a' b' xs ys (Call.Recover dead keys mode) r s l v w v'
     (recover_same (is_of node dead) answer a.registry b.registry a'.registry b'.registry mode
     p.result q.result l v w v' w' p.step.step q.step.step)
 call_same node number a b a' b' xs ys Call.List r s l v w v' w' ka kb e p q =
-    outcome_by a'.registry b'.registry r (Reply.Entries p.result) s (Reply.Entries q.result)
-    p.reply_is q.reply_is (record {
-      same = rw p.step.0 (rw q.step.0 (same_listed a.registry b.registry l.there l.back v w));
-      alike = alike_still a.registry b.registry a'.registry b'.registry (unchanged p.step.1)
-          (unchanged q.step.1) l;
-      tickets = tt;
-    })
+    outcome_still a b a' b' r (Reply.Entries p.result) s (Reply.Entries q.result) p.reply_is
+    q.reply_is p.step.1 q.step.1 l
+    (rw p.step.0 (rw q.step.0 (same_listed a.registry b.registry l.there l.back v w))) tt
 call_same {T} node number a b a' b' xs ys Call.Len r s l v w v' w' ka kb e p q =
-    outcome_by a'.registry b'.registry r (Reply.Count (length a.registry.entries)) s
-    (Reply.Count (length b.registry.entries)) p.0 q.0 (record {
-      same = ap (λ (n : ℕ). (let z : RegistryReply T = Reply.Count n in z))
-          (same_length a.registry b.registry l.there l.back v w);
-      alike = alike_still a.registry b.registry a'.registry b'.registry (unchanged p.1)
-          (unchanged q.1) l;
-      tickets = tt;
-    })
+    outcome_still a b a' b' r (Reply.Count (length a.registry.entries)) s
+    (Reply.Count (length b.registry.entries)) p.0 q.0 p.1 q.1 l
+    (ap Reply.Count (same_length a.registry b.registry l.there l.back v w)) tt
 
 run_same : {T : Type 0} (node number : T → ℕ) (a b a' b' : ContainerState T)
     (xs ys : List (RegistryReply T)) (calls : List (RegistryCall T))
@@ -353,7 +301,7 @@ run_same {T} node number a b a' b' xs ys (c ∷ cs) (r ∷ rs) (s ∷ ss) l v w 
       o.same,
       run_same node number p.0 q.0 a' b' (xs ++ r ∷ []) (ys ++ s ∷ []) cs rs ss o.alike p.2 q.2
           (known_on node number a xs c r p.0 v p.1 ka) (known_on node number b ys c s q.0 w q.1 kb)
-          (agree_push xs ys r s o.tickets e) p.3 q.3,
+          (AllZip-push _ xs ys r s e o.tickets) p.3 q.3,
     )
 
 -- the same calls on two new registries give replies of one kind

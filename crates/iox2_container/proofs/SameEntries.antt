@@ -2,11 +2,12 @@
 use Rattle.std.proofs.Common.{◌≡◌, ◌≢◌, ℕ, Bool, List, [], ◌∷◌, ◌++◌, refl, sym, ◌∙◌, ap, subst, inl, inr}
 use Rattle.std.specs.Prelude.{filter}
 use Rattle.std.specs.List.Sorted.{IsPermutation}
+use Rattle.std.proofs.lemmas.List.{map-append}
 use Rattle.std.proofs.lemmas.List.Sorted.{IsPermutation-refl, IsPermutation-sym, IsPermutation-trans, IsPermutation-cons, IsPermutation-middle}
 use Rattle.iox2_container.specs.State.{Entry}
 use Rattle.iox2_container.specs.Steps.{InsertsOne}
 use Rattle.iox2_container.proofs.Keeping.{AllPairs-loss}
-use Rattle.iox2_container.proofs.AskedInTurn.{details_of, details-append}
+use Rattle.iox2_container.proofs.AskedInTurn.{details_of}
 use Rattle.iox2_container.proofs.Members.{Among, gained, among_more, among_less, without, DifferBy, head_differs, rest_differ, other_differs, filter_from, filter_to}
 
 abbrev pub ticket_in : {T : Type 0} → Entry T → ℕ
@@ -28,9 +29,9 @@ details_without {T} rest es x g =
     let b = details_of g.before in
     let a = details_of g.after in
     let rest_is : details_of rest ≡ b ++ a = ap details_of g.old_is
-    ∙ details-append g.before g.after in
+    ∙ map-append (λ e. e.details) g.before g.after in
     let es_is : details_of es ≡ b ++ x.details ∷ a = ap details_of g.new_is
-    ∙ details-append g.before (x ∷ g.after) in
+    ∙ map-append (λ e. e.details) g.before (x ∷ g.after) in
     subst (λ (l : List T). IsPermutation (x.details ∷ l) (details_of es)) (sym rest_is)
     (subst (λ (l : List T). IsPermutation (x.details ∷ (b ++ a)) l) (sym es_is)
     (IsPermutation-sym (b ++ x.details ∷ a) (x.details ∷ (b ++ a))

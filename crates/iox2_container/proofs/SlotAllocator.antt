@@ -2,19 +2,20 @@
 use Rattle.std.proofs.Common.{◌≡◌, ◌≢◌, ℕ, ◌+◌, ◌<◌, ◌≤◌, Option, Some, None, List, [], ◌∷◌, length, map, refl, sym, ◌∙◌, ap, subst, arith}
 use Rattle.std.specs.Prelude.{All, slice_get, slice_set, replicate}
 use Rattle.std.proofs.Math.ListN.{length-set}
+use Rattle.std.proofs.lemmas.List.{map-set}
 use Rattle.std.proofs.lemmas.Option.{slice_get_within}
 use Rattle.std.proofs.lemmas.List.Elements.{All-nil, All-cons, All-head, All-tail}
 use Rattle.iox2_container.specs.declared.container.free.free_list.FreeList.{FreeList}
 use Rattle.iox2_container.specs.FreeList.{Linked, LeadsThrough, IsFreeAt, TakesFirst, IsFreeList, TakesLastFreed, PutsFirst}
 use Rattle.iox2_container.specs.declared.container.slots.cell.Cell.TheVariants.{Taken, Free}
 use Rattle.iox2_container.specs.Places.{IsTakenAt, entries_from}
-use Rattle.iox2_container.specs.Cells.{occupant, shown}
+use Rattle.iox2_container.specs.Cells.{shown}
 use Rattle.iox2_container.specs.State.{Entry}
 use Rattle.iox2_container.proofs.CellEntries.{gains_write, gains_clear, nothing_stands}
 use Rattle.iox2_container.proofs.Gaining.{length-InsertsOne}
 use Rattle.iox2_container.proofs.FreeList.{threads_free, taken_apart, threads_kept, threads_freed, cell_free, shown_free, replicate_free, taken_at}
 use Rattle.iox2_container.proofs.ListEdits.{get_set_other}
-use Rattle.iox2_container.proofs.ShownCells.{shown_at, shown_set, nothing_shown_yet}
+use Rattle.iox2_container.proofs.ShownCells.{shown_at, nothing_shown_yet}
 
 -- this many entries stand in the slots
 abbrev pub standing : {T : Type 0} → List (Linked T) → ℕ
@@ -25,11 +26,9 @@ standing_write : {T : Type 0} (cells : List (Linked T)) (slot ticket : ℕ) (d :
     → IsFreeAt cells slot → standing (slice_set cells slot (Taken ticket d)) ≡ standing cells + 1
 standing_write {T} cells slot ticket d f =
     let x : Entry T = record { slot = slot; ticket = ticket; details = d } in
-    ap (λ cs. length (entries_from 0 cs))
-    (shown_set cells (slice_set cells slot (Taken ticket d)) slot (Taken ticket d) refl)
-    ∙ length-InsertsOne (entries_from 0 (map shown cells))
-    (entries_from 0 (slice_set (map shown cells) slot (Some (occupant ticket d)))) x
-    (gains_write 0 (map shown cells) slot x (shown_free cells slot f) (omega arith))
+    rw (map-set shown cells slot (Taken ticket d))
+    (length-InsertsOne _ _ x
+    (gains_write 0 (map shown cells) slot x (shown_free cells slot f) (omega arith)))
 
 -- one stands less, after a taken slot was freed
 standing_clear : {T : Type 0} (cells : List (Linked T)) (slot ticket : ℕ) (d : T) (next : Option ℕ)
@@ -37,15 +36,10 @@ standing_clear : {T : Type 0} (cells : List (Linked T)) (slot ticket : ℕ) (d :
     → standing cells ≡ standing (slice_set cells slot (Free next)) + 1
 standing_clear {T} cells slot ticket d next h =
     let x : Entry T = record { slot = slot; ticket = ticket; details = d } in
-    let less : standing (slice_set cells slot (Free next))
-    ≡ length (entries_from 0 (slice_set (map shown cells) slot None)) =
-    ap (λ cs. length (entries_from 0 cs))
-    (shown_set cells (slice_set cells slot (Free next)) slot (Free next) refl) in
-    length-InsertsOne (entries_from 0 (slice_set (map shown cells) slot None))
-    (entries_from 0 (map shown cells)) x
+    rw (map-set shown cells slot (Free next))
+    (length-InsertsOne _ _ x
     (gains_clear 0 (map shown cells) slot x (shown_at cells slot (Taken ticket d) h)
-    (omega arith))
-    ∙ ap (λ n. n + 1) (sym less)
+    (omega arith)))
 
 -- a slot was taken, and this is left
 pub record Took {T : Type 0} (cells : List (Linked T)) (slot : ℕ) (l : FreeList) : Type 0 where

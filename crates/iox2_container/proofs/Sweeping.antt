@@ -1,19 +1,20 @@
 -- What a sweep leaves.
-use Rattle.std.proofs.Common.{◌≡◌, ℕ, zero, suc, ◌+◌, ◌-◌, ◌<◌, ◌≤◌, Bool, true, false, Option, Some, None, List, [], ◌∷◌, ◌++◌, length, take, map, refl, sym, ◌∙◌, ap, subst, arith, length-append, add-one}
+use Rattle.std.proofs.Common.{◌≡◌, ℕ, zero, suc, ◌+◌, ◌<◌, ◌≤◌, Bool, true, false, Option, Some, None, List, [], ◌∷◌, ◌++◌, length, take, map, refl, sym, ◌∙◌, ap, subst, arith, length-append, add-one, inl, inr}
 use Rattle.std.proofs.Math.ListN.{length-set}
 use Rattle.std.specs.Prelude.{All, IsTrue, filter, not, slice_get, slice_set, if◌then◌else◌, ◌&&◌, ◌==◌}
 use Rattle.std.specs.Bool.{MatchBool}
 use Rattle.std.proofs.lemmas.List.Elements.{All-filter, All-head, All-tail, All-weaker, filter-append}
 use Rattle.std.proofs.lemmas.List.{append-nil, length-take, map-append}
 use Rattle.std.proofs.lemmas.Bool.{eq-eqb, ne_eqb}
+use Rattle.std.proofs.lemmas.Bool.Decides.{leb_tells}
 use Rattle.std.proofs.lemmas.Option.{slice_get_within}
 use Rattle.iox2_container.specs.declared.container.slots.cell.Occupant.{Occupant}
 use Rattle.iox2_container.specs.Cells.{occupant}
 use Rattle.iox2_container.specs.State.{Entry}
 use Rattle.iox2_container.specs.Places.{entries_from, IsTakenAt}
-use Rattle.iox2_container.specs.Passes.{AreOthers, Swept, SweptCell, cell_is_of}
+use Rattle.iox2_container.specs.Passes.{AreOthers, PlaceIsOf, Swept, SweptCell, cell_is_of}
 use Rattle.iox2_container.specs.Steps.{Asked, candidates, is_leaving, is_of, staying}
-use Rattle.iox2_container.proofs.AskedInTurn.{Asked-push, details_of, details-append, taken_more, taken_free}
+use Rattle.iox2_container.proofs.AskedInTurn.{Asked-push, details_of, taken_more, taken_free}
 use Rattle.iox2_container.proofs.CellEntries.{below_from}
 use Rattle.iox2_container.proofs.ListEdits.{get_set_other}
 
@@ -50,7 +51,7 @@ asked_more : {F T : Type 0} (calls : F → T → Bool → F → Type 0) (f g h :
     → Asked calls f (details_of (asked ++ (if b then x ∷ [] else [])))
     (answers ++ (if b then goes ∷ [] else [])) h
 asked_more calls f g h asked answers x goes true s a =
-    rw (details-append asked (x ∷ []))
+    rw (map-append (λ e. e.details) asked (x ∷ []))
     (Asked-push calls f (details_of asked) answers g x.details goes h a s)
 asked_more calls f g h asked answers x goes false s a =
     rw (append-nil asked) (rw (append-nil answers) (rw s.1 a))
@@ -151,7 +152,7 @@ left_more m i x true im e =
     ∙ sym (cleared 0 i m (slice_get_within m i (Some (occupant x.ticket x.details)) im))
 left_more m i x false im e = sym (taken_more 0 i m x im (omega arith))
 
-swept_cell : {F T : Type 0} (calls : F → T → Bool → F → Type 0) (is_dead : T → Bool) (f g h : F)
+pub swept_cell : {F T : Type 0} (calls : F → T → Bool → F → Type 0) (is_dead : T → Bool) (f g h : F)
     (cs m : List (Option (Occupant T))) (i gone : ℕ) (cell : Option (Occupant T)) (goes : Bool)
     → slice_get cs i ≡ Some cell → slice_get m i ≡ Some cell → SweptCell calls is_dead g cell goes h
     → Sweeps calls is_dead f cs i g m gone
@@ -167,57 +168,26 @@ swept_cell {F} {T} calls is_dead f g h cs m i gone None goes is im a w =
     rw a.0
     (rw a.1 (rw (taken_free 0 i cs is) (rw (taken_free 0 i m im) (rw (sym (add_zero gone)) w))))
 
--- nothing is swept yet
-pub swept_none : {F T : Type 0} (calls : F → T → Bool → F → Type 0) (is_dead : T → Bool) (f : F)
-    → Swept calls is_dead f [] f [] 0
-swept_none calls is_dead f =
-    record { marked = λ _. false; asked = refl; left_is = refl; gone_is = refl }
-
--- one cell more is swept, by what a loop knows of it
-pub sweeps_more : {F T : Type 0} (calls : F → T → Bool → F → Type 0) (is_dead : T → Bool)
-    (f g h : F) (cs m n : List (Option (Occupant T))) (i gone gone' : ℕ) (goes : Bool)
-    → slice_get m i ≡ slice_get cs i
-    → (cell : Option (Occupant T)) × (slice_get m i ≡ Some cell)
-    × SweptCell calls is_dead g cell goes h
-    → n ≡ (if goes then slice_set m i None else m) → gone' ≡ gone + (if goes then 1 else 0)
-    → Sweeps calls is_dead f cs i g m gone → Sweeps calls is_dead f cs (i + 1) h n gone'
-sweeps_more calls is_dead f g h cs m n i gone gone' goes same s en eg w =
-    rw (add-one i)
-    (rw en
-    (rw eg (swept_cell calls is_dead f g h cs m i gone s.0 goes (sym same ∙ s.1) s.1 s.2 w)))
-
 pub other_swept : {F T : Type 0} (calls : F → T → Bool → F → Type 0) (node : T → ℕ) (id : ℕ) (g : F)
     (cell : Option (Occupant T)) → false ≡ cell_is_of node id cell
     → SweptCell calls (is_of node id) g cell false g
 other_swept calls node id g None e = (refl, refl)
 other_swept calls node id g (Some o) e = rw (sym e) (refl, refl)
 
-sweeps_over : {F T : Type 0} (calls : F → T → Bool → F → Type 0) (node : T → ℕ) (id : ℕ) (f g : F)
-    (cs m : List (Option (Occupant T))) (i n gone : ℕ)
-    → ((k : ℕ) → i ≤ k → slice_get m k ≡ slice_get cs k) → AreOthers node id m i (i + n)
-    → Sweeps calls (is_of node id) f cs i g m gone
-    → Sweeps calls (is_of node id) f cs (i + n) g m gone
-sweeps_over calls node id f g cs m i zero gone same others w =
-    subst (λ (k : ℕ). Sweeps calls (is_of node id) f cs k g m gone) (add_zero i) w
-sweeps_over {F} {T} calls node id f g cs m i (suc n) gone same others w =
-    let o = others i (omega arith) (omega arith) in
-    let one =
-    sweeps_more calls (is_of node id) f g g cs m m i gone gone false (same i (omega arith))
-    (o.0, o.1, other_swept calls node id g o.0 o.2) refl (add_zero gone) w in
-    let e : (i + 1) + n ≡ i + suc n = omega arith in
-    subst (λ (k : ℕ). Sweeps calls (is_of node id) f cs k g m gone) e
-    (sweeps_over calls node id f g cs m (i + 1) n gone (λ k l. same k (omega arith))
-    (λ k l h. others k (omega arith) (omega arith)) one)
-
--- places where no entry of the node stands are passed over
-pub sweeps_to : {F T : Type 0} (calls : F → T → Bool → F → Type 0) (node : T → ℕ) (id : ℕ) (f g : F)
-    (cs m : List (Option (Occupant T))) (i j gone : ℕ) → i ≤ j
-    → ((k : ℕ) → i ≤ k → slice_get m k ≡ slice_get cs k) → AreOthers node id m i j
-    → Sweeps calls (is_of node id) f cs i g m gone → Sweeps calls (is_of node id) f cs j g m gone
-sweeps_to calls node id f g cs m i j gone l same others w =
-    let e : i + (j - i) ≡ j = omega arith in
-    subst (λ (k : ℕ). Sweeps calls (is_of node id) f cs k g m gone) e
-    (sweeps_over calls node id f g cs m i (j - i) gone same (λ k a b. others k a (omega arith)) w)
+-- what holds at a place, and goes on over each place where no entry of the node stands, holds at
+-- the end of such places
+pub over_others : {T : Type 0} (node : T → ℕ) (id : ℕ) (cells : List (Option (Occupant T)))
+    (P : ℕ → Type 0) (i j : ℕ) → i ≤ j → AreOthers node id cells i j
+    → ((k : ℕ) → i ≤ k → PlaceIsOf node id cells k false → P k → P (k + 1)) → P i → P j
+over_others node id cells P i zero l others step p =
+    let e : i ≡ zero = omega arith in subst P e p
+over_others node id cells P i (suc j) l others step p =
+    elim (leb_tells i j) as (λ _. P (suc j)) [
+      | inl k ↦ subst P (add-one j)
+          (step j k.1 (others j k.1 (omega arith))
+          (over_others node id cells P i j k.1 (λ m a b. others m a (omega arith)) step p))
+      | inr k ↦ (let e : i ≡ suc j = omega (arith, k.1) in subst P e p)
+    ]
 
 -- the cells after one was swept
 pub cells_swept : {C : Type 0} (m n : List (Option C)) (i : ℕ) (goes : Bool)
@@ -238,11 +208,6 @@ pub length_kept : {C : Type 0} (m n : List (Option C)) (i : ℕ) (goes : Bool)
     → n ≡ (if goes then slice_set m i None else m) → length n ≡ length m
 length_kept m n i true e = ap length e ∙ length-set m i None
 length_kept m n i false e = ap length e
-
-pub few_gone : (gone gone' i : ℕ) (goes : Bool) → gone' ≡ gone + (if goes then 1 else 0) → gone ≤ i
-    → gone' ≤ i + 1
-few_gone gone gone' i true e h = omega arith
-few_gone gone gone' i false e h = omega arith
 
 -- what goes stands in the cell
 pub goes_is_taken : {F T : Type 0} (calls : F → T → Bool → F → Type 0) (is_dead : T → Bool)

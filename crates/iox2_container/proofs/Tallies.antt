@@ -1,11 +1,11 @@
 -- Callbacks that count what they are asked about.
-use Rattle.std.proofs.Common.{◌≡◌, ℕ, ◌+◌, ◌<◌, List, [], ◌∷◌, length, ◌∙◌, ap, arith, inl, inr}
+use Rattle.std.proofs.Common.{◌≡◌, ℕ, ◌+◌, ◌<◌, List, [], ◌∷◌, length, refl, ◌∙◌, ap, arith, inl, inr}
 use Rattle.iox2_texts.specs.Attribute.{Visits}
 use Rattle.iox2_texts.specs.declared.bounded.callback_progression.CallbackProgression.{CallbackProgression}
 use Rattle.iox2_texts.specs.declared.bounded.callback_progression.CallbackProgression.TheVariants.{Continue, Stop}
 use Rattle.iox2_container.specs.Callbacks.{CanBeAsked, CanVisit}
 use Rattle.iox2_container.specs.Steps.{Asked, Visit}
-use Rattle.iox2_container.proofs.Callable.{CanBeAsked-by, CanVisit-by}
+use Rattle.iox2_container.proofs.Callable.{Asked-keeps, CanBeAsked-by, CanVisit-by}
 
 -- a callback that counts one more at each call, and may be called while the count is below a bound
 module _ {F A R : Type 0} (takes : F → A → Type 0) (calls : F → A → R → F → Type 0) (count : F → ℕ)
@@ -36,12 +36,11 @@ pub tallied : {F A R N : Type 0} (calls : F → A → R → F → Type 0) (name 
     × (count v ≡ count q + 1))
     → (f : F) (items : List A) (answers : List R) (h : F) → Asked calls f items answers h
     → (name h ≡ name f) × (count h ≡ count f + length items)
-tallied calls name count step f [] [] h a = (ap name a, omega (arith, ap count a))
-tallied calls name count step f [] (r ∷ rs) h a = absurd a
-tallied calls name count step f (x ∷ xs) [] h a = absurd a
-tallied calls name count step f (x ∷ xs) (r ∷ rs) h a =
-    let s = step f x r a.0 a.1 in
-    let t = tallied calls name count step a.0 xs rs h a.2 in (t.0 ∙ s.0, omega (arith, t.1, s.1))
+tallied calls name count step f items answers h a =
+    let t = Asked-keeps calls (λ q xs _. (name q ≡ name f)
+    × (count q + length xs ≡ count f + length items))
+    (λ q x xs r rs v i c. let s = step q x r v c in (s.0 ∙ i.0, omega (arith, i.1, s.1)))
+    f items answers h (refl, refl) a in (t.0, omega (arith, t.1))
 
 module _ {F A N : Type 0} (calls : F → A → CallbackProgression → F → Type 0) (name : F → N)
     (count : F → ℕ)

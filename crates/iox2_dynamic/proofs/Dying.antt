@@ -1,7 +1,7 @@
 -- What keeps a service one when a dead node goes.
-use Rattle.std.proofs.Common.{◌≡◌, ◌∙◌, ℕ, ◌<◌, Bool, true, false, List, [], ◌∷◌, refl, sym, ap, subst, arith}
+use Rattle.std.proofs.Common.{◌≡◌, ◌∙◌, ℕ, ◌<◌, Bool, true, false, List, refl, sym, ap, subst, arith, get_or}
 use Rattle.std.specs.Prelude.{All, ◌==◌, not}
-use Rattle.std.proofs.lemmas.List.Elements.{All-filter, All-nil, All-cons, All-head, All-tail}
+use Rattle.std.proofs.lemmas.List.Elements.{All-filter}
 use Rattle.std.proofs.lemmas.Bool.{eqb-true, eq-eqb, ne_eqb}
 use Rattle.iox2_config.specs.declared.hash.input.PatternKind.{PatternKind}
 use Rattle.iox2_ids.specs.declared.identifiers.port_id.UniquePortId.{UniquePortId}
@@ -10,7 +10,7 @@ use Rattle.iox2_container.specs.declared.container.role.Role.{Role}
 use Rattle.iox2_container.specs.ContainerState.{ContainerState}
 use Rattle.iox2_container.specs.State.{Entry, RegistryState}
 use Rattle.iox2_container.specs.Steps.{is_leaving, is_of, release_state, staying}
-use Rattle.iox2_container.proofs.Counting.{counted}
+use Rattle.iox2_container.proofs.Counting.{counted, counted-staying, All-other}
 use Rattle.iox2_dynamic.specs.declared.dynamic_config.answers.DeregisterNodeState.{DeregisterNodeState}
 use Rattle.iox2_dynamic.specs.declared.dynamic_config.answers.DeregisterNodeState.TheVariants.{HasOwners}
 use Rattle.iox2_dynamic.specs.declared.dynamic_config.cleanup.PortCleanupAction.{PortCleanupAction}
@@ -21,7 +21,6 @@ use Rattle.iox2_dynamic.specs.Details.{node_of}
 use Rattle.iox2_dynamic.specs.Ports.{Ports, RecoversBoth, has_ports_of}
 use Rattle.iox2_dynamic.specs.Service.{Service, IsService, IsPortRegistry, ArePorts, Registered, first_role, second_role}
 use Rattle.iox2_dynamic.specs.Steps.{NodesAfter}
-use Rattle.iox2_container.proofs.Counting.{counted-staying, All-other}
 use Rattle.iox2_dynamic.proofs.Keeping.{both_none, not_false, with_nodes}
 use Rattle.iox2_dynamic.proofs.Moving.{with_ports}
 
@@ -65,27 +64,13 @@ still_there : (dead : ℕ) (nodes : List (Entry ℕ)) (marked : ℕ → Bool)
     → All (λ e. 0
     < counted (is_of (λ i. i) (node_of e.details))
     (staying (is_of (λ i. i) dead) marked nodes)) ports
-still_there dead nodes marked [] n h =
-    All-nil (λ (e : Entry PortDetails). 0
-    < counted (is_of (λ i. i) (node_of e.details)) (staying (is_of (λ i. i) dead) marked nodes))
-still_there dead nodes marked (e ∷ ports) n h =
+still_there dead nodes marked ports n h k d l =
+    let id = node_of (get_or ports k d).details in
+    let was : 0 < counted (is_of (λ i. i) id) nodes = h k d l in
     let same =
-    counted-staying (is_of (λ i. i) (node_of e.details)) (is_of (λ i. i) dead)
-    (others dead (node_of e.details)
-    (All-head (λ (e : Entry PortDetails). is_of node_of dead e.details ≡ false) e ports n))
-    marked nodes in
-    let was : 0 < counted (is_of (λ i. i) (node_of e.details)) nodes =
-    All-head (λ (e : Entry PortDetails). 0 < counted (is_of (λ i. i) (node_of e.details)) nodes)
-    e ports h in
-    All-cons (λ (e : Entry PortDetails). 0
-    < counted (is_of (λ i. i) (node_of e.details))
-    (staying (is_of (λ i. i) dead) marked nodes)) e ports
-    (omega arith)
-    (still_there dead nodes marked ports
-    (All-tail (λ (e : Entry PortDetails). is_of node_of dead e.details ≡ false) e ports n)
-    (All-tail
-    (λ (e : Entry PortDetails). 0 < counted (is_of (λ i. i) (node_of e.details)) nodes) e
-    ports h))
+    counted-staying (is_of (λ i. i) id) (is_of (λ i. i) dead) (others dead id (n k d l)) marked
+    nodes in
+    omega arith
 
 -- the nodes stay, where a port of the dead node is left, since then they are not locked
 pub nodes_stay : (dead : ℕ) (b : Bool) (old : ContainerState ℕ) → b ≡ true

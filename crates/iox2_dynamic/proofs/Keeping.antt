@@ -1,7 +1,7 @@
 -- What keeps a service one when nodes come and go.
-use Rattle.std.proofs.Common.{◌≡◌, ◌≢◌, ◌∙◌, ℕ, zero, suc, ◌<◌, ◌⊎◌, Bool, true, false, List, [], ◌∷◌, Result, Ok, Err, inl, inr, refl, sym, ap, subst, arith}
+use Rattle.std.proofs.Common.{◌≡◌, ◌≢◌, ◌∙◌, ℕ, zero, suc, ◌<◌, ◌⊎◌, Bool, true, false, List, [], ◌∷◌, Result, Ok, Err, inl, inr, refl, sym, ap, subst, arith, get_or}
 use Rattle.std.specs.Prelude.{All, IsTrue, ◌==◌, nat_eq, nat_lt, ◌&&◌, ◌||◌}
-use Rattle.std.proofs.lemmas.List.Elements.{All-nil, All-cons, All-head, All-tail, All-weaker}
+use Rattle.std.proofs.lemmas.List.Elements.{All-head, All-weaker}
 use Rattle.std.proofs.lemmas.Bool.{eq-eqb, lt-ltb, ne_eqb, cases_order}
 use Rattle.iox2_container.specs.declared.container.refusal.ContainerAddFailure.{ContainerAddFailure}
 use Rattle.iox2_container.specs.declared.container.refusal.ContainerAddFailure.TheVariants.{IsLocked, OutOfSpace}
@@ -12,7 +12,7 @@ use Rattle.iox2_container.specs.Changes.{Adds}
 use Rattle.iox2_container.specs.ContainerState.{ContainerState}
 use Rattle.iox2_container.specs.State.{Entry, RegistryState, IsRegistry}
 use Rattle.iox2_container.specs.Steps.{AddStep, InsertsOne, Leaves, HasEntry, is_of}
-use Rattle.iox2_container.proofs.Counting.{counted, one_if, counted-cons}
+use Rattle.iox2_container.proofs.Counting.{counted, counted-InsertsOne, one_if, All-other}
 use Rattle.iox2_container.proofs.Growing.{grows_add}
 use Rattle.iox2_container.proofs.Members.{one_by_ticket}
 use Rattle.iox2_dynamic.specs.declared.dynamic_config.port_details.PortDetails.{PortDetails}
@@ -20,7 +20,6 @@ use Rattle.iox2_dynamic.specs.Details.{node_of}
 use Rattle.iox2_dynamic.specs.Service.{Service, IsService, IsPortRegistry, HasNoPort, Registered, entries_of_node, first_role, second_role}
 use Rattle.iox2_dynamic.specs.Ports.{has_ports_of}
 use Rattle.iox2_dynamic.specs.Steps.{is_last_of_ports}
-use Rattle.iox2_container.proofs.Counting.{counted-InsertsOne}
 
 pub not_false : true ≡ false → ⊥
 not_false e = (cc)
@@ -93,44 +92,28 @@ still : (old new : List (Entry ℕ)) (x : Entry ℕ) → InsertsOne new old x
     → (counted (is_of (λ i. i) x.details) old ≡ 1 → counted (is_of node_of x.details) ports ≡ 0)
     → All (λ e. 0 < counted (is_of (λ i. i) (node_of e.details)) old) ports
     → All (λ e. 0 < counted (is_of (λ i. i) (node_of e.details)) new) ports
-still old new x g [] last h =
-    All-nil (λ (e : Entry PortDetails). 0 < counted (is_of (λ i. i) (node_of e.details)) new)
-still old new x g (e ∷ ports) last h =
-    let c = counted-cons (is_of node_of x.details) e ports in
-    let n = counted-InsertsOne (is_of (λ i. i) (node_of e.details)) new old x g in
-    let was : 0 < counted (is_of (λ i. i) (node_of e.details)) old =
-    All-head (λ (e : Entry PortDetails). 0 < counted (is_of (λ i. i) (node_of e.details)) old) e
-    ports h in
-    All-cons (λ (e : Entry PortDetails). 0 < counted (is_of (λ i. i) (node_of e.details)) new) e
-    ports
-    (elim (cases_order x.details (node_of e.details)) as
-    (λ _. 0 < counted (is_of (λ i. i) (node_of e.details)) new) [
+still old new x g ports last h k d l =
+    let id = node_of (get_or ports k d).details in
+    let was : 0 < counted (is_of (λ i. i) id) old = h k d l in
+    let n = counted-InsertsOne (is_of (λ i. i) id) new old x g in
+    elim (cases_order x.details id) as (λ _. 0 < counted (is_of (λ i. i) id) new) [
       | inl v ↦
-          let same : counted (is_of (λ i. i) x.details) old
-          ≡ counted (is_of (λ i. i) (node_of e.details)) old =
+          let same : counted (is_of (λ i. i) x.details) old ≡ counted (is_of (λ i. i) id) old =
           ap (λ (k : ℕ). counted (λ (i : ℕ). i == k) old) v in
-          let one : one_if (is_of node_of x.details e.details) ≡ 1 =
-          ap one_if (eq-eqb (node_of e.details) x.details (sym v)) in
-          let hit : one_if (is_of (λ i. i) (node_of e.details) x.details) ≡ 1 =
-          ap one_if (eq-eqb x.details (node_of e.details) v) in
-          (elim (cases_order (counted (is_of (λ i. i) x.details) old) 1) as
-          (λ _. 0 < counted (is_of (λ i. i) (node_of e.details)) new) [
-            | inl k ↦ absurd (let z = last k in omega arith)
-            | inr k ↦ (elim k as (λ _. 0 < counted (is_of (λ i. i) (node_of e.details)) new) [
-              | inl l ↦ absurd (omega arith)
-              | inr l ↦ omega arith
-            ])
-          ])
+          let hit : one_if (is_of (λ i. i) id x.details) ≡ 1 = ap one_if (eq-eqb x.details id v) in
+          elim (cases_order (counted (is_of (λ i. i) x.details) old) 1) as
+          (λ _. 0 < counted (is_of (λ i. i) id) new) [
+            | inl one ↦ absurd
+                (not_false
+                (sym (eq-eqb id x.details (sym v))
+                ∙ All-other (is_of node_of x.details) ports (last one) k d l))
+            | inr more ↦ omega (arith, more)
+          ]
       | inr v ↦
-          let miss : one_if (is_of (λ i. i) (node_of e.details) x.details) ≡ 0 =
-          ap one_if
-          (ne_eqb x.details (node_of e.details) (apart x.details (node_of e.details) v)) in
+          let miss : one_if (is_of (λ i. i) id x.details) ≡ 0 =
+          ap one_if (ne_eqb x.details id (apart x.details id v)) in
           omega arith
-    ])
-    (still old new x g ports (λ k. let z = last k in omega arith)
-    (All-tail
-    (λ (e : Entry PortDetails). 0 < counted (is_of (λ i. i) (node_of e.details)) old) e
-    ports h))
+    ]
 
 pub both_none : (a b : ℕ) → (nat_lt 0 a || nat_lt 0 b) ≡ false → (a ≡ 0) × (b ≡ 0)
 both_none zero zero h = (refl, refl)

@@ -1,4 +1,3 @@
-pub mod Places
 pub mod Callbacks
 pub mod Recoveries
 pub mod Counts

@@ -25,48 +25,17 @@ use Rattle.iox2_dynamic.specs.contracts.dynamic_config.service.DynamicConfig.The
 clones : (D : Type 0) → CloneGhosts D
 clones D = record { is_clone = λ _ _. Unit {0}; is_infallible = λ _. Unit {0} }
 
+-- the searches of three and more fields take too many steps at once
 server : IsSend Server.the_row
-server = declared_send Server.the_type (
-  search sendable depth 20,
-  (
-    search sendable depth 20,
-    (
-      search sendable depth 20,
-      (
-        search sendable depth 20,
-        (search sendable depth 20, (search sendable depth 20, (search sendable depth 20, tt))),
-      ),
-    ),
-  ),
-)
+server = declared_send Server.the_type
+    (search sendable depth 20, (search sendable depth 20, search sendable depth 20))
 
 client : IsSend Client.the_row
-client = declared_send Client.the_type (
-  search sendable depth 20,
-  (
-    search sendable depth 20,
-    (
-      search sendable depth 20,
-      (
-        search sendable depth 20,
-        (search sendable depth 20, (search sendable depth 20, (search sendable depth 20, tt))),
-      ),
-    ),
-  ),
-)
+client = declared_send Client.the_type
+    (search sendable depth 20, (search sendable depth 20, search sendable depth 20))
 
 publisher : IsSend Publisher.the_row
-publisher =
-    declared_send Publisher.the_type (
-      search sendable depth 20,
-      (
-        search sendable depth 20,
-        (
-          search sendable depth 20,
-          (search sendable depth 20, (search sendable depth 20, (search sendable depth 20, tt))),
-        ),
-      ),
-    )
+publisher = declared_send Publisher.the_type (search sendable depth 20, search sendable depth 20)
 
 subscriber : IsSend Subscriber.the_row
 subscriber = search sendable depth 20

@@ -1,9 +1,8 @@
 use Rattle.std.proofs.Common.{rules, ◌≡◌, ◌++◌, ◌∙◌, length, map, true, arith, ap}
 use Rattle.std.specs.Prelude.{filter}
-use Rattle.std.proofs.lemmas.List.{length-map}
+use Rattle.std.proofs.lemmas.List.{length-map, map-id}
 use Rattle.iox2_container.specs.Steps.{listed}
 use Rattle.iox2_container.proofs.Collecting.{CanVisit-collecting, collects, all_pass, passes_all}
-use Rattle.std.proofs.lemmas.List.{map-id}
 use Rattle.iox2_container.proofs.container.listing.entries.Goals as goal
 
 pub for_each-requires : goal.for_each-requires
@@ -23,20 +22,8 @@ for_each-requires g c =
       ),
     )
 
-pub returns-clause-listed : goal.returns-clause-listed
-returns-clause-listed g c =
-    let registry = (g.R.Registry.state c.args.registry.now).registry in
-    let t = collects _ (λ q. q.0.ghost_name) (λ _. Unit {0}) (λ q. q.0.now.items) (λ q. q.0.now.len)
-    (λ q. q.0.now.cap) (λ _. true) (λ x. x) (λ q x r v k e. search rules) _
-    (listed registry) c.for_each.new.f tt c.for_each.ensures.visit in
-    let all : c.for_each.new.f.0.now.items ≡ listed registry = t.1
-    ∙ (ap (λ l. l
-    ++ map (λ x. x) (filter (λ _. true) (listed registry))) c.in_ok-list.ensures.items
-    ∙ (all_pass (λ x. x) (listed registry) ∙ map-id (listed registry))) in
-    search (rules, t.0, all)
-
-pub returns-clause-exact : goal.returns-clause-exact
-returns-clause-exact g c =
+pub returns : goal.returns
+returns g c =
     let registry = (g.R.Registry.state c.args.registry.now).registry in
     let t = collects _ (λ q. q.0.ghost_name) (λ _. Unit {0}) (λ q. q.0.now.items) (λ q. q.0.now.len)
     (λ q. q.0.now.cap) (λ _. true) (λ x. x) (λ q x r v k e. search rules) _
@@ -46,7 +33,7 @@ returns-clause-exact g c =
     ++ map (λ x. x) (filter (λ _. true) (listed registry))) c.in_ok-list.ensures.items
     ∙ (all_pass (λ x. x) (listed registry) ∙ map-id (listed registry))) in
     let exact : c.for_each.new.f.0.now.cap ≡ length c.for_each.new.f.0.now.items =
-    omega (
+    search (
       arith,
       t.3,
       c.in_ok-list.ensures.exact,
@@ -54,4 +41,4 @@ returns-clause-exact g c =
       length-map registry.entries (λ e. e.details),
       ap length all,
     ) in
-    search (rules, t.0, exact)
+    record { listed = search (rules, t.0, all); exact = search (rules, t.0, exact) }

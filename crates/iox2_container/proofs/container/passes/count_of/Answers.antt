@@ -1,9 +1,8 @@
-use Rattle.std.proofs.Common.{◌≡◌, ◌+◌, sym, ◌∙◌, ap, arith, map}
+use Rattle.std.proofs.Common.{◌≡◌, ◌+◌, ◌∙◌, ap, arith, map}
 use Rattle.iox2_container.specs.Cells.{shown}
 use Rattle.iox2_container.specs.Steps.{is_of}
 use Rattle.iox2_container.proofs.CellEntries.{all_before}
 use Rattle.iox2_container.proofs.Counting.{counted, counted_more, few_more, one_if}
-use Rattle.iox2_container.proofs.Sweeping.{add_zero}
 use Rattle.iox2_container.proofs.container.passes.count_of.Goals as goal
 use Rattle.iox2_container.proofs.container.passes.count_of.Goals.{then-belongs_to, else-belongs_to}
 
@@ -19,11 +18,8 @@ pub loop-slot-preserved : goal.loop-slot-preserved
 loop-slot-preserved g c =
     let by_is : c.if-belongs_to.count ≡ c.loop-slot.count + one_if c.belongs_to.result =
     elim c.if-belongs_to.branch [
-      | then-belongs_to w ↦ w.count-is
-          ∙ ap (λ b. c.loop-slot.count + one_if b) (sym w.if-belongs_to.true)
-      | else-belongs_to w ↦ w.count-is
-          ∙ (add_zero c.loop-slot.count
-          ∙ ap (λ b. c.loop-slot.count + one_if b) (sym w.if-belongs_to.false))
+      | then-belongs_to w ↦ rw w.if-belongs_to.true w.count-is
+      | else-belongs_to w ↦ rw w.if-belongs_to.false (omega arith)
     ] in
     record {
       count = counted_more g.T.Attached.node c.args.node.now c.loop-slot.slot c.loop-slot.count

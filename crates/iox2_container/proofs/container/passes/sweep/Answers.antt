@@ -1,13 +1,11 @@
-use Rattle.std.proofs.Common.{◌≡◌, ◌+◌, length, take, refl, sym, ◌∙◌, ap, subst, arith, map}
-use Rattle.std.specs.Prelude.{if◌then◌else◌, slice_get}
+use Rattle.std.proofs.Common.{◌≡◌, ◌+◌, refl, sym, ◌∙◌, ap, subst, arith, map, false}
+use Rattle.std.specs.Prelude.{if◌then◌else◌}
 use Rattle.std.specs.Fn.{CalledAt, TakesAt}
 use Rattle.iox2_container.specs.Cells.{shown}
-use Rattle.iox2_container.specs.Passes.{AreOthers, Swept}
-use Rattle.iox2_container.specs.Places.{NoneFrom, entries_from}
+use Rattle.iox2_container.specs.Passes.{AreOthers}
 use Rattle.iox2_container.specs.Steps.{is_of}
-use Rattle.iox2_container.proofs.CellEntries.{all_before}
-use Rattle.iox2_container.proofs.Sweeping.{swept_none, sweeps_more, sweeps_to, cells_swept, later_kept, length_kept, few_gone, add_zero}
-use Rattle.iox2_container.proofs.CellsToCome.{sweep_comes_to, sweep_goes_on, sweep_passes_to}
+use Rattle.iox2_container.proofs.Sweeping.{cells_swept}
+use Rattle.iox2_container.proofs.CellsToCome.{HasSwept, sweep_at, sweep_ends, sweep_more, sweep_past}
 use Rattle.iox2_container.proofs.container.passes.sweep.Goals as goal
 use Rattle.iox2_container.proofs.container.passes.sweep.Goals.{then-sweep_place, else-sweep_place}
 
@@ -15,99 +13,73 @@ pub loop-slot-init : goal.loop-slot-init
 loop-slot-init g c =
     let takes = TakesAt g.F.FnMut in
     let calls = CalledAt g.F.FnMut in
-    let is_dead = is_of g.T.Attached.node c.args.dead.now in
+    let node = g.T.Attached.node in
+    let dead = c.args.dead.now in
+    let f = c.args.f.now in
     let cells = map shown c.args.places.now.cells in
-    let kept : map shown c.count_reads.new.self.cells ≡ cells =
-    ap (map shown) c.count_reads.ensures.cells in
+    let slot = c.next_of-slot.result in
+    let kept = c.count_reads.ensures.cells in
+    let start : HasSwept takes calls (is_of node dead) f cells 0 f cells 0 =
+    record {
+      callable = c.requires.callable.asks;
+      swept = record { marked = λ _. false; asked = refl; left_is = refl; gone_is = refl };
+      later = λ k l. refl;
+      len = refl;
+      few = omega arith;
+    } in
     record {
       within = c.next_of-slot.ensures.order.1;
-      fits = subst (g.S.SlotAllocator.fits c.args.free.now)
-          (sym c.count_reads.ensures.cells) c.requires.fits;
-      callable =
-          sweep_passes_to takes calls g.T.Attached.node c.args.dead.now c.args.f.now cells 0
-          c.next_of-slot.result
-          (omega arith) c.next_of-slot.ensures.others c.requires.callable.asks;
-      len = ap length kept;
-      swept = subst
-          (λ m. Swept calls is_dead c.args.f.now
-          (entries_from 0 (take c.next_of-slot.result cells)) c.args.f.now
-          (entries_from 0 (take c.next_of-slot.result m)) 0) (sym kept)
-          (sweeps_to calls g.T.Attached.node c.args.dead.now c.args.f.now c.args.f.now cells cells 0
-          c.next_of-slot.result 0 (omega arith) (λ k l. refl) c.next_of-slot.ensures.others
-          (swept_none calls is_dead c.args.f.now));
-      later = λ k h. ap (λ m. slice_get m k) kept;
-      few = omega arith;
+      fits = subst (g.S.SlotAllocator.fits c.args.free.now) (sym kept) c.requires.fits;
+      so_far = subst (λ m. HasSwept takes calls (is_of node dead) f cells slot f m 0)
+          (sym (ap (map shown) kept))
+          (sweep_past takes calls node dead f f cells cells 0 slot 0 (omega arith)
+          c.next_of-slot.ensures.others start);
       touched = omega (arith, c.count_reads.ensures.touches);
       counted = omega (arith, c.count_reads.ensures.touches);
     }
 
 pub sweep_place-requires-clause-callable : goal.sweep_place-requires-clause-callable
 sweep_place-requires-clause-callable g c =
-    λ cell is. sweep_comes_to (TakesAt g.F.FnMut) (CalledAt g.F.FnMut)
+    let so_far = c.loop-slot.invariant.so_far in
+    λ cell is. (sweep_at (TakesAt g.F.FnMut) (CalledAt g.F.FnMut)
     (is_of g.T.Attached.node c.args.dead.now) c.loop-slot.f
     (map shown c.args.places.now.cells) c.loop-slot.slot cell
-    (sym (c.loop-slot.invariant.later c.loop-slot.slot (omega arith))
-    ∙ is) c.loop-slot.invariant.callable
+    (sym (so_far.later c.loop-slot.slot (omega arith)) ∙ is) so_far.callable).0
 
 pub loop-slot-preserved : goal.loop-slot-preserved
 loop-slot-preserved g c =
     let takes = TakesAt g.F.FnMut in
     let calls = CalledAt g.F.FnMut in
-    let is_dead = is_of g.T.Attached.node c.args.dead.now in
+    let node = g.T.Attached.node in
+    let dead = c.args.dead.now in
+    let f = c.args.f.now in
     let old = map shown c.args.places.now.cells in
+    let slot = c.loop-slot.slot in
     let kept = c.count_reads-in-loop-slot.ensures.cells in
+    let before = map shown c.loop-slot.places.cells in
     let new = map shown c.count_reads-in-loop-slot.new.self.cells in
+    let goes = c.sweep_place.result in
     let cells_are = ap (map shown) kept
-    ∙ cells_swept (map shown c.loop-slot.places.cells)
-    (map shown c.sweep_place.new.places.cells) c.loop-slot.slot c.sweep_place.result
+    ∙ cells_swept before (map shown c.sweep_place.new.places.cells) slot goes
     c.sweep_place.ensures.gone c.sweep_place.ensures.kept in
-    let gone_is : c.if-sweep_place.gone
-    ≡ c.loop-slot.gone + (if c.sweep_place.result then 1 else 0) =
+    let gone_is : c.if-sweep_place.gone ≡ c.loop-slot.gone + (if goes then 1 else 0) =
     elim c.if-sweep_place.branch [
-      | then-sweep_place w ↦ w.gone-is
-          ∙ ap (λ b. c.loop-slot.gone + (if b then 1 else 0)) (sym w.if-sweep_place.true)
-      | else-sweep_place w ↦ w.gone-is
-          ∙ (add_zero c.loop-slot.gone
-          ∙ ap (λ b. c.loop-slot.gone + (if b then 1 else 0)) (sym w.if-sweep_place.false))
+      | then-sweep_place w ↦ rw w.if-sweep_place.true w.gone-is
+      | else-sweep_place w ↦ rw w.if-sweep_place.false (omega arith)
     ] in
-    let later =
-    later_kept old
-    (map shown c.loop-slot.places.cells) new c.loop-slot.slot c.sweep_place.result cells_are
-    c.loop-slot.invariant.later in
-    let order = c.next_of-next.ensures.order in
-    let swept = c.sweep_place.ensures.swept in
     let others =
-    subst (λ m. AreOthers g.T.Attached.node c.args.dead.now m
-    (c.loop-slot.slot + 1) c.next_of-next.result)
+    subst (λ m. AreOthers node dead m (slot + 1) c.next_of-next.result)
     (sym (ap (map shown) kept)) c.next_of-next.ensures.others in
-    let few =
-    few_gone c.loop-slot.gone c.if-sweep_place.gone c.loop-slot.slot c.sweep_place.result
-    gone_is c.loop-slot.invariant.few in
+    let order = c.next_of-next.ensures.order in
     record {
       within = order.1;
       fits = subst (g.S.SlotAllocator.fits c.sweep_place.new.free)
           (sym kept) c.sweep_place.ensures.fits;
-      callable =
-          sweep_passes_to takes calls g.T.Attached.node c.args.dead.now c.sweep_place.new.f old
-          (c.loop-slot.slot + 1) c.next_of-next.result order.0
-          (λ k l h. let other = others k l h in (other.0, sym (later k l) ∙ other.1, other.2))
-          (sweep_goes_on takes calls is_dead c.loop-slot.f c.sweep_place.new.f old c.loop-slot.slot
-          swept.0 c.sweep_place.result
-          (sym (c.loop-slot.invariant.later c.loop-slot.slot (omega arith))
-          ∙ swept.1) swept.2 c.loop-slot.invariant.callable);
-      len = length_kept
-          (map shown c.loop-slot.places.cells) new c.loop-slot.slot c.sweep_place.result
-          cells_are ∙ c.loop-slot.invariant.len;
-      swept = sweeps_to calls g.T.Attached.node c.args.dead.now c.args.f.now c.sweep_place.new.f old
-          new (c.loop-slot.slot + 1) c.next_of-next.result c.if-sweep_place.gone order.0 later
-          others
-          (sweeps_more calls is_dead c.args.f.now c.loop-slot.f c.sweep_place.new.f old
-          (map shown c.loop-slot.places.cells) new c.loop-slot.slot c.loop-slot.gone
-          c.if-sweep_place.gone c.sweep_place.result
-          (c.loop-slot.invariant.later c.loop-slot.slot (omega arith)) swept cells_are gone_is
-          c.loop-slot.invariant.swept);
-      later = λ k l. later k (omega (arith, order.0));
-      few = omega (arith, few, order.0);
+      so_far = sweep_past takes calls node dead f c.sweep_place.new.f old new (slot + 1)
+          c.next_of-next.result c.if-sweep_place.gone order.0 others
+          (sweep_more takes calls (is_of node dead) f c.loop-slot.f c.sweep_place.new.f old before
+          new slot c.loop-slot.gone c.if-sweep_place.gone goes c.sweep_place.ensures.swept cells_are
+          gone_is c.loop-slot.invariant.so_far);
       touched =
           omega (
             arith,
@@ -127,17 +99,7 @@ loop-slot-preserved g c =
 
 pub returns-clause-swept : goal.returns-clause-swept
 returns-clause-swept g c =
-    let so_far = c.loop-slot.invariant in
-    let old = map shown c.args.places.now.cells in
-    let new = map shown c.loop-slot.places.cells in
-    let none_old : NoneFrom old c.loop-slot.slot =
-    λ slot later. c.end-end.ensures.free slot (omega arith) in
-    let none_new : NoneFrom new c.loop-slot.slot =
-    λ slot later taken. none_old slot later
-    (taken.0, sym (so_far.later slot later) ∙ taken.1) in
-    subst (λ es. Swept (CalledAt g.F.FnMut)
-    (is_of g.T.Attached.node c.args.dead.now) c.args.f.now es c.loop-slot.f
-    (entries_from 0 new) c.loop-slot.gone) (all_before 0 c.loop-slot.slot old none_old)
-    (subst (λ es. Swept (CalledAt g.F.FnMut) (is_of g.T.Attached.node c.args.dead.now) c.args.f.now
-    (entries_from 0 (take c.loop-slot.slot old)) c.loop-slot.f es c.loop-slot.gone)
-    (all_before 0 c.loop-slot.slot new none_new) so_far.swept)
+    sweep_ends (TakesAt g.F.FnMut) (CalledAt g.F.FnMut) (is_of g.T.Attached.node c.args.dead.now)
+    c.args.f.now c.loop-slot.f (map shown c.args.places.now.cells)
+    (map shown c.loop-slot.places.cells) c.loop-slot.slot c.loop-slot.gone
+    (λ k later. c.end-end.ensures.free k (omega arith)) c.loop-slot.invariant.so_far

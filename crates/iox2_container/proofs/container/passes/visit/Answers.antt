@@ -1,20 +1,17 @@
-use Rattle.std.proofs.Common.{◌≡◌, ℕ, take, arith, add-one, refl, sym, subst, map}
+use Rattle.std.proofs.Common.{◌≡◌, ℕ, take, arith, add-one, sym, subst, map}
 use Rattle.std.specs.Fn.{CalledAt, TakesAt}
 use Rattle.iox2_container.specs.Cells.{shown}
 use Rattle.iox2_container.specs.Places.{entries_from}
 use Rattle.iox2_container.proofs.CellEntries.{all_before}
 use Rattle.iox2_container.proofs.AskedInTurn.{details_of, GoesOn, goes_on, stops, ends, not_stop}
-use Rattle.iox2_container.proofs.CellsToCome.{visit_comes_to, visit_goes_on}
+use Rattle.iox2_container.proofs.CellsToCome.{visit_at}
 use Rattle.iox2_container.proofs.container.passes.visit.Goals as goal
-
-pub loop-slot-init : goal.loop-slot-init
-loop-slot-init g c = record { callable = c.requires.callable.visits; asked = refl }
 
 pub show-requires : goal.show-requires
 show-requires g c =
-    visit_comes_to (TakesAt g.F.FnMut) (CalledAt g.F.FnMut) c.loop-slot.f
+    (visit_at (TakesAt g.F.FnMut) (CalledAt g.F.FnMut) c.loop-slot.f
     (map shown c.args.places.now.cells) c.loop-slot.slot c.peek_at.result c.peek_at.ensures
-    c.loop-slot.invariant.callable
+    c.loop-slot.invariant.callable).0
 
 pub returns-in-Stop : goal.returns-in-Stop
 returns-in-Stop g c =
@@ -28,10 +25,9 @@ loop-slot-preserved g c =
     let goes = not_stop c.show.result c.in_default.not-Stop in
     record {
       callable =
-          visit_goes_on (TakesAt g.F.FnMut)
-          (CalledAt g.F.FnMut) c.loop-slot.f c.show.new.f cells c.loop-slot.slot
-          c.peek_at.result c.show.result c.peek_at.ensures c.show.ensures goes
-          c.loop-slot.invariant.callable;
+          (visit_at (TakesAt g.F.FnMut) (CalledAt g.F.FnMut) c.loop-slot.f cells c.loop-slot.slot
+          c.peek_at.result c.peek_at.ensures c.loop-slot.invariant.callable).1 c.show.new.f
+          (rw goes at c.show.ensures);
       asked =
           subst (λ (n : ℕ). GoesOn (CalledAt g.F.FnMut) c.args.f.now
           (details_of (entries_from 0 (take n cells))) c.show.new.f)

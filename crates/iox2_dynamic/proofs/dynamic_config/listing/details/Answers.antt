@@ -24,22 +24,8 @@ for_each-requires g c =
       ),
     )
 
-pub returns-clause-listed : goal.returns-clause-listed
-returns-clause-listed g c =
-    let details = g.T.PortKind.details in
-    let registry = c.args.ports.now.registry in
-    let t = collects _ (λ q. q.0.ghost_name) (λ _. Unit {0}) (λ q. q.0.now.items) (λ q. q.0.now.len)
-    (λ q. q.0.now.cap) (λ _. true) details (λ q x r v k e. search rules) _
-    (listed registry) c.for_each.new.f tt c.for_each.ensures.visit in
-    let all : c.for_each.new.f.0.now.items ≡ listed (registry_as details registry) =
-    t.1 ∙ (ap
-    (λ l. l ++ map details (filter (λ _. true) (listed registry)))
-    c.in_ok-list.ensures.items
-    ∙ (all_pass details (listed registry) ∙ sym (listed-as details registry.entries))) in
-    search (rules, t.0, all)
-
-pub returns-clause-exact : goal.returns-clause-exact
-returns-clause-exact g c =
+pub returns : goal.returns
+returns g c =
     let details = g.T.PortKind.details in
     let registry = c.args.ports.now.registry in
     let t = collects _ (λ q. q.0.ghost_name) (λ _. Unit {0}) (λ q. q.0.now.items) (λ q. q.0.now.len)
@@ -51,7 +37,7 @@ returns-clause-exact g c =
     c.in_ok-list.ensures.items
     ∙ (all_pass details (listed registry) ∙ sym (listed-as details registry.entries))) in
     let exact : c.for_each.new.f.0.now.cap ≡ length c.for_each.new.f.0.now.items =
-    omega (
+    search (
       arith,
       t.3,
       c.in_ok-list.ensures.exact,
@@ -61,4 +47,4 @@ returns-clause-exact g c =
       length-map (registry_as details registry).entries (λ e. e.details),
       ap length all,
     ) in
-    search (rules, t.0, exact)
+    record { listed = search (rules, t.0, all); exact = search (rules, t.0, exact) }

@@ -20,14 +20,12 @@ for_each-requires g c =
 pub returns : goal.returns
 returns g c =
     let t = Visit-lent _ (CalledAt g.F.FnMut) (λ s. s.0.now) g.T.PortKind.details
-    (λ s. s.0.ghost_name) (λ _. Unit {0})
+    (λ s. s.0.ghost_name)
     (λ s x b u e. (
       e.called.met.0,
       subst (λ d. CalledAt g.F.FnMut s.0.now (g.T.PortKind.details d) b u.0.now) e.shows
           e.called.met.1.0,
-      tt,
-    )) _
-    (listed c.args.ports.now.registry) c.for_each.new.f tt c.for_each.ensures.visit in
+    )) _ (listed c.args.ports.now.registry) c.for_each.new.f c.for_each.ensures.visit in
     rw (c.f-1.given.1 (sym t.0))
     (subst (λ l. Visit (CalledAt g.F.FnMut) c.args.f.now l c.for_each.new.f.0.now)
     (sym (listed-as g.T.PortKind.details c.args.ports.now.registry.entries)) t.1)

@@ -40,11 +40,11 @@ returns g c =
     λ f x r h. Called g.F.FnMut f (x, tt) r h in
     let asks : g.row.F.Denot → _ → _ → g.row.F.Denot → Type 0 =
     λ h d goes h'. AskedToGo calls h (port_of (g.T.PortKind.details d)) goes h' in
-    let t = RecoversBy-lent _ asks (λ s. s.0.now) (λ s. s.0.ghost_name) (λ _. Unit {0})
+    let t = RecoversBy-lent _ asks (λ s. s.0.now) (λ s. s.0.ghost_name)
     (λ s x b u e.
-    (e.called.met.0.0, subst (λ d. asks s.0.now d b u.0.now) e.shows e.called.met.1.0, tt))
+    (e.called.met.0.0, subst (λ d. asks s.0.now d b u.0.now) e.shows e.called.met.1.0))
     (is_of g.T.Attached.node c.args.dead.now) c.args.ports.now _ Default
-    c.recover.result c.recover.new.self c.recover.new.f tt c.recover.ensures.recovers in
+    c.recover.result c.recover.new.self c.recover.new.f c.recover.ensures.recovers in
     let n = left_noted _ (λ s. s.1.ghost_name) (λ s. s.1.now)
     (λ s x b u e. (e.called.met.0.1, e.called.met.1.1.0)) g.T.PortKind.details
     g.T.Attached.node g.met.T.PortKind.same_node c.args.dead.now c.args.ports.now.registry _

@@ -1,18 +1,27 @@
-use Rattle.std.proofs.Common.{rules, sym}
-use Rattle.iox2_dynamic.proofs.Places.{removes_first, removes_second}
+use Rattle.std.proofs.Common.{rules, refl, sym, inl}
+use Rattle.iox2_container.specs.declared.container.release.ReleaseMode.TheVariants.{Default}
+use Rattle.iox2_container.proofs.Mapped.{Removes-as}
+use Rattle.iox2_dynamic.specs.PortsState.Side.{First, Second}
 use Rattle.iox2_dynamic.proofs.dynamic_config.port_registries.PortRegistries.remove.Goals as goal
 
 pub returns-then-eq : goal.returns-then-eq
 returns-then-eq g c =
     rw (sym c.self.view_is)
-    (removes_first g.A.PortKind.ROLE g.A.PortKind.details g.B.PortKind.ROLE g.B.PortKind.details
-    (record { first = c.self.inside.first; second = c.self.inside.second }) c.args.handle
-    c.remove.result c.remove.new.self (search rules) c.remove.ensures.removes)
+    (inl (record {
+      side = First;
+      role_is = search rules;
+      step = Removes-as g.A.PortKind.details c.self.inside.first c.args.handle Default
+          c.remove.result c.remove.new.self c.remove.ensures.removes;
+      others = refl;
+    }))
 
 pub returns-then-eq-2 : goal.returns-then-eq-2
 returns-then-eq-2 g c =
     rw (sym c.self.view_is)
-    (removes_second g.A.PortKind.ROLE g.A.PortKind.details g.B.PortKind.ROLE g.B.PortKind.details
-    (record { first = c.self.inside.first; second = c.self.inside.second }) c.args.handle
-    c.remove-then-eq-2.result c.remove-then-eq-2.new.self (search rules)
-    c.remove-then-eq-2.ensures.removes)
+    (inl (record {
+      side = Second;
+      role_is = search rules;
+      step = Removes-as g.B.PortKind.details c.self.inside.second c.args.handle Default
+          c.remove-then-eq-2.result c.remove-then-eq-2.new.self c.remove-then-eq-2.ensures.removes;
+      others = refl;
+    }))
