@@ -6,7 +6,7 @@ use Rattle.std.proofs.lemmas.Fmt.{digits_value-decimal, decimal_nonempty, decima
 use Rattle.std.proofs.lemmas.Str.Parse.{digit_from_value, digits_value-take-le}
 use Rattle.std.proofs.lemmas.Str.{digit_value_digit}
 use Rattle.std.proofs.lemmas.Int.Digits.{digits_more, digits_value_more}
-use Rattle.std.proofs.lemmas.List.{length-append, length-take-le, take-append-drop, get_or-take, length-drop, get_or-drop}
+use Rattle.std.proofs.lemmas.List.{length-append, length-take-le, take-append-drop, get_or-take, length-drop, get_or-drop, get_or_past}
 use Rattle.std.proofs.Math.Seq.{take-length}
 use Rattle.line_streams.specs.Spelling.{EndsNumber, IsDigit}
 use Rattle.line_streams.specs.Numerals.{own, decimal_first, decimal_no_zero}
@@ -58,6 +58,7 @@ pub starts_with_digit : (n : ℕ) (rest bytes : List ℕ) → n < 2 ^ 64 → byt
 starts_with_digit n rest bytes h e =
     rw e (starts (decimal n) rest (decimal_nonempty n h) (decimal_first n h))
 
+-- what follows the first i items, up to the end
 pub slice_tail : (bs : List ℕ) (i : ℕ) → take (length bs - i) (drop i bs) ≡ drop i bs
 slice_tail bs i = rw (← length-drop i bs) (take-length (drop i bs))
 
@@ -111,13 +112,8 @@ pub ends_at : (bytes : List ℕ) (i : ℕ) → ¬ (IsDigit (get_or bytes i 0)) �
 ends_at bytes i out = λ r. let same = get_or-drop i bytes 0 0 in let plus : i + 0 ≡ i =
     omega arith in out (rw (same, plus) at r)
 
-past_end : (bytes : List ℕ) (i : ℕ) → length bytes ≤ i → get_or bytes i 0 ≡ 0
-past_end [] i le = refl
-past_end (b ∷ bs) zero le = absurd (omega arith)
-past_end (b ∷ bs) (suc i) le = past_end bs i (omega arith)
-
 pub ends_there : (bytes : List ℕ) (i : ℕ) → length bytes ≤ i → EndsNumber (drop i bytes)
-ends_there bytes i le = ends_at bytes i (λ r. let zero = past_end bytes i le in omega arith)
+ends_there bytes i le = ends_at bytes i (λ r. let zero = get_or_past bytes i 0 le in omega arith)
 
 pub starts_somewhere : (n : ℕ) (rest bytes : List ℕ) → n < 2 ^ 64 → bytes ≡ decimal n ++ rest
     → 0 < length bytes

@@ -2,4 +2,3 @@ pub mod Written
 pub mod Fronts
 pub mod Words
 pub mod Lists
-pub mod Choices

@@ -1,7 +1,8 @@
 -- Lists that are read one by one.
 use Rattle.std.proofs.Common.{◌≡◌, ℕ, List, [], ◌∷◌, ◌++◌, sym, ◌∙◌, ap, subst, append_assoc}
 use Rattle.line_streams.specs.Spelling.{Spelling, OneWay, OthersFit, ListedFits, others_text, listed_text}
-use Rattle.line_streams.specs.Numerals.{cancel, cons_same}
+use Rattle.std.proofs.lemmas.List.{append_cancel_left}
+use Rattle.line_streams.specs.Numerals.{cons_same}
 
 -- Some of a list were read, and it goes on at the tail: what stands there, with what follows it,
 -- ends the whole list, and each list that begins the bytes goes on there.
@@ -31,7 +32,7 @@ goes_on {A} word byte P tail bytes b = record { ends = ends; goes = goes }
         × (byte ∷ tail ≡ others_text byte P ws rest)
     goes [] rest fit e = absurd (fit tail (sym e ∙ b))
     goes (u ∷ us) rest fit e =
-        (u ∷ us, fit, ap (λ l. byte ∷ l) (cancel word tail _ (sym b ∙ e)))
+        (u ∷ us, fit, ap (λ l. byte ∷ l) (append_cancel_left word tail _ (sym b ∙ e)))
 
 -- after one more and the byte
 pub goes_on_more : {A : Type 0} (word : List ℕ) (byte : ℕ) (P : Spelling A) → OneWay P

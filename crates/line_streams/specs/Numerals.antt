@@ -1,5 +1,5 @@
 -- The spelling of numbers.
-use Rattle.std.proofs.Common.{◌≡◌, ℕ, zero, suc, ◌⊎◌, inl, inr, ◌<◌, ◌≤◌, ◌^◌, List, [], ◌∷◌, ◌++◌, length, get_or, arith, sym, ◌∙◌, refl, ap}
+use Rattle.std.proofs.Common.{◌≡◌, ℕ, zero, suc, ◌⊎◌, inl, inr, ◌<◌, ◌^◌, List, [], ◌∷◌, ◌++◌, length, get_or, arith, refl, ap}
 use Rattle.std.specs.Fmt.{decimal}
 use Rattle.std.specs.Str.Parse.{AllDigits, digits_value}
 use Rattle.std.proofs.lemmas.Fmt.{decimal_is_IsNumeral, decimal_injective, first_decimal, decimal_digit, decimal_nonempty}
@@ -8,11 +8,6 @@ use Rattle.line_streams.specs.Spelling.{EndsNumber, IsDigit}
 
 pub cons_same : {A : Type 0} {x y : A} {xs ys : List A} → x ∷ xs ≡ y ∷ ys → (x ≡ y) × (xs ≡ ys)
 cons_same e = (cc, cc)
-
--- the same front comes off
-pub cancel : (ws x y : List ℕ) → ws ++ x ≡ ws ++ y → x ≡ y
-cancel [] x y e = e
-cancel (w ∷ ws) x y e = cancel ws x y (cons_same e).1
 
 -- digits write their number
 pub own : IsNumeralModel (AllDigits 10) (digits_value 10)

@@ -1,11 +1,10 @@
 -- No two values of a phrase have one text.
 use Rattle.std.proofs.Common.{◌≡◌, ℕ, List, [], ◌∷◌, sym, refl, ◌∙◌, ap}
-use Rattle.either.specs.declared.Either.{Either}
-use Rattle.either.specs.declared.Either.TheVariants.{Left, Right}
+use Rattle.std.proofs.lemmas.List.{append_cancel_left}
 use Rattle.line_streams.specs.declared.end.LineEnd.{LineEnd}
 use Rattle.line_streams.specs.declared.end.LineEnd.TheVariants.{Newline, Bytes}
-use Rattle.line_streams.specs.Spelling.{Spelling, OneWay, OthersFit, others_text, number, line_end, ended, sequence, after, choice, listed}
-use Rattle.line_streams.specs.Numerals.{cancel, cons_same, same_number}
+use Rattle.line_streams.specs.Spelling.{Spelling, OneWay, OthersFit, others_text, number, line_end, ended, sequence, after, listed}
+use Rattle.line_streams.specs.Numerals.{cons_same, same_number}
 
 pub number_one : (most : ℕ) → OneWay (number most)
 number_one most = record { same = λ a b p q e. same_number a.0 b.0 a.1 b.1 p.1 q.1 p.2 q.2 e }
@@ -15,43 +14,27 @@ line_end_one Newline = record { same = λ a b p q e. (refl, (cons_same e).1) }
 line_end_one Bytes = record { same = λ a b p q e. (refl, e) }
 
 pub ended_one : {A : Type 0} {P : Spelling A} → OneWay P → (end : LineEnd) → OneWay (ended P end)
-ended_one {A} {P} one end = record { same = same }
-  where
-    same : (a b : A × List ℕ) → (ended P end).Fits a → (ended P end).Fits b
-        → (ended P end).text a ≡ (ended P end).text b → (a.0 ≡ b.0) × (a.1 ≡ b.1)
-    same a b p q e =
-        let over = line_end end in
-        let first =
-        one.same (a.0, over.text (tt, a.1)) (b.0, over.text (tt, b.1)) p.0 q.0 e in
-        (first.0, ((line_end_one end).same (tt, a.1) (tt, b.1) p.1 q.1 first.1).1)
+ended_one one end = record {
+  same = λ a b p q e.
+      let over = line_end end in
+      let first = one.same (a.0, over.text (tt, a.1)) (b.0, over.text (tt, b.1)) p.0 q.0 e in
+      (first.0, ((line_end_one end).same (tt, a.1) (tt, b.1) p.1 q.1 first.1).1);
+}
 
 pub sequence_one : {A B : Type 0} {P : Spelling A} {Q : Spelling B} → OneWay P → OneWay Q
     → OneWay (sequence P Q)
-sequence_one {A} {B} {P} {Q} one other = record { same = same }
-  where
-    same : (a b : (A × B) × List ℕ) → (sequence P Q).Fits a → (sequence P Q).Fits b
-        → (sequence P Q).text a ≡ (sequence P Q).text b → (a.0 ≡ b.0) × (a.1 ≡ b.1)
-    same a b p q e =
-        let first = one.same (a.0.0, Q.text (a.0.1, a.1)) (b.0.0, Q.text (b.0.1, b.1)) p.0 q.0 e in
-        let second = other.same (a.0.1, a.1) (b.0.1, b.1) p.1 q.1 first.1 in
-        (ap (λ v. (v, a.0.1)) first.0 ∙ ap (λ w. (b.0.0, w)) second.0, second.1)
+sequence_one {P} {Q} one other = record {
+  same = λ a b p q e.
+      let first = one.same (a.0.0, Q.text (a.0.1, a.1)) (b.0.0, Q.text (b.0.1, b.1)) p.0 q.0 e in
+      let second = other.same (a.0.1, a.1) (b.0.1, b.1) p.1 q.1 first.1 in
+      (ap (λ v. (v, a.0.1)) first.0 ∙ ap (λ w. (b.0.0, w)) second.0, second.1);
+}
 
 pub after_one : {A : Type 0} (word : List ℕ) {P : Spelling A} → OneWay P → OneWay (after word P)
 after_one word {P} one =
-    record { same = λ a b p q e. one.same a b p q (cancel word (P.text a) (P.text b) e) }
-
-pub choice_one : {A B : Type 0} (word : List ℕ) {P : Spelling A} {Q : Spelling B} → OneWay P
-    → OneWay Q → OneWay (choice word P Q)
-choice_one {A} {B} word {P} {Q} one other = record { same = same }
-  where
-    same : (a b : Either A B × List ℕ) → (choice word P Q).Fits a → (choice word P Q).Fits b
-        → (choice word P Q).text a ≡ (choice word P Q).text b → (a.0 ≡ b.0) × (a.1 ≡ b.1)
-    same (Left v, x) (Left w, y) p q e =
-        let both = (after_one word one).same (v, x) (w, y) p q e in (ap Left both.0, both.1)
-    same (Left v, x) (Right w, y) p q e = absurd (q.0 _ (sym e))
-    same (Right v, x) (Left w, y) p q e = absurd (p.0 _ e)
-    same (Right v, x) (Right w, y) p q e =
-        let both = other.same (v, x) (w, y) p.1 q.1 e in (ap Right both.0, both.1)
+    record {
+      same = λ a b p q e. one.same a b p q (append_cancel_left word (P.text a) (P.text b) e);
+    }
 
 others_one : {A : Type 0} (byte : ℕ) {P : Spelling A} → OneWay P → (vs ws : List A) (x y : List ℕ)
     → OthersFit byte P vs x → OthersFit byte P ws y
@@ -75,4 +58,5 @@ listed_one {A} word byte {P} one = record { same = same }
     same ([], x) (w ∷ ws, y) p q e = absurd (p _ e)
     same (v ∷ vs, x) ([], y) p q e = absurd (q _ (sym e))
     same (v ∷ vs, x) (w ∷ ws, y) p q e =
-        others_one byte one (v ∷ vs) (w ∷ ws) x y p q (ap (λ l. byte ∷ l) (cancel word _ _ e))
+        let both = ap (λ l. byte ∷ l) (append_cancel_left word _ _ e) in
+        others_one byte one (v ∷ vs) (w ∷ ws) x y p q both

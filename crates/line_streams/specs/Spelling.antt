@@ -2,8 +2,6 @@
 use Rattle.std.specs.Prelude.{◌≡◌, ◌≢◌, ℕ, ◌≤◌, ◌<◌, ◌^◌, List, [], ◌∷◌, ◌++◌, get_or, Option, Some, None}
 use Rattle.std.specs.Fmt.{decimal}
 use Rattle.std.specs.Int.{IsInRange}
-use Rattle.either.specs.declared.Either.{Either}
-use Rattle.either.specs.declared.Either.TheVariants.{Left, Right}
 use Rattle.line_streams.specs.declared.end.LineEnd.{LineEnd}
 use Rattle.line_streams.specs.declared.end.LineEnd.TheVariants.{Newline, Bytes}
 
@@ -66,18 +64,6 @@ after word P = record { Fits = P.Fits; text = λ front. word ++ P.text front }
 -- the bytes do not begin so
 abbrev pub Lacks : List ℕ → List ℕ → Type 0
 Lacks word bytes = (rest : List ℕ) → bytes ≢ word ++ rest
-
--- the one after a word, or the other where the text does not begin with that word
-abbrev pub choice : {A B : Type 0} → List ℕ → Spelling A → Spelling B → Spelling (Either A B)
-choice {A} {B} word P Q = record { Fits = fits; text = text }
-  where
-    fits : Either A B × List ℕ → Type 0
-    fits (Left v, rest) = P.Fits (v, rest)
-    fits (Right w, rest) = Lacks word (Q.text (w, rest)) × Q.Fits (w, rest)
-
-    text : Either A B × List ℕ → List ℕ
-    text (Left v, rest) = word ++ P.text (v, rest)
-    text (Right w, rest) = Q.text (w, rest)
 
 -- the others of a list, each after a byte
 abbrev pub others_text : {A : Type 0} → ℕ → Spelling A → List A → List ℕ → List ℕ

@@ -1,16 +1,14 @@
 -- What stays at the front of a list that grows.
-use Rattle.std.proofs.Common.{◌≡◌, ℕ, List, [], ◌∷◌, ◌++◌, length, take, ◌∙◌, ap, arith, refl}
+use Rattle.std.proofs.Common.{◌≡◌, ℕ, List, ◌++◌, length, take, drop, sym, ◌∙◌, ap, append_assoc}
 use Rattle.std.proofs.Math.Seq.{take-append_seam}
+use Rattle.std.proofs.lemmas.List.{take-append-drop}
 
-short_take : (a b x : List ℕ) → take (length (a ++ b)) x ≡ a ++ b
-    → take (length a) x ≡ take (length a) (a ++ b)
-short_take [] b x e = refl
-short_take (y ∷ a) b [] e = let bad = ap (length {A = ℕ}) e in absurd (omega arith)
-short_take (y ∷ a) b (z ∷ x) e =
-    let head : z ≡ y = (cc) in
-    let tail : take (length (a ++ b)) x ≡ a ++ b = (cc) in
-    rw head (ap (λ (l : List ℕ). y ∷ l) (short_take a b x tail))
-
--- where the longer front stays, the shorter does
-pub front_stays : (a b x : List ℕ) → take (length (a ++ b)) x ≡ a ++ b → take (length a) x ≡ a
-front_stays a b x e = short_take a b x e ∙ take-append_seam a b
+-- where a longer front stays, a shorter one does
+pub front_stays : (a b front x : List ℕ) → front ≡ a ++ b → take (length front) x ≡ front
+    → take (length a) x ≡ a
+front_stays a b front x is e =
+    let rest = drop (length front) x in
+    let whole : x ≡ a ++ (b ++ rest) =
+    sym (take-append-drop (length front) x) ∙ ap (λ (l : List ℕ). l ++ rest) (e ∙ is)
+    ∙ append_assoc a b rest in
+    rw whole (take-append_seam a (b ++ rest))

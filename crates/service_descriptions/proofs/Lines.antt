@@ -1,90 +1,101 @@
 -- Command lines, as their phrases spell them.
-use Rattle.std.proofs.Common.{◌≡◌, ◌≢◌, ℕ, List, [], ◌∷◌, ◌++◌, Some, Vec, arith, refl, sym, ◌∙◌, ap, subst, append_assoc, codes, map}
+use Rattle.std.proofs.Common.{◌≡◌, ◌≢◌, ℕ, ◌<◌, ◌^◌, List, [], ◌∷◌, ◌++◌, Some, Vec, arith, refl, sym, ◌∙◌, ap, subst, append_assoc, codes, map, get_or}
+use Rattle.std.specs.Prelude.{◌==◌, if◌then◌else◌}
 use Rattle.std.specs.declared.alloc.Global.{Global}
 use Rattle.std.specs.List.{AllByRecursion, join_with_byte}
-use Rattle.either.specs.declared.Either.{Either}
-use Rattle.either.specs.declared.Either.TheVariants.{Left, Right}
-use Rattle.iox2_container.specs.declared.container.role.Role.{Role}
 use Rattle.iox2_dynamic.specs.declared.dynamic_config.port_details.PortDetails.{PortDetails}
 use Rattle.line_streams.specs.declared.end.LineEnd.{LineEnd}
 use Rattle.line_streams.specs.declared.end.LineEnd.TheVariants.{Newline, Bytes}
-use Rattle.line_streams.proofs.Choices.{Nowhere, no_other, lacks}
+use Rattle.line_streams.proofs.Words.{Nowhere, no_after}
 use Rattle.line_streams.specs.Numerals.{cons_same}
-use Rattle.line_streams.specs.OneWay.{number_one, line_end_one, ended_one, after_one, choice_one}
-use Rattle.line_streams.specs.Spelling.{Spelling, OneWay, Reads, Lacks, EndsNumber, OthersFit, others_text, number, line_end, ended, after, choice, listed}
+use Rattle.line_streams.specs.OneWay.{number_one, line_end_one, ended_one, after_one}
+use Rattle.line_streams.specs.Spelling.{Spelling, OneWay, Reads, Lacks, EndsNumber, OthersFit, others_text, number, line_end, ended, after, listed}
 use Rattle.service_descriptions.specs.declared.replay.machine.command.Cleanup.TheVariants.{ByPort}
 use Rattle.service_descriptions.specs.declared.replay.machine.command.Command.{Command}
 use Rattle.service_descriptions.specs.declared.replay.machine.command.Command.TheVariants as command
 use Rattle.service_descriptions.specs.Lines.{id_text, IsId, line_of, line_text, HasLine, IsLine, SameCommand, skip_words}
 use Rattle.service_descriptions.specs.OneWay.{dead_one, node_id_one, role_one, port_one}
-use Rattle.service_descriptions.specs.Phrases.{id_phrase, node_id_phrase, dead_phrase, role_phrase, port_phrase, three_phrase, spelled_of}
+use Rattle.service_descriptions.specs.Phrases.{id_phrase, dead_phrase, three_phrase, spelled_of}
 
--- the phrases of commands, from each word on, and what they see
-abbrev pub earlier_phrase : Spelling ℕ
-earlier_phrase = number 18446744073709551615
+-- a number of 64 bits
+abbrev pub any_number : Spelling ℕ
+any_number = number 18446744073709551615
+
+pub any_one : OneWay any_number
+any_one = number_one 18446744073709551615
+
+pub any_fits : (n : ℕ) (rest : List ℕ) → n < 2 ^ 64 → EndsNumber rest → any_number.Fits (n, rest)
+any_fits n rest small ends = (omega (arith, small), small, ends)
+
+-- the commands that have a line
+pub data Kind : Type 0 where
+  RegisterLine : Kind
+  DeregisterLine : Kind
+  NodesLine : Kind
+  AddLine : Kind
+  ReleaseLine : Kind
+  ListLine : Kind
+  CountLine : Kind
+  DeadLine : Kind
+
+-- the word of a line, and the phrase that follows it
+pub record Form : Type 1 where
+  pub Seen : Type 0
+  pub word : List ℕ
+  pub phrase : LineEnd → Spelling Seen
+  pub one : (end : LineEnd) → OneWay (phrase end)
+
+abbrev of : {A : Type 0} {P : Spelling A} → List ℕ → OneWay P → Form
+of {A} {P} word one = record {
+  Seen = A;
+  word = word;
+  phrase = ended P;
+  one = ended_one one;
+}
+
+abbrev pub form : Kind → Form
+form RegisterLine = of (codes "register ") node_id_one
+form DeregisterLine = of (codes "deregister ") any_one
+form NodesLine = record {
+  Seen = Unit {0};
+  word = codes "nodes";
+  phrase = line_end;
+  one = line_end_one;
+}
+form AddLine = of (codes "add ") port_one
+form ReleaseLine = of (codes "release ") any_one
+form ListLine = of (codes "list ") role_one
+form CountLine = of (codes "count ") role_one
+form DeadLine = of (codes "dead ") dead_one
+
+-- which of them a command is
+abbrev kind_of : Command → Kind
+kind_of (command.Register id) = RegisterLine
+kind_of (command.Deregister k) = DeregisterLine
+kind_of (command.Add d) = AddLine
+kind_of (command.Release k) = ReleaseLine
+kind_of (command.List r) = ListLine
+kind_of (command.Count r) = CountLine
+kind_of (command.Dead id (ByPort kept)) = DeadLine
+kind_of _ = NodesLine
+
+-- what its phrase sees of it
+abbrev seen : (c : Command) → (form (kind_of c)).Seen
+seen (command.Register id) = id
+seen (command.Deregister k) = k
+seen (command.Add d) = d
+seen (command.Release k) = k
+seen (command.List r) = r
+seen (command.Count r) = r
+seen (command.Dead id (ByPort kept)) = (id, kept.items)
+seen _ = tt
+
+-- a line of a kind: its word, and what follows it
+abbrev line : LineEnd → (k : Kind) → Spelling (form k).Seen
+line end k = after (form k).word ((form k).phrase end)
 
 abbrev kept_phrase : Spelling (List ℕ)
 kept_phrase = listed (codes " skip ") 32 id_phrase
-
-abbrev Questions : Type 0
-Questions = Either Role (Either Role (Either (Unit {0}) (ℕ × List ℕ)))
-
-abbrev Ports : Type 0
-Ports = Either PortDetails (Either ℕ Questions)
-
-abbrev pub Seen : Type 0
-Seen = Either ℕ (Either ℕ Ports)
-
-abbrev pub from_dead : LineEnd → Spelling (ℕ × List ℕ)
-from_dead end = after (codes "dead ") (ended dead_phrase end)
-
-abbrev pub from_nodes : LineEnd → Spelling (Either (Unit {0}) (ℕ × List ℕ))
-from_nodes end = choice (codes "nodes") (line_end end) (from_dead end)
-
-abbrev pub from_count : LineEnd → Spelling (Either Role (Either (Unit {0}) (ℕ × List ℕ)))
-from_count end = choice (codes "count ") (ended role_phrase end) (from_nodes end)
-
-abbrev pub from_list : LineEnd → Spelling Questions
-from_list end = choice (codes "list ") (ended role_phrase end) (from_count end)
-
-abbrev pub from_release : LineEnd → Spelling (Either ℕ Questions)
-from_release end = choice (codes "release ") (ended earlier_phrase end) (from_list end)
-
-abbrev pub from_add : LineEnd → Spelling Ports
-from_add end = choice (codes "add ") (ended port_phrase end) (from_release end)
-
-abbrev pub from_deregister : LineEnd → Spelling (Either ℕ Ports)
-from_deregister end = choice (codes "deregister ") (ended earlier_phrase end) (from_add end)
-
-abbrev pub commands : LineEnd → Spelling Seen
-commands end = choice (codes "register ") (ended node_id_phrase end) (from_deregister end)
-
-commands_one : (end : LineEnd) → OneWay (commands end)
-commands_one end =
-    let one = number_one 18446744073709551615 in
-    choice_one (codes "register ") (ended_one node_id_one end)
-    (choice_one (codes "deregister ") (ended_one one end)
-    (choice_one (codes "add ") (ended_one port_one end)
-    (choice_one (codes "release ") (ended_one one end)
-    (choice_one (codes "list ") (ended_one role_one end)
-    (choice_one (codes "count ") (ended_one role_one end)
-    (choice_one (codes "nodes") (line_end_one end)
-    (after_one (codes "dead ") (ended_one dead_one end))))))))
-
--- what they see of a dead node and of the ports that stay
-abbrev dead : ℕ → List ℕ → Seen
-dead node ports = Right (Right (Right (Right (Right (Right (Right (node, ports)))))))
-
--- what they see of a command
-abbrev pub seen : Command → Seen
-seen (command.Register id) = Left id
-seen (command.Deregister k) = Right (Left k)
-seen (command.Add d) = Right (Right (Left d))
-seen (command.Release k) = Right (Right (Right (Left k)))
-seen (command.List r) = Right (Right (Right (Right (Left r))))
-seen (command.Count r) = Right (Right (Right (Right (Right (Left r)))))
-seen (command.Dead id (ByPort kept)) = dead id kept.items
-seen _ = Right (Right (Right (Right (Right (Right (Left tt))))))
 
 -- what follows the name of a port
 join_ports : (word : List ℕ) (ports rest : List ℕ)
@@ -109,9 +120,9 @@ add_text : (d : PortDetails) (rest : List ℕ)
     → line_of (command.Add d) ++ rest ≡ codes "add " ++ three_phrase.text (spelled_of d, rest)
 add_text d rest = simp append_assoc
 
--- their text is the line
-pub is_line_text : (end : LineEnd) (c : Command) (rest : List ℕ) → HasLine c
-    → line_text end (c, rest) ≡ (commands end).text (seen c, rest)
+-- the line of a command is one of its kind
+is_line_text : (end : LineEnd) (c : Command) (rest : List ℕ) → HasLine c
+    → line_text end (c, rest) ≡ (line end (kind_of c)).text (seen c, rest)
 is_line_text end (command.Register id) rest p = refl
 is_line_text end (command.Deregister k) rest p = refl
 is_line_text end command.Nodes rest p = refl
@@ -149,117 +160,57 @@ kept_fit [] rest p ends none = (λ tail e. none (codes "skip " ++ tail) e, ends)
 kept_fit (port ∷ ports) rest p ends none =
     ((others_fit (port ∷ ports) rest p ends none).0, (λ digit. omega arith))
 
--- each command with a line is spelled by them
-pub fit : (end : LineEnd) (c : Command) (rest : List ℕ) → IsLine end (c, rest)
-    → (commands end).Fits (seen c, rest)
+-- each command with a line is spelled by its phrase
+fit : (end : LineEnd) (c : Command) (rest : List ℕ) → IsLine end (c, rest)
+    → (line end (kind_of c)).Fits (seen c, rest)
 fit end (command.Register id) rest p = ((p.0, end_ends end rest p.1), p.1)
 fit end (command.Deregister k) rest p =
-    let fits = p.0 in
-    (lacks (codes "register ") _ refl, ((omega (arith, fits), fits, end_ends end rest p.1), p.1))
-fit end (command.Add d) rest p = (
-  lacks (codes "register ") _ refl,
-  (lacks (codes "deregister ") _ refl, ((p.0, end_ends end rest p.1), p.1)),
-)
+    let ends = end_ends end rest p.1 in
+    (any_fits k ((line_end end).text (tt, rest)) p.0 ends, p.1)
+fit end (command.Add d) rest p = ((p.0, end_ends end rest p.1), p.1)
 fit end (command.Release k) rest p =
-    let fits = p.0 in (
-      lacks (codes "register ") _ refl,
-      (
-        lacks (codes "deregister ") _ refl,
-        (lacks (codes "add ") _ refl, ((omega (arith, fits), fits, end_ends end rest p.1), p.1)),
-      ),
-    )
-fit end (command.List r) rest p = (
-  lacks (codes "register ") _ refl,
-  (
-    lacks (codes "deregister ") _ refl,
-    (lacks (codes "add ") _ refl, (lacks (codes "release ") _ refl, p)),
-  ),
-)
-fit end (command.Count r) rest p = (
-  lacks (codes "register ") _ refl,
-  (
-    lacks (codes "deregister ") _ refl,
-    (
-      lacks (codes "add ") _ refl,
-      (lacks (codes "release ") _ refl, (lacks (codes "list ") _ refl, p)),
-    ),
-  ),
-)
-fit end command.Nodes rest p = (
-  lacks (codes "register ") _ refl,
-  (
-    lacks (codes "deregister ") _ refl,
-    (
-      lacks (codes "add ") _ refl,
-      (
-        lacks (codes "release ") _ refl,
-        (lacks (codes "list ") _ refl, (lacks (codes "count ") _ refl, p.1)),
-      ),
-    ),
-  ),
-)
+    let ends = end_ends end rest p.1 in
+    (any_fits k ((line_end end).text (tt, rest)) p.0 ends, p.1)
+fit end (command.List r) rest p = p
+fit end (command.Count r) rest p = p
+fit end command.Nodes rest p = p.1
 fit end (command.Dead id (ByPort kept)) rest p =
-    let ports = kept_fit kept.items _ p.0.1 (end_ends end rest p.1) (no_space end rest p.1) in (
-      lacks (codes "register ") _ refl,
-      (
-        lacks (codes "deregister ") _ refl,
-        (
-          lacks (codes "add ") _ refl,
-          (
-            lacks (codes "release ") _ refl,
-            (
-              lacks (codes "list ") _ refl,
-              (
-                lacks (codes "count ") _ refl,
-                (lacks (codes "nodes") _ refl, (((p.0.0, ports.1), ports.0), p.1)),
-              ),
-            ),
-          ),
-        ),
-      ),
-    )
+    let ports = kept_fit kept.items _ p.0.1 (end_ends end rest p.1) (no_space end rest p.1) in
+    (((p.0.0, ports.1), ports.0), p.1)
 fit end _ rest p = absurd p.0
 
--- where no phrase of a command begins the bytes, no command's line does
-pub no_line : (end : LineEnd) (bytes : List ℕ) → Nowhere (commands end) bytes
-    → (a : Command × List ℕ) → IsLine end a → bytes ≢ line_text end a
-no_line end bytes none a fits e =
-    none (seen a.0, a.1) (fit end a.0 a.1 fits) (e ∙ is_line_text end a.0 a.1 fits.0)
+-- what tells the words apart: their first or their third byte
+abbrev kind_by : List ℕ → Kind
+kind_by bytes =
+    if get_or bytes 0 0 == 97 then AddLine
+    else if get_or bytes 0 0 == 108 then ListLine
+    else if get_or bytes 0 0 == 99 then CountLine
+    else if get_or bytes 0 0 == 110 then NodesLine
+    else if get_or bytes 2 0 == 103 then RegisterLine
+    else if get_or bytes 2 0 == 108 then ReleaseLine
+    else if get_or bytes 2 0 == 114 then DeregisterLine
+    else DeadLine
 
-pub not_register : (end : LineEnd) (bytes : List ℕ) → Lacks (codes "register ") bytes
-    → Nowhere (from_deregister end) bytes → Nowhere (commands end) bytes
-not_register end bytes =
-    no_other (codes "register ") (ended node_id_phrase end) (from_deregister end) bytes
+kind_by_is : (k : Kind) (rest : List ℕ) → kind_by ((form k).word ++ rest) ≡ k
+kind_by_is RegisterLine rest = refl
+kind_by_is _ rest = refl
 
-pub not_deregister : (end : LineEnd) (bytes : List ℕ) → Lacks (codes "deregister ") bytes
-    → Nowhere (from_add end) bytes → Nowhere (from_deregister end) bytes
-not_deregister end bytes =
-    no_other (codes "deregister ") (ended earlier_phrase end) (from_add end) bytes
+-- no text has the words of two kinds
+one_kind : (k l : Kind) (x y : List ℕ) → (form k).word ++ x ≡ (form l).word ++ y → k ≡ l
+one_kind k l x y e = sym (kind_by_is k x) ∙ ap kind_by e ∙ kind_by_is l y
 
-pub not_add : (end : LineEnd) (bytes : List ℕ) → Lacks (codes "add ") bytes
-    → Nowhere (from_release end) bytes → Nowhere (from_add end) bytes
-not_add end bytes =
-    no_other (codes "add ") (ended port_phrase end) (from_release end) bytes
-
-pub not_release : (end : LineEnd) (bytes : List ℕ) → Lacks (codes "release ") bytes
-    → Nowhere (from_list end) bytes → Nowhere (from_release end) bytes
-not_release end bytes =
-    no_other (codes "release ") (ended earlier_phrase end) (from_list end) bytes
-
-pub not_list : (end : LineEnd) (bytes : List ℕ) → Lacks (codes "list ") bytes
-    → Nowhere (from_count end) bytes → Nowhere (from_list end) bytes
-not_list end bytes =
-    no_other (codes "list ") (ended role_phrase end) (from_count end) bytes
-
-pub not_count : (end : LineEnd) (bytes : List ℕ) → Lacks (codes "count ") bytes
-    → Nowhere (from_nodes end) bytes → Nowhere (from_count end) bytes
-not_count end bytes =
-    no_other (codes "count ") (ended role_phrase end) (from_nodes end) bytes
-
-pub not_nodes : (end : LineEnd) (bytes : List ℕ) → Lacks (codes "nodes") bytes
-    → Nowhere (from_dead end) bytes → Nowhere (from_nodes end) bytes
-not_nodes end bytes =
-    no_other (codes "nodes") (line_end end) (from_dead end) bytes
+-- where no phrase follows the word of its kind, no command's line begins the bytes
+pub no_line : (k : Kind) (end : LineEnd) (rest bytes : List ℕ) → bytes ≡ (form k).word ++ rest
+    → Nowhere ((form k).phrase end) rest → (a : Command × List ℕ) → IsLine end a
+    → bytes ≢ line_text end a
+no_line k end rest bytes is none a fits e =
+    let there : bytes ≡ (line end (kind_of a.0)).text (seen a.0, a.1) =
+    e ∙ is_line_text end a.0 a.1 fits.0 in
+    let same : k ≡ kind_of a.0 = one_kind k (kind_of a.0) rest _ (sym is ∙ there) in
+    let nowhere =
+    subst (λ (l : Kind). Nowhere (line end l) bytes) same
+    (no_after (form k).word ((form k).phrase end) rest bytes is none) in
+    nowhere (seen a.0, a.1) (fit end a.0 a.1 fits) there
 
 -- what was read as the words of a dead node is its line
 all_others : (ports rest : List ℕ) → OthersFit 32 id_phrase ports rest → AllByRecursion IsId ports
@@ -287,24 +238,43 @@ dead_found end node kept ports tail rest bytes e is read =
           ∙ sym (is_line_text end (command.Dead node (ByPort kept)) rest has),
     )
 
-same_seen : (c d : Command) → HasLine c → HasLine d → seen c ≡ seen d → SameCommand c d
-same_seen (command.Register a) (command.Register b) p q e = cc
-same_seen (command.Deregister j) (command.Deregister k) p q e = cc
-same_seen (command.Add c) (command.Add d) p q e = cc
-same_seen (command.Release j) (command.Release k) p q e = cc
-same_seen (command.List r) (command.List s) p q e = cc
-same_seen (command.Count r) (command.Count s) p q e = cc
-same_seen command.Nodes command.Nodes p q e = refl
-same_seen (command.Dead a (ByPort kept)) (command.Dead b (ByPort other)) p q e =
-    let both : ◌≡◌ {A = ℕ × List ℕ} (a, kept.items) (b, other.items) = cc in
-    (ap (λ p. p.0) both, ap (λ p. p.1) both)
-same_seen _ _ p q e = absurd (grind (arith, p, q, e))
+one : (end : LineEnd) (k : Kind) → OneWay (line end k)
+one end k = after_one (form k).word ((form k).one end)
+
+same_kind : (end : LineEnd) (c d : Command) (x y : List ℕ) → HasLine c → HasLine d
+    → kind_of c ≡ kind_of d → (line end (kind_of c)).Fits (seen c, x)
+    → (line end (kind_of d)).Fits (seen d, y)
+    → (line end (kind_of c)).text (seen c, x) ≡ (line end (kind_of d)).text (seen d, y)
+    → SameCommand c d × (x ≡ y)
+same_kind end (command.Register a) (command.Register b) x y f g k p q e =
+    let both = (one end RegisterLine).same (a, x) (b, y) p q e in
+    (ap command.Register both.0, both.1)
+same_kind end (command.Deregister a) (command.Deregister b) x y f g k p q e =
+    let both = (one end DeregisterLine).same (a, x) (b, y) p q e in
+    (ap command.Deregister both.0, both.1)
+same_kind end command.Nodes command.Nodes x y f g k p q e =
+    (refl, ((one end NodesLine).same (tt, x) (tt, y) p q e).1)
+same_kind end (command.Add a) (command.Add b) x y f g k p q e =
+    let both = (one end AddLine).same (a, x) (b, y) p q e in
+    (ap command.Add both.0, both.1)
+same_kind end (command.Release a) (command.Release b) x y f g k p q e =
+    let both = (one end ReleaseLine).same (a, x) (b, y) p q e in
+    (ap command.Release both.0, both.1)
+same_kind end (command.List a) (command.List b) x y f g k p q e =
+    let both = (one end ListLine).same (a, x) (b, y) p q e in
+    (ap command.List both.0, both.1)
+same_kind end (command.Count a) (command.Count b) x y f g k p q e =
+    let both = (one end CountLine).same (a, x) (b, y) p q e in
+    (ap command.Count both.0, both.1)
+same_kind end (command.Dead a (ByPort kept)) (command.Dead b (ByPort other)) x y f g k p q e =
+    let both = (one end DeadLine).same ((a, kept.items), x) ((b, other.items), y) p q e in
+    ((ap (λ p. p.0) both.0, ap (λ p. p.1) both.0), both.1)
+same_kind end _ _ x y f g k p q e = absurd (grind (arith, f, g, k))
 
 -- commands at the front of one text are the same, and so is what follows them
 pub same_command : (end : LineEnd) (a b : Command × List ℕ) → IsLine end a → IsLine end b
     → line_text end a ≡ line_text end b → SameCommand a.0 b.0 × (a.1 ≡ b.1)
 same_command end (c, x) (d, y) p q e =
-    let same =
-    (commands_one end).same (seen c, x) (seen d, y) (fit end c x p) (fit end d y q)
-    (sym (is_line_text end c x p.0) ∙ e ∙ is_line_text end d y q.0) in
-    (same_seen c d p.0 q.0 same.0, same.1)
+    let same = sym (is_line_text end c x p.0) ∙ e ∙ is_line_text end d y q.0 in
+    same_kind end c d x y p.0 q.0 (one_kind (kind_of c) (kind_of d) _ _ same) (fit end c x p)
+    (fit end d y q) same

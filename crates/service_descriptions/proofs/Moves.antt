@@ -65,36 +65,26 @@ tickets_rise old new n f s role.Server = f.used
 tickets_rise old new n f s role.Reader = f.used
 tickets_rise old new n f s _ = s.used
 
+moved : (old new : Service) (given : Option Handle) → Grows old.nodes.registry new.nodes.registry
+    → Grows old.ports.first.registry new.ports.first.registry
+    → Grows old.ports.second.registry new.ports.second.registry
+    → IfSome given (IsNext old new) → Moves old new given
+moved old new given n f s next =
+    record { number = n.service; tickets = tickets_rise old new n f s; next = next }
+
 still : (old new : Service) → new ≡ old → Moves old new None
-still old new e = record {
-  number = ap (λ s. s.nodes.registry.service) e;
-  tickets = tickets_rise old new (grows_same _ _ (ap (λ s. s.nodes.registry) e))
-      (grows_same _ _ (ap (λ s. s.ports.first.registry) e))
-      (grows_same _ _ (ap (λ s. s.ports.second.registry) e));
-  next = tt;
-}
+still old new e =
+    moved old new None (grows_same _ _ (ap (λ s. s.nodes.registry) e))
+    (grows_same _ _ (ap (λ s. s.ports.first.registry) e))
+    (grows_same _ _ (ap (λ s. s.ports.second.registry) e)) tt
 
 -- only the nodes change
 by_nodes : (old new : Service) (given : Option Handle) → new ≡ record old { nodes = new.nodes }
     → Grows old.nodes.registry new.nodes.registry → IfSome given (IsNext old new)
     → Moves old new given
-by_nodes old new given e g next = record {
-  number = g.service;
-  tickets = tickets_rise old new g (grows_same _ _ (ap (λ s. s.ports.first.registry) e))
-      (grows_same _ _ (ap (λ s. s.ports.second.registry) e));
-  next = next;
-}
-
--- only the ports change
-by_ports : (old new : Service) (given : Option Handle) → new ≡ record old { ports = new.ports }
-    → Grows old.ports.first.registry new.ports.first.registry
-    → Grows old.ports.second.registry new.ports.second.registry
-    → IfSome given (IsNext old new) → Moves old new given
-by_ports old new given e f s next = record {
-  number = ap (λ s. s.nodes.registry.service) e;
-  tickets = tickets_rise old new (grows_same _ _ (ap (λ s. s.nodes.registry) e)) f s;
-  next = next;
-}
+by_nodes old new given e g next =
+    moved old new given g (grows_same _ _ (ap (λ s. s.ports.first.registry) e))
+    (grows_same _ _ (ap (λ s. s.ports.second.registry) e)) next
 
 -- only the ports of one kind change
 by_side : (side : Side) (old new : Service) (given : Option Handle)
@@ -105,23 +95,21 @@ by_side : (side : Side) (old new : Service) (given : Option Handle)
     ≡ of_side (other_side side) old.ports.first old.ports.second
     → IfSome given (IsNext old new) → Moves old new given
 by_side First old new given e g others next =
-    by_ports old new given e g (grows_same _ _ (ap (λ c. c.registry) others)) next
+    moved old new given (grows_same _ _ (ap (λ s. s.nodes.registry) e)) g
+    (grows_same _ _ (ap (λ c. c.registry) others)) next
 by_side Second old new given e g others next =
-    by_ports old new given e (grows_same _ _ (ap (λ c. c.registry) others)) g next
+    moved old new given (grows_same _ _ (ap (λ s. s.nodes.registry) e))
+    (grows_same _ _ (ap (λ c. c.registry) others)) g next
 
 first_tickets : (s : Service) (k : PatternKind)
     → tickets_of s (first_role k) ≡ s.ports.first.registry.used
 first_tickets s kind.PublishSubscribe = refl
-first_tickets s kind.Event = refl
-first_tickets s kind.RequestResponse = refl
-first_tickets s kind.Blackboard = refl
+first_tickets s _ = refl
 
 second_tickets : (s : Service) (k : PatternKind)
     → tickets_of s (second_role k) ≡ s.ports.second.registry.used
 second_tickets s kind.PublishSubscribe = refl
-second_tickets s kind.Event = refl
-second_tickets s kind.RequestResponse = refl
-second_tickets s kind.Blackboard = refl
+second_tickets s _ = refl
 
 -- the next handle of a registry is that of its role
 next_of : {T : Type 0} (old new : Service) (before after : RegistryState T) (role : Role)
@@ -208,8 +196,7 @@ removes_port : (old : Service) (handle : Handle) (answer : Result ReleaseState C
 removes_port old handle answer new (inl a, e) =
     by_side a.side old new None e (grows_remove _ handle Default answer _ a.step.step) a.others tt
 removes_port old handle answer new (inr a, e) =
-    by_ports old new None e (grows_same _ _ (ap (λ p. p.first.registry) a.2))
-    (grows_same _ _ (ap (λ p. p.second.registry) a.2)) tt
+    still old new (e ∙ ap (λ p. record old { ports = p }) a.2)
 
 releases : (old : Service) (handle : Option Handle) (r : Reply) (new : Service)
     → ServesRelease old handle r new → Moves old new (handle_in r)
@@ -233,17 +220,12 @@ cleans_up : (old : Service) (dead : ℕ) (cleanup : Cleanup) (answer : Deregiste
 cleans_up old dead cleanup answer new (left, step) =
     let first = step.ports.1 in
     let second = step.ports.2 in
-    let nodes = nodes_grow dead (has_ports_of dead new.ports) old.nodes (state_of answer) new.nodes
-    step.nodes in
-    record {
-      number = nodes.service;
-      tickets = tickets_rise old new nodes
-          (grows_recover (is_of node_of dead) first.1.step.marked old.ports.first.registry Default
-          first.0 new.ports.first.registry first.1.step.recovers)
-          (grows_recover (is_of node_of dead) second.1.step.marked old.ports.second.registry Default
-          second.0 new.ports.second.registry second.1.step.recovers);
-      next = tt;
-    }
+    moved old new None
+    (nodes_grow dead (has_ports_of dead new.ports) old.nodes (state_of answer) new.nodes step.nodes)
+    (grows_recover (is_of node_of dead) first.1.step.marked old.ports.first.registry Default first.0
+    new.ports.first.registry first.1.step.recovers)
+    (grows_recover (is_of node_of dead) second.1.step.marked old.ports.second.registry Default
+    second.0 new.ports.second.registry second.1.step.recovers) tt
 
 dies : (old : Service) (dead : ℕ) (cleanup : Cleanup) (r : Reply) (new : Service)
     → ServesDead old dead cleanup r new → Moves old new (handle_in r)

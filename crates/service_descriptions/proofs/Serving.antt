@@ -29,9 +29,8 @@ is_given old new (Some h) n = n.given
 -- the next handle has a ticket of its own
 differs : (old new : Service) (given g : Option Handle) → IfSome given (IsNext old new)
     → IsGiven old g → Differ g given
-differs old new None None n k = tt
+differs old new given None n k = tt
 differs old new None (Some g) n k = tt
-differs old new (Some h) None n k = tt
 differs old new (Some h) (Some g) n k = λ e.
     let ticket : g.ticket ≡ h.ticket = ap (λ (x : Handle). x.ticket) e in
     let tickets : tickets_of old g.role ≡ tickets_of old h.role =

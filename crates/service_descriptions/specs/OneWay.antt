@@ -11,7 +11,8 @@ use Rattle.iox2_dynamic.specs.declared.dynamic_config.port_details.PortDetails.T
 use Rattle.iox2_dynamic.specs.Details.{role_of}
 use Rattle.iox2_ids.specs.Packing.{packed, process_of, seconds_of, nanoseconds_of, counter_of}
 use Rattle.line_streams.specs.Spelling.{OneWay, EndsNumber}
-use Rattle.line_streams.specs.Numerals.{cancel, cons_same}
+use Rattle.std.proofs.lemmas.List.{append_cancel_left}
+use Rattle.line_streams.specs.Numerals.{cons_same}
 use Rattle.line_streams.specs.OneWay.{number_one, sequence_one, after_one, listed_one}
 use Rattle.service_descriptions.specs.Lines.{id_text, IsId, role_word, IsPlain, plain}
 use Rattle.service_descriptions.specs.Phrases.{id_phrase, node_id_phrase, dead_phrase, parts_phrase, role_phrase, three_phrase, spelled_of, port_phrase, pattern_phrase}
@@ -47,15 +48,13 @@ parts_one =
     (sequence_one part (after_one (codes ".") part)))))
 
 pub id_one : OneWay id_phrase
-id_one = record { same = same }
-  where
-    same : (a b : ℕ × List ℕ) → id_phrase.Fits a → id_phrase.Fits b
-        → id_phrase.text a ≡ id_phrase.text b → (a.0 ≡ b.0) × (a.1 ≡ b.1)
-    same a b p q e =
-        let both =
-        parts_one.same (parts_of a.0, a.1) (parts_of b.0, b.1) (parts_fit a.0 a.1 p.0 p.1)
-        (parts_fit b.0 b.1 q.0 q.1) (sym (id_then a.0 a.1) ∙ e ∙ id_then b.0 b.1) in
-        (sym (whole a.0) ∙ ap made_of both.0 ∙ whole b.0, both.1)
+id_one = record {
+  same = λ a b p q e.
+      let both =
+      parts_one.same (parts_of a.0, a.1) (parts_of b.0, b.1) (parts_fit a.0 a.1 p.0 p.1)
+      (parts_fit b.0 b.1 q.0 q.1) (sym (id_then a.0 a.1) ∙ e ∙ id_then b.0 b.1) in
+      (sym (whole a.0) ∙ ap made_of both.0 ∙ whole b.0, both.1);
+}
 
 pub node_id_one : OneWay node_id_phrase
 node_id_one = record { same = λ a b p q e. id_one.same a b (p.0.0, p.1) (q.0.0, q.1) e }
@@ -76,34 +75,22 @@ role_by bytes =
     else role.Server
 
 role_by_is : (r : Role) (rest : List ℕ) → r ≢ role.Node → role_by (role_word r ++ rest) ≡ r
-role_by_is role.Publisher rest p = refl
-role_by_is role.Subscriber rest p = refl
-role_by_is role.Listener rest p = refl
-role_by_is role.Notifier rest p = refl
-role_by_is role.Server rest p = refl
-role_by_is role.Client rest p = refl
-role_by_is role.Reader rest p = refl
-role_by_is role.Writer rest p = refl
 role_by_is role.Node rest p = absurd (p refl)
+role_by_is _ rest p = refl
 
 pub role_one : OneWay role_phrase
-role_one = record { same = same }
-  where
-    same : (a b : Role × List ℕ) → role_phrase.Fits a → role_phrase.Fits b
-        → role_phrase.text a ≡ role_phrase.text b → (a.0 ≡ b.0) × (a.1 ≡ b.1)
-    same (r, x) (s, y) p q e =
-        let is : r ≡ s = sym (role_by_is r x p) ∙ ap role_by e ∙ role_by_is s y q in
-        (is, cancel (role_word s) x y (subst (λ t. role_word t ++ x ≡ role_word s ++ y) is e))
+role_one = record {
+  same = λ a b p q e.
+      let is : a.0 ≡ b.0 = sym (role_by_is a.0 a.1 p) ∙ ap role_by e ∙ role_by_is b.0 b.1 q in (
+        is,
+        append_cancel_left (role_word b.0) a.1 b.1
+            (subst (λ r. role_word r ++ a.1 ≡ role_word b.0 ++ b.1) is e),
+      );
+}
 
 role_no_node : (d : PortDetails) → role_of d ≢ role.Node
 role_no_node (of.Publisher d) e = (cc)
-role_no_node (of.Subscriber d) e = (cc)
-role_no_node (of.Listener d) e = (cc)
-role_no_node (of.Notifier d) e = (cc)
-role_no_node (of.Server d) e = (cc)
-role_no_node (of.Client d) e = (cc)
-role_no_node (of.Reader d) e = (cc)
-role_no_node (of.Writer d) e = (cc)
+role_no_node _ e = (cc)
 
 pub three_fit : (d : PortDetails) (rest : List ℕ) → IsPlain d → EndsNumber rest
     → three_phrase.Fits (spelled_of d, rest)
@@ -116,15 +103,13 @@ three_one =
     (after_one (codes " ") (sequence_one id_one (after_one (codes " ") node_id_one)))
 
 pub port_one : OneWay port_phrase
-port_one = record { same = same }
-  where
-    same : (a b : PortDetails × List ℕ) → port_phrase.Fits a → port_phrase.Fits b
-        → port_phrase.text a ≡ port_phrase.text b → (a.0 ≡ b.0) × (a.1 ≡ b.1)
-    same a b p q e =
-        let both =
-        three_one.same (spelled_of a.0, a.1) (spelled_of b.0, b.1) (three_fit a.0 a.1 p.0 p.1)
-        (three_fit b.0 b.1 q.0 q.1) e in
-        (p.0.others ∙ ap (λ t. plain t.0 t.1.0 t.1.1) both.0 ∙ sym q.0.others, both.1)
+port_one = record {
+  same = λ a b p q e.
+      let both =
+      three_one.same (spelled_of a.0, a.1) (spelled_of b.0, b.1) (three_fit a.0 a.1 p.0 p.1)
+      (three_fit b.0 b.1 q.0 q.1) e in
+      (p.0.others ∙ ap (λ t. plain t.0 t.1.0 t.1.1) both.0 ∙ sym q.0.others, both.1);
+}
 
 -- the pattern whose word begins with this byte
 abbrev pattern_by : ℕ → PatternKind
@@ -137,21 +122,16 @@ pattern_by first =
 pattern_by_is : (k : PatternKind) (rest : List ℕ)
     → pattern_by (get_or (pattern_word k ++ rest) 0 0) ≡ k
 pattern_by_is pattern.PublishSubscribe rest = refl
-pattern_by_is pattern.Event rest = refl
-pattern_by_is pattern.RequestResponse rest = refl
-pattern_by_is pattern.Blackboard rest = refl
+pattern_by_is _ rest = refl
 
 pub pattern_one : OneWay pattern_phrase
-pattern_one = record { same = same }
-  where
-    same : (a b : PatternKind × List ℕ) → pattern_phrase.Fits a → pattern_phrase.Fits b
-        → pattern_phrase.text a ≡ pattern_phrase.text b → (a.0 ≡ b.0) × (a.1 ≡ b.1)
-    same (k, x) (l, y) p q e =
-        let is : k ≡ l =
-        sym (pattern_by_is k (32 ∷ x)) ∙ ap (λ bytes. pattern_by (get_or bytes 0 0)) e
-        ∙ pattern_by_is l (32 ∷ y) in (
-          is,
-          (cons_same
-              (cancel (pattern_word l) (32 ∷ x) (32 ∷ y)
-              (subst (λ t. pattern_word t ++ 32 ∷ x ≡ pattern_word l ++ 32 ∷ y) is e))).1,
-        )
+pattern_one = record {
+  same = λ a b p q e.
+      let is : a.0 ≡ b.0 =
+      sym (pattern_by_is a.0 (32 ∷ a.1)) ∙ ap (λ bytes. pattern_by (get_or bytes 0 0)) e
+      ∙ pattern_by_is b.0 (32 ∷ b.1) in
+      let rest =
+      append_cancel_left (pattern_word b.0) (32 ∷ a.1) (32 ∷ b.1)
+      (subst (λ k. pattern_word k ++ 32 ∷ a.1 ≡ pattern_word b.0 ++ 32 ∷ b.1) is e) in
+      (is, (cons_same rest).1);
+}

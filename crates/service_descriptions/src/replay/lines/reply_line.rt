@@ -78,7 +78,8 @@ fn append_nodes(ids: &[UniqueNodeId], out: &mut Vec<u8>) -> Result<(), AllocErro
     out.extend_from_slice(b"\n")
 }
 
-/// Appends the line of a list of ports.
+/// Appends the line of a list of ports. It is not inlined, so that its loop has all registers.
+#[inline(never)]
 fn append_ports(ports: &[PortDetails], out: &mut Vec<u8>) -> Result<(), AllocError>
     ensures ok { OnOk result (out.new.items ≡ out.old.items
         ++ (codes "list" ++ flat_map port_word ports.now ++ 10 ∷ [])) }
@@ -134,8 +135,8 @@ fn append_fault(fault: &AttributeVerificationError, out: &mut Vec<u8>) -> Result
 /// Appends the line of a reply to a command that has a
 /// line, perhaps a part of it where memory is refused.
 #[inline(always)]
-fn append_reply(reply: &LineReply, out: &mut Vec<u8>) -> Result<(), AllocError>
-    ensures ok { OnOk result (out.new.items ≡ out.old.items ++ reply_line (reply_of reply.now)) }
+fn append_reply(reply: LineReply, out: &mut Vec<u8>) -> Result<(), AllocError>
+    ensures ok { OnOk result (out.new.items ≡ out.old.items ++ reply_line (reply_of reply)) }
     ensures err { OnErr result (take (vec_len out.old) out.new.items ≡ out.old.items) }
 {
     match reply {
@@ -151,9 +152,9 @@ fn append_reply(reply: &LineReply, out: &mut Vec<u8>) -> Result<(), AllocError>
         LineReply::Released => out.extend_from_slice(b"released\n"),
         LineReply::NotOwned => out.extend_from_slice(b"not-owned\n"),
         LineReply::NoHandle => out.extend_from_slice(b"no-handle\n"),
-        LineReply::Nodes(ids) => append_nodes(ids, out),
-        LineReply::Ports(ports) => append_ports(ports, out),
-        LineReply::Count(n) => append_number(b"count ", *n as u64, out),
+        LineReply::Nodes(ids) => append_nodes(&ids, out),
+        LineReply::Ports(ports) => append_ports(&ports, out),
+        LineReply::Count(n) => append_number(b"count ", n as u64, out),
         LineReply::WrongPattern => out.extend_from_slice(b"wrong-pattern\n"),
     }
 }
@@ -161,8 +162,8 @@ fn append_reply(reply: &LineReply, out: &mut Vec<u8>) -> Result<(), AllocError>
 /// Appends the line of a reply to a command that has a line.
 /// Where memory is refused, the bytes are left as they were.
 #[inline(always)]
-pub(super) fn write_line(reply: &LineReply, out: &mut Vec<u8>) -> Result<(), AllocError>
-    ensures ok { OnOk result (out.new.items ≡ out.old.items ++ reply_line (reply_of reply.now)) }
+pub(super) fn write_line(reply: LineReply, out: &mut Vec<u8>) -> Result<(), AllocError>
+    ensures ok { OnOk result (out.new.items ≡ out.old.items ++ reply_line (reply_of reply)) }
     ensures err { OnErr result (out.new.items ≡ out.old.items) }
 {
     let before = out.len();
@@ -179,19 +180,19 @@ fn append_line(reply: &Reply, out: &mut Vec<u8>) -> Result<(), AllocError>
     ensures err { OnErr result (take (vec_len out.old) out.new.items ≡ out.old.items) }
 {
     match reply {
-        Reply::Handle(handle) => append_reply(&LineReply::Handle(*handle), out),
-        Reply::Locked => append_reply(&LineReply::Locked, out),
-        Reply::Full => append_reply(&LineReply::Full, out),
-        Reply::NotRegistered => append_reply(&LineReply::NotRegistered, out),
-        Reply::HasOwners => append_reply(&LineReply::HasOwners, out),
-        Reply::NoMoreOwners => append_reply(&LineReply::NoMoreOwners, out),
-        Reply::PortsAttached => append_reply(&LineReply::PortsAttached, out),
-        Reply::Released => append_reply(&LineReply::Released, out),
-        Reply::NotOwned => append_reply(&LineReply::NotOwned, out),
-        Reply::NoHandle => append_reply(&LineReply::NoHandle, out),
+        Reply::Handle(handle) => append_reply(LineReply::Handle(*handle), out),
+        Reply::Locked => append_reply(LineReply::Locked, out),
+        Reply::Full => append_reply(LineReply::Full, out),
+        Reply::NotRegistered => append_reply(LineReply::NotRegistered, out),
+        Reply::HasOwners => append_reply(LineReply::HasOwners, out),
+        Reply::NoMoreOwners => append_reply(LineReply::NoMoreOwners, out),
+        Reply::PortsAttached => append_reply(LineReply::PortsAttached, out),
+        Reply::Released => append_reply(LineReply::Released, out),
+        Reply::NotOwned => append_reply(LineReply::NotOwned, out),
+        Reply::NoHandle => append_reply(LineReply::NoHandle, out),
         Reply::Nodes(ids) => append_nodes(ids, out),
         Reply::Ports(ports) => append_ports(ports, out),
-        Reply::Count(n) => append_reply(&LineReply::Count(*n), out),
+        Reply::Count(n) => append_reply(LineReply::Count(*n), out),
         Reply::Verified => out.extend_from_slice(b"verified\n"),
         Reply::Refused(fault) => append_fault(fault, out),
         Reply::Layout(room) => {
@@ -205,7 +206,7 @@ fn append_line(reply: &Reply, out: &mut Vec<u8>) -> Result<(), AllocError>
         Reply::Compatible(true) => out.extend_from_slice(b"compatible\n"),
         Reply::Compatible(false) => out.extend_from_slice(b"incompatible\n"),
         Reply::NoAlignments => out.extend_from_slice(b"no-alignments\n"),
-        Reply::WrongPattern => append_reply(&LineReply::WrongPattern, out),
+        Reply::WrongPattern => append_reply(LineReply::WrongPattern, out),
         Reply::NoDescription => out.extend_from_slice(b"no-description\n"),
     }
 }

@@ -65,7 +65,7 @@ fn run_line<'a>(
         return Ok(None);
     };
     let reply = state.serve_line(alloc, &command)?;
-    write_line(&reply, out)?;
+    write_line(reply, out)?;
     Ok(Some(rest))
 }
 

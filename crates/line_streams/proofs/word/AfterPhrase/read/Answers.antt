@@ -1,4 +1,4 @@
-use Rattle.line_streams.proofs.Choices.{no_after}
+use Rattle.line_streams.proofs.Words.{no_after}
 use Rattle.line_streams.proofs.word.AfterPhrase.read.Goals as goal
 
 pub returns-in_default-2-clause-read : goal.returns-in_default-2-clause-read
