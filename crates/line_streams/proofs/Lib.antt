@@ -3,3 +3,4 @@ pub mod Fronts
 pub mod Words
 pub mod Lists
 pub mod Choices
+pub mod Places

@@ -1,7 +1,8 @@
 -- Names that a service cannot have.
-use Rattle.std.proofs.Common.{◌≡◌, ℕ, List, [], ◌∷◌, ◌++◌, Bool, true, false, cond, codes, Err, MatchBool, refl, sym, ◌∙◌, ap, subst, arith, nat_eq}
+use Rattle.std.proofs.Common.{◌≡◌, ℕ, List, [], ◌∷◌, ◌++◌, Bool, true, false, cond, codes, Err, MatchBool, refl, sym, ◌∙◌, ap, subst, arith, nat_eq, IsTrue}
 use Rattle.std.specs.Prelude.{◌==◌}
 use Rattle.std.specs.List.{starts_with}
+use Rattle.std.proofs.lemmas.Bool.{false≢true}
 use Rattle.std.proofs.lemmas.List.{append_cancel_left}
 use Rattle.iox2_texts.specs.Name.{IsName, MakesServiceName, MakesPublicName}
 use Rattle.iox2_texts.specs.declared.service_name.ServiceNameError.{ServiceNameError}
@@ -11,7 +12,7 @@ use Rattle.iox2_config.specs.declared.hash.input.PatternKind.{PatternKind}
 use Rattle.iox2_config.specs.declared.hash.input.PatternKind.TheVariants.{PublishSubscribe, Event, RequestResponse, Blackboard}
 use Rattle.iox2_config.specs.declared.hash.service_hash.ServiceHashError.{ServiceHashError}
 use Rattle.iox2_config.specs.declared.hash.service_hash.ServiceHashError.TheVariants.{HasherFailed, IllegalText}
-use Rattle.service_drawing.specs.Lines.{IsLine, pattern_word, MayBeNamed, HasService}
+use Rattle.service_drawing.specs.Lines.{IsLine, pattern_word, MayBeNamed, IsInternal, HasService}
 use Rattle.service_drawing.proofs.Words.{line_one}
 
 abbrev pattern_at : List ℕ → PatternKind
@@ -43,6 +44,14 @@ pub of_the_line : (P : PatternKind → List ℕ → Type 0) (line : List ℕ) (k
 of_the_line P line k name e bad j m p is =
     let same = same_pattern j k m name (sym is ∙ e) in
     bad (subst (λ i. P i name) same.0 (subst (λ (x : List ℕ). P j x) same.1 p))
+
+-- a line without an internal name has none
+pub not_internal : (line : List ℕ) (k : PatternKind) (name : List ℕ)
+    → line ≡ pattern_word k ++ name → false ≡ starts_with nat_eq name (codes "iox2://")
+    → ¬ IsInternal line
+not_internal line k name e other s =
+    of_the_line (λ j n. IsTrue (starts_with nat_eq n (codes "iox2://"))) line k name e
+    (λ is. false≢true (other ∙ is)) s.0 s.1 s.3 s.2
 
 second : (b : Bool) (P Q : Type 0) → b ≡ false → MatchBool b P Q → Q
 second true P Q e h = cc

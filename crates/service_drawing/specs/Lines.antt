@@ -1,6 +1,6 @@
 -- How a description is spelled.
-use Rattle.std.specs.Prelude.{◌≡◌, ◌≢◌, ℕ, ◌<◌, ◌≤◌, ◌^◌, List, [], ◌∷◌, ◌++◌, ◌+◌, ◌⊎◌, codes, length, filter_map, Option, Some, None, IfSome, IsTrue, nat_eq}
-use Rattle.std.specs.List.{starts_with, All, AllPass}
+use Rattle.std.specs.Prelude.{◌≡◌, ℕ, ◌<◌, ◌≤◌, ◌^◌, List, [], ◌∷◌, ◌++◌, ◌+◌, ◌⊎◌, codes, length, filter_map, Option, Some, None, IfSome, IsTrue, nat_eq}
+use Rattle.std.specs.List.{starts_with, AllPass}
 use Rattle.std.specs.Int.{is_power_of_two}
 use Rattle.std.specs.Fmt.{decimal}
 use Rattle.iox2_texts.specs.Attribute.{IsListing}
@@ -16,6 +16,7 @@ use Rattle.iox2_config.specs.declared.hash.input.PatternKind.TheVariants.{Publis
 use Rattle.iox2_config.specs.declared.types.message_details.MessageTypeDetails.{MessageTypeDetails}
 use Rattle.iox2_config.specs.declared.types.type_detail.TypeVariant.{TypeVariant}
 use Rattle.iox2_config.specs.declared.types.type_detail.TypeVariant.TheVariants.{FixedSize, Dynamic}
+use Rattle.line_streams.specs.Spelling.{HasNo}
 use Rattle.service_drawing.specs.Causes.{is_plain}
 use Rattle.service_drawing.specs.declared.description.Exchange.{Exchange}
 use Rattle.service_drawing.specs.declared.description.Exchange.TheVariants as exchange
@@ -178,14 +179,10 @@ HasExchange RequestResponse x rest bytes =
 HasExchange Blackboard x rest bytes =
     (key : TypeDetailParts) × (x ≡ exchange.Blackboard key) × HasType (codes "key ") key rest bytes
 
--- the text has no space
-abbrev pub HasNoSpace : List ℕ → Type 0
-HasNoSpace text = All (λ b. b ≢ 32) text
-
 -- a line may give the key of an attribute: 1 to 64 bytes, none of which is a space
 pub record IsKey (key : List ℕ) : Type 0 where
   pub name : IsName 64 key
-  pub word : HasNoSpace key
+  pub word : HasNo 32 key
 
 -- a line may give the key and the value, of 1 to 256 bytes
 pub record IsPair (pair : Pair) : Type 0 where

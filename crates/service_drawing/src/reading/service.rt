@@ -1,31 +1,42 @@
 //! The first line.
-ghost use Rattle.std.specs.Prelude.{◌≡◌, ◌++◌, ℕ, List, IfOk, IfErr, MatchOption, MatchResult};
+ghost use Rattle.std.specs.Prelude.{◌≡◌, ◌++◌, ℕ, List, codes, nat_eq};
+ghost use Rattle.std.specs.Prelude.{IfOk, IfErr, MatchOption, MatchResult};
+ghost use Rattle.std.specs.List.{starts_with};
 ghost use Rattle.iox2_config.specs.declared.hash.input.PatternKind.{PatternKind};
 ghost use Rattle.service_drawing.specs.Lines.{pattern_word, IsHashed, MayBeNamed, HasService};
 ghost use Rattle.service_drawing.specs.Lines.{HasNoPattern, IsNoService};
 
 use super::cause::Reason;
 use super::expected::Expected;
-use super::words::{after_word, next_line};
+use super::words::next_line;
 use iox2_config::hash::{PatternKind, ServiceHash, Sha1Hasher};
-use iox2_texts::service_name::ServiceName;
+use iox2_texts::service_name::{INTERNAL_SERVICE_PREFIX, ServiceName};
+use line_streams::after_word;
+use std::str;
 
 /// The pattern that begins the line, and the name after it.
-fn pattern_in(line: &str) -> Option<(PatternKind, &str)>
+fn pattern_in(line: &[u8]) -> Option<(PatternKind, &[u8])>
     ensures { MatchOption result (HasNoPattern line.now)
         (λ found. line.now ≡ pattern_word found.0 ++ found.1.now) }
 {
-    if let Some(name) = after_word(line, "publish-subscribe ") {
+    if let Some(name) = after_word(line, b"publish-subscribe ") {
         Some((PatternKind::PublishSubscribe, name))
-    } else if let Some(name) = after_word(line, "event ") {
+    } else if let Some(name) = after_word(line, b"event ") {
         Some((PatternKind::Event, name))
-    } else if let Some(name) = after_word(line, "request-response ") {
+    } else if let Some(name) = after_word(line, b"request-response ") {
         Some((PatternKind::RequestResponse, name))
-    } else if let Some(name) = after_word(line, "blackboard ") {
+    } else if let Some(name) = after_word(line, b"blackboard ") {
         Some((PatternKind::Blackboard, name))
     } else {
         None
     }
+}
+
+/// Whether the name begins as those of internal services.
+fn is_internal(name: &[u8]) -> bool
+    ensures { result ≡ starts_with nat_eq name.now (codes "iox2://") }
+{
+    name.starts_with(INTERNAL_SERVICE_PREFIX.as_bytes())
 }
 
 /// What the first line says of a service.
@@ -37,7 +48,7 @@ pub(super) struct Service {
 }
 
 /// The service that a line spells, or why it spells none.
-fn service_in(line: &str) -> Result<Service, Reason>
+fn service_in(line: &[u8]) -> Result<Service, Reason>
     ensures spelled { IfOk result (λ service.
         line.now ≡ pattern_word service.kind ++ service.name) }
     ensures named { IfOk result (λ service. MayBeNamed service.kind service.name) }
@@ -49,10 +60,13 @@ fn service_in(line: &str) -> Result<Service, Reason>
     let Some((kind, name)) = pattern_in(line) else {
         return Err(Reason::OtherForm);
     };
-    if ServiceName::has_iox2_prefix(name) {
+    if is_internal(name) {
         return Err(Reason::InternalName);
     }
-    let Ok(name) = ServiceName::new(name) else {
+    let Ok(text) = str::from_utf8(name) else {
+        return Err(Reason::OtherForm);
+    };
+    let Ok(name) = ServiceName::new(text) else {
         return Err(Reason::OtherForm);
     };
     match ServiceHash::new::<Sha1Hasher>(&name, kind) {
