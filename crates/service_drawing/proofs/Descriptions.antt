@@ -3,14 +3,14 @@ use Rattle.std.proofs.Common.{◌≡◌, ◌==◌, ℕ, List, [], ◌∷◌, ◌
 use Rattle.std.proofs.lemmas.Bool.{eqb-true}
 use Rattle.std.proofs.lemmas.List.Sorted.{IsPermutation-refl}
 use Rattle.iox2_texts.specs.Attribute.{IsListing}
-use Rattle.iox2_config.specs.Hashing.{hash_input, sha1_text}
+use Rattle.iox2_config.specs.Hashing.{hash_input, pattern_word, sha1_text}
 use Rattle.iox2_texts.specs.Pair.{Pair}
 use Rattle.iox2_texts.specs.Verify.{Requirements}
 use Rattle.iox2_config.specs.declared.config.Config.{Config}
 use Rattle.iox2_config.specs.declared.hash.input.PatternKind.{PatternKind}
 use Rattle.iox2_config.specs.declared.hash.input.PatternKind.TheVariants as kind
 use Rattle.service_drawing.specs.Descriptions.{IsDescription, IsDescriptionOrNothing, StopsReading}
-use Rattle.service_drawing.specs.Lines.{IsLine, HasNoLine, HasSameLine, Whole, Begins, Stops, StopsAt, pattern_word, HasLinesOf, HasService, HasExchange, HasAttributes, HasRequirements, GivesPair, GivesRequirement}
+use Rattle.service_drawing.specs.Lines.{IsLine, HasNoLine, HasSameLine, Whole, Begins, Stops, StopsAt, HasLinesOf, HasService, HasExchange, HasAttributes, HasRequirements, GivesPair, GivesRequirement}
 use Rattle.service_drawing.specs.Settings.{HasSettings, HasConfiguration, GivesSetting}
 use Rattle.service_drawing.specs.declared.description.Exchange.{Exchange}
 use Rattle.service_drawing.specs.declared.settings.value.Value.{Value}
@@ -62,7 +62,7 @@ service_same j k m n x y bytes p q =
 service_moves : (k : PatternKind) (name rest bytes : List ℕ) → HasService k name rest bytes
     → IsPart None (HasService k name) rest bytes
 service_moves k name rest bytes h =
-    moves_as None (IsLine (pattern_word k ++ name)) (HasService k name) rest bytes
+    moves_as None (IsLine (pattern_word k ++ 32 ∷ name)) (HasService k name) rest bytes
     (λ r b l. record { line = l; named = h.named }) (line_moves _ rest bytes h.line)
 
 settings_rest : (names : List (List ℕ)) (defaults v w : List Value) (x y bytes : List ℕ)
@@ -216,7 +216,7 @@ no_service_here left bytes e none =
     like : (other : List ℕ) → HasSameLine other bytes → Begins HasLineOfService other
         → Begins HasLineOfService bytes
     like other same g =
-        let l = line_later [] other bytes (pattern_word g.0.0 ++ g.0.1) g.1 same g.2.line in
+        let l = line_later [] other bytes (pattern_word g.0.0 ++ 32 ∷ g.0.1) g.1 same g.2.line in
         (g.0, l.0, record { line = l.1; named = g.2.named })
 
 -- parts in turn make a description

@@ -13,7 +13,8 @@ before_later byte [] [] r y x lacks e = (x, refl)
 before_later byte [] (c ∷ p) r y x lacks e =
     let head : c ≡ byte = cc in
     (p ++ byte ∷ x, ap (λ h. h ∷ (p ++ byte ∷ x)) head)
-before_later byte (c ∷ s) [] r y x lacks e = let head : c ≡ byte = cc in absurd (All-head (λ b. b ≢ byte) c s lacks head)
+before_later byte (c ∷ s) [] r y x lacks e =
+    let head : c ≡ byte = cc in absurd (All-head (λ b. b ≢ byte) c s lacks head)
 before_later byte (c ∷ s) (d ∷ p) r y x lacks e =
     let head : d ≡ c = cc in
     let tail : p ++ byte ∷ y ≡ s ++ byte ∷ r = cc in

@@ -8,7 +8,7 @@ use Rattle.iox2_texts.specs.Name.{IsName}
 use Rattle.iox2_texts.specs.Pair.{Pair}
 use Rattle.iox2_texts.specs.Path.{IsRestrictedName}
 use Rattle.iox2_texts.specs.Verify.{Requirements}
-use Rattle.iox2_config.specs.Hashing.{hash_input, sha1_text}
+use Rattle.iox2_config.specs.Hashing.{hash_input, pattern_word, sha1_text}
 use Rattle.iox2_config.specs.TypeDetailParts.{TypeDetailParts}
 use Rattle.iox2_config.specs.TypeDetails.{IsTypeName}
 use Rattle.iox2_config.specs.declared.hash.input.PatternKind.{PatternKind}
@@ -255,13 +255,6 @@ pub record HasRequirements (required : Requirements) (rest bytes : List ℕ) : T
   pub pairs : IsListing (filter_map pair_of each) required.pairs
   pub keys : filter_map key_of each ≡ required.keys
 
--- the word for a pattern
-abbrev pub pattern_word : PatternKind → List ℕ
-pattern_word PublishSubscribe = codes "publish-subscribe "
-pattern_word Event = codes "event "
-pattern_word RequestResponse = codes "request-response "
-pattern_word Blackboard = codes "blackboard "
-
 -- a service of this pattern may have the name: 1 to 255 bytes, not that of
 -- an internal service, and its hash text is one that a service can have
 pub record MayBeNamed (kind : PatternKind) (text : List ℕ) : Type 0 where
@@ -271,7 +264,7 @@ pub record MayBeNamed (kind : PatternKind) (text : List ℕ) : Type 0 where
 
 -- the bytes begin with the line of a service
 pub record HasService (kind : PatternKind) (name rest bytes : List ℕ) : Type 0 where
-  pub line : IsLine (pattern_word kind ++ name) rest bytes
+  pub line : IsLine (pattern_word kind ++ 32 ∷ name) rest bytes
   pub named : MayBeNamed kind name
 
 -- the hash text is that of the pattern and the name
@@ -280,12 +273,12 @@ IsHashed s = s.hash ≡ sha1_text (hash_input s.kind s.name)
 
 -- no pattern begins the line
 abbrev pub HasNoPattern : List ℕ → Type 0
-HasNoPattern line = (kind : PatternKind) (name : List ℕ) → ¬ (line ≡ pattern_word kind ++ name)
+HasNoPattern line = (kind : PatternKind) (name : List ℕ) → ¬ (line ≡ pattern_word kind ++ 32 ∷ name)
 
 -- the line names a service as those of the system itself are named
 abbrev pub IsInternal : List ℕ → Type 0
 IsInternal line =
-    (kind : PatternKind) × (name : List ℕ) × (line ≡ pattern_word kind ++ name)
+    (kind : PatternKind) × (name : List ℕ) × (line ≡ pattern_word kind ++ 32 ∷ name)
     × IsTrue (starts_with nat_eq name (codes "iox2://"))
 
 -- for this reason the line spells no service: an internal name is reported wherever there is one
