@@ -2,3 +2,4 @@ pub mod Written
 pub mod Fronts
 pub mod Words
 pub mod Lists
+pub mod Places

@@ -1,5 +1,6 @@
 -- How phrases are spelled.
 use Rattle.std.specs.Prelude.{◌≡◌, ◌≢◌, ℕ, ◌≤◌, ◌<◌, ◌^◌, List, [], ◌∷◌, ◌++◌, get_or, Option, Some, None}
+use Rattle.std.specs.List.{All}
 use Rattle.std.specs.Fmt.{decimal}
 use Rattle.std.specs.Int.{IsInRange}
 use Rattle.line_streams.specs.declared.end.LineEnd.{LineEnd}
@@ -35,6 +36,17 @@ abbrev pub number : ℕ → Spelling ℕ
 number most = record {
   Fits = λ front. (front.0 ≤ most) × (front.0 < 2 ^ 64) × EndsNumber front.1;
   text = λ front. decimal front.0 ++ front.1;
+}
+
+-- the byte is not among them
+abbrev pub HasNo : ℕ → List ℕ → Type 0
+HasNo byte bytes = All (λ b. b ≢ byte) bytes
+
+-- what stands before a byte, and the byte
+abbrev pub before : ℕ → Spelling (List ℕ)
+before byte = record {
+  Fits = λ front. HasNo byte front.0;
+  text = λ front. front.0 ++ byte ∷ front.1;
 }
 
 -- what ends a line

@@ -11,7 +11,7 @@ mod word;
 
 pub use end::{Line, LineEnd};
 pub use list::Listed;
-pub use number::Number;
+pub use number::{Number, number_before};
 pub use phrase::{Phrase, Then};
 pub use streams::{read_all, write_whole};
-pub use word::{After, after_word};
+pub use word::{After, after_word, before_byte};

@@ -23,7 +23,7 @@ fn with_digit(value: u64, digit: u8, most: u64) -> Option<u64>
 /// The number that is spelled by all the digits at the front,
 /// unless it is greater than `most`, and what follows them.
 #[inline(always)]
-fn number_before(bytes: &[u8], most: u64) -> Option<(u64, &[u8])>
+pub fn number_before(bytes: &[u8], most: u64) -> Option<(u64, &[u8])>
     ensures { Reads (number most).Fits (number most).text
         (option_map (λ found. (found.0, found.1.now)) result) bytes.now }
 {

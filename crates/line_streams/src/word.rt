@@ -1,6 +1,9 @@
-//! Words, and what stands after them.
-ghost use Rattle.std.specs.Prelude.{◌≡◌, ◌≢◌, ℕ, ◌∷◌, ◌++◌, List, IfSome, IfNone};
-ghost use Rattle.line_streams.specs.Spelling.{after as after_it};
+//! Words, and what stands before a byte or after a word.
+ghost use Rattle.std.specs.Prelude.{◌≡◌, ◌≢◌, ◌==◌, ℕ, ◌∷◌, ◌++◌, List};
+ghost use Rattle.std.specs.Prelude.{IfSome, IfNone, MatchOption};
+ghost use Rattle.std.specs.List.{before_first, position};
+ghost use Rattle.std.specs.Option.{option_map};
+ghost use Rattle.line_streams.specs.Spelling.{HasNo, Reads, after as after_it, before};
 ghost use Rattle.line_streams.specs.OneWay.{after_one};
 
 use super::phrase::Phrase;
@@ -51,6 +54,27 @@ pub fn after_word<'a>(bytes: &'a [u8], word: &[u8]) -> Option<&'a [u8]>
         return None;
     }
     after_bytes(rest, more)
+}
+
+/// Where this byte stands first.
+fn place_of(bytes: &[u8], byte: u8) -> Option<usize>
+    ensures { result ≡ position (λ b. b == byte) bytes.now }
+{
+    bytes.iter().position(|b| *b == byte)
+}
+
+/// What stands before the first such byte, and what follows it.
+pub fn before_byte(bytes: &[u8], byte: u8) -> Option<(&[u8], &[u8])>
+    ensures read { Reads (before byte).Fits (before byte).text
+        (option_map (λ found. (found.0.now, found.1.now)) result) bytes.now }
+    ensures none { IfNone result (HasNo byte bytes.now) }
+    ensures first { MatchOption result (before_first (λ b. b == byte) bytes.now ≡ bytes.now)
+        (λ found. found.0.now ≡ before_first (λ b. b == byte) bytes.now) }
+{
+    match place_of(bytes, byte) {
+        Some(end) => Some((&bytes[..end], &bytes[end + 1..])),
+        None => None,
+    }
 }
 
 /// A phrase after a word.

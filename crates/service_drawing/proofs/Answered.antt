@@ -1,5 +1,6 @@
 -- What is answered, and what follows from a status.
 use Rattle.std.proofs.Common.{◌≡◌, ℕ, List, Option, Some, None, IfSome, Result, Ok, Err, IfOk, String, subst, sym, ap, ◌∙◌, arith}
+use Rattle.std.specs.Result.{IsErr, IsErrAnd, MatchResult}
 use Rattle.std.specs.declared.alloc.Global.{Global}
 use Rattle.service_drawing.specs.Descriptions.{StopsReading}
 use Rattle.service_drawing.specs.Streams.{status_of, TellsBadLine, Draws, Answers}
@@ -15,6 +16,12 @@ answered_at_zero (Ok text) P h e = h
 answered_at_zero (Err (BadLine line cause prefix form)) P h e = absurd (omega (arith, e))
 answered_at_zero (Err BadArgument) P h e = absurd (omega (arith, e))
 answered_at_zero (Err NoMemory) P h e = absurd (omega (arith, e))
+
+-- what is true of an error is true of it where it is handed on
+pub handed_on : {A E : Type 0} (Good : A → Type 0) (Bad : E → Type 0) (r : Result A E) (why : E)
+    → IsErr r × IsErrAnd r (λ e. e ≡ why) → Bad why → MatchResult r Good Bad
+handed_on Good Bad (Ok x) why h bad = absurd h.1
+handed_on Good Bad (Err e) why h bad = subst Bad (sym h.1) bad
 
 -- what is answered to this request
 pub answers_for : (given : Option (List ℕ)) (asked : Result Asked Fault) (field expected : Asked)

@@ -3,15 +3,16 @@ use Rattle.std.proofs.Common.{◌≡◌, ◌==◌, ℕ, List, [], ◌∷◌, ◌
 use Rattle.std.proofs.lemmas.Bool.{eqb-true}
 use Rattle.std.proofs.lemmas.List.Sorted.{IsPermutation-refl}
 use Rattle.iox2_texts.specs.Attribute.{IsListing}
-use Rattle.iox2_config.specs.Hashing.{hash_input, sha1_text}
+use Rattle.iox2_config.specs.Defaults.{IsDefaultConfig, IsDefaultGlobal, default_defaults}
+use Rattle.iox2_config.specs.Hashing.{hash_input, pattern_word, sha1_text}
 use Rattle.iox2_texts.specs.Pair.{Pair}
 use Rattle.iox2_texts.specs.Verify.{Requirements}
 use Rattle.iox2_config.specs.declared.config.Config.{Config}
 use Rattle.iox2_config.specs.declared.hash.input.PatternKind.{PatternKind}
 use Rattle.iox2_config.specs.declared.hash.input.PatternKind.TheVariants as kind
 use Rattle.service_drawing.specs.Descriptions.{IsDescription, IsDescriptionOrNothing, StopsReading}
-use Rattle.service_drawing.specs.Lines.{IsLine, HasNoLine, HasSameLine, Whole, Begins, Stops, StopsAt, pattern_word, HasLinesOf, HasService, HasExchange, HasAttributes, HasRequirements, GivesPair, GivesRequirement}
-use Rattle.service_drawing.specs.Settings.{HasSettings, HasConfiguration, GivesSetting}
+use Rattle.service_drawing.specs.Lines.{IsLine, HasNoLine, HasSameLine, Whole, Begins, Stops, StopsAt, HasLinesOf, HasService, HasExchange, HasAttributes, HasRequirements, GivesPair, GivesRequirement}
+use Rattle.service_drawing.specs.Settings.{HasSettings, HasConfiguration, GivesSetting, section}
 use Rattle.service_drawing.specs.declared.description.Exchange.{Exchange}
 use Rattle.service_drawing.specs.declared.settings.value.Value.{Value}
 use Rattle.service_drawing.proofs.Exchanges.{exchange_rest, exchange_end, exchange_moves, exchange_apart, ends_in_opener, some_exchange}
@@ -62,7 +63,7 @@ service_same j k m n x y bytes p q =
 service_moves : (k : PatternKind) (name rest bytes : List ℕ) → HasService k name rest bytes
     → IsPart None (HasService k name) rest bytes
 service_moves k name rest bytes h =
-    moves_as None (IsLine (pattern_word k ++ name)) (HasService k name) rest bytes
+    moves_as None (IsLine (pattern_word k ++ 32 ∷ name)) (HasService k name) rest bytes
     (λ r b l. record { line = l; named = h.named }) (line_moves _ rest bytes h.line)
 
 settings_rest : (names : List (List ℕ)) (defaults v w : List Value) (x y bytes : List ℕ)
@@ -82,45 +83,50 @@ settings_move names defaults v rest bytes h =
 
 configuration_rest : (k : PatternKind) (c d : Config) (x y bytes : List ℕ)
     → HasConfiguration k c x bytes → HasConfiguration k d y bytes → x ≡ y
-configuration_rest kind.PublishSubscribe c d x y bytes p q =
-    settings_rest _ _ _ _ x y bytes p.0 q.0
-configuration_rest kind.Event c d x y bytes p q = settings_rest _ _ _ _ x y bytes p.0 q.0
-configuration_rest kind.RequestResponse c d x y bytes p q = settings_rest _ _ _ _ x y bytes p.0 q.0
-configuration_rest kind.Blackboard c d x y bytes p q = settings_rest _ _ _ _ x y bytes p.0 q.0
+configuration_rest k c d x y bytes p q = settings_rest _ _ _ _ x y bytes p.0 q.0
 
 configuration_moves : (k : PatternKind) (c : Config) (rest bytes : List ℕ)
     → HasConfiguration k c rest bytes
     → IsPart (Some (codes "set ")) (HasConfiguration k c) rest bytes
-configuration_moves kind.PublishSubscribe c rest bytes h =
-    moves_as _ _ (HasConfiguration kind.PublishSubscribe c) rest bytes (λ r b s. (s, h.1))
-    (settings_move _ _ _ rest bytes h.0)
-configuration_moves kind.Event c rest bytes h =
-    moves_as _ _ (HasConfiguration kind.Event c) rest bytes (λ r b s. (s, h.1))
-    (settings_move _ _ _ rest bytes h.0)
-configuration_moves kind.RequestResponse c rest bytes h =
-    moves_as _ _ (HasConfiguration kind.RequestResponse c) rest bytes (λ r b s. (s, h.1))
-    (settings_move _ _ _ rest bytes h.0)
-configuration_moves kind.Blackboard c rest bytes h =
-    moves_as _ _ (HasConfiguration kind.Blackboard c) rest bytes (λ r b s. (s, h.1))
+configuration_moves k c rest bytes h =
+    moves_as _ _ (HasConfiguration k c) rest bytes (λ r b s. (s, h.1))
     (settings_move _ _ _ rest bytes h.0)
 
--- where the settings stop, from the same defaults, so does the configuration, which has those that
--- were set
-pub configuration_stops : (k : PatternKind) (names : List (List ℕ)) (one other set : List Value)
-    (values : Config → List Value) (config : Config) (left bytes : List ℕ) → one ≡ other
-    → ((b : List ℕ) → HasSettings names other set [] b → HasConfiguration k config [] b)
-    → ((c : Config) (r b : List ℕ) → HasConfiguration k c r b
-    → HasSettings names other (values c) r b)
-    → Stops (HasSettings names one set []) (Begins (HasSettings names one)) left bytes
+reset_defaults : (k : PatternKind) → (section k).reset default_defaults ≡ default_defaults
+reset_defaults kind.PublishSubscribe = refl
+reset_defaults kind.Event = refl
+reset_defaults kind.RequestResponse = refl
+reset_defaults kind.Blackboard = refl
+
+-- where the settings of a default configuration stop, so does the configuration
+-- that has those that were set
+pub configuration_stops : (k : PatternKind) (start config : Config) (left bytes : List ℕ)
+    → IsDefaultConfig start → config.global ≡ start.global
+    → (section k).reset config.defaults ≡ (section k).reset start.defaults
+    → Stops (HasSettings (section k).names ((section k).values start.defaults)
+    ((section k).values config.defaults) [])
+    (Begins (HasSettings (section k).names ((section k).values start.defaults))) left bytes
     → StopsAt (HasConfiguration k) left bytes
-configuration_stops k names one other set values config left bytes e from to s =
-    stops_as (HasSettings names one set []) (Begins (HasSettings names one))
-    (Whole (HasConfiguration k)) (Begins (HasConfiguration k)) left bytes
-    (λ b w. (config, from b (subst (λ (d : List Value). HasSettings names d set [] b) e w)))
+configuration_stops k start config left bytes is global same s =
+    let names = (section k).names in
+    let values = (section k).values in
+    let old : values start.defaults ≡ values default_defaults = ap values is.defaults in
+    let reset : IsDefaultConfig (record config { defaults = (section k).reset config.defaults }) =
+    record {
+      global = subst IsDefaultGlobal (sym global) is.global;
+      defaults = same ∙ ap (section k).reset is.defaults ∙ reset_defaults k;
+    } in
+    stops_as (HasSettings names (values start.defaults) (values config.defaults) [])
+    (Begins (HasSettings names (values start.defaults))) (Whole (HasConfiguration k))
+    (Begins (HasConfiguration k)) left bytes
+    (λ b w. (
+      config,
+      (subst (λ (d : List Value). HasSettings names d (values config.defaults) [] b) old w, reset),
+    ))
     (λ b g. (
-      values g.0,
+      values g.0.defaults,
       g.1,
-      subst (λ (d : List Value). HasSettings names d (values g.0) g.1 b) (sym e) (to g.0 g.1 b g.2),
+      subst (λ (d : List Value). HasSettings names d (values g.0.defaults) g.1 b) (sym old) g.2.0,
     )) s
 
 attributes_rest : (s t : List Pair) (x y bytes : List ℕ) → HasAttributes s x bytes
@@ -216,7 +222,7 @@ no_service_here left bytes e none =
     like : (other : List ℕ) → HasSameLine other bytes → Begins HasLineOfService other
         → Begins HasLineOfService bytes
     like other same g =
-        let l = line_later [] other bytes (pattern_word g.0.0 ++ g.0.1) g.1 same g.2.line in
+        let l = line_later [] other bytes (pattern_word g.0.0 ++ 32 ∷ g.0.1) g.1 same g.2.line in
         (g.0, l.0, record { line = l.1; named = g.2.named })
 
 -- parts in turn make a description

@@ -2,7 +2,6 @@ mod Answered
 mod Attributes
 mod Descriptions
 mod Exchanges
-mod FirstLine
 mod Inside
 mod LinesOf
 mod MessageParts

@@ -3,8 +3,10 @@ use Rattle.std.proofs.Common.{◌≡◌, ℕ, ◌<◌, ◌^◌, List, [], ◌∷
 use Rattle.std.specs.Prelude.{◌==◌}
 use Rattle.std.specs.Fmt.{decimal}
 use Rattle.std.specs.Int.{is_power_of_two}
+use Rattle.std.specs.Str.{IsUtf8}
 use Rattle.std.proofs.lemmas.Fmt.{decimal_injective}
 use Rattle.std.proofs.lemmas.List.{append_cancel_left}
+use Rattle.iox2_texts.proofs.TextLemmas.{utf8_of_text}
 use Rattle.iox2_texts.specs.declared.bounded.StringModificationError.TheVariants.{InsertWouldExceedCapacity, InvalidCharacter}
 use Rattle.iox2_config.specs.TypeDetailParts.{TypeDetailParts}
 use Rattle.iox2_config.specs.TypeDetails.{detail, IsTypeName, MakesDetail}
@@ -32,14 +34,28 @@ same_numbers text a b m n x y pa pb pm pn e f =
     let second = same_number (decimal b ++ 32 ∷ x) b n x y pb pn refl first.1 in
     (first.0, second.0, second.1)
 
+-- the type, of one text
+same_type : (text name : List ℕ) (a b : ℕ) → a < 2 ^ 64 → b < 2 ^ 64
+    → text ≡ decimal a ++ 32 ∷ (decimal b ++ 32 ∷ name) → (t : TypeDetailParts) → IsDescribed t
+    → text ≡ type_text t → (a ≡ t.size) × (b ≡ t.alignment) × (name ≡ t.type_name)
+same_type text name a b pa pb e t d is =
+    same_numbers text a b t.size t.alignment name t.type_name pa pb d.size d.alignment.0 e is
+
 -- an empty name
 pub no_name : (text name : List ℕ) (a b : ℕ) → a < 2 ^ 64 → b < 2 ^ 64
     → text ≡ decimal a ++ 32 ∷ (decimal b ++ 32 ∷ name) → length name ≡ 0 → (t : TypeDetailParts)
     → IsDescribed t → ¬ (text ≡ type_text t)
 no_name text name a b pa pb e empty t d is =
-    let same = same_numbers text a b t.size t.alignment name t.type_name pa pb d.size d.alignment.0
-    e is in
+    let same = same_type text name a b pa pb e t d is in
     omega (arith, d.named, ap length same.2, empty)
+
+-- a name that is no text
+pub no_text : (text name : List ℕ) (a b : ℕ) → a < 2 ^ 64 → b < 2 ^ 64
+    → text ≡ decimal a ++ 32 ∷ (decimal b ++ 32 ∷ name) → ¬ IsUtf8 name → (t : TypeDetailParts)
+    → IsDescribed t → ¬ (text ≡ type_text t)
+no_text text name a b pa pb e bad t d is =
+    let same = same_type text name a b pa pb e t d is in
+    bad (subst IsUtf8 (sym same.2) (utf8_of_text t.type_name d.type_name.1))
 
 not_made : (parts : TypeDetailParts) (why : TypeDetailError) → MakesDetail parts (Err why)
     → IsTypeName parts.type_name → IsTrue (is_power_of_two parts.alignment) → ⊥
@@ -53,8 +69,7 @@ pub no_type : (text name : List ℕ) (a b : ℕ) (v : TypeVariant) (why : TypeDe
     → text ≡ decimal a ++ 32 ∷ (decimal b ++ 32 ∷ name) → MakesDetail (detail v name a b) (Err why)
     → (t : TypeDetailParts) → IsDescribed t → ¬ (text ≡ type_text t)
 no_type text name a b v why pa pb e made t d is =
-    let same = same_numbers text a b t.size t.alignment name t.type_name pa pb d.size d.alignment.0
-    e is in
+    let same = same_type text name a b pa pb e t d is in
     not_made (detail v name a b) why made (subst IsTypeName (sym same.2) d.type_name)
     (subst (λ n. IsTrue (is_power_of_two n)) (sym same.1) d.alignment.1)
 

@@ -1,8 +1,6 @@
--- Settings that are found by their names, and patterns by their words.
-use Rattle.std.proofs.Common.{◌≡◌, ℕ, ◌<◌, ◌≤◌, List, ◌++◌, Bool, false, length, get_or, ap, codes, Some, None, slice_get, inl, inr, subst, sym, ◌∙◌, arith}
+-- Settings that are found by their names.
+use Rattle.std.proofs.Common.{◌≡◌, ℕ, ◌<◌, ◌≤◌, List, Bool, false, length, get_or, ap, Some, None, slice_get, inl, inr, subst, sym, ◌∙◌, arith}
 use Rattle.std.proofs.lemmas.Option.{none-some, slice_get_within, slice_get_cases, slice_get-get_or}
-use Rattle.iox2_config.specs.declared.hash.input.PatternKind.TheVariants.{PublishSubscribe, Event, RequestResponse, Blackboard}
-use Rattle.service_drawing.specs.Lines.{HasNoPattern}
 use Rattle.service_drawing.specs.Settings.{HasName, IsSetting, IsNamed}
 
 -- the setting of this number has another name
@@ -27,16 +25,6 @@ none_named names i word past before k h =
 pub as_word : (names : List (List ℕ)) (i : ℕ) (word other : List ℕ) → word ≡ other
     → IsSetting names i word → IsSetting names i other
 as_word names i word other e h = subst (λ (w : List ℕ). IsSetting names i w) e h
-
--- a line that begins with none of the four words
-pub no_pattern : (line : List ℕ) → ((rest : List ℕ) → ¬ (line ≡ codes "publish-subscribe " ++ rest))
-    → ((rest : List ℕ) → ¬ (line ≡ codes "event " ++ rest))
-    → ((rest : List ℕ) → ¬ (line ≡ codes "request-response " ++ rest))
-    → ((rest : List ℕ) → ¬ (line ≡ codes "blackboard " ++ rest)) → HasNoPattern line
-no_pattern line a b c d PublishSubscribe rest = a rest
-no_pattern line a b c d Event rest = b rest
-no_pattern line a b c d RequestResponse rest = c rest
-no_pattern line a b c d Blackboard rest = d rest
 
 -- the mark of this number
 pub marked_at : (given : List Bool) (index : ℕ) (mark : Bool) → index < length given

@@ -1,21 +1,24 @@
 -- How far bytes were read, where none that are good go on so.
-use Rattle.std.proofs.Common.{◌≡◌, ℕ, List, [], ◌∷◌, ◌++◌, Option, Some, None, inl, inr, refl, sym, ◌∙◌, ap, subst, append_assoc, length, length-append, arith}
+use Rattle.std.proofs.Common.{◌≡◌, ◌≢◌, ℕ, List, [], ◌∷◌, ◌++◌, Option, Some, None, inl, inr, refl, sym, ◌∙◌, ap, subst, append_assoc, length, length-append, arith}
 use Rattle.std.proofs.lemmas.List.{append-nil}
+use Rattle.std.proofs.lemmas.List.Elements.{All-head, All-tail}
 use Rattle.service_drawing.specs.Lines.{IsLine, HasNoLine, HasSameLine, Stops}
-use Rattle.service_drawing.proofs.Words.{Lacks, plain_lacks, line_one}
+use Rattle.line_streams.specs.Spelling.{HasNo}
+use Rattle.service_drawing.proofs.Words.{plain_lacks, line_one}
 
 -- a text without such a byte that stands before one stands so whatever follows a later one
-before_later : (byte : ℕ) (s p r y x : List ℕ) → Lacks byte s → p ++ byte ∷ y ≡ s ++ byte ∷ r
+before_later : (byte : ℕ) (s p r y x : List ℕ) → HasNo byte s → p ++ byte ∷ y ≡ s ++ byte ∷ r
     → (q : List ℕ) × (p ++ byte ∷ x ≡ s ++ byte ∷ q)
 before_later byte [] [] r y x lacks e = (x, refl)
 before_later byte [] (c ∷ p) r y x lacks e =
     let head : c ≡ byte = cc in
     (p ++ byte ∷ x, ap (λ h. h ∷ (p ++ byte ∷ x)) head)
-before_later byte (c ∷ s) [] r y x lacks e = let head : c ≡ byte = cc in absurd (lacks.0 head)
+before_later byte (c ∷ s) [] r y x lacks e =
+    let head : c ≡ byte = cc in absurd (All-head (λ b. b ≢ byte) c s lacks head)
 before_later byte (c ∷ s) (d ∷ p) r y x lacks e =
     let head : d ≡ c = cc in
     let tail : p ++ byte ∷ y ≡ s ++ byte ∷ r = cc in
-    let more = before_later byte s p r y x lacks.1 tail in
+    let more = before_later byte s p r y x (All-tail (λ b. b ≢ byte) c s lacks) tail in
     (more.0, ap (λ h. h ∷ (p ++ byte ∷ x)) head ∙ ap (λ (l : List ℕ). c ∷ l) more.1)
 
 pub same_back : (one other : List ℕ) → HasSameLine one other → HasSameLine other one

@@ -1,6 +1,6 @@
 -- How a description is spelled.
-use Rattle.std.specs.Prelude.{◌≡◌, ◌≢◌, ℕ, ◌<◌, ◌≤◌, ◌^◌, List, [], ◌∷◌, ◌++◌, ◌+◌, ◌⊎◌, codes, length, filter_map, Option, Some, None, IfSome, IsTrue, nat_eq}
-use Rattle.std.specs.List.{starts_with, All, AllPass}
+use Rattle.std.specs.Prelude.{◌≡◌, ℕ, ◌<◌, ◌≤◌, ◌^◌, List, [], ◌∷◌, ◌++◌, ◌+◌, ◌⊎◌, codes, length, filter_map, Option, Some, None, IfSome, IsTrue, nat_eq}
+use Rattle.std.specs.List.{starts_with, AllPass}
 use Rattle.std.specs.Int.{is_power_of_two}
 use Rattle.std.specs.Fmt.{decimal}
 use Rattle.iox2_texts.specs.Attribute.{IsListing}
@@ -8,7 +8,7 @@ use Rattle.iox2_texts.specs.Name.{IsName}
 use Rattle.iox2_texts.specs.Pair.{Pair}
 use Rattle.iox2_texts.specs.Path.{IsRestrictedName}
 use Rattle.iox2_texts.specs.Verify.{Requirements}
-use Rattle.iox2_config.specs.Hashing.{hash_input, sha1_text}
+use Rattle.iox2_config.specs.Hashing.{hash_input, pattern_word, sha1_text}
 use Rattle.iox2_config.specs.TypeDetailParts.{TypeDetailParts}
 use Rattle.iox2_config.specs.TypeDetails.{IsTypeName}
 use Rattle.iox2_config.specs.declared.hash.input.PatternKind.{PatternKind}
@@ -16,6 +16,7 @@ use Rattle.iox2_config.specs.declared.hash.input.PatternKind.TheVariants.{Publis
 use Rattle.iox2_config.specs.declared.types.message_details.MessageTypeDetails.{MessageTypeDetails}
 use Rattle.iox2_config.specs.declared.types.type_detail.TypeVariant.{TypeVariant}
 use Rattle.iox2_config.specs.declared.types.type_detail.TypeVariant.TheVariants.{FixedSize, Dynamic}
+use Rattle.line_streams.specs.Spelling.{HasNo}
 use Rattle.service_drawing.specs.Causes.{is_plain}
 use Rattle.service_drawing.specs.declared.description.Exchange.{Exchange}
 use Rattle.service_drawing.specs.declared.description.Exchange.TheVariants as exchange
@@ -178,14 +179,10 @@ HasExchange RequestResponse x rest bytes =
 HasExchange Blackboard x rest bytes =
     (key : TypeDetailParts) × (x ≡ exchange.Blackboard key) × HasType (codes "key ") key rest bytes
 
--- the text has no space
-abbrev pub HasNoSpace : List ℕ → Type 0
-HasNoSpace text = All (λ b. b ≢ 32) text
-
 -- a line may give the key of an attribute: 1 to 64 bytes, none of which is a space
 pub record IsKey (key : List ℕ) : Type 0 where
   pub name : IsName 64 key
-  pub word : HasNoSpace key
+  pub word : HasNo 32 key
 
 -- a line may give the key and the value, of 1 to 256 bytes
 pub record IsPair (pair : Pair) : Type 0 where
@@ -258,13 +255,6 @@ pub record HasRequirements (required : Requirements) (rest bytes : List ℕ) : T
   pub pairs : IsListing (filter_map pair_of each) required.pairs
   pub keys : filter_map key_of each ≡ required.keys
 
--- the word for a pattern
-abbrev pub pattern_word : PatternKind → List ℕ
-pattern_word PublishSubscribe = codes "publish-subscribe "
-pattern_word Event = codes "event "
-pattern_word RequestResponse = codes "request-response "
-pattern_word Blackboard = codes "blackboard "
-
 -- a service of this pattern may have the name: 1 to 255 bytes, not that of
 -- an internal service, and its hash text is one that a service can have
 pub record MayBeNamed (kind : PatternKind) (text : List ℕ) : Type 0 where
@@ -274,7 +264,7 @@ pub record MayBeNamed (kind : PatternKind) (text : List ℕ) : Type 0 where
 
 -- the bytes begin with the line of a service
 pub record HasService (kind : PatternKind) (name rest bytes : List ℕ) : Type 0 where
-  pub line : IsLine (pattern_word kind ++ name) rest bytes
+  pub line : IsLine (pattern_word kind ++ 32 ∷ name) rest bytes
   pub named : MayBeNamed kind name
 
 -- the hash text is that of the pattern and the name
@@ -283,12 +273,12 @@ IsHashed s = s.hash ≡ sha1_text (hash_input s.kind s.name)
 
 -- no pattern begins the line
 abbrev pub HasNoPattern : List ℕ → Type 0
-HasNoPattern line = (kind : PatternKind) (name : List ℕ) → ¬ (line ≡ pattern_word kind ++ name)
+HasNoPattern line = (kind : PatternKind) (name : List ℕ) → ¬ (line ≡ pattern_word kind ++ 32 ∷ name)
 
 -- the line names a service as those of the system itself are named
 abbrev pub IsInternal : List ℕ → Type 0
 IsInternal line =
-    (kind : PatternKind) × (name : List ℕ) × (line ≡ pattern_word kind ++ name)
+    (kind : PatternKind) × (name : List ℕ) × (line ≡ pattern_word kind ++ 32 ∷ name)
     × IsTrue (starts_with nat_eq name (codes "iox2://"))
 
 -- for this reason the line spells no service: an internal name is reported wherever there is one

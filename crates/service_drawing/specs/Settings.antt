@@ -3,8 +3,9 @@ use Rattle.std.specs.Prelude.{◌≡◌, ◌==◌, ◌⊎◌, ℕ, List, [], ◌
 use Rattle.std.specs.List.{before_first, IsDistinct}
 use Rattle.std.specs.Fmt.{decimal}
 use Rattle.std.specs.Duration.{as_nanos}
-use Rattle.iox2_config.specs.Defaults.{IsDefaultConfig, default_publish_subscribe, default_event, default_request_response, default_blackboard}
+use Rattle.iox2_config.specs.Defaults.{IsDefaultConfig, default_defaults, default_publish_subscribe, default_event, default_request_response, default_blackboard}
 use Rattle.iox2_config.specs.declared.config.Config.{Config}
+use Rattle.iox2_config.specs.declared.config.defaults.Defaults.{Defaults}
 use Rattle.iox2_config.specs.declared.config.choices.BackpressureStrategy.TheVariants.{RetryUntilDelivered, DiscardData}
 use Rattle.iox2_config.specs.declared.config.choices.AllocationStrategy.TheVariants.{BestFit, PowerOfTwo, Static}
 use Rattle.iox2_config.specs.declared.config.blackboard.Blackboard.{Blackboard}
@@ -209,27 +210,39 @@ IsNotSet names values given text OtherForm =
     × ((set : Assignment) → ¬ GivesSetting names values set text)
 IsNotSet names values given text InternalName = ⊥
 
+-- the settings of a pattern: their names, their values, and the defaults of
+-- all patterns after these settings have got theirs again
+pub record Section : Type 0 where
+  pub names : List (List ℕ)
+  pub values : Defaults → List Value
+  pub reset : Defaults → Defaults
+
+abbrev pub section : PatternKind → Section
+section kind.PublishSubscribe = record {
+  names = publish_subscribe_names;
+  values = λ d. publish_subscribe_values d.publish_subscribe;
+  reset = λ d. record d { publish_subscribe = default_publish_subscribe };
+}
+section kind.Event = record {
+  names = event_names;
+  values = λ d. event_values d.event;
+  reset = λ d. record d { event = default_event };
+}
+section kind.RequestResponse = record {
+  names = request_response_names;
+  values = λ d. request_response_values d.request_response;
+  reset = λ d. record d { request_response = default_request_response };
+}
+section kind.Blackboard = record {
+  names = blackboard_names;
+  values = λ d. blackboard_values d.blackboard;
+  reset = λ d. record d { blackboard = default_blackboard };
+}
+
 -- the bytes begin with the lines of the settings of this pattern, with
 -- which the configuration is the default one but for those settings
 abbrev pub HasConfiguration : PatternKind → Config → List ℕ → List ℕ → Type 0
-HasConfiguration kind.PublishSubscribe c rest bytes =
-    HasSettings publish_subscribe_names (publish_subscribe_values default_publish_subscribe)
-    (publish_subscribe_values c.defaults.publish_subscribe) rest bytes
-    × IsDefaultConfig (record c {
-      defaults = record c.defaults { publish_subscribe = default_publish_subscribe };
-    })
-HasConfiguration kind.Event c rest bytes =
-    HasSettings event_names (event_values default_event) (event_values c.defaults.event) rest bytes
-    × IsDefaultConfig (record c { defaults = record c.defaults { event = default_event } })
-HasConfiguration kind.RequestResponse c rest bytes =
-    HasSettings request_response_names (request_response_values default_request_response)
-    (request_response_values c.defaults.request_response) rest bytes
-    × IsDefaultConfig (record c {
-      defaults = record c.defaults { request_response = default_request_response };
-    })
-HasConfiguration kind.Blackboard c rest bytes =
-    HasSettings blackboard_names (blackboard_values default_blackboard)
-    (blackboard_values c.defaults.blackboard) rest bytes
-    × IsDefaultConfig (record c {
-      defaults = record c.defaults { blackboard = default_blackboard };
-    })
+HasConfiguration kind c rest bytes =
+    HasSettings (section kind).names ((section kind).values default_defaults)
+    ((section kind).values c.defaults) rest bytes
+    × IsDefaultConfig (record c { defaults = (section kind).reset c.defaults })

@@ -6,37 +6,37 @@ ghost use Rattle.service_drawing.specs.Lines.{HasRequirements, RequiresMore, Req
 
 use super::expected::Expected;
 use super::message::line_after;
-use super::words::{after_word, split_word};
 use iox2_texts::attribute::{AttributeKey, AttributeSet, AttributeValue, AttributeVerifier};
+use line_streams::{after_word, before_byte};
 
 /// The key and the value that a text spells. The key has no space.
-fn pair_in(text: &str) -> Option<(AttributeKey, AttributeValue)>
+fn pair_in(text: &[u8]) -> Option<(AttributeKey, AttributeValue)>
     ensures { MatchOption result
         ((pair : Pair) → IsPair pair → ¬ (text.now ≡ pair_text pair))
         (λ pair. IsPair (record { key = pair.0; value = pair.1 })
         × (text.now ≡ pair_text (record { key = pair.0; value = pair.1 }))) }
 {
-    let Some((key, value)) = split_word(text) else {
+    let Some((key, value)) = before_byte(text, b' ') else {
         return None;
     };
-    let Ok(key) = AttributeKey::try_from(key) else {
+    let Ok(key) = AttributeKey::new(key) else {
         return None;
     };
-    match AttributeValue::try_from(value) {
+    match AttributeValue::new(value) {
         Ok(value) => Some((key, value)),
         Err(_) => None,
     }
 }
 
 /// The key that a text spells. It has no space.
-fn key_in(text: &str) -> Option<AttributeKey>
+fn key_in(text: &[u8]) -> Option<AttributeKey>
     ensures { MatchOption result ((key : List ℕ) → IsKey key → ¬ (text.now ≡ key))
         (λ key. IsKey key × (text.now ≡ key)) }
 {
-    if let Some(_) = split_word(text) {
+    if let Some(_) = before_byte(text, b' ') {
         return None;
     }
-    match AttributeKey::try_from(text) {
+    match AttributeKey::new(text) {
         Ok(key) => Some(key),
         Err(_) => None,
     }
@@ -87,11 +87,11 @@ pub(super) fn required_before(bytes: &[u8]) -> Result<(AttributeVerifier, &[u8])
 }
 
 /// The verifier that requires also what a text spells after `require`.
-fn requiring(required: AttributeVerifier, text: &str) -> Option<AttributeVerifier>
+fn requiring(required: AttributeVerifier, text: &[u8]) -> Option<AttributeVerifier>
     ensures { MatchOption result (RequiresNoMore required text.now)
         (RequiresMore required text.now) }
 {
-    if let Some(text) = after_word(text, " ") {
+    if let Some(text) = after_word(text, b" ") {
         let Some((key, value)) = pair_in(text) else {
             return None;
         };
@@ -100,7 +100,7 @@ fn requiring(required: AttributeVerifier, text: &str) -> Option<AttributeVerifie
             Err(_) => None,
         }
     } else {
-        let Some(text) = after_word(text, "-key ") else {
+        let Some(text) = after_word(text, b"-key ") else {
             return None;
         };
         let Some(key) = key_in(text) else {

@@ -4,7 +4,7 @@ ghost use Rattle.std.specs.List.{find};
 ghost use Rattle.service_drawing.specs.Causes.{line_of, is_plain, HasTwoSpaces, IsMisspelled};
 ghost use Rattle.service_drawing.specs.Causes.{IsSpelled, IsCause};
 
-use super::words::newline_at;
+use line_streams::before_byte;
 
 /// What was found out where a line was read.
 #[derive(Clone, Copy, PartialEq, Eq)]
@@ -40,8 +40,8 @@ fn first_line(bytes: &[u8]) -> &[u8]
     ensures shorter { length result.now ≤ length bytes.now }
     ensures whole { length result.now ≡ length bytes.now → result.now ≡ bytes.now }
 {
-    match newline_at(bytes) {
-        Some(end) => &bytes[..end],
+    match before_byte(bytes, b'\n') {
+        Some((line, _)) => line,
         None => bytes,
     }
 }

@@ -13,9 +13,11 @@ ghost use Rattle.service_drawing.specs.Lines.{AreAlignments, HasType, HasPayload
 ghost use Rattle.service_drawing.specs.Lines.{IsPlain, HasOpener, HasMessage, StopsAt};
 
 use super::expected::Expected;
-use super::words::{after_word, next_line, number, number_word};
+use super::words::{next_line, number, number_word};
 use crate::description::Message;
 use iox2_config::types::{MessageTypeDetails, TypeDetail, TypeVariant};
+use line_streams::after_word;
+use std::str;
 
 /// The first line without the prefix, the word and its newline,
 /// and what follows the newline, where that line begins so.
@@ -23,7 +25,7 @@ pub(super) fn line_after<'a>(
     bytes: &'a [u8],
     prefix: &str,
     word: &str,
-) -> Option<(&'a str, &'a [u8])>
+) -> Option<(&'a [u8], &'a [u8])>
     ensures line { MatchOption result (HasNoLine (prefix.now ++ word.now) bytes.now)
         (λ found. IsLine (prefix.now ++ word.now ++ found.0.now) found.1.now bytes.now) }
     ensures shorter { IfSome result (λ found. length found.1.now < length bytes.now) }
@@ -31,17 +33,17 @@ pub(super) fn line_after<'a>(
     let Some((line, rest)) = next_line(bytes) else {
         return None;
     };
-    let Some(text) = after_word(line, prefix) else {
+    let Some(text) = after_word(line, prefix.as_bytes()) else {
         return None;
     };
-    let Some(text) = after_word(text, word) else {
+    let Some(text) = after_word(text, word.as_bytes()) else {
         return None;
     };
     Some((text, rest))
 }
 
 /// Two numbers with a space after each, and what follows that.
-fn numbers_in(text: &str) -> Option<(usize, usize, &str)>
+fn numbers_in(text: &[u8]) -> Option<(usize, usize, &[u8])>
     ensures { MatchOption result
         ((m n : ℕ) (rest : List ℕ) → m < 2 ^ 64 → n < 2 ^ 64
         → ¬ (text.now ≡ decimal m ++ 32 ∷ (decimal n ++ 32 ∷ rest)))
@@ -57,7 +59,7 @@ fn numbers_in(text: &str) -> Option<(usize, usize, &str)>
 }
 
 /// The type whose size, alignment and name the text spells.
-fn type_in(text: &str, variant: TypeVariant) -> Option<TypeDetail>
+fn type_in(text: &[u8], variant: TypeVariant) -> Option<TypeDetail>
     ensures { MatchOption result
         ((t : TypeDetailParts) → t.variant ≡ variant → IsDescribed t → ¬ (text.now ≡ type_text t))
         (λ t. (t.variant ≡ variant) × IsDescribed t × (text.now ≡ type_text t)) }
@@ -68,21 +70,24 @@ fn type_in(text: &str, variant: TypeVariant) -> Option<TypeDetail>
     if name.is_empty() {
         return None;
     }
-    match TypeDetail::from_parts(variant, name, size, alignment) {
+    let Ok(type_name) = str::from_utf8(name) else {
+        return None;
+    };
+    match TypeDetail::from_parts(variant, type_name, size, alignment) {
         Ok(detail) => Some(detail),
         Err(_) => None,
     }
 }
 
 /// The payload's type, with its variant before it.
-fn payload_in(text: &str) -> Option<TypeDetail>
+fn payload_in(text: &[u8]) -> Option<TypeDetail>
     ensures { MatchOption result
         ((t : TypeDetailParts) → IsDescribed t → ¬ (text.now ≡ payload_text t))
         (λ t. IsDescribed t × (text.now ≡ payload_text t)) }
 {
-    if let Some(text) = after_word(text, "fixed ") {
+    if let Some(text) = after_word(text, b"fixed ") {
         type_in(text, TypeVariant::FixedSize)
-    } else if let Some(text) = after_word(text, "dynamic ") {
+    } else if let Some(text) = after_word(text, b"dynamic ") {
         type_in(text, TypeVariant::Dynamic)
     } else {
         None
@@ -107,7 +112,7 @@ fn aligned(detail: &TypeDetail, alignment: usize) -> Option<TypeDetail>
 }
 
 /// The details of an opener with these alignments for header, user header and payload.
-fn opener_in(text: &str, service: &MessageTypeDetails) -> Option<MessageTypeDetails>
+fn opener_in(text: &[u8], service: &MessageTypeDetails) -> Option<MessageTypeDetails>
     ensures spelled { MatchOption result
         ((d : MessageTypeDetails) → AreAlignments d → ¬ (text.now ≡ alignments_text d))
         (λ opener. AreAlignments opener × (text.now ≡ alignments_text opener)) }

@@ -1,31 +1,40 @@
 //! The first line.
-ghost use Rattle.std.specs.Prelude.{◌≡◌, ◌++◌, ℕ, List, IfOk, IfErr, MatchOption, MatchResult};
+ghost use Rattle.std.specs.Prelude.{◌≡◌, ◌∷◌, ◌++◌, ℕ, List, codes, nat_eq};
+ghost use Rattle.std.specs.Prelude.{IfOk, IfErr, MatchOption, MatchResult};
+ghost use Rattle.std.specs.List.{starts_with};
 ghost use Rattle.iox2_config.specs.declared.hash.input.PatternKind.{PatternKind};
-ghost use Rattle.service_drawing.specs.Lines.{pattern_word, IsHashed, MayBeNamed, HasService};
+ghost use Rattle.iox2_config.specs.Hashing.{pattern_word};
+ghost use Rattle.service_drawing.specs.Lines.{IsHashed, MayBeNamed, HasService};
 ghost use Rattle.service_drawing.specs.Lines.{HasNoPattern, IsNoService};
 
 use super::cause::Reason;
 use super::expected::Expected;
-use super::words::{after_word, next_line};
+use super::words::next_line;
 use iox2_config::hash::{PatternKind, ServiceHash, Sha1Hasher};
-use iox2_texts::service_name::ServiceName;
+use iox2_texts::service_name::{INTERNAL_SERVICE_PREFIX, ServiceName};
+use line_streams::after_word;
+use std::str;
 
 /// The pattern that begins the line, and the name after it.
-fn pattern_in(line: &str) -> Option<(PatternKind, &str)>
+fn pattern_in(line: &[u8]) -> Option<(PatternKind, &[u8])>
     ensures { MatchOption result (HasNoPattern line.now)
-        (λ found. line.now ≡ pattern_word found.0 ++ found.1.now) }
+        (λ found. line.now ≡ pattern_word found.0 ++ 32 ∷ found.1.now) }
 {
-    if let Some(name) = after_word(line, "publish-subscribe ") {
-        Some((PatternKind::PublishSubscribe, name))
-    } else if let Some(name) = after_word(line, "event ") {
-        Some((PatternKind::Event, name))
-    } else if let Some(name) = after_word(line, "request-response ") {
-        Some((PatternKind::RequestResponse, name))
-    } else if let Some(name) = after_word(line, "blackboard ") {
-        Some((PatternKind::Blackboard, name))
-    } else {
-        None
+    for kind in PatternKind::ALL {
+        if let Some(rest) = after_word(line, kind.word().as_bytes())
+            && let Some(name) = after_word(rest, b" ")
+        {
+            return Some((kind, name));
+        }
     }
+    None
+}
+
+/// Whether the name begins as those of internal services.
+fn is_internal(name: &[u8]) -> bool
+    ensures { result ≡ starts_with nat_eq name.now (codes "iox2://") }
+{
+    name.starts_with(INTERNAL_SERVICE_PREFIX.as_bytes())
 }
 
 /// What the first line says of a service.
@@ -37,22 +46,25 @@ pub(super) struct Service {
 }
 
 /// The service that a line spells, or why it spells none.
-fn service_in(line: &str) -> Result<Service, Reason>
+fn service_in(line: &[u8]) -> Result<Service, Reason>
     ensures spelled { IfOk result (λ service.
-        line.now ≡ pattern_word service.kind ++ service.name) }
+        line.now ≡ pattern_word service.kind ++ 32 ∷ service.name) }
     ensures named { IfOk result (λ service. MayBeNamed service.kind service.name) }
     ensures none { IfErr result (λ reason. (kind : PatternKind) (name : List ℕ)
-        → MayBeNamed kind name → ¬ (line.now ≡ pattern_word kind ++ name)) }
+        → MayBeNamed kind name → ¬ (line.now ≡ pattern_word kind ++ 32 ∷ name)) }
     ensures hash { IfOk result IsHashed }
     ensures reason { IfErr result (λ reason. IsNoService line.now reason) }
 {
     let Some((kind, name)) = pattern_in(line) else {
         return Err(Reason::OtherForm);
     };
-    if ServiceName::has_iox2_prefix(name) {
+    if is_internal(name) {
         return Err(Reason::InternalName);
     }
-    let Ok(name) = ServiceName::new(name) else {
+    let Ok(text) = str::from_utf8(name) else {
+        return Err(Reason::OtherForm);
+    };
+    let Ok(name) = ServiceName::new(text) else {
         return Err(Reason::OtherForm);
     };
     match ServiceHash::new::<Sha1Hasher>(&name, kind) {

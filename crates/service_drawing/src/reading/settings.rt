@@ -8,8 +8,8 @@ ghost use Rattle.service_drawing.specs.Settings.{IsSetting, Sets, dash_for};
 use super::cause::Reason;
 use super::expected::Expected;
 use super::message::line_after;
-use super::words::split_word;
 use crate::settings::{Settings, Value};
+use line_streams::before_byte;
 
 /// The byte, or a dash in the place of an underscore.
 fn with_dash(byte: u8) -> u8
@@ -19,10 +19,9 @@ fn with_dash(byte: u8) -> u8
 }
 
 /// Whether the word is this name with dashes in the place of underscores.
-fn is_dashed(word: &str, name: &str) -> bool
+fn is_dashed(word: &[u8], name: &str) -> bool
     ensures { IsTrue result ↔ IsDashed word.now name.now }
 {
-    let word = word.as_bytes();
     let name = name.as_bytes();
     if word.len() != name.len() {
         return false;
@@ -36,14 +35,14 @@ fn is_dashed(word: &str, name: &str) -> bool
 }
 
 /// Whether the word is this name, as the code or as configuration files spell it.
-fn is_named(word: &str, name: &str) -> bool
+fn is_named(word: &[u8], name: &str) -> bool
     ensures { IsTrue result ↔ IsNamed word.now name.now }
 {
-    word == name || is_dashed(word, name)
+    word == name.as_bytes() || is_dashed(word, name)
 }
 
 /// The number and the value of the setting of this name, if there is one.
-fn find<S: Settings>(settings: &S, word: &str) -> Option<(usize, Value)>
+fn find<S: Settings>(settings: &S, word: &[u8]) -> Option<(usize, Value)>
     ensures name { MatchOption result ((index : ℕ) → ¬ HasName S.names index word.now)
         (λ found. IsSetting S.names found.0 word.now) }
     ensures value { IfSome result (λ found.
@@ -61,14 +60,14 @@ fn find<S: Settings>(settings: &S, word: &str) -> Option<(usize, Value)>
 
 /// Sets the setting whose name and value the text spells,
 /// and marks it as set, or answers why it does not.
-fn set<S: Settings>(settings: &mut S, given: &mut [bool; 32], text: &str) -> Result<(), Reason>
+fn set<S: Settings>(settings: &mut S, given: &mut [bool; 32], text: &[u8]) -> Result<(), Reason>
     ensures set { IfOk result (λ done. Sets S.names (S.values settings.old) given.old text.now
         (S.values settings.new) given.new) }
     ensures kept { IfErr result (λ reason. settings.new ≡ settings.old) }
     ensures refused { IfErr result (λ reason.
         IsNotSet S.names (S.values settings.old) given.old text.now reason) }
 {
-    let Some((word, text)) = split_word(text) else {
+    let Some((word, text)) = before_byte(text, b' ') else {
         return Err(Reason::OtherForm);
     };
     let Some((index, value)) = find(settings, word) else {

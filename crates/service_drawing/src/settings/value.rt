@@ -59,7 +59,7 @@ impl fmt::Display for Value {
 
 impl Value {
     /// The value of the same kind that the text spells.
-    pub(crate) fn of_kind(self, text: &str) -> Option<Value>
+    pub(crate) fn of_kind(self, text: &[u8]) -> Option<Value>
         ensures { MatchOption result
             ((value : Value) → MayBecome self value → ¬ (text.now ≡ value_text value))
             (λ value. MayBecome self value × (text.now ≡ value_text value)) }
@@ -75,23 +75,23 @@ impl Value {
     }
 }
 
-fn switch(text: &str) -> Option<bool>
+fn switch(text: &[u8]) -> Option<bool>
     ensures { MatchOption result ((on : Bool) → ¬ (text.now ≡ value_text (Switch on)))
         (λ on. text.now ≡ value_text (Switch on)) }
 {
     match text {
-        "true" => Some(true),
-        "false" => Some(false),
+        b"true" => Some(true),
+        b"false" => Some(false),
         _ => None,
     }
 }
 
-fn perhaps(text: &str) -> Option<Option<usize>>
+fn perhaps(text: &[u8]) -> Option<Option<usize>>
     ensures { MatchOption result
         ((n : Option ℕ) → IfSome n (λ n. n < 2 ^ 64) → ¬ (text.now ≡ value_text (Perhaps n)))
         (λ n. IfSome n (λ n. n < 2 ^ 64) × (text.now ≡ value_text (Perhaps n))) }
 {
-    if text == "none" {
+    if text == b"none".as_slice() {
         return Some(None);
     }
     let Some(n) = number(text) else {
@@ -100,14 +100,14 @@ fn perhaps(text: &str) -> Option<Option<usize>>
     Some(Some(n))
 }
 
-fn deadline(text: &str) -> Option<Option<Duration>>
+fn deadline(text: &[u8]) -> Option<Option<Duration>>
     ensures { MatchOption result
         ((time : Option Duration) → IfSome time (λ time. as_nanos time < 2 ^ 64)
         → ¬ (text.now ≡ value_text (Deadline time)))
         (λ time. IfSome time (λ time. as_nanos time < 2 ^ 64)
         × (text.now ≡ value_text (Deadline time))) }
 {
-    if text == "none" {
+    if text == b"none".as_slice() {
         return Some(None);
     }
     let Some(n) = number(text) else {
@@ -116,27 +116,29 @@ fn deadline(text: &str) -> Option<Option<Duration>>
     Some(Some(Duration::from_nanos(n as u64)))
 }
 
-fn backpressure(text: &str) -> Option<BackpressureStrategy>
+fn backpressure(text: &[u8]) -> Option<BackpressureStrategy>
     ensures { MatchOption result
         ((strategy : BackpressureStrategy) → ¬ (text.now ≡ value_text (Backpressure strategy)))
         (λ strategy. text.now ≡ value_text (Backpressure strategy)) }
 {
-    match text {
-        "RetryUntilDelivered" => Some(BackpressureStrategy::RetryUntilDelivered),
-        "DiscardData" => Some(BackpressureStrategy::DiscardData),
-        _ => None,
+    if text == b"RetryUntilDelivered".as_slice() {
+        Some(BackpressureStrategy::RetryUntilDelivered)
+    } else if text == b"DiscardData".as_slice() {
+        Some(BackpressureStrategy::DiscardData)
+    } else {
+        None
     }
 }
 
-fn allocation(text: &str) -> Option<AllocationStrategy>
+fn allocation(text: &[u8]) -> Option<AllocationStrategy>
     ensures { MatchOption result
         ((strategy : AllocationStrategy) → ¬ (text.now ≡ value_text (Allocation strategy)))
         (λ strategy. text.now ≡ value_text (Allocation strategy)) }
 {
     match text {
-        "BestFit" => Some(AllocationStrategy::BestFit),
-        "PowerOfTwo" => Some(AllocationStrategy::PowerOfTwo),
-        "Static" => Some(AllocationStrategy::Static),
+        b"BestFit" => Some(AllocationStrategy::BestFit),
+        b"PowerOfTwo" => Some(AllocationStrategy::PowerOfTwo),
+        b"Static" => Some(AllocationStrategy::Static),
         _ => None,
     }
 }

@@ -1,47 +1,43 @@
-use Rattle.std.proofs.Common.{◌≡◌, List, [], ℕ, rules, subst}
-use Rattle.service_drawing.specs.Descriptions.{StopsReading}
+use Rattle.std.proofs.Common.{◌≡◌, List, [], ℕ, subst}
 use Rattle.service_drawing.specs.Lines.{HasRequirements}
 use Rattle.service_drawing.proofs.Descriptions.{no_service_here, stops_after_service, stops_in_settings, stops_after_settings, stops_in_exchange, stops_after_exchange, stops_in_attributes, stops_after_attributes, stops_in_required, stops_after_required, no_more}
+use Rattle.service_drawing.proofs.Answered.{handed_on}
 use Rattle.service_drawing.proofs.reading.read_description.Goals as goal
 
 pub returns-in_err-service : goal.returns-in_err-service
 returns-in_err-service c =
-    let stops : StopsReading c.in_err-service.field-0.0.rest.now c.args.bytes.now =
-    no_service_here _ c.args.bytes.now c.in_err-service.ensures.place
-    c.in_err-service.ensures.spelled in
-    search rules
+    handed_on _ _ _ _ c.from_residual.ensures
+    (no_service_here _ c.args.bytes.now c.in_err-service.ensures.place
+    c.in_err-service.ensures.spelled)
 
 pub returns-in_err-config : goal.returns-in_err-config
 returns-in_err-config c =
     let s = c.in_ok-service in
-    let stops : StopsReading c.in_err-config.field-0.0.rest.now c.args.bytes.now =
-    stops_after_service s.service.kind s.service.name _ s.rest.now c.args.bytes.now
-    s.ensures.spelled (stops_in_settings s.service.kind _ s.rest.now c.in_err-config.ensures) in
-    search rules
+    handed_on _ _ _ _ c.from_residual-in_err-config.ensures
+    (stops_after_service s.service.kind s.service.name _ s.rest.now c.args.bytes.now
+    s.ensures.spelled (stops_in_settings s.service.kind _ s.rest.now c.in_err-config.ensures))
 
 pub returns-in_err-exchange : goal.returns-in_err-exchange
 returns-in_err-exchange c =
     let s = c.in_ok-service in
     let g = c.in_ok-config in
-    let stops : StopsReading c.in_err-exchange.field-0.0.rest.now c.args.bytes.now =
-    stops_after_service s.service.kind s.service.name _ s.rest.now c.args.bytes.now
+    handed_on _ _ _ _ c.from_residual-in_err-exchange.ensures
+    (stops_after_service s.service.kind s.service.name _ s.rest.now c.args.bytes.now
     s.ensures.spelled
     (stops_after_settings s.service.kind g.config _ g.rest.now s.rest.now g.ensures
-    (stops_in_exchange s.service.kind _ g.rest.now c.in_err-exchange.ensures)) in
-    search rules
+    (stops_in_exchange s.service.kind _ g.rest.now c.in_err-exchange.ensures)))
 
 pub returns-in_err-attributes : goal.returns-in_err-attributes
 returns-in_err-attributes c =
     let s = c.in_ok-service in
     let g = c.in_ok-config in
     let x = c.in_ok-exchange in
-    let stops : StopsReading c.in_err-attributes.field-0.0.rest.now c.args.bytes.now =
-    stops_after_service s.service.kind s.service.name _ s.rest.now c.args.bytes.now
+    handed_on _ _ _ _ c.from_residual-in_err-attributes.ensures
+    (stops_after_service s.service.kind s.service.name _ s.rest.now c.args.bytes.now
     s.ensures.spelled
     (stops_after_settings s.service.kind g.config _ g.rest.now s.rest.now g.ensures
     (stops_after_exchange s.service.kind x.exchange _ x.rest.now g.rest.now x.ensures
-    (stops_in_attributes _ x.rest.now c.in_err-attributes.ensures))) in
-    search rules
+    (stops_in_attributes _ x.rest.now c.in_err-attributes.ensures))))
 
 pub returns-in_err-required : goal.returns-in_err-required
 returns-in_err-required c =
@@ -49,14 +45,13 @@ returns-in_err-required c =
     let g = c.in_ok-config in
     let x = c.in_ok-exchange in
     let a = c.in_ok-attributes in
-    let stops : StopsReading c.in_err-required.field-0.0.rest.now c.args.bytes.now =
-    stops_after_service s.service.kind s.service.name _ s.rest.now c.args.bytes.now
+    handed_on _ _ _ _ c.from_residual-in_err-required.ensures
+    (stops_after_service s.service.kind s.service.name _ s.rest.now c.args.bytes.now
     s.ensures.spelled
     (stops_after_settings s.service.kind g.config _ g.rest.now s.rest.now g.ensures
     (stops_after_exchange s.service.kind x.exchange _ x.rest.now g.rest.now x.ensures
     (stops_after_attributes a.attributes _ a.rest.now x.rest.now a.ensures
-    (stops_in_required _ a.rest.now c.in_err-required.ensures)))) in
-    search rules
+    (stops_in_required _ a.rest.now c.in_err-required.ensures)))))
 
 pub returns-then-not-is_empty : goal.returns-then-not-is_empty
 returns-then-not-is_empty c =

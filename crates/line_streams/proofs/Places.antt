@@ -1,0 +1,61 @@
+-- What stands before the first of a byte.
+use Rattle.std.proofs.Common.{◌≡◌, ◌≢◌, ◌==◌, ℕ, ◌+◌, ◌-◌, ◌<◌, ◌≤◌, Bool, true, false, cond, List, [], ◌∷◌, ◌++◌, length, get_or, take, drop, Some, None, arith, add-one, drop-cons, refl, sym, ◌∙◌, ap}
+use Rattle.std.specs.List.{position, position_or_len, before_first}
+use Rattle.std.proofs.lemmas.Bool.{ltb-false, eqb-true, eqb-false}
+use Rattle.std.proofs.lemmas.List.{length-take-le, take-append-drop, get_or-take, take_all}
+use Rattle.std.proofs.lemmas.List.Elements.{All-from_get_or, All-head, All-tail}
+use Rattle.std.proofs.lemmas.List.Quantifiers.{position-Some}
+use Rattle.std.proofs.lemmas.List.Sums.{fails_before_first}
+use Rattle.line_streams.specs.Spelling.{HasNo}
+use Rattle.line_streams.proofs.Fronts.{slice_tail}
+
+some_is : (b : Bool) (n i : ℕ) → cond b (Some n) None ≡ Some i → n ≡ i
+some_is true n i e = cc
+some_is false n i e = cc
+
+none_is : (b : Bool) (n : ℕ) → cond b (Some n) None ≡ None → b ≡ false
+none_is true n e = cc
+none_is false n e = cc
+
+-- what stands before the first that passes
+pub front_is : (p : ℕ → Bool) (xs : List ℕ) (i : ℕ) → position p xs ≡ Some i
+    → take i xs ≡ before_first p xs
+front_is p xs i e = ap (λ n. take n xs) (sym (some_is _ (position_or_len p xs) i e))
+
+none_before : (p : ℕ → Bool) (xs : List ℕ) → position p xs ≡ None
+    → length xs ≤ position_or_len p xs
+none_before p xs e = ltb-false _ _ (none_is _ (position_or_len p xs) e)
+
+-- where none passes, all stands before the first
+pub all_before : (p : ℕ → Bool) (xs : List ℕ) → position p xs ≡ None → before_first p xs ≡ xs
+all_before p xs e = take_all (position_or_len p xs) xs (none_before p xs e)
+
+-- where the byte stands nowhere
+pub has_none : (byte : ℕ) (xs : List ℕ) → position (λ b. b == byte) xs ≡ None → HasNo byte xs
+has_none byte xs e =
+    let past = none_before (λ b. b == byte) xs e in
+    All-from_get_or (λ b. b ≢ byte) xs 0
+    (λ k within. eqb-false (get_or xs k 0) byte
+    (fails_before_first (λ b. b == byte) xs k 0 (omega (arith, past, within))))
+
+-- where the byte stands first
+pub parts_at : (byte : ℕ) (xs : List ℕ) (i : ℕ) → position (λ b. b == byte) xs ≡ Some i
+    → HasNo byte (take i xs)
+    × (xs ≡ take i xs ++ byte ∷ take (length xs - (i + 1)) (drop (i + 1) xs))
+parts_at byte xs i e =
+    let at = position-Some (λ b. b == byte) xs i 0 e in
+    let here : get_or xs i 0 ≡ byte = eqb-true (get_or xs i 0) byte at.1 in
+    let next : drop i xs ≡ byte ∷ drop (i + 1) xs =
+    rw (add-one, drop-cons xs i 0 at.0, here) refl in
+    let long : length (take i xs) ≡ i = length-take-le i xs (omega (arith, at.0)) in (
+      All-from_get_or (λ b. b ≢ byte) (take i xs) 0
+          (λ k within. let below : k < i = omega (arith, long, within) in
+          rw (get_or-take i xs k 0 below) (eqb-false (get_or xs k 0) byte (at.2 k below))),
+      rw (slice_tail xs (i + 1)) (sym (take-append-drop i xs)
+          ∙ ap (λ (l : List ℕ). take i xs ++ l) next),
+    )
+
+-- a text with the byte has it
+pub has_one : (byte : ℕ) (xs ys : List ℕ) → ¬ HasNo byte (xs ++ byte ∷ ys)
+has_one byte [] ys h = All-head (λ b. b ≢ byte) byte ys h refl
+has_one byte (x ∷ xs) ys h = has_one byte xs ys (All-tail (λ b. b ≢ byte) x (xs ++ byte ∷ ys) h)
