@@ -41,13 +41,6 @@ pub no_key_in : (text word rest : List ℕ) → text ≡ word ++ 32 ∷ rest →
 no_key_in text word rest e key is same =
     has_one 32 word rest (subst (HasNo 32) (sym same ∙ e) is.word)
 
--- the key that a text spells
-pub found_key : (text key : List ℕ) → MakesName 64 text (Ok key) → HasNo 32 text
-    → IsKey key × (text ≡ key)
-found_key text key made word =
-    let found : IsKey text = record { name = made.2; word = word } in
-    (subst IsKey (sym made.0) found, sym made.0)
-
 abbrev of : List ℕ → List ℕ → Pair
 of k v = record { key = k; value = v }
 
