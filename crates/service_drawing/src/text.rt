@@ -8,6 +8,7 @@ use crate::segments::segments;
 use crate::settings::Settings;
 use iox2_config::config::Config;
 use iox2_config::hash::PatternKind;
+use iox2_texts::attribute::{Attribute, AttributeVerifier};
 use iox2_texts::paths::FilePath;
 use message::write_message;
 use std::alloc::AllocError;
@@ -171,18 +172,28 @@ fn write_exchange(out: &mut String, service: &Description) -> Result<(), AllocEr
 /// Appends the attributes of the service, those that an opener requires, and whether it gets them.
 fn write_attributes(out: &mut String, service: &Description) -> Result<(), AllocError> {
     writeln!(out, "\nattributes")?;
-    for attribute in service.attributes.as_slice() {
-        writeln!(out, "  {} = {}", attribute.key(), attribute.value())?;
-    }
+    write_pairs(out, service.attributes.as_slice())?;
     writeln!(out, "\nrequired by an opener")?;
-    for attribute in service.required.required_attributes().as_slice() {
-        writeln!(out, "  {} = {}", attribute.key(), attribute.value())?;
-    }
-    for key in service.required.required_keys() {
-        writeln!(out, "  {key}")?;
-    }
+    write_pairs(out, service.required.required_attributes().as_slice())?;
+    write_keys(out, &service.required)?;
     match service.required.verify_requirements(&service.attributes) {
         Ok(()) => writeln!(out, "  verified"),
         Err(fault) => writeln!(out, "  refused: {fault}"),
     }
+}
+
+/// Appends a line for each attribute.
+fn write_pairs(out: &mut String, attributes: &[Attribute]) -> Result<(), AllocError> {
+    for attribute in attributes {
+        writeln!(out, "  {} = {}", attribute.key(), attribute.value())?;
+    }
+    Ok(())
+}
+
+/// Appends a line for each key that an opener requires.
+fn write_keys(out: &mut String, required: &AttributeVerifier) -> Result<(), AllocError> {
+    for key in required.required_keys() {
+        writeln!(out, "  {key}")?;
+    }
+    Ok(())
 }

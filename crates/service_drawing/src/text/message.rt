@@ -7,6 +7,7 @@ use crate::layout::{MessageLayout, Part};
 use crate::segments::Segment;
 use crate::sentences::{opener_sentence, write_memory};
 use crate::span::Span;
+use iox2_config::types::{MessageTypeDetails, TypeDetail};
 use std::alloc::AllocError;
 
 /// The greatest number of characters of a bar.
@@ -105,6 +106,49 @@ fn write_empty(out: &mut String, span: Span, what: &str) -> Result<(), AllocErro
     writeln!(out, "  {what}")
 }
 
+/// Appends the row of a part of one type, with its alignments and its name.
+fn write_typed(
+    out: &mut String,
+    span: Span,
+    what: &str,
+    detail: &TypeDetail,
+    opener: Option<usize>,
+) -> Result<(), AllocError> {
+    write_columns(out, span, Some(detail.alignment()), opener)?;
+    writeln!(out, "  {what} {}", detail.type_name())
+}
+
+/// Appends the row of the payload, and those of its first elements.
+fn write_payload(
+    out: &mut String,
+    layout: &MessageLayout,
+    detail: &TypeDetail,
+    opener: Option<usize>,
+) -> Result<(), AllocError>
+    requires { IsWhole layout.now }
+{
+    write_columns(out, layout.payload, Some(detail.alignment()), opener)?;
+    writeln!(
+        out,
+        "    payload {} of {}",
+        layout.elements,
+        detail.type_name()
+    )?;
+    write_elements(out, layout)
+}
+
+/// The alignments that an opener has for the parts of a message.
+fn opener_alignments(opener: Option<&MessageTypeDetails>) -> [Option<usize>; 3] {
+    match opener {
+        Some(o) => [
+            Some(o.header.alignment()),
+            Some(o.user_header.alignment()),
+            Some(o.payload.alignment()),
+        ],
+        None => [None; 3],
+    }
+}
+
 /// Appends a row for each part of a message, for the gaps
 /// between them and for the first elements of the payload.
 fn write_table(
@@ -121,38 +165,18 @@ fn write_table(
         "    offset       size  alignment {:>10}  part",
         if opener.is_some() { "opener's" } else { "" }
     )?;
-    let [header, user_header, payload] = match opener {
-        Some(o) => [
-            Some(o.header.alignment()),
-            Some(o.user_header.alignment()),
-            Some(o.payload.alignment()),
-        ],
-        None => [None; 3],
-    };
-    write_columns(out, layout.header, Some(types.header.alignment()), header)?;
-    writeln!(out, "  H header {}", types.header.type_name())?;
+    let [header, user_header, payload] = opener_alignments(opener);
+    write_typed(out, layout.header, "H header", &types.header, header)?;
     write_empty(out, layout.first_gap, ". gap")?;
-    write_columns(
+    write_typed(
         out,
         layout.user_header,
-        Some(types.user_header.alignment()),
+        "U user header",
+        &types.user_header,
         user_header,
     )?;
-    writeln!(out, "  U user header {}", types.user_header.type_name())?;
     write_empty(out, layout.second_gap, ". gap")?;
-    write_columns(
-        out,
-        layout.payload,
-        Some(types.payload.alignment()),
-        payload,
-    )?;
-    writeln!(
-        out,
-        "    payload {} of {}",
-        layout.elements,
-        types.payload.type_name()
-    )?;
-    write_elements(out, layout)?;
+    write_payload(out, layout, &types.payload, payload)?;
     write_empty(out, layout.spare, "- spare")?;
     writeln!(out, "{:>10} {:>32}    end", layout.size, "")
 }
