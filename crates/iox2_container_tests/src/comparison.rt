@@ -1,31 +1,35 @@
 //! `compare` of a scan and a free list.
-use super::nodes::node;
+use super::calls::{Call, Reply, whole_calls, whole_replies};
+use super::nodes::{A, B, C, Node};
 use iox2_container::container::*;
 use iox2_ids::identifiers::UniqueNodeId;
 use std::alloc::{AllocError, Global};
+use std::process::Abort;
 use std::test::Fail;
 
-type Call = RegistryCall<UniqueNodeId>;
+/// The service and the role of a scan that is compared.
+pub(super) const OF_SCAN: (u64, Role) = (1, Role::Node);
 
-type Reply = RegistryReply<UniqueNodeId>;
+/// Those of a free list.
+const OF_LIST: (u64, Role) = (2, Role::Reader);
 
-/// The reply of a new scan of service 1, made by `compared`.
-pub(super) fn by_scan(slot: usize, ticket: u64) -> Reply {
-    RegistryReply::Handle(ContainerHandle::from_parts(1, Role::Node, slot, ticket))
+/// What was told of a new scan and a new free list that are compared.
+#[derive(Drop)]
+pub(super) struct Comparison {
+    /// The answer.
+    pub(super) same: Result<bool, AllocError>,
+    pub(super) of_scan: Vec<RegistryReply<UniqueNodeId>>,
+    pub(super) of_list: Vec<RegistryReply<UniqueNodeId>>,
+    /// How many entries either has then.
+    pub(super) entries: (usize, usize),
 }
 
-/// The reply of a new free list of service 2, made by `compared`.
-fn by_list(slot: usize, ticket: u64) -> Reply {
-    RegistryReply::Handle(ContainerHandle::from_parts(2, Role::Reader, slot, ticket))
-}
-
-/// The answer and both lists of replies, for registries of this many places.
-fn compared(
+/// Makes the calls on a new scan and a new free list with these places and tickets.
+pub(super) fn compared(
     alloc: Global,
-    capacity: usize,
-    tickets: u64,
-    calls: &[Call],
-) -> Result<(bool, Vec<Reply>, Vec<Reply>), AllocError> {
+    (capacity, tickets): (usize, u64),
+    calls: &[RegistryCall<UniqueNodeId>],
+) -> Result<Comparison, AllocError> {
     let mut scan = Container::new(alloc, 1, Role::Node, capacity, tickets)?;
     let mut list = ListContainer::new(alloc, 2, Role::Reader, capacity, tickets)?;
     let mut of_scan = Vec::new(alloc);
@@ -37,184 +41,196 @@ fn compared(
         calls,
         &mut of_scan,
         &mut of_list,
-    )?;
-    Ok((same, of_scan, of_list))
+    );
+    let entries = (scan.len(), list.len());
+    Ok(Comparison {
+        same,
+        of_scan,
+        of_list,
+        entries,
+    })
 }
+
+/// Compares the replies to the calls, for registries of these places and tickets.
+fn are_compared(
+    rt: &impl Abort,
+    alloc: Global,
+    size: (usize, u64),
+    calls: &[Call],
+    [of_scan, of_list]: [&[Reply]; 2],
+) -> Result<(), Fail> {
+    let found = compared(alloc, size, &whole_calls(alloc, calls)?)?;
+    let of_scan = whole_replies(alloc, OF_SCAN, of_scan)?;
+    let of_list = whole_replies(alloc, OF_LIST, of_list)?;
+    assert_eq!(rt;
+        (found.same, found.of_scan, found.of_list),
+        (Ok(true), of_scan, of_list)
+    );
+    Ok(())
+}
+
+const UNLOCKED: Reply = Reply::State(ReleaseState::Unlocked);
+
+const D: Node = Node(4, 0, 1);
+
+const E: Node = Node(5, 0, 1);
+
+const TWO_COME_AGAIN: [Call; 10] = [
+    Call::Add(A),
+    Call::Add(B),
+    Call::Add(C),
+    Call::Remove(0, ReleaseMode::Default),
+    Call::Remove(1, ReleaseMode::Default),
+    Call::Add(D),
+    Call::Add(E),
+    Call::List,
+    Call::Len,
+    Call::Remove(3, ReleaseMode::Default),
+];
+
+const TWO_COME_TO_A_SCAN: [Reply; 10] = [
+    Reply::Handle(0, 0),
+    Reply::Handle(1, 1),
+    Reply::Handle(2, 2),
+    UNLOCKED,
+    UNLOCKED,
+    Reply::Handle(0, 3),
+    Reply::Handle(1, 4),
+    Reply::Entries(&[D, E, C]),
+    Reply::Count(3),
+    Reply::NoHandle,
+];
+
+const TWO_COME_TO_A_LIST: [Reply; 10] = [
+    Reply::Handle(0, 0),
+    Reply::Handle(1, 1),
+    Reply::Handle(2, 2),
+    UNLOCKED,
+    UNLOCKED,
+    Reply::Handle(1, 3),
+    Reply::Handle(0, 4),
+    Reply::Entries(&[E, D, C]),
+    Reply::Count(3),
+    Reply::NoHandle,
+];
 
 /// Adds three entries, removes the first two and adds two again, each in a place of its own.
 #[test]
 fn freed_places_are_taken_in_other_orders(rt: HostRuntime) -> Result<(), Fail> {
-    let alloc = rt.alloc();
-    let (a, b, c) = (node(1, 0, 1)?, node(2, 0, 1)?, node(3, 0, 1)?);
-    let (d, e) = (node(4, 0, 1)?, node(5, 0, 1)?);
-    let calls = [
-        RegistryCall::Add(a),
-        RegistryCall::Add(b),
-        RegistryCall::Add(c),
-        RegistryCall::Remove(0, ReleaseMode::Default),
-        RegistryCall::Remove(1, ReleaseMode::Default),
-        RegistryCall::Add(d),
-        RegistryCall::Add(e),
-        RegistryCall::List,
-        RegistryCall::Len,
-        RegistryCall::Remove(3, ReleaseMode::Default),
-    ];
-    let of_scan = vec![in alloc;
-        by_scan(0, 0),
-        by_scan(1, 1),
-        by_scan(2, 2),
-        RegistryReply::State(ReleaseState::Unlocked),
-        RegistryReply::State(ReleaseState::Unlocked),
-        by_scan(0, 3),
-        by_scan(1, 4),
-        RegistryReply::Entries(vec![in alloc; d, e, c]?),
-        RegistryReply::Count(3),
-        RegistryReply::NoHandle,
-    ]?;
-    let of_list = vec![in alloc;
-        by_list(0, 0),
-        by_list(1, 1),
-        by_list(2, 2),
-        RegistryReply::State(ReleaseState::Unlocked),
-        RegistryReply::State(ReleaseState::Unlocked),
-        by_list(1, 3),
-        by_list(0, 4),
-        RegistryReply::Entries(vec![in alloc; e, d, c]?),
-        RegistryReply::Count(3),
-        RegistryReply::NoHandle,
-    ]?;
-    let found = compared(alloc, 3, u64::MAX, &calls)?;
-    assert_eq!(rt; found, (true, of_scan, of_list));
-    Ok(())
-}
-
-/// The replies to the calls of `both_recover_and_lock`, of which these are the first two.
-fn recovered_and_locked(alloc: Global, of_a: Reply, of_b: Reply) -> Result<Vec<Reply>, AllocError> {
-    Ok(vec![in alloc;
-        of_a,
-        of_b,
-        RegistryReply::State(ReleaseState::Unlocked),
-        RegistryReply::NotOwned,
-        RegistryReply::State(ReleaseState::Unlocked),
-        RegistryReply::State(ReleaseState::Locked),
-        RegistryReply::Refused(ContainerAddFailure::IsLocked),
-        RegistryReply::Entries(Vec::new(alloc)),
-        RegistryReply::NoHandle,
-    ]?)
+    are_compared(
+        &rt,
+        rt.alloc(),
+        (3, u64::MAX),
+        &TWO_COME_AGAIN,
+        [&TWO_COME_TO_A_SCAN, &TWO_COME_TO_A_LIST],
+    )
 }
 
 /// Two recoveries keep an entry or take it, the last one
 /// locks, and removals name calls that gave no live handle.
+const TWO_ARE_RECOVERED: [Call; 9] = [
+    Call::Add(A),
+    Call::Add(B),
+    Call::Recover(A, &[], ReleaseMode::LockIfLastIndex),
+    Call::Remove(0, ReleaseMode::LockIfLastIndex),
+    Call::Recover(B, &[B], ReleaseMode::LockIfLastIndex),
+    Call::Recover(B, &[A], ReleaseMode::LockIfLastIndex),
+    Call::Add(A),
+    Call::List,
+    Call::Remove(9, ReleaseMode::Default),
+];
+
+const BOTH_RECOVER: [Reply; 9] = [
+    Reply::Handle(0, 0),
+    Reply::Handle(1, 1),
+    UNLOCKED,
+    Reply::NotOwned,
+    UNLOCKED,
+    Reply::State(ReleaseState::Locked),
+    Reply::Refused(ContainerAddFailure::IsLocked),
+    Reply::Entries(&[]),
+    Reply::NoHandle,
+];
+
 #[test]
 fn both_recover_and_lock(rt: HostRuntime) -> Result<(), Fail> {
-    let alloc = rt.alloc();
-    let (a, b) = (node(1, 0, 1)?, node(2, 0, 1)?);
-    let keys_of_a = vec![in alloc; a.value()]?;
-    let keys_of_b = vec![in alloc; b.value()]?;
-    let calls = [
-        RegistryCall::Add(a),
-        RegistryCall::Add(b),
-        RegistryCall::Recover(a, Vec::new(alloc), ReleaseMode::LockIfLastIndex),
-        RegistryCall::Remove(0, ReleaseMode::LockIfLastIndex),
-        RegistryCall::Recover(b, keys_of_b, ReleaseMode::LockIfLastIndex),
-        RegistryCall::Recover(b, keys_of_a, ReleaseMode::LockIfLastIndex),
-        RegistryCall::Add(a),
-        RegistryCall::List,
-        RegistryCall::Remove(9, ReleaseMode::Default),
-    ];
-    let of_scan = recovered_and_locked(alloc, by_scan(0, 0), by_scan(1, 1))?;
-    let of_list = recovered_and_locked(alloc, by_list(0, 0), by_list(1, 1))?;
-    let found = compared(alloc, 3, u64::MAX, &calls)?;
-    assert_eq!(rt; found, (true, of_scan, of_list));
-    Ok(())
+    are_compared(
+        &rt,
+        rt.alloc(),
+        (3, u64::MAX),
+        &TWO_ARE_RECOVERED,
+        [&BOTH_RECOVER, &BOTH_RECOVER],
+    )
 }
+
+/// With two tickets.
+const THREE_COME: [Call; 3] = [Call::Add(A), Call::Add(A), Call::Add(A)];
+
+const TWO_FIND_A_TICKET: [Reply; 3] = [
+    Reply::Handle(0, 0),
+    Reply::Handle(1, 1),
+    Reply::Refused(ContainerAddFailure::OutOfSpace),
+];
 
 #[test]
 fn both_run_out_of_tickets(rt: HostRuntime) -> Result<(), Fail> {
-    let alloc = rt.alloc();
-    let a = node(1, 0, 1)?;
-    let calls = [
-        RegistryCall::Add(a),
-        RegistryCall::Add(a),
-        RegistryCall::Add(a),
-    ];
-    let of_scan = vec![in alloc;
-        by_scan(0, 0),
-        by_scan(1, 1),
-        RegistryReply::Refused(ContainerAddFailure::OutOfSpace),
-    ]?;
-    let of_list = vec![in alloc;
-        by_list(0, 0),
-        by_list(1, 1),
-        RegistryReply::Refused(ContainerAddFailure::OutOfSpace),
-    ]?;
-    let found = compared(alloc, 3, 2, &calls)?;
-    assert_eq!(rt; found, (true, of_scan, of_list));
-    Ok(())
+    are_compared(
+        &rt,
+        rt.alloc(),
+        (3, 2),
+        &THREE_COME,
+        [&TWO_FIND_A_TICKET, &TWO_FIND_A_TICKET],
+    )
 }
 
-/// The replies to the calls of `listings_of_five`, where
-/// the first two places are freed and taken again.
-fn five_listed(
-    alloc: Global,
-    handles: [Reply; 7],
-    listing: [UniqueNodeId; 5],
-) -> Result<Vec<Reply>, AllocError> {
-    let [a, b, c, d, e, f, g] = handles;
-    Ok(vec![in alloc;
-        a,
-        b,
-        c,
-        d,
-        e,
-        RegistryReply::State(ReleaseState::Unlocked),
-        RegistryReply::State(ReleaseState::Unlocked),
-        f,
-        g,
-        RegistryReply::Entries(Vec::from_array(alloc, listing)?),
-    ]?)
-}
+/// Of five entries the first two go, and two come in their places.
+const FIVE_ARE_LISTED: [Call; 10] = [
+    Call::Add(A),
+    Call::Add(A),
+    Call::Add(B),
+    Call::Add(C),
+    Call::Add(C),
+    Call::Remove(0, ReleaseMode::Default),
+    Call::Remove(1, ReleaseMode::Default),
+    Call::Add(B),
+    Call::Add(A),
+    Call::List,
+];
+
+const FIVE_OF_A_SCAN: [Reply; 10] = [
+    Reply::Handle(0, 0),
+    Reply::Handle(1, 1),
+    Reply::Handle(2, 2),
+    Reply::Handle(3, 3),
+    Reply::Handle(4, 4),
+    UNLOCKED,
+    UNLOCKED,
+    Reply::Handle(0, 5),
+    Reply::Handle(1, 6),
+    Reply::Entries(&[B, A, B, C, C]),
+];
+
+const FIVE_OF_A_LIST: [Reply; 10] = [
+    Reply::Handle(0, 0),
+    Reply::Handle(1, 1),
+    Reply::Handle(2, 2),
+    Reply::Handle(3, 3),
+    Reply::Handle(4, 4),
+    UNLOCKED,
+    UNLOCKED,
+    Reply::Handle(1, 5),
+    Reply::Handle(0, 6),
+    Reply::Entries(&[A, B, B, C, C]),
+];
 
 /// Listings of five entries, two of them equal, in two orders.
 #[test]
 fn listings_of_five(rt: HostRuntime) -> Result<(), Fail> {
-    let alloc = rt.alloc();
-    let (a, b, c) = (node(1, 0, 1)?, node(2, 0, 1)?, node(3, 0, 1)?);
-    let calls = [
-        RegistryCall::Add(a),
-        RegistryCall::Add(a),
-        RegistryCall::Add(b),
-        RegistryCall::Add(c),
-        RegistryCall::Add(c),
-        RegistryCall::Remove(0, ReleaseMode::Default),
-        RegistryCall::Remove(1, ReleaseMode::Default),
-        RegistryCall::Add(b),
-        RegistryCall::Add(a),
-        RegistryCall::List,
-    ];
-    let of_scan = [
-        by_scan(0, 0),
-        by_scan(1, 1),
-        by_scan(2, 2),
-        by_scan(3, 3),
-        by_scan(4, 4),
-        by_scan(0, 5),
-        by_scan(1, 6),
-    ];
-    let of_list = [
-        by_list(0, 0),
-        by_list(1, 1),
-        by_list(2, 2),
-        by_list(3, 3),
-        by_list(4, 4),
-        by_list(1, 5),
-        by_list(0, 6),
-    ];
-    let expected = (
-        true,
-        five_listed(alloc, of_scan, [b, a, b, c, c])?,
-        five_listed(alloc, of_list, [a, b, b, c, c])?,
-    );
-    assert_eq!(rt; compared(alloc, 5, u64::MAX, &calls)?, expected);
-    Ok(())
+    are_compared(
+        &rt,
+        rt.alloc(),
+        (5, u64::MAX),
+        &FIVE_ARE_LISTED,
+        [&FIVE_OF_A_SCAN, &FIVE_OF_A_LIST],
+    )
 }

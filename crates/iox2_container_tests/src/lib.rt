@@ -4,6 +4,8 @@
 #![tactic(auto, using(iox2_container::proofs::Callable::callbacks))]
 
 #[cfg(test)]
+mod calls;
+#[cfg(test)]
 mod comparison;
 #[cfg(test)]
 mod handles;
@@ -21,5 +23,7 @@ mod places;
 mod printing;
 #[cfg(test)]
 mod registries;
+#[cfg(test)]
+mod rows;
 #[cfg(test)]
 mod sizes;

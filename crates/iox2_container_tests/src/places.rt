@@ -1,6 +1,7 @@
 //! Which places and tickets entries take.
-use super::nodes::node;
-use super::registries::*;
+use super::nodes::{A, Node};
+use super::registries::{Entry, Port, both, nodes_are_answered};
+use super::rows::{Handle, NOT_OWNED, OUT_OF_SPACE, Row, are_answered};
 use iox2_container::container::*;
 use iox2_ids::identifiers::UniqueNodeId;
 use std::alloc::{AllocError, Global};
@@ -8,94 +9,79 @@ use std::process::Abort;
 use std::test::Fail;
 
 /// On a registry of three places and two tickets.
-fn tickets_run_out<R: Registry<UniqueNodeId>>(
-    rt: &impl Abort,
-    registry: &mut R,
-) -> Result<(), Fail> {
-    let id = node(1, 0, 1)?;
-    let first = registry.add(id)?;
-    let second = registry.add(id)?;
-    let third = registry.add(id);
-    assert_eq!(rt;
-        (first, place(second), third),
-        (
-            ContainerHandle::from_parts(7, Role::Node, 0, 0),
-            (1, 1),
-            OUT_OF_SPACE
-        )
-    );
-    assert_eq!(rt;
-        (
-            first.service(),
-            first.role(),
-            registry.len(),
-            registry.capacity()
-        ),
-        (7, Role::Node, 2, 3)
-    );
-    Ok(())
-}
+const TICKETS_RUN_OUT: [Row; 5] = [
+    Row::Add(Entry(1, A), Ok(Handle(7, Role::Node, 0, 0))),
+    Row::Add(Entry(1, A), Ok(Handle(7, Role::Node, 1, 1))),
+    Row::Add(Entry(1, A), OUT_OF_SPACE),
+    Row::Holds(2, false),
+    Row::Capacity(3),
+];
 
 #[test]
 fn a_third_entry_wants_a_ticket(rt: HostRuntime) -> Result<(), Fail> {
-    let (mut scan, mut list) = both(rt.alloc(), Role::Node, 3, 2)?;
-    tickets_run_out(&rt, &mut scan)?;
-    tickets_run_out(&rt, &mut list)
+    nodes_are_answered(&rt, rt.alloc(), (3, 2), &TICKETS_RUN_OUT, [&[]; 2])
 }
 
-/// On a registry of three places, where the entries of the lower two leave and one comes.
-fn a_place_is_used_again<R: Registry<UniqueNodeId>>(
-    rt: &impl Abort,
-    registry: &mut R,
-    slot: usize,
-) -> Result<(), Fail> {
-    let id = node(1, 0, 1)?;
-    let a = registry.add(id)?;
-    let b = registry.add(id)?;
-    registry.add(id)?;
-    let states = [
-        registry.remove(a, ReleaseMode::Default)?,
-        registry.remove(b, ReleaseMode::Default)?,
-    ];
-    let came = registry.add(id)?;
-    assert_eq!(rt;
-        (states, place(came), registry.len()),
-        ([ReleaseState::Unlocked; 2], (slot, 3), 2)
-    );
-    Ok(())
-}
+/// On a registry of three places, where the entries of the lower two leave.
+const TWO_PLACES_ARE_FREED: [Row; 5] = [
+    Row::Add(Entry(1, A), Ok(Handle(7, Role::Node, 0, 0))),
+    Row::Add(Entry(1, A), Ok(Handle(7, Role::Node, 1, 1))),
+    Row::Add(Entry(1, A), Ok(Handle(7, Role::Node, 2, 2))),
+    Row::Remove(
+        Handle(7, Role::Node, 0, 0),
+        ReleaseMode::Default,
+        Ok(ReleaseState::Unlocked),
+    ),
+    Row::Remove(
+        Handle(7, Role::Node, 1, 1),
+        ReleaseMode::Default,
+        Ok(ReleaseState::Unlocked),
+    ),
+];
+
+const THE_LOWEST_IS_TAKEN: [Row; 2] = [
+    Row::Add(Entry(1, A), Ok(Handle(7, Role::Node, 0, 3))),
+    Row::Holds(2, false),
+];
+
+const THE_LAST_FREED_IS_TAKEN: [Row; 2] = [
+    Row::Add(Entry(1, A), Ok(Handle(7, Role::Node, 1, 3))),
+    Row::Holds(2, false),
+];
 
 #[test]
 fn the_scan_takes_the_lowest_and_the_list_the_last_freed(rt: HostRuntime) -> Result<(), Fail> {
-    let (mut scan, mut list) = both(rt.alloc(), Role::Node, 3, u64::MAX)?;
-    a_place_is_used_again(&rt, &mut scan, 0)?;
-    a_place_is_used_again(&rt, &mut list, 1)
+    nodes_are_answered(
+        &rt,
+        rt.alloc(),
+        (3, u64::MAX),
+        &TWO_PLACES_ARE_FREED,
+        [&THE_LOWEST_IS_TAKEN, &THE_LAST_FREED_IS_TAKEN],
+    )
 }
 
 /// On a registry with no place or no ticket.
-fn nothing_fits<R: Registry<UniqueNodeId>>(rt: &impl Abort, registry: &mut R) -> Result<(), Fail> {
-    let id = node(1, 0, 1)?;
-    let handle = ContainerHandle::from_parts(7, Role::Node, 0, 0);
-    let mut all = |_: &UniqueNodeId| true;
-    let added = registry.add(id);
-    let found = registry.get(handle);
-    let removed = registry.remove(handle, ReleaseMode::LockIfLastIndex);
-    let state = registry.recover(&id, &mut all, ReleaseMode::LockIfLastIndex);
-    assert_eq!(rt;
-        (added, found, removed, state),
-        (OUT_OF_SPACE, None, NOT_OWNED, ReleaseState::Unlocked)
-    );
-    Ok(())
-}
+const NOTHING_FITS: [Row; 4] = [
+    Row::Add(Entry(1, A), OUT_OF_SPACE),
+    Row::Get(Handle(7, Role::Node, 0, 0), None),
+    Row::Remove(
+        Handle(7, Role::Node, 0, 0),
+        ReleaseMode::LockIfLastIndex,
+        NOT_OWNED,
+    ),
+    Row::Recover(
+        A,
+        &[true],
+        ReleaseMode::LockIfLastIndex,
+        &[],
+        ReleaseState::Unlocked,
+    ),
+];
 
 #[test]
 fn no_place_or_no_ticket(rt: HostRuntime) -> Result<(), Fail> {
-    for (capacity, tickets) in [(0, 2), (2, 0)] {
-        let (mut scan, mut list) = both(rt.alloc(), Role::Node, capacity, tickets)?;
-        nothing_fits(&rt, &mut scan)?;
-        nothing_fits(&rt, &mut list)?;
-    }
-    Ok(())
+    nodes_are_answered(&rt, rt.alloc(), (0, 2), &NOTHING_FITS, [&[]; 2])?;
+    nodes_are_answered(&rt, rt.alloc(), (2, 0), &NOTHING_FITS, [&[]; 2])
 }
 
 #[test]
@@ -131,38 +117,49 @@ fn slots_are_read_written_and_peeked_at(rt: HostRuntime) -> Result<(), Fail> {
     Ok(())
 }
 
+/// The rows in which the entry of this slot comes.
+fn one_comes(slot: u32) -> [Row<'static>; 1] {
+    let handle = Handle(7, Role::Node, slot as usize, slot as u64);
+    [Row::Add(Entry(1, Node(1, 0, slot.wrapping_add(1))), Ok(handle))]
+}
+
+const NO_PLACE_IS_LEFT: [Row; 2] = [Row::Add(Entry(1, A), OUT_OF_SPACE), Row::Holds(100, false)];
+
+/// The entry of this slot goes, and locks where it is the last.
+fn one_goes(slot: usize) -> [Row<'static>; 3] {
+    let handle = Handle(7, Role::Node, slot, slot as u64);
+    let state = if slot == 99 {
+        ReleaseState::Locked
+    } else {
+        ReleaseState::Unlocked
+    };
+    [
+        Row::Holds(100usize.wrapping_sub(slot), false),
+        Row::Remove(handle, ReleaseMode::LockIfLastIndex, Ok(state)),
+        Row::Get(handle, None),
+    ]
+}
+
 /// On a registry of 100 places, which are taken from the first on.
 fn all_places_are_filled_and_drained<R: Registry<UniqueNodeId>>(
     rt: &impl Abort,
     alloc: Global,
     registry: &mut R,
 ) -> Result<(), Fail> {
-    let mut handles = Vec::with_capacity(alloc, 100)?;
     for slot in 0..100 {
-        let handle = registry.add(node(1, 0, slot as u32 + 1)?)?;
-        assert_eq!(rt; place(handle), (slot, slot as u64));
-        handles.push(handle)?;
+        are_answered(rt, alloc, registry, &one_comes(slot))?;
     }
-    assert_eq!(rt;
-        (registry.add(node(1, 0, 1)?), registry.len()),
-        (OUT_OF_SPACE, 100)
-    );
-    for handle in handles.as_slice() {
-        let last = registry.len() == 1;
-        let state = registry.remove(*handle, ReleaseMode::LockIfLastIndex)?;
-        assert_eq!(rt;
-            (state == ReleaseState::Locked, registry.get(*handle)),
-            (last, None)
-        );
+    are_answered(rt, alloc, registry, &NO_PLACE_IS_LEFT)?;
+    for slot in 0..100 {
+        are_answered(rt, alloc, registry, &one_goes(slot))?;
     }
-    assert_eq!(rt; (registry.len(), registry.is_locked()), (0, true));
-    Ok(())
+    are_answered(rt, alloc, registry, &[Row::Holds(0, true)])
 }
 
 #[test]
 fn a_hundred_places(rt: HostRuntime) -> Result<(), Fail> {
     let alloc = rt.alloc();
-    let (mut scan, mut list) = both(alloc, Role::Node, 100, u64::MAX)?;
+    let (mut scan, mut list) = both(alloc, Role::Node, (100, u64::MAX))?;
     all_places_are_filled_and_drained(&rt, alloc, &mut scan)?;
     all_places_are_filled_and_drained(&rt, alloc, &mut list)
 }

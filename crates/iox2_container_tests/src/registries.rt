@@ -1,14 +1,18 @@
-//! Registries of both kinds, and what their calls answer.
+//! Registries of both kinds, and what stands in them.
+use super::nodes::Node;
+use super::rows::{Row, are_answered};
 use iox2_container::container::*;
 use iox2_ids::identifiers::UniqueNodeId;
-use iox2_texts::bounded::CallbackProgression;
-use std::alloc::{AllocError, Global};
+use std::alloc::Global;
+use std::fmt::Debug;
+use std::process::Abort;
+use std::test::Fail;
 
 /// A port with its own number, and its node.
 #[derive(Clone, Copy, Debug, PartialEq, Eq)]
 pub(super) struct Port {
-    pub(super) number: u64,
-    pub(super) node: UniqueNodeId,
+    number: u64,
+    node: UniqueNodeId,
 }
 
 impl Attached for Port {
@@ -25,46 +29,82 @@ impl Attached for Port {
     }
 }
 
-/// The numbers of the entries by rising slot, up to and with this one.
-pub(super) fn listed_up_to<T: Attached + Copy, R: Registry<T>>(
-    alloc: Global,
-    registry: &R,
-    last: Option<u128>,
-) -> Result<Vec<u128>, AllocError> {
-    let mut numbers = Vec::with_capacity(alloc, registry.capacity())?;
-    let mut note = |details: &T| {
-        // There is room for all.
-        let _ = numbers.push(details.key());
-        if Some(details.key()) == last {
-            CallbackProgression::Stop
-        } else {
-            CallbackProgression::Continue
-        }
-    };
-    registry.for_each(&mut note);
-    Ok(numbers)
+/// What stands in a registry, in words that are the same for nodes and ports.
+#[derive(Clone, Copy)]
+pub(super) struct Entry(pub(super) u64, pub(super) Node);
+
+/// Nodes and ports.
+pub(super) trait Details: Attached + Copy + Debug + PartialEq {
+    /// The port of this number and node, or the node.
+    fn of(number: u64, node: UniqueNodeId) -> Self;
+}
+
+impl Details for Port {
+    fn of(number: u64, node: UniqueNodeId) -> Self {
+        Port { number, node }
+    }
+}
+
+impl Details for UniqueNodeId {
+    fn of(_number: u64, node: UniqueNodeId) -> Self {
+        node
+    }
+}
+
+impl Entry {
+    pub(super) fn details<T: Details>(self) -> Result<T, Fail> {
+        let Entry(number, node) = self;
+        Ok(T::of(number, node.id()?))
+    }
+}
+
+/// The details of all the entries.
+pub(super) fn all_details<T: Details>(alloc: Global, entries: &[Entry]) -> Result<Vec<T>, Fail> {
+    let mut all = Vec::new(alloc);
+    for entry in entries {
+        all.push(entry.details()?)?;
+    }
+    Ok(all)
 }
 
 /// A new scan and a new free list of service 7, with these places and tickets.
-pub(super) fn both<T: Attached + Copy>(
+pub(super) fn both<T: Details>(
     alloc: Global,
     role: Role,
-    capacity: usize,
-    tickets: u64,
-) -> Result<(Container<T>, ListContainer<T>), AllocError> {
+    (capacity, tickets): (usize, u64),
+) -> Result<(Container<T>, ListContainer<T>), Fail> {
     let scan = Container::new(alloc, 7, role, capacity, tickets)?;
     let list = ListContainer::new(alloc, 7, role, capacity, tickets)?;
     Ok((scan, list))
 }
 
-pub(super) fn place(handle: ContainerHandle) -> (usize, u64) {
-    (handle.slot(), handle.ticket())
+/// Makes the calls of the rows on a new scan and a new free list
+/// of nodes, and then those that either answers in its own way.
+pub(super) fn nodes_are_answered(
+    rt: &impl Abort,
+    alloc: Global,
+    size: (usize, u64),
+    rows: &[Row],
+    [of_scan, of_list]: [&[Row]; 2],
+) -> Result<(), Fail> {
+    let (mut scan, mut list) = both::<UniqueNodeId>(alloc, Role::Node, size)?;
+    are_answered(rt, alloc, &mut scan, rows)?;
+    are_answered(rt, alloc, &mut scan, of_scan)?;
+    are_answered(rt, alloc, &mut list, rows)?;
+    are_answered(rt, alloc, &mut list, of_list)
 }
 
-pub(super) const OUT_OF_SPACE: Result<ContainerHandle, ContainerAddFailure> = Err(
-    ContainerAddFailure::OutOfSpace,
-);
-
-pub(super) const NOT_OWNED: Result<ReleaseState, ContainerRemoveError> = Err(
-    ContainerRemoveError::ContainerHandleNotOwnedByContainer,
-);
+/// As `nodes_are_answered`, of ports.
+pub(super) fn ports_are_answered(
+    rt: &impl Abort,
+    alloc: Global,
+    size: (usize, u64),
+    rows: &[Row],
+    [of_scan, of_list]: [&[Row]; 2],
+) -> Result<(), Fail> {
+    let (mut scan, mut list) = both::<Port>(alloc, Role::Publisher, size)?;
+    are_answered(rt, alloc, &mut scan, rows)?;
+    are_answered(rt, alloc, &mut scan, of_scan)?;
+    are_answered(rt, alloc, &mut list, rows)?;
+    are_answered(rt, alloc, &mut list, of_list)
+}

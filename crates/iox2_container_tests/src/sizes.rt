@@ -1,5 +1,5 @@
 //! What a free list costs depends on what stands in it, and not on its capacity.
-use super::nodes::node;
+use super::nodes::{A, B};
 use iox2_container::container::*;
 use iox2_ids::identifiers::UniqueNodeId;
 use iox2_texts::bounded::CallbackProgression;
@@ -8,8 +8,8 @@ use std::test::Fail;
 /// Passes over all places, a million each time, would take minutes.
 #[test]
 fn a_million_places_with_three_entries(rt: HostRuntime) -> Result<(), Fail> {
-    let id = node(1, 0, 1)?;
-    let other = node(2, 0, 1)?;
+    let id = A.id()?;
+    let other = B.id()?;
     let mut list = ListContainer::new(rt.alloc(), 7, Role::Node, 1_000_000, u64::MAX)?;
     for added in [id, other, id] {
         list.add(added)?;
