@@ -104,14 +104,16 @@ documented() { RUSTDOCFLAGS="--deny warnings" crate doc --no-deps; }
 
 has_cargo() { cargo "$1" --version > "$work/which" 2>&1 || { echo "not found: cargo $1"; return 1; }; }
 
-# Packs the crate, and tests it elsewhere with an installed library.
+# Packs the crate, and tests it elsewhere with an installed library. The examples of its pages are
+# run once, with the crate's own tests.
 packaged() {
     local prefix=$work/installed
     ./install.sh "$prefix" &&
         crate package --no-verify --allow-dirty &&
         tar xf "$work"/rust/package/iox2sd-*.crate -C "$work" &&
         CARGO_TARGET_DIR=$work/rust IOX2SD_LIB_DIR=$prefix/lib \
-            cargo test --quiet --jobs 1 --offline --manifest-path "$work"/iox2sd-*/Cargo.toml
+            cargo test --quiet --jobs 1 --offline --tests --examples \
+            --manifest-path "$work"/iox2sd-*/Cargo.toml
 }
 
 wrapped=-Wl,--wrap=malloc,--wrap=calloc,--wrap=realloc,--wrap=free

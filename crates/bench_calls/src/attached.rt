@@ -35,11 +35,14 @@ impl Attached {
             number_of_publishers: places.publishers as usize,
         };
         let settings = MessagingPatternSettings::PublishSubscribe(ports);
+        let nodes = Vec::with_capacity(alloc, places.nodes as usize)?;
+        let subscribers = Vec::with_capacity(alloc, places.subscribers as usize)?;
+        let service = DynamicConfig::new(alloc, &settings, places.nodes as usize, 7)?;
         Ok(Attached {
             places,
-            service: DynamicConfig::new(alloc, &settings, places.nodes as usize, 7)?,
-            nodes: Vec::with_capacity(alloc, places.nodes as usize)?,
-            subscribers: Vec::with_capacity(alloc, places.subscribers as usize)?,
+            service,
+            nodes,
+            subscribers,
         })
     }
 

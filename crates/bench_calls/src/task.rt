@@ -76,13 +76,7 @@ impl Task {
             Call::Layout => Ok(described::layouts(self.sizes(), self.calls)),
             Call::Verification => Ok(described::verifications(self.calls)),
             Call::HashText => Ok(described::hash_texts(self.calls)),
-            Call::Register => Attached::new(alloc, self.places)?.register(self.calls),
-            Call::Attach => {
-                Attached::with_nodes(alloc, self.places)?.attach_subscribers(self.calls)
-            }
-            Call::Nodes => Attached::full(alloc, self.places)?.list_nodes(alloc, self.calls),
-            Call::Ports => Attached::full(alloc, self.places)?.list_subscribers(alloc, self.calls),
-            _ => Ok(self.calls_on(&mut Attached::full(alloc, self.places)?)),
+            _ => self.calls_on(alloc, &mut self.attached(alloc)?),
         }
     }
 
@@ -95,13 +89,27 @@ impl Task {
         }
     }
 
-    fn calls_on(&self, attached: &mut Attached) -> u64 {
+    /// The service that the calls are made on.
+    fn attached(&self, alloc: Global) -> Result<Attached, AllocError> {
         match self.call {
-            Call::List => attached.list(self.calls),
-            Call::Release => attached.release(self.calls),
-            Call::Deregister => attached.deregister(self.calls),
-            Call::Death => attached.die(self.calls),
-            _ => 0,
+            Call::Register => Attached::new(alloc, self.places),
+            Call::Attach => Attached::with_nodes(alloc, self.places),
+            _ => Attached::full(alloc, self.places),
+        }
+    }
+
+    /// What the calls on a service answer.
+    fn calls_on(&self, alloc: Global, attached: &mut Attached) -> Result<u64, AllocError> {
+        match self.call {
+            Call::Register => attached.register(self.calls),
+            Call::Attach => attached.attach_subscribers(self.calls),
+            Call::Nodes => attached.list_nodes(alloc, self.calls),
+            Call::Ports => attached.list_subscribers(alloc, self.calls),
+            Call::List => Ok(attached.list(self.calls)),
+            Call::Release => Ok(attached.release(self.calls)),
+            Call::Deregister => Ok(attached.deregister(self.calls)),
+            Call::Death => Ok(attached.die(self.calls)),
+            _ => Ok(0),
         }
     }
 }

@@ -6,7 +6,6 @@
 #[cfg(test)]
 mod attaching;
 #[cfg(test)]
-#[cfg(test)]
 mod dead_nodes;
 #[cfg(test)]
 mod handles;

@@ -2,6 +2,7 @@
 use super::rows::{Handle, Row, are_answered, counter_of};
 use super::services::*;
 use arrayvec::ArrayVec;
+use iox2_config::hash::PatternKind;
 use iox2_container::container::Attached;
 use iox2_dynamic::dynamic_config::*;
 use iox2_ids::identifiers::UniqueNodeId;
@@ -21,6 +22,7 @@ fn note_two<T: Attached>(seen: &mut ArrayVec<u128, 4>, details: &T) -> CallbackP
     }
 }
 
+/// Three ports of the first kind and one of the second, of counters 9 to 12.
 const THREE_AND_ONE: [Row; 5] = [
     Row::Register(A, Ok(Handle(7, Kind::Node, 0, 0))),
     Row::Attach(Kind::First, 9, A, Ok(Handle(7, Kind::First, 0, 0))),
@@ -28,13 +30,6 @@ const THREE_AND_ONE: [Row; 5] = [
     Row::Attach(Kind::First, 11, A, Ok(Handle(7, Kind::First, 2, 2))),
     Row::Attach(Kind::Second, 12, A, Ok(Handle(7, Kind::Second, 0, 0))),
 ];
-
-/// A service with three ports of the first kind and one of the second, of counters 9 to 12.
-fn three_and_one(rt: &impl Abort, alloc: Global, pattern: &Pattern) -> Result<DynamicConfig, Fail> {
-    let mut service = service(alloc, pattern.kind, (1, 3, 1))?;
-    are_answered(rt, &mut service, pattern, &THREE_AND_ONE)?;
-    Ok(service)
-}
 
 /// Of a service with three ports and one: what listings noted that stop at the second port, and how
 /// many ports there are.
@@ -64,7 +59,8 @@ fn are_noted_by_kind<A: PortKind, B: PortKind>(
 
 #[test]
 fn publishers_and_subscribers_are_listed(rt: HostRuntime) -> Result<(), Fail> {
-    let service = three_and_one(&rt, rt.alloc(), &PUBLISH_SUBSCRIBE)?;
+    let mut service = service(rt.alloc(), PUBLISH_SUBSCRIBE.kind, (1, 3, 1))?;
+    are_answered(&rt, &mut service, &PUBLISH_SUBSCRIBE, &THREE_AND_ONE)?;
     assert!(rt; service.is_publish_subscribe());
     let ports = service.publish_subscribe();
     let (mut first, mut second) = (ArrayVec::new(), ArrayVec::new());
@@ -78,7 +74,8 @@ fn publishers_and_subscribers_are_listed(rt: HostRuntime) -> Result<(), Fail> {
 
 #[test]
 fn listeners_and_notifiers_are_listed(rt: HostRuntime) -> Result<(), Fail> {
-    let service = three_and_one(&rt, rt.alloc(), &EVENT)?;
+    let mut service = service(rt.alloc(), EVENT.kind, (1, 3, 1))?;
+    are_answered(&rt, &mut service, &EVENT, &THREE_AND_ONE)?;
     assert!(rt; service.is_event());
     let ports = service.event();
     let (mut first, mut second) = (ArrayVec::new(), ArrayVec::new());
@@ -92,7 +89,8 @@ fn listeners_and_notifiers_are_listed(rt: HostRuntime) -> Result<(), Fail> {
 
 #[test]
 fn servers_and_clients_are_listed(rt: HostRuntime) -> Result<(), Fail> {
-    let service = three_and_one(&rt, rt.alloc(), &REQUEST_RESPONSE)?;
+    let mut service = service(rt.alloc(), REQUEST_RESPONSE.kind, (1, 3, 1))?;
+    are_answered(&rt, &mut service, &REQUEST_RESPONSE, &THREE_AND_ONE)?;
     assert!(rt; service.is_request_response());
     let ports = service.request_response();
     let (mut first, mut second) = (ArrayVec::new(), ArrayVec::new());
@@ -106,7 +104,8 @@ fn servers_and_clients_are_listed(rt: HostRuntime) -> Result<(), Fail> {
 
 #[test]
 fn readers_and_writers_are_listed(rt: HostRuntime) -> Result<(), Fail> {
-    let service = three_and_one(&rt, rt.alloc(), &BLACKBOARD)?;
+    let mut service = service(rt.alloc(), BLACKBOARD.kind, (1, 3, 1))?;
+    are_answered(&rt, &mut service, &BLACKBOARD, &THREE_AND_ONE)?;
     assert!(rt; service.is_blackboard());
     let ports = service.blackboard();
     let (mut first, mut second) = (ArrayVec::new(), ArrayVec::new());
@@ -119,33 +118,60 @@ fn readers_and_writers_are_listed(rt: HostRuntime) -> Result<(), Fail> {
 }
 
 /// What the pattern is, by its number and by the four tests.
-fn tells_its_pattern(rt: &impl Abort, alloc: Global, pattern: &Pattern) -> Result<(), AllocError> {
-    let service = service(alloc, pattern.kind, (1, 1, 1))?;
+fn tells_its_pattern(
+    rt: &impl Abort,
+    alloc: Global,
+    pattern: PatternKind,
+    tests: [bool; 4],
+) -> Result<(), AllocError> {
+    let service = service(alloc, pattern, (1, 1, 1))?;
     let told = [
         service.is_publish_subscribe(),
         service.is_event(),
         service.is_request_response(),
         service.is_blackboard(),
     ];
-    let is = PATTERNS.map(|other| other.kind == pattern.kind);
-    assert_eq!(rt; (service.kind(), told), (pattern.kind, is));
+    assert_eq!(rt; (service.kind(), told), (pattern, tests));
     Ok(())
 }
 
 #[test]
 fn a_service_tells_its_pattern(rt: HostRuntime) -> Result<(), Fail> {
-    for pattern in &PATTERNS {
-        tells_its_pattern(&rt, rt.alloc(), pattern)?;
+    for (pattern, tests) in [
+        (PatternKind::PublishSubscribe, [true, false, false, false]),
+        (PatternKind::Event, [false, true, false, false]),
+        (PatternKind::RequestResponse, [false, false, true, false]),
+        (PatternKind::Blackboard, [false, false, false, true]),
+    ] {
+        tells_its_pattern(&rt, rt.alloc(), pattern, tests)?;
     }
     Ok(())
 }
 
-/// The nodes that are listed up to and with the one of this number.
-fn nodes_up_to(alloc: Global, service: &DynamicConfig, most: usize) -> Vec<UniqueNodeId> {
-    let mut seen = Vec::new(alloc);
+/// Three nodes, of which two share an owner id.
+const THREE_NODES: [Row; 3] = [
+    Row::Register(TWO_OF_FIVE, Ok(Handle(7, Kind::Node, 0, 0))),
+    Row::Register(A, Ok(Handle(7, Kind::Node, 1, 1))),
+    Row::Register(ONE_OF_FIVE, Ok(Handle(7, Kind::Node, 2, 2))),
+];
+
+/// The seconds and the counters of these nodes, in one number each.
+const LISTED: [u128; 3] = [(2 << 64) + 5, 1, (1 << 64) + 5];
+
+/// How many nodes are asked for, and which are listed.
+const UP_TO_A_STOP: [(usize, &[u128]); 4] = [
+    (1, &[LISTED[0]]),
+    (2, &[LISTED[0], LISTED[1]]),
+    (3, &LISTED),
+    (4, &LISTED),
+];
+
+/// The nodes that are listed up to and with the one of this place.
+fn nodes_up_to(service: &DynamicConfig, most: usize) -> ArrayVec<u128, 4> {
+    let mut seen = ArrayVec::new();
     service.list_node_ids(&mut |id: &UniqueNodeId| {
-        // Where there is no memory, a node is missing.
-        let _ = seen.push(*id);
+        // What is listed too often shows as one node more.
+        let _ = seen.try_push(counter_of(id.value()));
         if seen.len() == most {
             CallbackProgression::Stop
         } else {
@@ -158,15 +184,9 @@ fn nodes_up_to(alloc: Global, service: &DynamicConfig, most: usize) -> Vec<Uniqu
 #[test]
 fn nodes_are_listed_by_their_ids_up_to_a_stop(rt: HostRuntime) -> Result<(), Fail> {
     let mut service = service(rt.alloc(), EVENT.kind, (3, 1, 1))?;
-    let ids = [TWO_OF_FIVE.id()?, A.id()?, ONE_OF_FIVE.id()?];
-    for id in ids {
-        service.register_node_id(id)?;
-    }
-    for most in 1..5 {
-        assert_eq!(rt;
-            nodes_up_to(rt.alloc(), &service, most).as_slice(),
-            ids.get(..most).unwrap_or(&ids)
-        );
+    are_answered(&rt, &mut service, &EVENT, &THREE_NODES)?;
+    for (most, listed) in &UP_TO_A_STOP {
+        assert_eq!(rt; nodes_up_to(&service, *most).as_slice(), *listed);
     }
     Ok(())
 }

@@ -5,7 +5,7 @@ use iox2_ids::laws::*;
 use std::cmp::Ordering;
 use std::hash::DefaultHasher;
 use std::process::Abort;
-use test_support::printing::{is_printed, is_shown};
+use test_support::printing::{is_printed_and_shown, is_shown};
 
 #[test]
 fn node_ids_have_parts_and_a_text(rt: HostRuntime) {
@@ -169,8 +169,8 @@ fn ids_fail_with_their_writer(rt: HostRuntime) {
     let port = UniquePublisherId::new(1, 2, 3, 4);
     assert_eq!(rt;
         [
-            is_printed(&node) && is_shown(&node),
-            is_printed(&port) && is_shown(&port),
+            is_printed_and_shown(&node),
+            is_printed_and_shown(&port),
             is_shown(&UniquePortId::Reader(UniqueReaderId::new(1, 2, 3, 4))),
             is_shown(&ProcessId::new(1)),
             is_shown(&Time::new(1, 2)),

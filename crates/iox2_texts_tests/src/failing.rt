@@ -10,7 +10,7 @@ use iox2_texts::bounded::{
 use iox2_texts::paths::{FileName, FilePath, Path};
 use iox2_texts::service_name::{ServiceName, ServiceNameError};
 use std::process::Abort;
-use test_support::printing::{is_printed, is_shown};
+use test_support::printing::{is_printed_and_shown, is_shown};
 
 #[test]
 fn texts_fail_with_their_writer(rt: HostRuntime) {
@@ -23,13 +23,13 @@ fn texts_fail_with_their_writer(rt: HostRuntime) {
     let both = FilePath::new(b"a/b").expect(&rt, "a path");
     assert_eq!(rt;
         [
-            is_printed(&text) && is_shown(&text),
-            is_printed(&name) && is_shown(&name),
-            is_printed(&key) && is_shown(&key),
-            is_printed(&value) && is_shown(&value),
-            is_printed(&path) && is_shown(&path),
-            is_printed(&file) && is_shown(&file),
-            is_printed(&both) && is_shown(&both),
+            is_printed_and_shown(&text),
+            is_printed_and_shown(&name),
+            is_printed_and_shown(&key),
+            is_printed_and_shown(&value),
+            is_printed_and_shown(&path),
+            is_printed_and_shown(&file),
+            is_printed_and_shown(&both),
         ],
         [true; 7]
     );
@@ -46,11 +46,11 @@ fn errors_fail_with_their_writer(rt: HostRuntime) {
     let other = AttributeVerificationError::IncompatibleAttribute((key, value));
     assert_eq!(rt;
         [
-            is_printed(&content) && is_shown(&content),
-            is_printed(&length) && is_shown(&length),
-            is_printed(&many) && is_shown(&many),
-            is_printed(&missing) && is_shown(&missing),
-            is_printed(&other) && is_shown(&other),
+            is_printed_and_shown(&content),
+            is_printed_and_shown(&length),
+            is_printed_and_shown(&many),
+            is_printed_and_shown(&missing),
+            is_printed_and_shown(&other),
             is_shown(&SemanticStringError::InvalidContent),
             is_shown(&StringModificationError::InvalidCharacter),
             is_shown(&CallbackProgression::Stop),

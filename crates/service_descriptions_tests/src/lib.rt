@@ -8,7 +8,6 @@ mod deaths;
 #[cfg(test)]
 mod descriptions;
 #[cfg(test)]
-#[cfg(test)]
 mod line_runs;
 #[cfg(test)]
 mod lines;

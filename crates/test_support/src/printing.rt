@@ -55,3 +55,8 @@ pub fn is_shown(value: &impl Debug) -> bool {
     }
     whole && calls > 0 && fails
 }
+
+/// Whether the value is printed and shown, each as above.
+pub fn is_printed_and_shown(value: &(impl Display + Debug)) -> bool {
+    is_printed(value) && is_shown(value)
+}
