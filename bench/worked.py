@@ -59,7 +59,7 @@ def good():
     }
     # The longer names first: `LINES` stands in `deaths::LINES` too.
     names = dict(sorted(names.items(), key=lambda item: -len(item[0])))
-    found = texts(table("worked.rt", "const ROWS: "), names)
+    found = texts(table("worked.rt", "static ROWS: "), names)
     return [example(), *zip(found[::2], found[1::2], strict=True)]
 
 

@@ -2,7 +2,8 @@
 # Builds into bindings/out the library for C: libiox2sd.a and libiox2sd.so.0, of which iox2sd_* alone can be seen from
 # outside. It needs the C library alone. The first time takes as long as the proof of all crates below.
 # With --after-gate it proves the exports alone, over what `rt ci` left of the crates below, which
-# it has just proved.
+# it has just proved. `rt ci` keeps nothing of the exports that it proves, so they are proved again,
+# but for what checks before the gate kept in out/incremental.
 set -euo pipefail
 cd "$(dirname "$0")"
 CC=${CC:-cc}
@@ -24,7 +25,8 @@ build_over_proved() {
     done
     for name in "$kit/rlibs" "$crates"/*/out/rlib; do words+=(-L "dependency=$name"); done
     words+=(--antt-project "$kit/rattle/logic/antt-project.json" --logic-built "$kit/logic_built")
-    words+=(--links "$1=" --toolchain "$kit/toolchain" -o "out/lib$1.a")
+    words+=(--incremental out/incremental --links "$1=")
+    words+=(--toolchain "$kit/toolchain" -o "out/lib$1.a")
     (cd "$crates/$1" && mkdir -p out && "$kit/bin/rattle" build "${words[@]}" src/lib.rt)
 }
 

@@ -57,15 +57,6 @@ same_exports() {
         diff "$work/archive" "$work/shared"
 }
 
-# docs/C.md names each export, those that take a count by the name without `_at`.
-named_in_the_page() {
-    exported -g --defined-only out/libiox2sd.a | sed 's/_at$//' | sort -u > "$work/exports"
-    grep -o 'iox2sd_[a-z0-9_]*' ../docs/C.md | sort -u > "$work/named"
-    comm -23 "$work/exports" "$work/named" > "$work/unnamed"
-    cat "$work/unnamed"
-    [ -s "$work/exports" ] && [ ! -s "$work/unnamed" ]
-}
-
 # An example prints the lines that stand below 'It prints:' at its head.
 prints_what_it_says() {
     "$work/caller" > "$work/printed" &&
@@ -118,18 +109,28 @@ packaged() {
 
 wrapped=-Wl,--wrap=malloc,--wrap=calloc,--wrap=realloc,--wrap=free
 for compiler in gcc clang; do
-    for source in c/test_service.c c/test_values.c c/test_walk.c c/test_threads.c; do
+    for source in c/test_service.c c/test_values.c c/test_walk.c c/test_threads.c c/test_header.c; do
         caller "$compiler" iox2sd "$source" -std=c99
         sanitized "$compiler" address,undefined "$source" -std=c99
     done
     sanitized "$compiler" thread c/test_threads.c -std=c99
     caller "$compiler" iox2sd c/test_script.c -std=c99 -Wl,--wrap=malloc,--wrap=realloc
-    runs "$compiler" iox2sd c/test_memory.c -std=c99 -D_GNU_SOURCE "$wrapped"
+    for source in c/test_memory.c c/test_questions.c; do
+        runs "$compiler" iox2sd "$source" -std=c99 -D_GNU_SOURCE "$wrapped"
+    done
+done
+wrapped_settings=-Wl
+for name in {global,publish_subscribe,event,request_response}_{defaults,settings_check_at} \
+    blackboard_defaults; do
+    wrapped_settings+=,--wrap=iox2sd_$name
 done
 for compiler in g++ clang++; do
+    runs "$compiler" iox2sd cpp/test_enumerators.cpp -std=c++17
+    runs "$compiler" iox2sd cpp/test_fields.cpp -std=c++17 "$wrapped_settings"
     caller "$compiler" iox2sd c/test_values.cpp -std=c++11
     for source in cpp/test_values.cpp cpp/test_service.cpp; do
         caller "$compiler" iox2sd "$source" -std=c++17
+        runs "$compiler" iox2sd "$source" -std=c++20
         sanitized "$compiler" address,undefined "$source" -std=c++17
     done
     sanitized "$compiler" address,undefined cpp/test_memory.cpp -std=c++17
@@ -140,7 +141,6 @@ done
 run "statuses agree" same_statuses
 if has nm; then
     run "libiox2sd exports iox2sd_* alone" same_exports
-    run "docs/C.md names each export" named_in_the_page
 fi
 
 # ---- The same programs in each language ----

@@ -31,7 +31,7 @@ awk '
         exit quotes == 0 || wrong > 0
     }
 ' README.md docs/*.md crates/*/README.md
-grep -o '`[a-z0-9_]*--[a-z0-9_]*`' docs/PROMISES.md | tr -d '`' | sort -u | while read -r mistake; do
+grep -o '`[a-z0-9_][a-z0-9_]*--[a-z0-9_]*`' docs/PROMISES.md | tr -d '`' | sort -u | while read -r mistake; do
     grep -q -x "# $mistake" crates/*/must-fail/*.edit && continue
     ls crates/*/must-fail/"$mistake".edit > /dev/null || exit 1
 done

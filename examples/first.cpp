@@ -25,14 +25,14 @@ TypeDetail type(std::string_view name, std::size_t size, std::size_t alignment) 
 /// What the service is: its name, hash text, settings and attributes.
 void describe(const StaticConfig& description, std::size_t loans) {
     const PublishSubscribeStaticConfig& config = *description.publish_subscribe();
-    std::cout << "service: " << description.name().view() << '\n'
-              << "hash: " << description.service_hash().view() << '\n'
+    std::cout << "service: " << description.name() << '\n'
+              << "hash: " << description.service_hash() << '\n'
               << "room: " << config.max_nodes << " nodes, " << config.max_publishers
               << " publishers, " << config.max_subscribers << " subscribers\n"
               << "samples: " << config.required_amount_of_samples_per_data_segment(loans).value()
               << '\n';
     for (const Attribute& each : description.attributes()) {
-        std::cout << "attribute: " << each.key().view() << " = " << each.value().view() << '\n';
+        std::cout << "attribute: " << each.key() << " = " << each.value() << '\n';
     }
 }
 
@@ -46,7 +46,7 @@ void verify(const StaticConfig& description, AttributeVerifier verifier) {
                  verifier.verify_requirements(description.attributes()).has_value());
     if (!verifier.require_key(rate)) return;
     const auto verified = verifier.verify_requirements(description.attributes());
-    std::cout << "an opener of color = red, unit, rate: there is no " << verified.error().key.view()
+    std::cout << "an opener of color = red, unit, rate: there is no " << verified.error().key
               << '\n';
     print_answer("an opener with these types", opener.is_compatible_to(service).has_value());
     opener.payload = type("Payload", 8, 16);
@@ -62,10 +62,10 @@ void live(Service& service) {
     const PublisherDetails details{publisher, node, 34, 0, DataSegmentType::Static, 1};
     print_handle("publisher", service.attach(details).value());
     for (const UniqueNodeId& each : service.nodes().value()) {
-        std::cout << "there is the node: " << each.text().view() << '\n';
+        std::cout << "there is the node: " << each << '\n';
     }
     for (const PublisherDetails& each : service.list_publishers().value()) {
-        std::cout << "there is the publisher: " << each.publisher_id.text().view() << '\n';
+        std::cout << "there is the publisher: " << each.publisher_id << '\n';
     }
     const Removal death = service.remove_dead_node_id(node).value();
     std::cout << "died with " << death.first << " publishers, " << death.second << " subscribers\n";

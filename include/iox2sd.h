@@ -4,30 +4,37 @@
  *
  * - Values are plain structs, which a caller keeps, copies and compares as it likes. iox2sd_id and iox2sd_handle have no
  *   padding, so memcmp compares them; of the others the fields are compared.
- * - A call answers a status (enum iox2sd_status), alone or as the first field of a struct. Where it is not
- *   IOX2SD_DONE, the other fields are 0 and nothing was changed, but where a function says otherwise. Each function names
- *   its refusals in the order in which they are told.
+ * - A call returns a status (enum iox2sd_status), alone or as the first field of a struct. Where it is not
+ *   IOX2SD_DONE, the other fields are 0 and nothing was changed, but where a function says otherwise. A refused answer's
+ *   handle is IOX2SD_HANDLE_NONE, which no call accepts. Each function names its refusals in the order in which they are
+ *   reported.
  * - An array or a buffer is a pointer and a number of elements. NULL with the number 0 is an empty one. NULL with another
  *   number is an error of its own, IOX2SD_NULL, where a function names that error, as is NULL where one struct is expected;
  *   a buffer for a text is not given so.
  * - What is written overlaps no other argument of the call. No call writes past the number of elements that it was given,
  *   keeps a pointer, or calls back.
  * - No call starts a thread, takes a lock, or reads a file, the clock or the environment. There is no
- *   global state: calls may run on several threads at once, where they share no service and no array.
- *   A service may be moved to another thread, ordered by a lock or a thread's start or join, and is
- *   used by one thread at a time, by the functions that only ask too.
+ *   global state: calls may run on several threads at once, where none writes to what another is given.
+ *   A question takes a `const iox2sd_service *`, and each other call on a service changes it. On one
+ *   service any number of questions may run at once, or one change alone. A service may be moved to
+ *   another thread; a move and a change are ordered with other calls by a lock or by a thread's start
+ *   or join.
  * - iox2sd_service_make alone takes memory, by malloc; iox2sd_service_free alone gives it back. Nothing is kept for a call.
  *
  * What is proved, and what not
  *
  * Each function of the library is proved to answer what the layer's own definitions say, to touch
- * nothing outside its arguments, and to return; and what a service holds is proved to be such as may
- * be sent to another thread. The proof takes this header's rules for granted: that a pointer points to
- * as many elements as it is said to, that no other thread touches them during the call, and that the
- * bytes of a service are zeros or what the last call left there. No proof says that a caller frees a
- * service, that it uses one on one thread at a time, or what it does with a pointer; nor that the
- * declarations below are those of the library, nor that its inline functions pass the numbers that
- * they say. That NULL with the number 0 is an empty array is tested, not proved.
+ * nothing outside its arguments, and to return; each question, to leave the service as it was, its own
+ * bytes and what it holds; and what a service holds, to be such as may be sent to another thread. The
+ * proof takes this header's rules for granted: that a pointer points to as many elements as it is said
+ * to, that no other thread touches them during the call, and that the bytes of a service are zeros or
+ * what the last call left there. So it speaks of one question at a time. That a question writes nothing
+ * to a service meanwhile either, so that several may run at once, is tested and not proved: all
+ * questions are asked of services in pages that may only be read, by sixteen threads at once. No proof
+ * says that a caller frees a service, that no other call runs beside a change, or what a caller does
+ * with a pointer; nor that the declarations below are those of the library, nor that its inline
+ * functions pass the numbers that they say. That NULL with the number 0 is an empty array is tested,
+ * not proved.
  */
 #ifndef IOX2SD_H
 #define IOX2SD_H
@@ -36,16 +43,26 @@
 #include <stddef.h>
 #include <stdint.h>
 
+#if SIZE_MAX != UINT64_MAX
+#error "the library is built for a size_t of 64 bits"
+#endif
+
+/* The version of this header; iox2sd_version has that of the library. */
+#define IOX2SD_VERSION_MAJOR 0
+#define IOX2SD_VERSION_MINOR 1
+#define IOX2SD_VERSION_PATCH 0
+#define IOX2SD_VERSION "0.1.0"
+
 #ifdef __cplusplus
 extern "C" {
 #endif
 
-/* What a call of this header, of iox2sd_values.h or of iox2sd_script.h answers.
+/* What a call of this header, of iox2sd_values.h or of iox2sd_script.h returns.
  * iox2sd_status_text has a text for each. */
 enum iox2sd_status {
     IOX2SD_DONE = 0,
     IOX2SD_DONE_LOCKED = 1,      /* It was done, and the service is locked for good: no node registers any more. */
-    IOX2SD_BUFFER_TOO_SHORT = 2, /* The answer tells how much is needed. */
+    IOX2SD_BUFFER_TOO_SHORT = 2, /* The answer has the length that is needed. */
     IOX2SD_NO_MEMORY = 3,
     IOX2SD_NO_SERVICE = 4,  /* The place holds none. */
     IOX2SD_HAS_SERVICE = 5, /* The place holds one already. */
@@ -95,6 +112,9 @@ enum iox2sd_status {
     IOX2SD_BAD_DURATION = 68 /* The nanoseconds beside the seconds are 1,000,000,000 or more. */
 };
 
+/* Whether a call was done: IOX2SD_DONE and IOX2SD_DONE_LOCKED, and no other status. */
+#define IOX2SD_OK(status) ((uint32_t)(status) <= 1)
+
 /* Messaging patterns. */
 enum iox2sd_pattern_number {
     IOX2SD_PUBLISH_SUBSCRIBE = 0,
@@ -117,6 +137,10 @@ enum iox2sd_role {
     IOX2SD_WRITER = 8
 };
 
+/* The role of no entry and of no port, which each call with a role or a handle refuses by
+ * IOX2SD_UNKNOWN_ROLE. */
+#define IOX2SD_NO_ROLE UINT64_MAX
+
 /* Whether a data segment may grow. */
 enum iox2sd_segment {
     IOX2SD_DYNAMIC_SEGMENT = 0, /* It may be replaced by a larger one. */
@@ -134,12 +158,16 @@ typedef struct iox2sd_id {
 /* What registering and attaching give, and what deregistering and releasing take. */
 typedef struct iox2sd_handle {
     uint64_t service; /* The number of the service. */
-    uint64_t role;    /* Of enum iox2sd_role. */
+    uint64_t role;    /* Of enum iox2sd_role; IOX2SD_NO_ROLE where it stands for nothing. */
     size_t slot;
     uint64_t ticket; /* How many entries of its kind the service had been given before. */
 } iox2sd_handle;
 
-/* What a port tells of itself. A field that its kind does not have is not looked at, and is told as 0. */
+/* A handle that stands for nothing. One whose bytes are all 0 is that of the first node of a service
+ * with the number 0. */
+#define IOX2SD_HANDLE_NONE {0, IOX2SD_NO_ROLE, 0, 0}
+
+/* The details of a port. A field that its kind does not have is ignored, and is 0 in an answer. */
 typedef struct iox2sd_port {
     uint64_t role; /* Of enum iox2sd_role, but not IOX2SD_NODE. */
     iox2sd_id port;
@@ -162,7 +190,7 @@ typedef struct iox2sd_capacities {
     size_t second; /* For subscribers, notifiers, clients or writers. */
 } iox2sd_capacities;
 
-/* A service. All bytes zero, as of IOX2SD_SERVICE_NONE or after a memset, is none. The caller owns these bytes and neither
+/* A service object. An all-zero one (IOX2SD_SERVICE_NONE, a memset) holds no service. The caller owns these bytes and neither
  * reads nor changes them but to zero them before the first call; a place that holds a service may be moved, but not copied:
  * one copy alone is ever used again. What it holds is freed by iox2sd_service_free alone. */
 typedef struct iox2sd_service {
@@ -172,7 +200,7 @@ typedef struct iox2sd_service {
 
 #define IOX2SD_SERVICE_NONE {false, NULL}
 
-/* A handle; all 0 where the status is not IOX2SD_DONE. */
+/* A handle; IOX2SD_HANDLE_NONE where the status is not IOX2SD_DONE. */
 typedef struct iox2sd_handle_answer {
     uint32_t status;
     iox2sd_handle handle;
@@ -236,6 +264,92 @@ uint32_t iox2sd_abi(void);
  * Errors: IOX2SD_UNKNOWN_STATUS; IOX2SD_BUFFER_TOO_SHORT with the length that it needs. */
 iox2sd_text_answer iox2sd_status_text(uint32_t status, uint8_t *out, size_t capacity);
 
+/* What a status says, as iox2sd_status_text has it, ended by a zero byte. Of a number that is not that
+ * of a status, that it is unknown. */
+static inline const char *iox2sd_status_str(uint32_t status) {
+    switch (status) {
+        case IOX2SD_DONE: return "done";
+        case IOX2SD_DONE_LOCKED: return "done, and the service is locked for good";
+        case IOX2SD_BUFFER_TOO_SHORT: return "the buffer is too short";
+        case IOX2SD_NO_MEMORY: return "no memory";
+        case IOX2SD_NO_SERVICE: return "the place holds no service";
+        case IOX2SD_HAS_SERVICE: return "the place holds a service already";
+        case IOX2SD_UNKNOWN_PATTERN: return "unknown messaging pattern";
+        case IOX2SD_UNKNOWN_ROLE: return "unknown role";
+        case IOX2SD_NO_NODE: return "not the id of a node";
+        case IOX2SD_IS_LOCKED: return "the service is locked for good";
+        case IOX2SD_OUT_OF_SPACE: return "no place or no ticket is left";
+        case IOX2SD_FOREIGN_HANDLE: return "no entry has the handle";
+        case IOX2SD_PORTS_STILL_ATTACHED: return "ports are still attached";
+        case IOX2SD_NODE_NOT_REGISTERED: return "the node is not registered";
+        case IOX2SD_ROLE_NOT_IN_PATTERN: return "the pattern has no ports of the role";
+        case IOX2SD_UNKNOWN_SEGMENT: return "unknown kind of data segment";
+        case IOX2SD_BAD_KEY: return "not a key of a pair";
+        case IOX2SD_BAD_VALUE: return "not a value of a pair";
+        case IOX2SD_TOO_MANY: return "more than sixteen pairs";
+        case IOX2SD_NULL: return "NULL";
+        case IOX2SD_UNKNOWN_STATUS: return "unknown status";
+        case IOX2SD_EMPTY: return "the text is empty";
+        case IOX2SD_TOO_LONG: return "the text is too long";
+        case IOX2SD_ILLEGAL_BYTE: return "a byte may not stand in the text";
+        case IOX2SD_NO_FILE_NAME: return "not the name of a file";
+        case IOX2SD_RESERVED_PREFIX: return "the name begins with a reserved prefix";
+        case IOX2SD_NOT_UTF8: return "not UTF-8";
+        case IOX2SD_BAD_SERVICE_NAME: return "not the name of a service";
+        case IOX2SD_BAD_PATH: return "not a path";
+        case IOX2SD_BAD_ENTRY: return "the text may not be joined to a path";
+        case IOX2SD_ILLEGAL_HASH: return "the hash text cannot be the name of a file";
+        case IOX2SD_BAD_REQUIRED_KEY: return "not a key of a required pair";
+        case IOX2SD_BAD_REQUIRED_VALUE: return "not a value of a required pair";
+        case IOX2SD_BAD_ASKED_KEY: return "not a key that may be asked for";
+        case IOX2SD_TOO_MANY_REQUIRED: return "more than sixteen pairs and keys are required";
+        case IOX2SD_MISSING_PAIR: return "a required pair is not in the set";
+        case IOX2SD_MISSING_KEY: return "no pair of the set has a required key";
+        case IOX2SD_NO_SUCH_VALUE: return "the key has no value of this index";
+        case IOX2SD_BAD_ALIGNMENT: return "an alignment is not a power of two";
+        case IOX2SD_TOO_LARGE: return "the answer would pass its range";
+        case IOX2SD_UNKNOWN_VARIANT: return "unknown variant";
+        case IOX2SD_OTHER_NAME: return "the types of a part have other names";
+        case IOX2SD_OTHER_VARIANT: return "the types of a part are of other variants";
+        case IOX2SD_OTHER_SIZE: return "the types of a part have other sizes";
+        case IOX2SD_OTHER_ALIGNMENT: return "the types of the headers have other alignments";
+        case IOX2SD_GREATER_ALIGNMENT: return "the opener's type has a greater alignment than the service's";
+        case IOX2SD_UNKNOWN_TEXT: return "unknown text of the configuration";
+        case IOX2SD_BAD_LINE: return "a line of the script is not valid";
+        case IOX2SD_UNKNOWN_STRATEGY: return "unknown strategy";
+        case IOX2SD_BAD_DURATION: return "the nanoseconds of a duration are a second or more";
+        default: return "unknown status";
+    }
+}
+
+/* The word for a role of enum iox2sd_role, ended by a zero byte; "unknown role" for any other number. */
+static inline const char *iox2sd_role_str(uint64_t role) {
+    switch (role) {
+        case IOX2SD_NODE: return "node";
+        case IOX2SD_PUBLISHER: return "publisher";
+        case IOX2SD_SUBSCRIBER: return "subscriber";
+        case IOX2SD_NOTIFIER: return "notifier";
+        case IOX2SD_LISTENER: return "listener";
+        case IOX2SD_CLIENT: return "client";
+        case IOX2SD_SERVER: return "server";
+        case IOX2SD_READER: return "reader";
+        case IOX2SD_WRITER: return "writer";
+        default: return "unknown role";
+    }
+}
+
+/* The word for a pattern of enum iox2sd_pattern_number, ended by a zero byte; "unknown messaging
+ * pattern" for any other number. */
+static inline const char *iox2sd_pattern_str(uint64_t pattern) {
+    switch (pattern) {
+        case IOX2SD_PUBLISH_SUBSCRIBE: return "publish-subscribe";
+        case IOX2SD_EVENT: return "event";
+        case IOX2SD_REQUEST_RESPONSE: return "request-response";
+        case IOX2SD_BLACKBOARD: return "blackboard";
+        default: return "unknown messaging pattern";
+    }
+}
+
 /* Whether an id is that of a node: its process or its counter is not 0. */
 bool iox2sd_id_is_node(iox2sd_id id);
 
@@ -261,26 +375,26 @@ iox2sd_handle_answer iox2sd_attach_at(iox2sd_service *places, size_t count, cons
 uint32_t iox2sd_release_at(iox2sd_service *places, size_t count, iox2sd_handle handle);
 iox2sd_death_answer iox2sd_dead_at(iox2sd_service *places, size_t count, iox2sd_id dead, const iox2sd_id *kept,
                                    size_t kept_count);
-iox2sd_number_answer iox2sd_pattern_at(iox2sd_service *places, size_t count);
-iox2sd_number_answer iox2sd_service_number_at(iox2sd_service *places, size_t count);
-iox2sd_roles_answer iox2sd_roles_at(iox2sd_service *places, size_t count);
-iox2sd_flag_answer iox2sd_has_role_at(iox2sd_service *places, size_t count, uint64_t role);
-iox2sd_flag_answer iox2sd_is_locked_at(iox2sd_service *places, size_t count);
-iox2sd_count_answer iox2sd_number_of_nodes_at(iox2sd_service *places, size_t count);
-iox2sd_count_answer iox2sd_max_nodes_at(iox2sd_service *places, size_t count);
-iox2sd_flag_answer iox2sd_has_room_for_node_at(iox2sd_service *places, size_t count);
-iox2sd_count_answer iox2sd_count_ports_at(iox2sd_service *places, size_t count, uint64_t role);
-iox2sd_count_answer iox2sd_max_ports_at(iox2sd_service *places, size_t count, uint64_t role);
-iox2sd_flag_answer iox2sd_has_room_at(iox2sd_service *places, size_t count, uint64_t role);
-iox2sd_id_answer iox2sd_find_node_at(iox2sd_service *places, size_t count, iox2sd_handle handle);
-iox2sd_port_answer iox2sd_find_port_at(iox2sd_service *places, size_t count, iox2sd_handle handle);
-iox2sd_count_answer iox2sd_nodes_at(iox2sd_service *places, size_t count, iox2sd_id *out, size_t capacity);
-iox2sd_count_answer iox2sd_ports_at(iox2sd_service *places, size_t count, uint64_t role, iox2sd_port *out,
+iox2sd_number_answer iox2sd_pattern_at(const iox2sd_service *places, size_t count);
+iox2sd_number_answer iox2sd_service_number_at(const iox2sd_service *places, size_t count);
+iox2sd_roles_answer iox2sd_roles_at(const iox2sd_service *places, size_t count);
+iox2sd_flag_answer iox2sd_has_role_at(const iox2sd_service *places, size_t count, uint64_t role);
+iox2sd_flag_answer iox2sd_is_locked_at(const iox2sd_service *places, size_t count);
+iox2sd_count_answer iox2sd_number_of_nodes_at(const iox2sd_service *places, size_t count);
+iox2sd_count_answer iox2sd_max_nodes_at(const iox2sd_service *places, size_t count);
+iox2sd_flag_answer iox2sd_has_room_for_node_at(const iox2sd_service *places, size_t count);
+iox2sd_count_answer iox2sd_count_ports_at(const iox2sd_service *places, size_t count, uint64_t role);
+iox2sd_count_answer iox2sd_max_ports_at(const iox2sd_service *places, size_t count, uint64_t role);
+iox2sd_flag_answer iox2sd_has_room_at(const iox2sd_service *places, size_t count, uint64_t role);
+iox2sd_id_answer iox2sd_find_node_at(const iox2sd_service *places, size_t count, iox2sd_handle handle);
+iox2sd_port_answer iox2sd_find_port_at(const iox2sd_service *places, size_t count, iox2sd_handle handle);
+iox2sd_count_answer iox2sd_nodes_at(const iox2sd_service *places, size_t count, iox2sd_id *out, size_t capacity);
+iox2sd_count_answer iox2sd_ports_at(const iox2sd_service *places, size_t count, uint64_t role, iox2sd_port *out,
                                     size_t capacity);
-iox2sd_count_answer iox2sd_ports_of_at(iox2sd_service *places, size_t count, iox2sd_id node,
+iox2sd_count_answer iox2sd_ports_of_at(const iox2sd_service *places, size_t count, iox2sd_id node,
                                        iox2sd_port *out, size_t capacity);
 
-/* Makes a service with nothing attached. `number` is told in its handles, and `tickets` tickets are given out for nodes and
+/* Makes a service with nothing attached. `number` stands in its handles. `tickets` tickets are given out for nodes and
  * for each kind of ports: each registering and each attaching takes one, and none comes back. UINT64_MAX is for all.
  * Errors: IOX2SD_NULL; IOX2SD_HAS_SERVICE, and the place keeps what it holds; IOX2SD_UNKNOWN_PATTERN; IOX2SD_NO_MEMORY. */
 static inline uint32_t iox2sd_service_make(iox2sd_service *service, uint32_t pattern, uint64_t number,
@@ -321,7 +435,7 @@ static inline uint32_t iox2sd_release(iox2sd_service *service, iox2sd_handle han
     return iox2sd_release_at(service, service != NULL, handle);
 }
 
-/* Removes those ports of a dead node whose ids are not among `kept`, and tells how many went. Where none of its ports is
+/* Removes those ports of a dead node whose ids are not among `kept`, and returns how many went. Where none of its ports is
  * left, the node goes too, with all its handles. IOX2SD_DONE_LOCKED where the service is locked: it has no node any more.
  * Errors: IOX2SD_NULL; IOX2SD_NO_SERVICE; IOX2SD_NO_NODE. */
 static inline iox2sd_death_answer iox2sd_dead(iox2sd_service *service, iox2sd_id dead, const iox2sd_id *kept,
@@ -334,7 +448,7 @@ static inline iox2sd_death_answer iox2sd_dead(iox2sd_service *service, iox2sd_id
 /* Lists the ports of a role by rising slot at the front of `out`, whose other places stay as they were.
  * Errors: IOX2SD_NULL; IOX2SD_NO_SERVICE; IOX2SD_UNKNOWN_ROLE; IOX2SD_ROLE_NOT_IN_PATTERN, also for IOX2SD_NODE;
  * IOX2SD_BUFFER_TOO_SHORT with the number of ports that there are. Then `out` is as it was. */
-static inline iox2sd_count_answer iox2sd_ports(iox2sd_service *service, uint64_t role, iox2sd_port *out,
+static inline iox2sd_count_answer iox2sd_ports(const iox2sd_service *service, uint64_t role, iox2sd_port *out,
                                                size_t capacity) {
     iox2sd_count_answer refused = {IOX2SD_NULL, 0};
     if (out == NULL && capacity != 0) return refused;
@@ -347,7 +461,7 @@ static inline iox2sd_count_answer iox2sd_ports(iox2sd_service *service, uint64_t
  * Errors: IOX2SD_NULL; IOX2SD_NO_SERVICE; IOX2SD_NO_NODE; IOX2SD_BUFFER_TOO_SHORT with the number of
  * ports that there are, or IOX2SD_TOO_LARGE where that number passes SIZE_MAX. Then `out` is as it
  * was. */
-static inline iox2sd_count_answer iox2sd_ports_of(iox2sd_service *service, iox2sd_id node,
+static inline iox2sd_count_answer iox2sd_ports_of(const iox2sd_service *service, iox2sd_id node,
                                                   iox2sd_port *out, size_t capacity) {
     iox2sd_count_answer refused = {IOX2SD_NULL, 0};
     if (out == NULL && capacity != 0) return refused;
@@ -355,77 +469,77 @@ static inline iox2sd_count_answer iox2sd_ports_of(iox2sd_service *service, iox2s
 }
 
 /* The messaging pattern, of enum iox2sd_pattern_number. Errors: IOX2SD_NULL; IOX2SD_NO_SERVICE. */
-static inline iox2sd_number_answer iox2sd_pattern(iox2sd_service *service) {
+static inline iox2sd_number_answer iox2sd_pattern(const iox2sd_service *service) {
     return iox2sd_pattern_at(service, service != NULL);
 }
 
 /* The service's number, which each of its handles has. Errors: IOX2SD_NULL; IOX2SD_NO_SERVICE. */
-static inline iox2sd_number_answer iox2sd_service_number(iox2sd_service *service) {
+static inline iox2sd_number_answer iox2sd_service_number(const iox2sd_service *service) {
     return iox2sd_service_number_at(service, service != NULL);
 }
 
 /* The roles of the pattern's two kinds of ports, that first which is recovered first. Errors: IOX2SD_NULL; IOX2SD_NO_SERVICE. */
-static inline iox2sd_roles_answer iox2sd_roles(iox2sd_service *service) {
+static inline iox2sd_roles_answer iox2sd_roles(const iox2sd_service *service) {
     return iox2sd_roles_at(service, service != NULL);
 }
 
 /* Whether the pattern has ports of the role; no for IOX2SD_NODE.
  * Errors: IOX2SD_NULL; IOX2SD_NO_SERVICE; IOX2SD_UNKNOWN_ROLE. */
-static inline iox2sd_flag_answer iox2sd_has_role(iox2sd_service *service, uint64_t role) {
+static inline iox2sd_flag_answer iox2sd_has_role(const iox2sd_service *service, uint64_t role) {
     return iox2sd_has_role_at(service, service != NULL, role);
 }
 
 /* Whether the service is locked for good: it has no node and no port, and takes none any more. Errors: IOX2SD_NULL; IOX2SD_NO_SERVICE. */
-static inline iox2sd_flag_answer iox2sd_is_locked(iox2sd_service *service) {
+static inline iox2sd_flag_answer iox2sd_is_locked(const iox2sd_service *service) {
     return iox2sd_is_locked_at(service, service != NULL);
 }
 
 /* How many handles of nodes there are: a node that is registered twice counts twice. Errors: IOX2SD_NULL; IOX2SD_NO_SERVICE. */
-static inline iox2sd_count_answer iox2sd_number_of_nodes(iox2sd_service *service) {
+static inline iox2sd_count_answer iox2sd_number_of_nodes(const iox2sd_service *service) {
     return iox2sd_number_of_nodes_at(service, service != NULL);
 }
 
 /* How many handles of nodes there may be at a time. Errors: IOX2SD_NULL; IOX2SD_NO_SERVICE. */
-static inline iox2sd_count_answer iox2sd_max_nodes(iox2sd_service *service) {
+static inline iox2sd_count_answer iox2sd_max_nodes(const iox2sd_service *service) {
     return iox2sd_max_nodes_at(service, service != NULL);
 }
 
 /* Whether iox2sd_register would register a node: the service is not locked, and a place and a ticket are left.
  * Errors: IOX2SD_NULL; IOX2SD_NO_SERVICE. */
-static inline iox2sd_flag_answer iox2sd_has_room_for_node(iox2sd_service *service) {
+static inline iox2sd_flag_answer iox2sd_has_room_for_node(const iox2sd_service *service) {
     return iox2sd_has_room_for_node_at(service, service != NULL);
 }
 
 /* How many ports of the role there are.
  * Errors: IOX2SD_NULL; IOX2SD_NO_SERVICE; IOX2SD_UNKNOWN_ROLE; IOX2SD_ROLE_NOT_IN_PATTERN, also for
  * IOX2SD_NODE. */
-static inline iox2sd_count_answer iox2sd_count_ports(iox2sd_service *service, uint64_t role) {
+static inline iox2sd_count_answer iox2sd_count_ports(const iox2sd_service *service, uint64_t role) {
     return iox2sd_count_ports_at(service, service != NULL, role);
 }
 
 /* How many ports of the role there may be at a time.
  * Errors: IOX2SD_NULL; IOX2SD_NO_SERVICE; IOX2SD_UNKNOWN_ROLE; IOX2SD_ROLE_NOT_IN_PATTERN, also for
  * IOX2SD_NODE. */
-static inline iox2sd_count_answer iox2sd_max_ports(iox2sd_service *service, uint64_t role) {
+static inline iox2sd_count_answer iox2sd_max_ports(const iox2sd_service *service, uint64_t role) {
     return iox2sd_max_ports_at(service, service != NULL, role);
 }
 
 /* Whether iox2sd_attach would attach a port of the role, if its node is registered.
  * Errors: IOX2SD_NULL; IOX2SD_NO_SERVICE; IOX2SD_UNKNOWN_ROLE; IOX2SD_ROLE_NOT_IN_PATTERN, also for
  * IOX2SD_NODE. */
-static inline iox2sd_flag_answer iox2sd_has_room(iox2sd_service *service, uint64_t role) {
+static inline iox2sd_flag_answer iox2sd_has_room(const iox2sd_service *service, uint64_t role) {
     return iox2sd_has_room_at(service, service != NULL, role);
 }
 
 /* The node that was registered with this handle and is still there.
  * Errors: IOX2SD_NULL; IOX2SD_NO_SERVICE; IOX2SD_UNKNOWN_ROLE; IOX2SD_FOREIGN_HANDLE, also for a port's handle. */
-static inline iox2sd_id_answer iox2sd_find_node(iox2sd_service *service, iox2sd_handle handle) {
+static inline iox2sd_id_answer iox2sd_find_node(const iox2sd_service *service, iox2sd_handle handle) {
     return iox2sd_find_node_at(service, service != NULL, handle);
 }
 
 /* The port that was attached with this handle and is still there.
  * Errors: IOX2SD_NULL; IOX2SD_NO_SERVICE; IOX2SD_UNKNOWN_ROLE; IOX2SD_FOREIGN_HANDLE, also for a node's handle. */
-static inline iox2sd_port_answer iox2sd_find_port(iox2sd_service *service, iox2sd_handle handle) {
+static inline iox2sd_port_answer iox2sd_find_port(const iox2sd_service *service, iox2sd_handle handle) {
     return iox2sd_find_port_at(service, service != NULL, handle);
 }
 
@@ -433,7 +547,7 @@ static inline iox2sd_port_answer iox2sd_find_port(iox2sd_service *service, iox2s
  * were.
  * Errors: IOX2SD_NULL; IOX2SD_NO_SERVICE; IOX2SD_BUFFER_TOO_SHORT with the number of handles that there are. Then `out` is
  * as it was. */
-static inline iox2sd_count_answer iox2sd_nodes(iox2sd_service *service, iox2sd_id *out, size_t capacity) {
+static inline iox2sd_count_answer iox2sd_nodes(const iox2sd_service *service, iox2sd_id *out, size_t capacity) {
     iox2sd_count_answer refused = {IOX2SD_NULL, 0};
     if (out == NULL && capacity != 0) return refused;
     return iox2sd_nodes_at(service, service != NULL, out, capacity);

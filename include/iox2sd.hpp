@@ -11,9 +11,9 @@
 /// - No call throws, and exceptions may be switched off. `Service::create`, the lists, a death with
 ///   ports to keep and `run_script` take memory; where it is refused, they answer
 ///   `Status::NoMemory`. No other call takes any: texts and sets have their room in place.
-/// - Calls may run on several threads at once where they share no `Service`. One thread at a time
-///   uses a service, for calls that are `const` too. It may be handed from thread to thread;
-///   docs/C.md has what is proved of that.
+/// - Calls may run on several threads at once. On one `Service` any number of `const` calls may run
+///   at once, or one other call alone. It may be moved from thread to thread; docs/C.md has what is
+///   proved of that, and what is tested.
 ///
 /// What is proved is what the library answers, under the rules of the C headers. This header is
 /// tested, not proved.
@@ -28,8 +28,11 @@
 #include <array>
 #include <cstddef>
 #include <cstdint>
+#include <cstdio>
 #include <cstdlib>
+#include <functional>
 #include <initializer_list>
+#include <iosfwd>
 #include <iterator>
 #include <memory>
 #include <new>
@@ -122,6 +125,9 @@ constexpr Status status_of(const Error& error) noexcept {
 template <class T>
 using IfFields = std::void_t<decltype(std::declval<const T&>().fields())>;
 
+/// Prints what was refused, and ends the program.
+[[noreturn]] inline void no_value(Status status) noexcept;
+
 }  // namespace detail
 
 /// Types that list their fields are equal where all fields are, and ordered by the first field that
@@ -151,26 +157,54 @@ bool operator>=(const T& a, const T& b) noexcept {
     return !(a < b);
 }
 
-/// A value, or the error for which there is none: a `Status`, or a struct with a `status`.
 template <class T, class E = Status>
+class Result;
+
+namespace detail {
+
+/// What `f` makes of a value, where `f` cannot be refused: a `Result` with it.
+template <class E, class F, class... Value>
+auto transformed(F&& f, Value&&... value) noexcept {
+    using Made = std::invoke_result_t<F, Value...>;
+    if constexpr (std::is_void_v<Made>) {
+        std::forward<F>(f)(std::forward<Value>(value)...);
+        return Result<void, E>();
+    } else {
+        return Result<std::remove_cv_t<std::remove_reference_t<Made>>, E>(
+            std::forward<F>(f)(std::forward<Value>(value)...));
+    }
+}
+
+}  // namespace detail
+
+/// A value, or the error for which there is none: a `Status`, or a struct with a `status`.
+template <class T, class E>
 class [[nodiscard]] Result {
 public:
+    using value_type = T;
+    using error_type = E;
+
     Result(T value) noexcept : state_(std::in_place_index<0>, std::move(value)) {}
     Result(E error) noexcept : state_(std::in_place_index<1>, std::move(error)) {}
 
     bool has_value() const noexcept { return state_.index() == 0; }
-    explicit operator bool() const noexcept { return has_value(); }
+    /// Whether there is a value. A `Result<bool>` has no such conversion: it would be true for the
+    /// answer `false`. Ask `has_value`, or take the answer by `*`.
+    template <class U = T, class = std::enable_if_t<!std::is_same_v<U, bool>>>
+    explicit operator bool() const noexcept {
+        return has_value();
+    }
 
     /// `Status::Done` where there is a value, and the status of the error otherwise.
     Status status() const noexcept {
         return has_value() ? Status::Done : detail::status_of(*std::get_if<1>(&state_));
     }
 
-    /// The value, by itself where the result is a temporary. Where there is none the program is
-    /// aborted: ask `has_value` first.
-    T& value() & noexcept { return *get<0>(state_); }
-    const T& value() const& noexcept { return *get<0>(state_); }
-    T value() && noexcept { return std::move(*get<0>(state_)); }
+    /// The value, by itself where the result is a temporary. Where there is none the program prints
+    /// the error's text and is aborted: ask `has_value` first.
+    T& value() & noexcept { return the_value(*this); }
+    const T& value() const& noexcept { return the_value(*this); }
+    T value() && noexcept { return std::move(the_value(*this)); }
     T& operator*() & noexcept { return value(); }
     const T& operator*() const& noexcept { return value(); }
     T operator*() && noexcept { return std::move(*this).value(); }
@@ -178,19 +212,57 @@ public:
     const T* operator->() const noexcept { return &value(); }
 
     /// The value, or another where there is none.
+    T value_or(T other) const& noexcept { return has_value() ? value() : std::move(other); }
     T value_or(T other) && noexcept {
         return has_value() ? std::move(*this).value() : std::move(other);
     }
 
+    /// What `f`, which answers a `Result` with the same error, makes of the value; or the error.
+    template <class F>
+    auto and_then(F&& f) const& noexcept -> std::invoke_result_t<F, const T&> {
+        if (!has_value()) return error();
+        return std::forward<F>(f)(value());
+    }
+    template <class F>
+    auto and_then(F&& f) && noexcept -> std::invoke_result_t<F, T> {
+        if (!has_value()) return error();
+        return std::forward<F>(f)(std::move(*this).value());
+    }
+
+    /// A `Result` with what `f` makes of the value; or with the error.
+    template <class F>
+    auto transform(F&& f) const& noexcept
+        -> decltype(detail::transformed<E>(std::forward<F>(f), std::declval<const T&>())) {
+        if (!has_value()) return error();
+        return detail::transformed<E>(std::forward<F>(f), value());
+    }
+    template <class F>
+    auto transform(F&& f) && noexcept
+        -> decltype(detail::transformed<E>(std::forward<F>(f), std::declval<T>())) {
+        if (!has_value()) return error();
+        return detail::transformed<E>(std::forward<F>(f), std::move(*this).value());
+    }
+
     /// The error. Where there is none the program is aborted.
-    const E& error() const noexcept { return *get<1>(state_); }
+    const E& error() const noexcept {
+        const E* found = std::get_if<1>(&state_);
+        if (found == nullptr) std::abort();
+        return *found;
+    }
+
+    /// Results are equal where both have equal values, or both equal errors. A value or an error is
+    /// compared as the result that it makes.
+    friend bool operator==(const Result& a, const Result& b) noexcept {
+        return a.state_ == b.state_;
+    }
+    friend bool operator!=(const Result& a, const Result& b) noexcept { return !(a == b); }
 
 private:
-    template <std::size_t Index, class State>
-    static auto get(State& state) noexcept {
-        auto* found = std::get_if<Index>(&state);
-        if (found == nullptr) std::abort();
-        return found;
+    template <class Self>
+    static auto& the_value(Self& self) noexcept {
+        auto* found = std::get_if<0>(&self.state_);
+        if (found == nullptr) detail::no_value(self.status());
+        return *found;
     }
 
     std::variant<T, E> state_;
@@ -211,11 +283,32 @@ public:
         return has_value() ? Status::Done : detail::status_of(*error_);
     }
 
+    /// What `f`, which takes nothing and answers a `Result` with the same error, answers; or the
+    /// error.
+    template <class F>
+    auto and_then(F&& f) const noexcept -> std::invoke_result_t<F> {
+        if (!has_value()) return error();
+        return std::forward<F>(f)();
+    }
+
+    /// A `Result` with what `f`, which takes nothing, makes; or with the error.
+    template <class F>
+    auto transform(F&& f) const noexcept
+        -> decltype(detail::transformed<E>(std::forward<F>(f))) {
+        if (!has_value()) return error();
+        return detail::transformed<E>(std::forward<F>(f));
+    }
+
     /// The error. Where there is none the program is aborted.
     const E& error() const noexcept {
         if (has_value()) std::abort();
         return *error_;
     }
+
+    friend bool operator==(const Result& a, const Result& b) noexcept {
+        return a.error_ == b.error_;
+    }
+    friend bool operator!=(const Result& a, const Result& b) noexcept { return !(a == b); }
 
 private:
     std::optional<E> error_;
@@ -237,6 +330,18 @@ inline Result<void> result(std::uint32_t status) noexcept {
 
 }  // namespace detail
 
+namespace detail {
+
+template <class Iterator, class = void>
+inline constexpr bool is_forward = false;
+template <class Iterator>
+inline constexpr bool is_forward<
+    Iterator, std::void_t<typename std::iterator_traits<Iterator>::iterator_category>> =
+    std::is_base_of_v<std::forward_iterator_tag,
+                      typename std::iterator_traits<Iterator>::iterator_category>;
+
+}  // namespace detail
+
 /// A list of values, which is moved and not copied, as `begin()` to `end()` or by index.
 template <class T>
 class List {
@@ -244,6 +349,8 @@ public:
     static_assert(std::is_trivially_copyable_v<T> && std::is_trivially_destructible_v<T>);
     static_assert(alignof(T) <= __STDCPP_DEFAULT_NEW_ALIGNMENT__);
     using value_type = T;
+    using size_type = std::size_t;
+    using const_reference = const T&;
     using const_iterator = const T*;
 
     List() noexcept = default;
@@ -258,22 +365,39 @@ public:
     /// What a function makes of each of `count` items. Refusal: `NoMemory`.
     template <class From, class Make>
     static Result<List> of(const From* items, std::size_t count, Make make) noexcept {
-        if (count == 0) return List();
-        if (count > SIZE_MAX / sizeof(T)) return Status::NoMemory;
-        void* place = ::operator new(count * sizeof(T), std::nothrow);
-        if (place == nullptr) return Status::NoMemory;
-        List made(static_cast<T*>(place), count);
-        for (std::size_t i = 0; i < count; ++i) ::new (made.items_.get() + i) T(make(items[i]));
+        return of_range(items, items + count, make);
+    }
+
+    /// What a function makes of each item from `first` to before `last`. Memory is taken once where
+    /// the items can be counted first. Refusal: `NoMemory`.
+    template <class First, class Last, class Make>
+    static Result<List> of_range(First first, Last last, Make make) noexcept {
+        List made;
+        std::size_t room = counted(first, last);
+        if (room != 0 && !made.move_to(room)) return Status::NoMemory;
+        for (; first != last; ++first) {
+            if (made.size_ == room) {
+                room = room == 0 ? 16 : 2 * room;
+                if (!made.move_to(room)) return Status::NoMemory;
+            }
+            ::new (made.items_.get() + made.size_) T(make(*first));
+            ++made.size_;
+        }
         return made;
     }
 
     std::size_t size() const noexcept { return size_; }
     bool empty() const noexcept { return size_ == 0; }
-    const T* data() const noexcept { return items_.get(); }
+    const T* data() const& noexcept { return items_.get(); }
+    const T* data() const&& = delete;
     const T* begin() const noexcept { return items_.get(); }
     const T* end() const noexcept { return items_.get() + size_; }
-    /// The item at an index below `size()`.
+    const T* cbegin() const noexcept { return begin(); }
+    const T* cend() const noexcept { return end(); }
+    /// The item at an index below `size()`, and the first and the last of a list that is not empty.
     const T& operator[](std::size_t index) const noexcept { return items_.get()[index]; }
+    const T& front() const noexcept { return items_.get()[0]; }
+    const T& back() const noexcept { return items_.get()[size_ - 1]; }
 
     friend bool operator==(const List& a, const List& b) noexcept {
         return std::equal(a.begin(), a.end(), b.begin(), b.end());
@@ -284,7 +408,26 @@ private:
     struct Free {
         void operator()(T* place) const noexcept { ::operator delete(place); }
     };
-    List(T* items, std::size_t size) noexcept : items_(items), size_(size) {}
+
+    /// How many items a range has, where it can be read twice; 0 otherwise.
+    template <class First, class Last>
+    static std::size_t counted(First first, Last last) noexcept {
+        std::size_t count = 0;
+        if constexpr (detail::is_forward<First>) {
+            for (; first != last; ++first) ++count;
+        }
+        return count;
+    }
+
+    /// Moves the items to a place that has room for so many: whether there was one.
+    bool move_to(std::size_t room) noexcept {
+        if (room > SIZE_MAX / sizeof(T)) return false;
+        T* const place = static_cast<T*>(::operator new(room * sizeof(T), std::nothrow));
+        if (place == nullptr) return false;
+        std::uninitialized_copy(begin(), end(), place);
+        items_.reset(place);
+        return true;
+    }
 
     std::unique_ptr<T, Free> items_;
     std::size_t size_ = 0;
@@ -292,9 +435,51 @@ private:
 
 // ---- Texts ----
 
+namespace detail {
+
+/// What all texts derive from, of whatever capacity.
+struct AnyText {};
+
+template <class T>
+inline constexpr bool is_text = std::is_base_of_v<AnyText, T>;
+
+/// Where one of two types is a text and both are views of characters.
+template <class A, class B>
+using IfTexts = std::enable_if_t<(is_text<A> || is_text<B>) &&
+                                 std::is_convertible_v<const A&, std::string_view> &&
+                                 std::is_convertible_v<const B&, std::string_view>>;
+
+}  // namespace detail
+
+/// Texts are compared by their bytes, with each other and with all that is a `string_view`.
+template <class A, class B, class = detail::IfTexts<A, B>>
+bool operator==(const A& a, const B& b) noexcept {
+    return std::string_view(a) == std::string_view(b);
+}
+template <class A, class B, class = detail::IfTexts<A, B>>
+bool operator!=(const A& a, const B& b) noexcept {
+    return !(a == b);
+}
+template <class A, class B, class = detail::IfTexts<A, B>>
+bool operator<(const A& a, const B& b) noexcept {
+    return std::string_view(a) < std::string_view(b);
+}
+template <class A, class B, class = detail::IfTexts<A, B>>
+bool operator>(const A& a, const B& b) noexcept {
+    return b < a;
+}
+template <class A, class B, class = detail::IfTexts<A, B>>
+bool operator<=(const A& a, const B& b) noexcept {
+    return !(b < a);
+}
+template <class A, class B, class = detail::IfTexts<A, B>>
+bool operator>=(const A& a, const B& b) noexcept {
+    return !(a < b);
+}
+
 /// A text of at most `Capacity` bytes, which it holds itself.
 template <std::size_t Capacity>
-class Text {
+class Text : public detail::AnyText {
 public:
     /// The empty text.
     Text() noexcept = default;
@@ -309,23 +494,17 @@ public:
         return text;
     }
 
-    std::string_view view() const noexcept {
+    /// A view lasts as long as the text. That of a temporary does not compile; a copy is made by
+    /// `std::string(text)`, and a text is written by `<<`.
+    std::string_view view() const& noexcept {
         return {reinterpret_cast<const char*>(bytes_.data()), length_};
     }
-    operator std::string_view() const noexcept { return view(); }
+    std::string_view view() const&& = delete;
+    operator std::string_view() const& noexcept { return view(); }
+    operator std::string_view() const&& = delete;
     std::size_t size() const noexcept { return length_; }
     bool empty() const noexcept { return length_ == 0; }
     static constexpr std::size_t capacity() noexcept { return Capacity; }
-
-    /// Texts are compared by their bytes.
-    friend bool operator==(const Text& a, const Text& b) noexcept { return a.view() == b.view(); }
-    friend bool operator!=(const Text& a, const Text& b) noexcept { return a.view() != b.view(); }
-    friend bool operator<(const Text& a, const Text& b) noexcept { return a.view() < b.view(); }
-    friend bool operator>(const Text& a, const Text& b) noexcept { return a.view() > b.view(); }
-    friend bool operator<=(const Text& a, const Text& b) noexcept { return a.view() <= b.view(); }
-    friend bool operator>=(const Text& a, const Text& b) noexcept { return a.view() >= b.view(); }
-    friend bool operator==(const Text& a, std::string_view b) noexcept { return a.view() == b; }
-    friend bool operator!=(const Text& a, std::string_view b) noexcept { return a.view() != b; }
 
 protected:
     /// A text that a check has found to be short enough.
@@ -339,6 +518,13 @@ private:
     std::size_t length_ = 0;
 };
 
+/// Writes a text to a stream.
+template <class Traits, std::size_t Capacity>
+std::basic_ostream<char, Traits>& operator<<(std::basic_ostream<char, Traits>& out,
+                                             const Text<Capacity>& text) {
+    return out << text.view();
+}
+
 /// What a status says. The text of a number that is no status's is that of `UnknownStatus`.
 inline Text<127> text(Status status) noexcept {
     const auto text_of = [](std::uint32_t number) {
@@ -349,6 +535,24 @@ inline Text<127> text(Status status) noexcept {
     const Result<Text<127>> found = text_of(static_cast<std::uint32_t>(status));
     return found ? *found : *text_of(static_cast<std::uint32_t>(found.status()));
 }
+
+/// Writes what a status says.
+template <class Traits>
+std::basic_ostream<char, Traits>& operator<<(std::basic_ostream<char, Traits>& out,
+                                             Status status) {
+    return out << text(status);
+}
+
+namespace detail {
+
+inline void no_value(Status status) noexcept {
+    const Text<127> why = text(status);
+    std::fprintf(stderr, "iox2sd: a Result has no value: %.*s\n", static_cast<int>(why.size()),
+                 why.view().data());
+    std::abort();
+}
+
+}  // namespace detail
 
 /// Why a text was refused.
 struct TextError {
@@ -563,6 +767,13 @@ private:
     iox2sd_id parts_;
 };
 
+/// Writes an id as its `text`.
+template <class Traits, class Kind>
+std::basic_ostream<char, Traits>& operator<<(std::basic_ostream<char, Traits>& out,
+                                             const UniqueId<Kind>& id) {
+    return out << id.text();
+}
+
 /// What an entry of a service is. Each pattern has two kinds of ports.
 enum class Role : std::uint64_t {
     Node = IOX2SD_NODE,
@@ -616,10 +827,9 @@ public:
 /// The id of a port of any kind, with its role.
 class UniquePortId {
 public:
-    template <Role role>
-    UniquePortId(const PortId<role>& id) noexcept : role_(role), parts_(id.parts()) {
-        static_assert(role != Role::Node, "a node is no port");
-    }
+    /// The id of a port is one; that of a node or of a service does not convert.
+    template <Role role, class = std::enable_if_t<role != Role::Node>>
+    UniquePortId(const PortId<role>& id) noexcept : role_(role), parts_(id.parts()) {}
 
     Role role() const noexcept { return role_; }
     const iox2sd_id& parts() const noexcept { return parts_; }
@@ -632,6 +842,13 @@ private:
     Role role_;
     iox2sd_id parts_;
 };
+
+/// Writes the id of a port as its `text`, which does not say its role.
+template <class Traits>
+std::basic_ostream<char, Traits>& operator<<(std::basic_ostream<char, Traits>& out,
+                                             const UniquePortId& id) {
+    return out << id.text();
+}
 
 // ---- Attributes ----
 
@@ -727,6 +944,13 @@ public:
     friend bool operator<(const AttributeSet& a, const AttributeSet& b) noexcept {
         return std::lexicographical_compare(a.begin(), a.end(), b.begin(), b.end());
     }
+    friend bool operator>(const AttributeSet& a, const AttributeSet& b) noexcept { return b < a; }
+    friend bool operator<=(const AttributeSet& a, const AttributeSet& b) noexcept {
+        return !(b < a);
+    }
+    friend bool operator>=(const AttributeSet& a, const AttributeSet& b) noexcept {
+        return !(a < b);
+    }
 
 private:
     friend class AttributeVerifier;
@@ -787,7 +1011,8 @@ public:
         const AttributeKey* end() const noexcept { return last; }
         std::size_t size() const noexcept { return static_cast<std::size_t>(last - first); }
     };
-    KeyRange required_keys() const noexcept { return {keys_, keys_ + number_of_keys_}; }
+    KeyRange required_keys() const& noexcept { return {keys_, keys_ + number_of_keys_}; }
+    KeyRange required_keys() const&& = delete;
 
     /// Whether a set has each required pair, and each required key.
     Result<void, AttributeVerificationError> verify_requirements(
@@ -800,6 +1025,17 @@ public:
         }
         const Attribute& missing = required_.begin()[answer.at];
         return AttributeVerificationError{Status{answer.status}, missing.key(), missing.value()};
+    }
+
+    /// Verifiers are equal where they require the same pairs as often, and the same keys in the
+    /// same order.
+    friend bool operator==(const AttributeVerifier& a, const AttributeVerifier& b) noexcept {
+        const KeyRange one = a.required_keys(), other = b.required_keys();
+        return a.required_ == b.required_ &&
+               std::equal(one.begin(), one.end(), other.begin(), other.end());
+    }
+    friend bool operator!=(const AttributeVerifier& a, const AttributeVerifier& b) noexcept {
+        return !(a == b);
     }
 
 private:
@@ -872,7 +1108,8 @@ public:
     }
 
     TypeVariant variant() const noexcept { return variant_; }
-    std::string_view type_name() const noexcept { return type_name_; }
+    std::string_view type_name() const& noexcept { return type_name_; }
+    std::string_view type_name() const&& = delete;
     std::size_t size() const noexcept { return size_; }
     std::size_t alignment() const noexcept { return alignment_; }
 
@@ -1760,10 +1997,11 @@ inline UniqueNodeId node_id(const PortDetails& details) noexcept {
 // ---- Services ----
 
 /// What registering and attaching give, and what deregistering and releasing take. No handle is
-/// given twice by a service, and a removed one is refused for good.
+/// given twice by a service, and a removed one is refused for good. `ContainerHandle()` stands for
+/// nothing: each call refuses it by `UnknownRole`.
 struct ContainerHandle {
     std::uint64_t service = 0;  ///< The number of the service.
-    Role role = Role::Node;
+    Role role = Role{IOX2SD_NO_ROLE};
     std::size_t slot = 0;
     std::uint64_t ticket = 0;  ///< How many entries of its kind had been given before.
 
@@ -1875,13 +2113,17 @@ public:
         return detail::result(iox2sd_release(&place_, handle.as_c()));
     }
 
-    /// Removes those ports of a dead node whose ids are not among `kept`, a range of ids of ports.
+    /// Removes those ports of a dead node whose ids are not among `kept`: any range of ids of ports,
+    /// which is read once or, where it can be, counted first.
+    /// The numbers of ids are looked at and not their roles: a listener that is kept keeps the
+    /// notifier of the same number too, though their `UniquePortId`s are not equal.
     /// Where none of its ports is left, the node goes too, with all its handles.
     /// Refusal: `NoMemory`, before `NoService`; never where nothing is to be kept.
     template <class Range>
-    Result<Removal> remove_dead_node_id(const UniqueNodeId& dead, const Range& kept) noexcept {
-        const auto ids = List<iox2sd_id>::of(std::data(kept), std::size(kept),
-                                             [](const UniquePortId& port) { return port.parts(); });
+    Result<Removal> remove_dead_node_id(const UniqueNodeId& dead, Range&& kept) noexcept {
+        using std::begin, std::end;
+        const auto ids = List<iox2sd_id>::of_range(
+            begin(kept), end(kept), [](const UniquePortId& port) { return port.parts(); });
         if (!ids) return ids.error();
         const iox2sd_death_answer answer =
             iox2sd_dead(&place_, dead.parts(), ids->data(), ids->size());
@@ -1890,7 +2132,7 @@ public:
     }
     Result<Removal> remove_dead_node_id(const UniqueNodeId& dead,
                                         std::initializer_list<UniquePortId> kept = {}) noexcept {
-        return remove_dead_node_id<std::initializer_list<UniquePortId>>(dead, kept);
+        return remove_dead_node_id<const std::initializer_list<UniquePortId>&>(dead, kept);
     }
 
     /// The messaging pattern.
@@ -2060,8 +2302,7 @@ private:
     /// Frees what the place holds; `NoService` where it holds none, which is as good.
     void free() noexcept { iox2sd_service_free(&place_); }
 
-    /// The calls of the C header that only ask take a pointer to a place that is not `const` too.
-    mutable iox2sd_service place_ = IOX2SD_SERVICE_NONE;
+    iox2sd_service place_ = IOX2SD_SERVICE_NONE;
 };
 
 /// The ported middleware's word for a `Service`.
@@ -2077,7 +2318,8 @@ struct ScriptRun {
 
     /// The reply lines: with `BadLine` those to the commands before it, with `NoMemory` none or
     /// whole ones of some first commands.
-    std::string_view replies() const noexcept { return {output.data(), output.size()}; }
+    std::string_view replies() const& noexcept { return {output.data(), output.size()}; }
+    std::string_view replies() const&& = delete;
 };
 
 /// Runs a whole script, a service and the commands on it as text (docs/SCRIPT.md).
@@ -2110,6 +2352,99 @@ inline Text<31> layer_version() noexcept { return *Text<31>::written_by(iox2sd_l
 /// the header.
 inline std::uint32_t abi() noexcept { return iox2sd_abi(); }
 
+// ---- Hashing ----
+
+namespace detail {
+
+/// Hashes values as `==` compares them.
+struct Hasher {
+    std::size_t state = 0;
+
+    void add(std::size_t hash) noexcept {
+        state ^= hash + 0x9e3779b97f4a7c15u + (state << 6) + (state >> 2);
+    }
+
+    template <class Kind>
+    void value(const UniqueId<Kind>& id) noexcept {
+        for (const std::uint32_t part :
+             {id.process(), id.seconds(), id.nanoseconds(), id.counter()}) {
+            add(part);
+        }
+    }
+    void value(const AttributeSet& set) noexcept {
+        for (const Attribute& attribute : set) value(attribute);
+    }
+    template <class T>
+    auto value(const T& value) noexcept -> IfFields<T> {
+        std::apply([this](const auto&... field) { (this->value(field), ...); }, value.fields());
+    }
+    template <class T>
+    auto value(const T& value) noexcept
+        -> std::enable_if_t<is_text<T> || std::is_enum_v<T> || std::is_integral_v<T>> {
+        if constexpr (is_text<T>) {
+            add(std::hash<std::string_view>()(value));
+        } else {
+            add(std::hash<T>()(value));
+        }
+    }
+};
+
+/// The hash of a value: equal ones have one hash.
+template <class T>
+struct Hash {
+    std::size_t operator()(const T& value) const noexcept {
+        Hasher hasher;
+        hasher.value(value);
+        return hasher.state;
+    }
+};
+
+}  // namespace detail
+
 }  // namespace iox2sd
+
+/// Texts, ids, attributes with their sets, what ports report, and handles are hashed.
+template <std::size_t Capacity>
+struct std::hash<iox2sd::Text<Capacity>> : iox2sd::detail::Hash<iox2sd::Text<Capacity>> {};
+template <std::size_t Capacity,
+          iox2sd_place_answer (*Check)(const std::uint8_t* text, std::size_t length)>
+struct std::hash<iox2sd::SemanticString<Capacity, Check>>
+    : iox2sd::detail::Hash<iox2sd::SemanticString<Capacity, Check>> {};
+template <>
+struct std::hash<iox2sd::Path> : iox2sd::detail::Hash<iox2sd::Path> {};
+template <>
+struct std::hash<iox2sd::FilePath> : iox2sd::detail::Hash<iox2sd::FilePath> {};
+template <>
+struct std::hash<iox2sd::ServiceName> : iox2sd::detail::Hash<iox2sd::ServiceName> {};
+template <>
+struct std::hash<iox2sd::ServiceHash> : iox2sd::detail::Hash<iox2sd::ServiceHash> {};
+template <class Kind>
+struct std::hash<iox2sd::UniqueId<Kind>> : iox2sd::detail::Hash<iox2sd::UniqueId<Kind>> {};
+template <>
+struct std::hash<iox2sd::UniqueNodeId> : iox2sd::detail::Hash<iox2sd::UniqueNodeId> {};
+template <>
+struct std::hash<iox2sd::UniquePortId> : iox2sd::detail::Hash<iox2sd::UniquePortId> {};
+template <>
+struct std::hash<iox2sd::Attribute> : iox2sd::detail::Hash<iox2sd::Attribute> {};
+template <>
+struct std::hash<iox2sd::AttributeSet> : iox2sd::detail::Hash<iox2sd::AttributeSet> {};
+template <>
+struct std::hash<iox2sd::ContainerHandle> : iox2sd::detail::Hash<iox2sd::ContainerHandle> {};
+template <>
+struct std::hash<iox2sd::PublisherDetails> : iox2sd::detail::Hash<iox2sd::PublisherDetails> {};
+template <>
+struct std::hash<iox2sd::SubscriberDetails> : iox2sd::detail::Hash<iox2sd::SubscriberDetails> {};
+template <>
+struct std::hash<iox2sd::NotifierDetails> : iox2sd::detail::Hash<iox2sd::NotifierDetails> {};
+template <>
+struct std::hash<iox2sd::ListenerDetails> : iox2sd::detail::Hash<iox2sd::ListenerDetails> {};
+template <>
+struct std::hash<iox2sd::ClientDetails> : iox2sd::detail::Hash<iox2sd::ClientDetails> {};
+template <>
+struct std::hash<iox2sd::ServerDetails> : iox2sd::detail::Hash<iox2sd::ServerDetails> {};
+template <>
+struct std::hash<iox2sd::ReaderDetails> : iox2sd::detail::Hash<iox2sd::ReaderDetails> {};
+template <>
+struct std::hash<iox2sd::WriterDetails> : iox2sd::detail::Hash<iox2sd::WriterDetails> {};
 
 #endif

@@ -7,9 +7,11 @@
  * - A buffer is a pointer to `capacity` bytes that the caller owns, and that overlap no other argument of the call. A
  *   text is written to its front, without a zero byte, where all of it fits. Where it does not, nothing is written,
  *   the status is IOX2SD_BUFFER_TOO_SHORT, and `length` is the size that it needs. NULL with capacity 0 is a buffer.
- * - NULL where one struct is expected is IOX2SD_NULL.
+ * - NULL where one struct is expected is IOX2SD_NULL, and so is an array of structs that is NULL with
+ *   another number than 0; it is reported before all else. A text or a buffer that is NULL with
+ *   another number than 0 is not caught.
  * - A status other than IOX2SD_DONE is an error: nothing was written, and the other fields of an answer are 0, but where a
- *   function says otherwise. Errors are told in the order in which they are named.
+ *   function says otherwise. Errors are checked in the order in which they are named.
  * - No call writes past the length that it was given, keeps a pointer, takes memory, or calls back. There is no global
  *   state: calls may run on several threads at once, where they share no buffer.
  *
@@ -84,7 +86,7 @@ iox2sd_text_answer iox2sd_file_path_join(const uint8_t *path, size_t path_length
                                          uint8_t *out, size_t capacity);
 
 /* Writes the hash text of a service's pattern and name, under which its files are found: 27 bytes.
- * Errors: IOX2SD_UNKNOWN_PATTERN; IOX2SD_NOT_UTF8; IOX2SD_BAD_SERVICE_NAME, of which iox2sd_service_name_check tells why;
+ * Errors: IOX2SD_UNKNOWN_PATTERN; IOX2SD_NOT_UTF8; IOX2SD_BAD_SERVICE_NAME, of which iox2sd_service_name_check has the reason;
  * IOX2SD_ILLEGAL_HASH; IOX2SD_BUFFER_TOO_SHORT. */
 iox2sd_text_answer iox2sd_hash_text(uint32_t pattern, const uint8_t *name, size_t length, uint8_t *out, size_t capacity);
 
@@ -108,34 +110,75 @@ typedef struct iox2sd_key {
     size_t length;
 } iox2sd_key;
 
+/* The library's own functions on arrays of pairs and keys. Callers use the functions below, which
+ * report IOX2SD_NULL. */
+iox2sd_place_answer iox2sd_attributes_check_at(const iox2sd_attribute *pairs, size_t length);
+iox2sd_place_answer iox2sd_attributes_sort_at(iox2sd_attribute *pairs, size_t length);
+iox2sd_count_answer iox2sd_attribute_values_at(const iox2sd_attribute *pairs, size_t length, const uint8_t *key,
+                                               size_t key_length);
+iox2sd_text_answer iox2sd_attribute_value_at(const iox2sd_attribute *pairs, size_t length, const uint8_t *key,
+                                             size_t key_length, size_t index, uint8_t *out, size_t capacity);
+iox2sd_place_answer iox2sd_attributes_verify_at(const iox2sd_attribute *pairs, size_t length,
+                                                const iox2sd_attribute *required, size_t required_length,
+                                                const iox2sd_key *keys, size_t keys_length);
+
 /* Whether pairs are a set: at most sixteen, each of legal texts, in any order and with repeats.
- * Errors, of the first pair that is wrong, with its place: IOX2SD_BAD_KEY; IOX2SD_BAD_VALUE; IOX2SD_TOO_MANY, of the
- * seventeenth. */
-iox2sd_place_answer iox2sd_attributes_check(const iox2sd_attribute *pairs, size_t length);
+ * Errors: IOX2SD_NULL; of the first pair that is wrong, with its place: IOX2SD_BAD_KEY; IOX2SD_BAD_VALUE;
+ * IOX2SD_TOO_MANY, of the seventeenth. */
+static inline iox2sd_place_answer iox2sd_attributes_check(const iox2sd_attribute *pairs, size_t length) {
+    iox2sd_place_answer refused = {IOX2SD_NULL, 0};
+    if (pairs == NULL && length != 0) return refused;
+    return iox2sd_attributes_check_at(pairs, length);
+}
 
 /* Sorts the pairs of a set by the bytes of their keys, and then of their values. The array's pointers are moved, and the
  * texts stay where they are. Errors as above; the array is then as it was. */
-iox2sd_place_answer iox2sd_attributes_sort(iox2sd_attribute *pairs, size_t length);
+static inline iox2sd_place_answer iox2sd_attributes_sort(iox2sd_attribute *pairs, size_t length) {
+    iox2sd_place_answer refused = {IOX2SD_NULL, 0};
+    if (pairs == NULL && length != 0) return refused;
+    return iox2sd_attributes_sort_at(pairs, length);
+}
 
 /* How many values a key has in a set. Errors: those of iox2sd_attributes_check, without a place; IOX2SD_BAD_ASKED_KEY. */
-iox2sd_count_answer iox2sd_attribute_values(const iox2sd_attribute *pairs, size_t length, const uint8_t *key,
-                                            size_t key_length);
+static inline iox2sd_count_answer iox2sd_attribute_values(const iox2sd_attribute *pairs, size_t length,
+                                                          const uint8_t *key, size_t key_length) {
+    iox2sd_count_answer refused = {IOX2SD_NULL, 0};
+    if (pairs == NULL && length != 0) return refused;
+    return iox2sd_attribute_values_at(pairs, length, key, key_length);
+}
 
 /* Writes the value at `index`, counted from 0, of the values that a key has in a set, by their bytes from the least.
  * Errors: those of iox2sd_attributes_check, without a place; IOX2SD_BAD_ASKED_KEY; IOX2SD_NO_SUCH_VALUE;
  * IOX2SD_BUFFER_TOO_SHORT. */
-iox2sd_text_answer iox2sd_attribute_value(const iox2sd_attribute *pairs, size_t length, const uint8_t *key,
-                                          size_t key_length, size_t index, uint8_t *out, size_t capacity);
+static inline iox2sd_text_answer iox2sd_attribute_value(const iox2sd_attribute *pairs, size_t length,
+                                                        const uint8_t *key, size_t key_length, size_t index,
+                                                        uint8_t *out, size_t capacity) {
+    iox2sd_text_answer refused = {IOX2SD_NULL, 0};
+    if (pairs == NULL && length != 0) return refused;
+    return iox2sd_attribute_value_at(pairs, length, key, key_length, index, out, capacity);
+}
 
 /* Whether a set has each required pair, and for each required key some pair with it.
- * Errors: those of iox2sd_attributes_check; of the required pairs, with the place in `required`: IOX2SD_BAD_REQUIRED_KEY,
- * IOX2SD_BAD_REQUIRED_VALUE; of the required keys, with the place in `keys`: IOX2SD_BAD_ASKED_KEY; at the pair or key that
- * is one too many, where both are more than sixteen: IOX2SD_TOO_MANY_REQUIRED; IOX2SD_MISSING_PAIR, of the least required
- * pair that the set lacks, with its first place in `required`; IOX2SD_MISSING_KEY, of the first required key that it lacks,
- * with its first place in `keys`. Pairs are looked at before keys. */
-iox2sd_place_answer iox2sd_attributes_verify(const iox2sd_attribute *pairs, size_t length,
-                                             const iox2sd_attribute *required, size_t required_length,
-                                             const iox2sd_key *keys, size_t keys_length);
+ * Errors, in this order:
+ * - IOX2SD_NULL, of any of the three arrays;
+ * - the others of iox2sd_attributes_check, of `pairs`;
+ * - of the first required pair that is invalid, with its index in `required`: IOX2SD_BAD_REQUIRED_KEY;
+ *   IOX2SD_BAD_REQUIRED_VALUE; IOX2SD_TOO_MANY_REQUIRED, of a valid seventeenth;
+ * - of the first required key that is invalid, with its index in `keys`: IOX2SD_BAD_ASKED_KEY;
+ *   IOX2SD_TOO_MANY_REQUIRED, of a valid key that is the seventeenth of pairs and keys together;
+ * - IOX2SD_MISSING_PAIR, of the least required pair that the set lacks, with its first index in `required`;
+ * - IOX2SD_MISSING_KEY, of the first required key that the set lacks, with its first index in `keys`.
+ * So an invalid required key is not reported where a seventeenth required pair stands before it. */
+static inline iox2sd_place_answer iox2sd_attributes_verify(const iox2sd_attribute *pairs, size_t length,
+                                                           const iox2sd_attribute *required,
+                                                           size_t required_length,
+                                                           const iox2sd_key *keys, size_t keys_length) {
+    iox2sd_place_answer refused = {IOX2SD_NULL, 0};
+    if (pairs == NULL && length != 0) return refused;
+    if (required == NULL && required_length != 0) return refused;
+    if (keys == NULL && keys_length != 0) return refused;
+    return iox2sd_attributes_verify_at(pairs, length, required, required_length, keys, keys_length);
+}
 
 /* ---- Messages ---- */
 
@@ -161,7 +204,7 @@ typedef struct iox2sd_message_details {
     iox2sd_type_detail payload;
 } iox2sd_message_details;
 
-/* The room for a message. */
+/* The layout of a message. */
 typedef struct iox2sd_layout_answer {
     uint32_t status;
     size_t size;      /* In bytes, at most 2^63 - 1. */
@@ -182,7 +225,7 @@ enum {
     IOX2SD_PAYLOAD = 2
 };
 
-/* What is wrong of whose part. */
+/* An error with the side and the part of the message that it is about. */
 typedef struct iox2sd_part_answer {
     uint32_t status;
     uint32_t side; /* 0: of the opener's details, or between both. 1: of the service's. */
@@ -195,15 +238,15 @@ iox2sd_places_answer iox2sd_message_places_at(const iox2sd_message_details *deta
 iox2sd_part_answer iox2sd_message_compatible_at(const iox2sd_message_details *opener, size_t opener_count,
                                                 const iox2sd_message_details *service, size_t service_count);
 
-/* The room for a message whose payload has so many elements. All parts lie in it, apart and aligned, for the service and
- * for every compatible opener. Names and variants are not looked at.
+/* The layout of a message whose payload has so many elements. All parts lie in it, apart and aligned, for the service and
+ * for every compatible opener. Names and variants are ignored.
  * Errors: IOX2SD_NULL; IOX2SD_BAD_ALIGNMENT; IOX2SD_TOO_LARGE past 2^63 - 1 bytes. */
 static inline iox2sd_layout_answer iox2sd_message_layout(const iox2sd_message_details *details, size_t elements) {
     return iox2sd_message_layout_at(details, details != NULL, elements);
 }
 
 /* The places of user header and payload in a message whose header is at the place `header`. They are numbers: nothing
- * is read there. Names and variants are not looked at.
+ * is read there. Names and variants are ignored.
  * Errors: IOX2SD_NULL; IOX2SD_BAD_ALIGNMENT; IOX2SD_TOO_LARGE where the payload's place would pass 2^64 - 1. */
 static inline iox2sd_places_answer iox2sd_message_places(const iox2sd_message_details *details, size_t header) {
     return iox2sd_message_places_at(details, details != NULL, header);
@@ -242,7 +285,7 @@ enum {
     IOX2SD_DISCARD_DATA = 1           /* It leaves the receiver out. */
 };
 
-/* How the room for messages grows where their length is told at run time. */
+/* How a data segment grows where the length of messages is known at run time alone. */
 enum {
     IOX2SD_BEST_FIT = 0,     /* By as much as the message needs. */
     IOX2SD_POWER_OF_TWO = 1, /* To the next power of two. */
@@ -283,7 +326,7 @@ typedef struct iox2sd_publish_subscribe_settings {
     size_t max_subscribers; /* How many may be attached at once; so are the next two. */
     size_t max_publishers;
     size_t max_nodes;
-    size_t subscriber_max_buffer_size;           /* How many samples a subscriber's buffer has room for. */
+    size_t subscriber_max_buffer_size;           /* The capacity of a subscriber's buffer, in samples. */
     size_t subscriber_max_borrowed_samples;      /* How many samples a subscriber may hold at once. */
     size_t publisher_max_loaned_samples;         /* How many a publisher may have taken and not yet sent. */
     size_t publisher_history_size;               /* How many a publisher keeps for subscribers that come later. */
@@ -308,7 +351,7 @@ typedef struct iox2sd_event_settings {
 /* The settings of a request-response service. */
 typedef struct iox2sd_request_response_settings {
     size_t max_active_requests_per_client; /* How many may be open at each server at once. */
-    size_t max_response_buffer_size;       /* How many responses to one request a client's buffer has room for. */
+    size_t max_response_buffer_size;       /* The capacity of a client's buffer, in responses to one request. */
     size_t max_servers;                    /* How many may be attached at once; so are the next two. */
     size_t max_clients;
     size_t max_nodes;
@@ -452,7 +495,7 @@ typedef struct iox2sd_publish_subscribe_config {
     size_t max_publishers;
     size_t max_nodes;
     size_t history_size;               /* How many a publisher keeps for later subscribers. */
-    size_t subscriber_max_buffer_size; /* How many samples a subscriber's buffer has room for. */
+    size_t subscriber_max_buffer_size; /* The capacity of a subscriber's buffer, in samples. */
     size_t subscriber_max_borrowed_samples; /* How many samples a subscriber may hold at once. */
     bool enable_safe_overflow; /* Whether a new sample replaces the oldest in a full buffer. */
 } iox2sd_publish_subscribe_config;
@@ -553,7 +596,7 @@ iox2sd_count_answer iox2sd_responses_of_config_at(const iox2sd_request_response_
 /* Fills a description from a service's settings, its name, which a user gives, and its id. The hash
  * text is that of iox2sd_hash_text.
  * Errors, with which the place is as it was: IOX2SD_NULL, of the settings or the place;
- * IOX2SD_NOT_UTF8; IOX2SD_BAD_SERVICE_NAME, of which iox2sd_service_name_check tells why;
+ * IOX2SD_NOT_UTF8; IOX2SD_BAD_SERVICE_NAME, of which iox2sd_service_name_check has the reason;
  * IOX2SD_UNKNOWN_STRATEGY or IOX2SD_BAD_DURATION with the field, as the checks of settings answer;
  * IOX2SD_ILLEGAL_HASH. */
 static inline iox2sd_field_answer

@@ -115,6 +115,25 @@ static void no_memory(void) {
     CHECK(3 < request && request < 1000);
 }
 
+/* In too short a buffer too, memory that was refused is reported first, and no length but that of what
+ * stands in the buffer: nothing, or the first reply line. */
+static void no_memory_in_a_short_buffer(size_t capacity) {
+    long request = 0;
+    iox2sd_script_answer answer;
+    do {
+        left = request++;
+        answer = run(script, capacity);
+        bool refused = left < 0;
+        left = -1;
+        CHECK(answer.line == 0);
+        if (!refused) break;
+        CHECK(answer.status == IOX2SD_NO_MEMORY && answer.length <= capacity);
+        CHECK((answer.length == 0 || answer.length == 11) && wrote(replies, answer.length));
+    } while (request < 1000);
+    CHECK(3 < request && request < 1000);
+    CHECK(answer.status == IOX2SD_BUFFER_TOO_SHORT && answer.length == LENGTH && wrote("", 0));
+}
+
 int main(void) {
     CHECK(answers(iox2sd_script_run((const uint8_t *)"service event 7 1 1 18446744073709551615\n",
                                     41, out, MOST),
@@ -122,6 +141,9 @@ int main(void) {
     buffers();
     bad_lines();
     no_memory();
+    no_memory_in_a_short_buffer(0);
+    no_memory_in_a_short_buffer(10);
+    no_memory_in_a_short_buffer(11);
     printf("%d checks, %d failed\n", checks, failed);
     return failed != 0;
 }

@@ -26,7 +26,7 @@ static bool gives(iox2sd_handle_answer answer, iox2sd_handle wanted) {
 }
 
 static bool refuses(iox2sd_handle_answer answer, uint32_t status) {
-    return answer.status == status && same_handle(answer.handle, handle(0, 0, 0, 0));
+    return answer.status == status && same_handle(answer.handle, handle(0, IOX2SD_NO_ROLE, 0, 0));
 }
 
 static bool counts(iox2sd_count_answer answer, uint32_t status, size_t count) {

@@ -1,6 +1,9 @@
 // Calls each function of iox2sd.hpp on services, each of their refusals, and each request for
 // memory refused in turn. The last line is 'N checks, N failed'.
+#include <list>
+#include <set>
 #include <thread>
+#include <unordered_set>
 #include <vector>
 
 #include "check.hpp"
@@ -234,6 +237,62 @@ void listings() {
     listing<WriterDetails>(3, [](const Service& s) { return s.list_writers(); });
 }
 
+/// What is kept is told by the numbers of ids, whatever their roles.
+void kept_numbers() {
+    Service service = make(PatternKind::Event, {1, 1, 1});
+    const UniqueListenerId listener(1, 2, 3, 4);
+    const UniqueNotifierId notifier(1, 2, 3, 4);
+    CHECK(UniquePortId(listener) != UniquePortId(notifier));
+    CHECK(service.register_node_id(a) && service.attach(ListenerDetails{listener, a}));
+    CHECK(service.attach(NotifierDetails{notifier, a}));
+    CHECK(*service.remove_dead_node_id(a, {listener}) ==
+          Removal{DeregisterNodeState::HasOwners, 0, 0});
+    CHECK(*service.remove_dead_node_id(a) == Removal{DeregisterNodeState::NoMoreOwners, 1, 1});
+}
+
+/// A range that is read once alone, as a stream is: the ids of listeners by counters from 1 on.
+struct Counting {
+    struct End {};
+    struct Iterator {
+        std::uint32_t* next;
+        UniqueListenerId operator*() const { return UniqueListenerId(1, 1, 1, *next); }
+        Iterator& operator++() {
+            ++*next;
+            return *this;
+        }
+        bool operator!=(End) const { return *next <= last; }
+        std::uint32_t last;
+    };
+    std::uint32_t next = 1, last;
+    Iterator begin() { return {&next, last}; }
+    End end() { return {}; }
+};
+
+/// The ports that are kept are any range of ids.
+void kept_ranges() {
+    constexpr std::size_t most = 40;
+    const auto listener = [](std::uint32_t counter) { return UniqueListenerId(1, 1, 1, counter); };
+    const auto left = [&](auto&& kept) {
+        Service service = Service::create(PatternKind::Event, 77, {1, most, 1}).value();
+        CHECK(service.register_node_id(a));
+        for (std::uint32_t i = 1; i <= most; ++i) {
+            CHECK(service.attach(ListenerDetails{listener(i), a}));
+        }
+        CHECK(service.remove_dead_node_id(a, kept));
+        return *service.count_ports(Role::Listener);
+    };
+    for (std::uint32_t last : {0, 1, 15, 16, 17, 33, 40}) {
+        CHECK(left(Counting{1, last}) == last);
+    }
+    const UniquePortId two[] = {listener(3), listener(4)};
+    CHECK(left(two) == 2 && left(std::vector<UniqueListenerId>(3, listener(1))) == 1);
+    CHECK(left(std::set<UniquePortId>{listener(1), listener(2), listener(9)}) == 3);
+    CHECK(left(std::list<UniqueListenerId>{listener(1), listener(41)}) == 1);
+    CHECK(left(std::vector<UniquePortId>()) == 0);
+    const std::unordered_set<UniquePortId> hashed = {listener(5), listener(6), listener(5)};
+    CHECK(left(hashed) == 2);
+}
+
 void segments() {
     Service service = make(PatternKind::PublishSubscribe, {1, 1, 1});
     PublisherDetails publisher{UniquePublisherId(1, 1, 1, 1), a, 1, 1, DataSegmentType{2}, 1};
@@ -249,9 +308,17 @@ void moved_lists() {
     List<UniqueNodeId> list = service.nodes().value();
     const List<UniqueNodeId> moved = std::move(list);
     CHECK(list.empty() && list.begin() == list.end() && moved.size() == 1 && moved[0] == a);
+    CHECK(moved.front() == a && moved.back() == a && moved.cend() - moved.cbegin() == 1);
     CHECK(moved == service.nodes().value() && moved != list);
     list = service.nodes().value();
     CHECK(moved == list && *list.data() == a);
+    List<UniqueNodeId> assigned;
+    assigned = std::move(list);
+    CHECK(list.empty() && list.size() == 0 && list.begin() == list.end() && list != assigned);
+    CHECK(assigned == moved);
+    List<UniqueNodeId>& itself = assigned;
+    assigned = std::move(itself);
+    CHECK(assigned == moved);
 }
 
 void scripts() {
@@ -317,6 +384,38 @@ void threads() {
     CHECK(lists(back.nodes(), a, b));
 }
 
+/// Sixteen threads ask one service at once, by calls that are `const`.
+void questions_at_once() {
+    Service made = make(PatternKind::Event, {2, 1, 1});
+    CHECK(made.register_node_id(a) && made.register_node_id(b));
+    const Service& service = made;
+    bool good[16] = {};
+    std::vector<std::thread> running;
+    for (bool& each : good) {
+        running.emplace_back([&service, &each] {
+            each = true;
+            for (int i = 0; i < 200; ++i) {
+                each = each && lists(service.nodes(), a, b) && *service.max_nodes() == 2 &&
+                       !*service.is_locked() && service.ports(Role::Listener)->empty();
+            }
+        });
+    }
+    for (std::thread& each : running) each.join();
+    for (bool each : good) CHECK(each);
+}
+
+/// A handle that nobody gave stands for nothing, in a service with the number 0 too.
+void handles_of_nothing() {
+    Service service = Service::create(PatternKind::Event, 0, {1, 1, 1}).value();
+    const ContainerHandle first = service.register_node_id(a).value();
+    CHECK(first.service == 0 && first.slot == 0 && first.ticket == 0);
+    CHECK(service.deregister_node_id(ContainerHandle()).error() == Status::UnknownRole);
+    CHECK(service.release_port(ContainerHandle()).error() == Status::UnknownRole);
+    CHECK(service.node(ContainerHandle()).error() == Status::UnknownRole);
+    CHECK(service.port(ContainerHandle()).error() == Status::UnknownRole);
+    CHECK(lists(service.nodes(), a));
+}
+
 }  // namespace
 
 int main() {
@@ -325,9 +424,13 @@ int main() {
     nodes();
     for (std::size_t pattern = 0; pattern < 4; ++pattern) ports(pattern);
     listings();
+    kept_numbers();
+    kept_ranges();
     segments();
     moved_lists();
     scripts();
     threads();
+    questions_at_once();
+    handles_of_nothing();
     return end_of_checks();
 }

@@ -3,6 +3,7 @@
 #include <sys/mman.h>
 
 #include <set>
+#include <sstream>
 #include <string>
 #include <type_traits>
 
@@ -107,10 +108,36 @@ void results() {
     CHECK(*static_cast<const Result<int>&>(some) == 6 && *std::move(some) == 6);
     CHECK(!none && none.error() == Status::Null && none.status() == Status::Null);
     CHECK(Result<int>(Status::Null).value_or(7) == 7 && Result<int>(8).value_or(7) == 8);
+    const Result<int> other = none.value_or(7);
+    CHECK(other == 7 && other != none && none == Status::Null && none != Status::NoMemory);
+    const auto halved = [](int n) -> Result<int> {
+        if (n % 2 != 0) return Status::BadAlignment;
+        return n / 2;
+    };
+    CHECK(some.and_then(halved) == 3 && other.and_then(halved) == Status::BadAlignment);
+    CHECK(none.and_then(halved) == Status::Null && Result<int>(8).and_then(halved) == 4);
+    const auto written = [](int n) { return std::to_string(n); };
+    CHECK(some.transform(written) == string("6") && none.transform(written) == Status::Null);
+    CHECK(Result<int>(9).transform(written).value() == "9");
+    int seen = 0;
+    CHECK(some.transform([&](int n) { seen += n; }).has_value() && seen == 6);
+    CHECK(!none.transform([&](int n) { seen += n; }).has_value() && seen == 6);
     const Result<void> done, refused = Status::TooLarge;
+    CHECK(done == Result<void>() && refused == Status::TooLarge && done != refused);
+    CHECK(done.and_then([] { return Result<int>(1); }) == 1);
+    CHECK(refused.and_then([] { return Result<int>(1); }) == Status::TooLarge);
+    CHECK(done.transform([] { return 2; }) == 2 && refused.transform([] { return 2; }) != 2);
     CHECK(done && done.has_value() && done.status() == Status::Done);
     CHECK(!refused && refused.error() == Status::TooLarge);
     CHECK(refused.status() == Status::TooLarge);
+    // `if (service.is_locked())` would ask whether the service was asked, and does not compile.
+    static_assert(!std::is_constructible_v<bool, Result<bool>>);
+    static_assert(!std::is_constructible_v<bool, const Result<bool>&>);
+    static_assert(!std::is_constructible_v<bool, Result<bool, TextError>>);
+    static_assert(std::is_constructible_v<bool, Result<int>>);
+    static_assert(!std::is_convertible_v<Result<int>, bool>);
+    const Result<bool> no = false;
+    CHECK(no.has_value() && !*no && no.status() == Status::Done);
     static_assert(!std::is_copy_constructible_v<Service> && !std::is_copy_assignable_v<Service>);
     static_assert(std::is_nothrow_move_constructible_v<Service>);
     static_assert(std::is_nothrow_move_assignable_v<Service>);
@@ -175,6 +202,46 @@ void texts() {
     CHECK(refuses(RestrictedFileName::create(".."), Status::NoFileName, 0));
 }
 
+template <class T, class = void>
+constexpr bool views_a_temporary = false;
+template <class T>
+constexpr bool views_a_temporary<T, std::void_t<decltype(std::declval<T>().view())>> = true;
+
+template <class... Values>
+string streamed(const Values&... values) {
+    std::ostringstream out;
+    (out << ... << values);
+    return out.str();
+}
+
+/// Texts, ids and statuses are written; a view of a temporary does not compile.
+void writing() {
+    static_assert(!views_a_temporary<ServiceName> && !views_a_temporary<const Text<32>>);
+    static_assert(views_a_temporary<ServiceName&> && views_a_temporary<const Text<32>&>);
+    static_assert(!std::is_convertible_v<ServiceName, std::string_view>);
+    static_assert(!std::is_convertible_v<const ServiceName, std::string_view>);
+    static_assert(std::is_convertible_v<const ServiceName&, std::string_view>);
+    CHECK(streamed(key("a"), ' ', path("b/c"), ' ', Status::Done) == "a b/c done");
+    const UniqueListenerId listener(1, 0, 0, 10);
+    CHECK(streamed(UniqueNodeId::create(1, 0, 0, 10).value()) == "100000000000000000000000a");
+    CHECK(streamed(listener, UniquePortId(UniqueWriterId(0, 0, 0, 7))) ==
+          "100000000000000000000000a7");
+}
+
+/// Texts of all capacities, views, strings and characters are compared with each other.
+void comparisons() {
+    const AttributeKey shorter = key("a");
+    const Path longer = path("a");
+    const string text = "a";
+    const std::string_view view = text;
+    CHECK(shorter == longer && longer == shorter && !(shorter != longer) && shorter <= longer);
+    CHECK(shorter == text && text == shorter && shorter == view && view == shorter);
+    CHECK(shorter == "a" && "a" == shorter && shorter != "b" && "b" != shorter);
+    CHECK(shorter < path("b") && path("b") > shorter && shorter < "b" && "b" > shorter);
+    CHECK(shorter >= view && view >= shorter && text <= longer && !(longer < text));
+    CHECK(version() != layer_version() && version() < layer_version());
+}
+
 void paths() {
     CHECK(Path().empty() && path("") == Path() && path(string(255, 'x')).size() == 255);
     CHECK(refuses(Path::create(with_byte(256, 0, '\0')), Status::TooLong, 255));
@@ -223,6 +290,10 @@ void ids() {
     CHECK(UniqueNodeId::create(0, 0, 0, 1) && UniqueNodeId::create(1, 0, 0, 0));
     CHECK(ordered(*node, UniqueNodeId::create(1, 2, 3, 5).value()));
 
+    static_assert(std::is_convertible_v<UniqueListenerId, UniquePortId>);
+    static_assert(!std::is_convertible_v<UniqueNodeId, UniquePortId>);
+    static_assert(!std::is_constructible_v<UniquePortId, UniqueNodeId>);
+    static_assert(!std::is_constructible_v<UniquePortId, UniqueServiceId>);
     const UniquePortId publisher = UniquePublisherId(1, 2, 3, 4),
                        writer = UniqueWriterId(0, 0, 0, 0);
     CHECK(publisher.role() == Role::Publisher && writer.role() == Role::Writer);
@@ -318,7 +389,8 @@ void types() {
     CHECK(refusal(TypeVariant::Dynamic, "\xc3\xa4", 3) == Status::IllegalByte);
     CHECK(refusal(TypeVariant::Dynamic, "x", 3) == Status::BadAlignment);
     CHECK(refusal(TypeVariant::Dynamic, "x", 0) == Status::BadAlignment);
-    CHECK(type(string(256, 'x'), 8, 8).type_name().size() == 256 && type("", 0, 1).size() == 0);
+    const TypeDetail longest = type(string(256, 'x'), 8, 8);
+    CHECK(longest.type_name().size() == 256 && type("", 0, 1).size() == 0);
     const TypeDetail number = TypeDetail::of<std::uint64_t>(TypeVariant::Dynamic, "u64").value();
     CHECK(number.variant() == TypeVariant::Dynamic && number.type_name() == "u64");
     CHECK(number.size() == 8 && number.alignment() == 8);
@@ -598,6 +670,8 @@ int main() {
     statuses();
     results();
     texts();
+    writing();
+    comparisons();
     paths();
     hashes();
     ids();

@@ -90,7 +90,7 @@ public:
         if (!line_.empty()) line_ += '\t';
         line_ += field;
     }
-    void status(Status status) { field(text(status).view()); }
+    void status(Status status) { field(std::string(text(status))); }
     void number(std::uint64_t number) { field(std::to_string(number)); }
     void bytes(std::string_view bytes) { field(hex(bytes)); }
     void handle(const ContainerHandle& handle) {
@@ -109,7 +109,7 @@ private:
 template <class Call, class Say>
 void say(Answer& out, const Result<Call>& result, Say value) {
     out.status(result.status());
-    if (result) value(*result);
+    if (result.has_value()) value(*result);
 }
 
 void say_number(Answer& out, const Result<std::size_t>& result) {
@@ -412,8 +412,8 @@ void ids(Line& in, Answer& out) {
     const iox2sd_id parts = in.parts();
     const UniqueServiceId one(parts), other(in.parts());
     out.status(Status::Done);
-    out.field(one.text().view());
-    out.field(other.text().view());
+    out.field(std::string(one.text()));
+    out.field(std::string(other.text()));
     out.number(one < other);
     out.number(other < one);
     say(out, UniqueNodeId::create(parts.process, parts.seconds, parts.nanoseconds, parts.counter),
@@ -535,8 +535,8 @@ struct NumbersOf {
 void say_port(Answer& out, const PortDetails& port) {
     const Numbers n = std::visit(NumbersOf{}, port);
     std::ostringstream field;
-    field << static_cast<std::uint64_t>(role(port)) << ':' << port_id(port).text().view() << ':'
-          << node_id(port).text().view() << ':' << n.number_of_samples << ':' << n.buffer_size
+    field << static_cast<std::uint64_t>(role(port)) << ':' << port_id(port) << ':'
+          << node_id(port) << ':' << n.number_of_samples << ':' << n.buffer_size
           << ':' << n.request_buffer_size << ':' << n.number_of_responses << ':'
           << n.number_of_requests << ':' << n.response_buffer_size << ':' << n.max_slice_len << ':'
           << n.data_segment << ':' << int{n.max_number_of_segments};
@@ -577,7 +577,7 @@ void dead(Line& in, Answer& out) {
 
 void find_node(Line& in, Answer& out) {
     say(out, service.node(in.handle()),
-        [&](const UniqueNodeId& node) { out.field(node.text().view()); });
+        [&](const UniqueNodeId& node) { out.field(std::string(node.text())); });
 }
 
 void find_port(Line& in, Answer& out) {
@@ -586,7 +586,7 @@ void find_port(Line& in, Answer& out) {
 
 void nodes(Line&, Answer& out) {
     say(out, service.nodes(), [&](const List<UniqueNodeId>& nodes) {
-        for (const UniqueNodeId& node : nodes) out.field(node.text().view());
+        for (const UniqueNodeId& node : nodes) out.field(std::string(node.text()));
     });
 }
 

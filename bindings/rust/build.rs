@@ -1,5 +1,5 @@
 //! Links `libiox2sd.a`, from the folder that `IOX2SD_LIB_DIR` names, or else from where
-//! `bindings/build.sh` or `bindings/install.sh` puts it.
+//! `bindings/build.sh`, `bindings/install.sh` or `bindings/package.sh` puts it.
 
 use std::env;
 use std::path::PathBuf;
@@ -7,8 +7,9 @@ use std::process::exit;
 
 const ARCHIVE: &str = "libiox2sd.a";
 
-/// The folders of the archive, seen from this crate's: in the repository, and where it is installed.
-const FOLDERS: [&str; 2] = ["../out", "../../../lib"];
+/// The folders of the archive, seen from this crate's: in the repository, where it is installed, and
+/// in the packed crate.
+const FOLDERS: [&str; 3] = ["../out", "../../../lib", "."];
 
 fn folder() -> PathBuf {
     if let Some(named) = env::var_os("IOX2SD_LIB_DIR") {

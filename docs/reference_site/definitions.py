@@ -6,6 +6,7 @@ from dataclasses import dataclass
 DEFINED = re.compile(r"(?:abbrev |unfoldable )?pub (?:record |data )?(?P<name>[^\s:({]+)")
 TAKEN = re.compile(r"Rattle\.(?P<crate>\w+)\.specs\.(?P<path>[\w.]+?)(?:\.\{(?P<names>[^}]*)\})?"
                    r"(?: as (?P<alias>\w+))?$")
+CONSTRUCTOR = re.compile(r"  (?P<name>\w+) :")
 
 
 @dataclass
@@ -46,13 +47,17 @@ def taken_names(path):
 
 
 def read_definitions(crate, module, text):
-    """What the file is about, and its definitions."""
-    scope, about, found = {}, [], []
+    """What the file is about, its definitions, and those that other names of it stand for."""
+    scope, about, found, handed_on = {}, [], [], {}
     comment = []
     for line in text.split("\n"):
         start = DEFINED.match(line)
         if line.startswith("use "):
             scope.update(taken_names(line[4:]))
+        elif line.startswith("pub use "):
+            taken = taken_names(line[8:])
+            scope.update(taken)
+            handed_on.update({(crate, module, name): of for name, of in taken.items()})
         elif line.startswith("--"):
             comment.append(line[2:].strip())
         elif start:
@@ -68,6 +73,10 @@ def read_definitions(crate, module, text):
             comment = []
         elif found:
             found[-1].text += "\n" + line
+            constructor = CONSTRUCTOR.match(line)
+            if constructor and found[-1].text.startswith("pub data "):
+                taken = Taken(crate, module, found[-1].name)
+                handed_on[crate, module, constructor["name"]] = taken
         if line.startswith("use ") and comment:
             about, comment = about + comment, []
-    return " ".join(about), found
+    return " ".join(about), found, handed_on

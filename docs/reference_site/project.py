@@ -73,6 +73,7 @@ class Crate:
     root: Module
     modules: list
     definitions: list
+    handed_on: dict
     abouts: dict
     edits: list
     unproved: str
@@ -149,18 +150,19 @@ def read_crate(top, line):
     folder = top / "crates" / name
     root = folder / "src" / "lib.rt"
     root = root if root.exists() else folder / "src" / "main.rt"
-    definitions, abouts = [], {}
+    definitions, handed_on, abouts = [], {}, {}
     for file in sorted((folder / "specs").glob("*.antt")):
         if file.stem != "Lib":
-            abouts[file.stem], found = read_definitions(name, file.stem, file.read_text())
+            abouts[file.stem], found, handed = read_definitions(name, file.stem, file.read_text())
             definitions += found
+            handed_on |= handed
     module = read_modules(top, name, root, (), True, None)
     edits = [read_edit(path) for path in sorted((folder / "must-fail").glob("*.edit"))]
     readme = folder / "README.md"
     paragraphs = readme.read_text().split("\n\n") if readme.exists() else []
     unproved = next((p for p in paragraphs if p.startswith("Not proved: ")), "")
-    return Crate(name, uses.split(), module, list(all_below(module)), definitions, abouts, edits,
-                 unproved)
+    return Crate(name, uses.split(), module, list(all_below(module)), definitions, handed_on,
+                 abouts, edits, unproved)
 
 
 class Project:
@@ -175,6 +177,7 @@ class Project:
         self.definitions = {
             (d.crate, d.module, d.name): d for c in self.crates.values() for d in c.definitions
         }
+        self.handed_on = {name: of for c in self.crates.values() for name, of in c.handed_on.items()}
         for crate in self.crates.values():
             for module in crate.modules:
                 if module.public:
@@ -265,7 +268,13 @@ class Project:
                 shown.implemented.append((trait, block, module))
 
     def definition(self, taken):
-        return self.definitions.get((taken.crate, taken.path, taken.name))
+        where = (taken.crate, taken.path, taken.name)
+        handed_on = self.handed_on.get(where)
+        if handed_on:
+            return self.definition(handed_on)
+        # A constructor stands at the path of its type.
+        module, _, name = taken.path.partition(".")
+        return self.definitions.get(where) or self.definitions.get((taken.crate, module, name))
 
 
 def read_project(top):

@@ -35,11 +35,11 @@ Result<void> print(const Service& service) {
     std::sort(rising.begin(), rising.end());
     rising.erase(std::unique(rising.begin(), rising.end()), rising.end());
     for (const UniqueNodeId& node : rising) {
-        std::cout << "node " << node.text().view() << '\n';
+        std::cout << "node " << node << '\n';
         const auto ports = service.ports_of(node);
         if (!ports) return ports.error();
         for (const PortDetails& port : *ports) {
-            std::cout << "  " << name_of(role(port)) << ' ' << port_id(port).text().view() << '\n';
+            std::cout << "  " << name_of(role(port)) << ' ' << port_id(port) << '\n';
         }
     }
     return {};

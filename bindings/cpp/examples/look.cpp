@@ -22,9 +22,9 @@ int main() {
     std::cout << "slot " << handle.slot << ", ticket " << handle.ticket << '\n';
 
     const Result<ContainerHandle> late = service.register_node_id(two);
-    if (!late) std::cout << text(late.error()).view() << '\n';
+    if (!late) std::cout << text(late.error()) << '\n';
     for (const UniqueNodeId& node : service.nodes().value()) {
-        std::cout << node.text().view() << '\n';
+        std::cout << node << '\n';
     }
 
     const Result<DeregisterNodeState> left = service.deregister_node_id(handle);

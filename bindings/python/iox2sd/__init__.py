@@ -7,7 +7,7 @@ attached to it, over the proved library libiox2sd.
     ... ) as service:
     ...     node = service.register_node_id(iox2sd.UniqueNodeId(1, 0, 0, 1))
     ...     service.deregister_node_id(node)
-    <DeregisterNodeState.NO_MORE_OWNERS: 1>
+    DeregisterNodeState.NO_MORE_OWNERS
 
 Values check themselves when they are made, and never change. What is refused raises an `Error`,
 whose text says what was wrong and where. Each rule is the library's; this package hands over what
@@ -52,6 +52,7 @@ from .errors import (
     MissingPair,
     NodeNotRegistered,
     NoFileName,
+    NoIdText,
     NoMemory,
     NoNode,
     NoService,
@@ -180,6 +181,7 @@ __all__ = [
     "node_directory",
     "NodeNotRegistered",
     "NoFileName",
+    "NoIdText",
     "NoMemory",
     "NoNode",
     "NoService",

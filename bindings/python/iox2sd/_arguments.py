@@ -1,8 +1,11 @@
 """What an argument is to be before it is handed to the library: whole, and of its type."""
 
 import ctypes
+import enum
+from collections.abc import Iterable
 from dataclasses import fields
-from typing import Annotated, Any, get_args, get_origin
+from functools import cache
+from typing import Annotated, Any, TypeVar, get_args, get_origin
 
 from .errors import NotUtf8, OutOfRange, WrongType
 
@@ -30,22 +33,26 @@ def shown(value: object) -> str:
 def instance(value: object, kind: Any, what: str) -> None:
     """Raises `WrongType` where a value is not of a type."""
     if not isinstance(value, kind):
-        wanted = getattr(kind, "__name__", str(kind))
+        kinds = get_args(kind) or (kind,)
+        wanted = " or ".join("None" if one is type(None) else one.__name__ for one in kinds)
         raise WrongType(f"{what}: expected {wanted}, got {shown(value)}")
 
 
 def number(value: object, kind: Any, what: str) -> int:
-    """An integer that an annotation like `Size` allows."""
+    """An integer that an annotation like `Size` allows, as a plain `int`: that of a subclass by its
+    own value, whatever its methods say.
+    """
     if isinstance(value, bool) or not isinstance(value, int):
         raise WrongType(f"{what}: expected int, got {shown(value)}")
+    plain = int.__index__(value)
     bits = 8 * ctypes.sizeof(get_args(kind)[1])
-    if not 0 <= value < 1 << bits:
-        raise OutOfRange(f"{what}: expected 0 to 2^{bits} - 1, got {shown(value)}")
-    return value
+    if not 0 <= plain < 1 << bits:
+        raise OutOfRange(f"{what}: expected 0 to 2^{bits} - 1, got {shown(plain)}")
+    return plain
 
 
 def utf8(text: object, what: str) -> bytes:
-    """The bytes of a text."""
+    """The bytes of a text: those that it has itself, whatever the methods of a subclass say."""
     if not isinstance(text, str):
         raise WrongType(f"{what}: expected str, got {shown(text)}")
     try:
@@ -54,16 +61,69 @@ def utf8(text: object, what: str) -> bytes:
         raise NotUtf8(f"{what} {shown(text)}", error.start, "character") from None
 
 
+def items(given: "Iterable[object]", what: str) -> "tuple[Any, ...]":
+    """The items of what can be iterated over."""
+    try:
+        iterator = iter(given)
+    except TypeError:
+        raise WrongType(f"{what}: expected an iterable, got {shown(given)}") from None
+    return tuple(iterator)
+
+
+@cache
+def _checked(kind: Any) -> "tuple[tuple[str, Any, int], ...]":
+    """The fields that a class of this package has, each with its annotation and with the number
+    that its integers are below, which is 0 where it has none. What a user's subclass adds is that
+    class's own.
+    """
+    package = __name__.partition(".")[0]
+    ours = next(c for c in kind.__mro__ if c.__module__.partition(".")[0] == package)
+    return tuple((field.name, field.type, _end(field.type)) for field in fields(ours))
+
+
+def _end(annotation: Any) -> int:
+    if get_origin(annotation) is not Annotated:
+        return 0
+    return 1 << 8 * ctypes.sizeof(get_args(annotation)[1])
+
+
+class Choice(enum.Enum):
+    """An enum whose members are printed as they are written."""
+
+    def __repr__(self) -> str:
+        return f"{type(self).__name__}.{self.name}"
+
+
+@cache
+def _setters(kind: Any) -> "tuple[Any, ...]":
+    """What sets each field of a class, whatever it forbids."""
+    return tuple(getattr(kind, field.name).__set__ for field in fields(kind))
+
+
+_Kind = TypeVar("_Kind")
+
+
+def unchecked(kind: "type[_Kind]", values: "Iterable[object]") -> _Kind:
+    """A value with these fields, which the library answered, and which are not checked again."""
+    made = object.__new__(kind)
+    for set_field, value in zip(_setters(kind), values):
+        set_field(made, value)
+    return made
+
+
 class Checked:
-    """A dataclass whose fields are of their annotations when it is made."""
+    """A dataclass whose fields are of their annotations when it is made. Integers are kept as plain
+    ones.
+    """
 
     __slots__ = ()
 
     def __post_init__(self) -> None:
-        for field in fields(self):
-            value = getattr(self, field.name)
-            what = f"{type(self).__name__}.{field.name}"
-            if get_origin(field.type) is Annotated:
-                number(value, field.type, what)
-            else:
-                instance(value, field.type, what)
+        for name, annotation, end in _checked(type(self)):
+            value = getattr(self, name)
+            if end == 0:
+                if not isinstance(value, annotation):
+                    instance(value, annotation, f"{type(self).__name__}.{name}")
+            elif type(value) is not int or not 0 <= value < end:
+                plain = number(value, annotation, f"{type(self).__name__}.{name}")
+                object.__setattr__(self, name, plain)

@@ -2,10 +2,15 @@
 
 ctypes cuts a number to the bits of its parameter without a word, so each number and each text
 passes `_arguments` before it comes here.
+
+The library is loaded by `PyDLL`: a call keeps the interpreter's global lock, so it is carried out
+whole before or after any other, and no lock is taken that a finalizer or the child of a fork could
+wait for. A script alone may take long; it shares nothing, and lets other threads run meanwhile.
 """
 
 import ctypes
 import os
+import struct
 from ctypes import POINTER, c_bool, c_char_p, c_size_t, c_uint8, c_uint32, c_uint64, c_void_p
 from pathlib import Path
 from typing import Any
@@ -16,23 +21,30 @@ ABI = 1
 DONE = 0
 DONE_LOCKED = 1
 BUFFER_TOO_SHORT = 2
+UNKNOWN_STATUS = 21
 NO_SUCH_VALUE = 56
 
 
-def _load() -> ctypes.CDLL:
-    path = os.environ.get("IOX2SD_LIBRARY") or str(Path(__file__).with_name("libiox2sd.so.0"))
+_PATH = os.environ.get("IOX2SD_LIBRARY") or str(Path(__file__).with_name("libiox2sd.so.0"))
+
+
+def _load() -> ctypes.PyDLL:
     try:
-        library = ctypes.CDLL(path)
-    except OSError as error:
+        library = ctypes.PyDLL(_PATH)
+    except (OSError, ValueError) as error:
         raise ImportError(
             f"libiox2sd was not loaded: {error}. It stands in the wheel of this package; in a"
             " source tree, IOX2SD_LIBRARY names the file."
         ) from error
-    library.iox2sd_abi.restype = c_uint32
-    library.iox2sd_abi.argtypes = []
-    found = library.iox2sd_abi()
+    try:
+        abi = library.iox2sd_abi
+    except AttributeError as error:
+        raise ImportError(f"{_PATH} is no libiox2sd: it has no iox2sd_abi") from error
+    abi.restype = c_uint32
+    abi.argtypes = []
+    found = abi()
     if found != ABI:
-        raise ImportError(f"{path} has the binary interface {found}, and this package needs {ABI}")
+        raise ImportError(f"{_PATH} has the binary interface {found}, this package needs {ABI}")
     return library
 
 
@@ -69,6 +81,11 @@ class Port(ctypes.Structure):
         ("data_segment", c_uint32),
         ("max_number_of_segments", c_uint8),
     ]
+
+
+ID = struct.Struct("=4I")
+PORT = struct.Struct("=Q4I4I7QIB3x")
+"""The same structs as rows of numbers, in the order of their fields, for lists."""
 
 
 class Capacities(ctypes.Structure):
@@ -245,9 +262,9 @@ class BlackboardSettings(ctypes.Structure):
 _library = _load()
 
 
-def _export(name: str, result: Any, *parameters: Any) -> Any:
+def _export(name: str, result: Any, *parameters: Any, library: ctypes.CDLL = _library) -> Any:
     try:
-        function = getattr(_library, "iox2sd_" + name)
+        function = getattr(library, "iox2sd_" + name)
     except AttributeError as error:
         raise ImportError(f"libiox2sd has no iox2sd_{name}") from error
     function.restype = result
@@ -296,7 +313,7 @@ find_port_at = _export("find_port_at", PortAnswer, *_SERVICE, Handle)
 nodes_at = _export("nodes_at", CountAnswer, *_SERVICE, POINTER(Id), c_size_t)
 ports_at = _export("ports_at", CountAnswer, *_SERVICE, c_uint64, POINTER(Port), c_size_t)
 ports_of_at = _export("ports_of_at", CountAnswer, *_SERVICE, Id, POINTER(Port), c_size_t)
-script_run = _export("script_run", ScriptAnswer, *_TEXT, *_OUT)
+script_run = _export("script_run", ScriptAnswer, *_TEXT, *_OUT, library=ctypes.CDLL(_PATH))
 
 service_name_check = _export("service_name_check", PlaceAnswer, *_TEXT)
 internal_service_name_check = _export("internal_service_name_check", PlaceAnswer, *_TEXT)
@@ -313,12 +330,12 @@ file_path_join = _export("file_path_join", TextAnswer, *_TEXT, *_TEXT, *_OUT)
 hash_text = _export("hash_text", TextAnswer, c_uint32, *_TEXT, *_OUT)
 internal_hash_text = _export("internal_hash_text", TextAnswer, c_uint32, *_TEXT, *_OUT)
 
-attributes_check = _export("attributes_check", PlaceAnswer, *_PAIRS)
-attributes_sort = _export("attributes_sort", PlaceAnswer, *_PAIRS)
-attribute_values = _export("attribute_values", CountAnswer, *_PAIRS, *_TEXT)
-attribute_value = _export("attribute_value", TextAnswer, *_PAIRS, *_TEXT, c_size_t, *_OUT)
-attributes_verify = _export(
-    "attributes_verify", PlaceAnswer, *_PAIRS, *_PAIRS, POINTER(Key), c_size_t
+attributes_check_at = _export("attributes_check_at", PlaceAnswer, *_PAIRS)
+attributes_sort_at = _export("attributes_sort_at", PlaceAnswer, *_PAIRS)
+attribute_values_at = _export("attribute_values_at", CountAnswer, *_PAIRS, *_TEXT)
+attribute_value_at = _export("attribute_value_at", TextAnswer, *_PAIRS, *_TEXT, c_size_t, *_OUT)
+attributes_verify_at = _export(
+    "attributes_verify_at", PlaceAnswer, *_PAIRS, *_PAIRS, POINTER(Key), c_size_t
 )
 
 message_layout_at = _export("message_layout_at", LayoutAnswer, *_DETAILS, c_size_t)

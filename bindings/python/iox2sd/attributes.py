@@ -5,9 +5,9 @@ from dataclasses import dataclass
 from typing import Any, overload
 
 from . import _native
-from ._arguments import Checked, Size, instance, number, shown
+from ._arguments import Checked, Size, instance, items, number, shown
 from .errors import MissingKey, TooManyRequired, check
-from .texts import AttributeKey, AttributeValue
+from .texts import AttributeKey, AttributeValue, lent
 
 
 @dataclass(frozen=True, slots=True, order=True)
@@ -18,18 +18,16 @@ class Attribute(Checked):
     value: AttributeValue
 
 
-def _pairs(attributes: Sequence[Attribute]) -> "tuple[Any, int]":
-    lent = (_native.Attribute * len(attributes))()
+def _pairs(attributes: "tuple[Attribute, ...]") -> "tuple[Any, int]":
+    pairs = (_native.Attribute * len(attributes))()
     for place, attribute in enumerate(attributes):
-        key, value = attribute.key.encode(), attribute.value.encode()
-        lent[place] = _native.Attribute(key, len(key), value, len(value))
-    return lent, len(attributes)
+        pairs[place] = _native.Attribute(*lent(attribute.key), *lent(attribute.value))
+    return pairs, len(attributes)
 
 
 def _key(key: AttributeKey, what: str) -> "tuple[bytes, int]":
     instance(key, AttributeKey, what)
-    encoded = key.encode()
-    return encoded, len(encoded)
+    return lent(key)
 
 
 class AttributeSet(Sequence[Attribute]):
@@ -42,20 +40,20 @@ class AttributeSet(Sequence[Attribute]):
 
     def __init__(self, attributes: Iterable[Attribute] = ()) -> None:
         """The set of the attributes, given in any order. Raises `TooMany`."""
-        given = tuple(attributes)
+        given = items(attributes, "AttributeSet")
         for attribute in given:
             instance(attribute, Attribute, "AttributeSet")
-        lent, length = _pairs(given)
-        answer = _native.attributes_sort(lent, length)
+        pairs, length = _pairs(given)
+        answer = _native.attributes_sort_at(pairs, length)
         check(answer.status, "AttributeSet", answer.at, "pair")
         self._attributes = tuple(
             Attribute(AttributeKey(pair.key.decode()), AttributeValue(pair.value.decode()))
-            for pair in lent
+            for pair in pairs
         )
 
     def number_of_key_values(self, key: AttributeKey) -> int:
         """How many values a key has."""
-        answer = _native.attribute_values(
+        answer = _native.attribute_values_at(
             *_pairs(self._attributes), *_key(key, "AttributeSet.number_of_key_values")
         )
         check(answer.status, "AttributeSet.number_of_key_values")
@@ -67,7 +65,7 @@ class AttributeSet(Sequence[Attribute]):
         what = "AttributeSet.key_value"
         index = number(index, Size, what)
         status, text = _native.written(
-            _native.attribute_value, *_pairs(self._attributes), *_key(key, what), index
+            _native.attribute_value_at, *_pairs(self._attributes), *_key(key, what), index
         )
         if status == _native.NO_SUCH_VALUE:
             return None
@@ -104,6 +102,9 @@ class AttributeSet(Sequence[Attribute]):
     def __repr__(self) -> str:
         return f"AttributeSet({list(self._attributes)!r})"
 
+    def __reduce__(self) -> "tuple[type[AttributeSet], tuple[tuple[Attribute, ...]]]":
+        return type(self), (self._attributes,)
+
 
 @dataclass(frozen=True, slots=True)
 class AttributeSpecifier(Checked):
@@ -128,6 +129,7 @@ class AttributeVerifier:
     def __post_init__(self) -> None:
         instance(self.required_attributes, AttributeSet, "AttributeVerifier.required_attributes")
         instance(self.required_keys, tuple, "AttributeVerifier.required_keys")
+        object.__setattr__(self, "required_keys", tuple(self.required_keys))
         for key in self.required_keys:
             instance(key, AttributeKey, "AttributeVerifier.required_keys")
         answer = self._verified(AttributeSet())
@@ -161,7 +163,10 @@ class AttributeVerifier:
         keys = (_native.Key * len(self.required_keys))()
         for place, key in enumerate(self.required_keys):
             keys[place] = _native.Key(*_key(key, "AttributeVerifier"))
-        answer: _native.PlaceAnswer = _native.attributes_verify(
-            *_pairs(attributes), *_pairs(self.required_attributes), keys, len(keys)
+        answer: _native.PlaceAnswer = _native.attributes_verify_at(
+            *_pairs(attributes._attributes),
+            *_pairs(self.required_attributes._attributes),
+            keys,
+            len(keys),
         )
         return answer

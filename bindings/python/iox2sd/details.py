@@ -1,11 +1,10 @@
 """What ports report of themselves."""
 
-import enum
 from dataclasses import dataclass, fields
-from typing import ClassVar, Union
+from typing import Any, ClassVar, Union
 
 from . import _native
-from ._arguments import U8, Checked, Size
+from ._arguments import U8, Checked, Choice, Size, unchecked
 from .ids import (
     Role,
     UniqueClientId,
@@ -21,7 +20,7 @@ from .ids import (
 )
 
 
-class DataSegmentType(enum.Enum):
+class DataSegmentType(Choice):
     """Whether a data segment may grow."""
 
     DYNAMIC = 0
@@ -164,21 +163,36 @@ PortDetails = Union[
 ]
 """What a port of any role reports."""
 
-_KINDS = {kind.role: kind for kind in PortDetails.__args__}  # type: ignore[attr-defined]
+_SEGMENTS = {segment.value: segment for segment in DataSegmentType}
+
+_COLUMNS = {name: at for at, (name, *_) in enumerate(_native.Port._fields_[3:], 9)}
+"""Where the fields after the ids stand in a row."""
+
+
+def _plan(kind: Any) -> "tuple[Any, Any, tuple[int, ...], int | None]":
+    """The class of a kind of ports, that of its ids, where its other fields stand in a row, and
+    where among these the data segment is.
+    """
+    port_id, _, *others = fields(kind)
+    names = [field.name.removesuffix("_type") for field in others]
+    segment = names.index("data_segment") if "data_segment" in names else None
+    return kind, port_id.type, tuple(_COLUMNS[name] for name in names), segment
+
+
+_PLANS = {kind.role.value: _plan(kind) for kind in PortDetails.__args__}  # type: ignore[attr-defined]
+
+
+def details_of_row(row: "tuple[int, ...]") -> PortDetails:
+    """The details of a port of the library, as `_native.PORT` reads it."""
+    kind, id_kind, columns, segment = _PLANS[row[0]]
+    values: "list[Any]" = [row[column] for column in columns]
+    if segment is not None:
+        values[segment] = _SEGMENTS[values[segment]]
+    ids = (unchecked(id_kind, row[1:5]), unchecked(UniqueNodeId, row[5:9]))
+    details: PortDetails = unchecked(kind, (*ids, *values))
+    return details
 
 
 def details_of(port: _native.Port) -> PortDetails:
     """The details of a port of the library."""
-    kind = _KINDS[Role(port.role)]
-    port_id, node_id, *others = fields(kind)
-    values = {
-        port_id.name: port_id.type._of(port.port),
-        node_id.name: UniqueNodeId._of(port.node),
-    }
-    for field in others:
-        if field.type is DataSegmentType:
-            values[field.name] = DataSegmentType(port.data_segment)
-        else:
-            values[field.name] = getattr(port, field.name)
-    details: PortDetails = kind(**values)
-    return details
+    return details_of_row(_native.PORT.unpack(bytes(port)))

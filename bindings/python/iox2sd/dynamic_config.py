@@ -1,15 +1,15 @@
 """Services, and who is attached to them."""
 
-import enum
-import threading
+import ctypes
+import struct
 from collections.abc import Iterable, Iterator
-from contextlib import contextmanager
+from contextlib import contextmanager, suppress
 from dataclasses import dataclass
 from types import TracebackType
 from typing import Any, NoReturn, cast
 
 from . import _native
-from ._arguments import U64, Checked, Size, instance, number
+from ._arguments import U64, Checked, Choice, Size, instance, items, number, unchecked
 from .details import (
     ClientDetails,
     ListenerDetails,
@@ -21,8 +21,9 @@ from .details import (
     SubscriberDetails,
     WriterDetails,
     details_of,
+    details_of_row,
 )
-from .errors import NoService, check
+from .errors import NoService, Refused, check
 from .ids import Role, UniqueNodeId, UniquePortId
 from .texts import MessagingPattern
 
@@ -44,7 +45,8 @@ class ContainerHandle(Checked):
 
     @classmethod
     def _of(cls, handle: _native.Handle) -> "ContainerHandle":
-        return cls(handle.service, Role(handle.role), handle.slot, handle.ticket)
+        values = (handle.service, Role(handle.role), handle.slot, handle.ticket)
+        return unchecked(cls, values)
 
 
 @dataclass(frozen=True, slots=True)
@@ -59,7 +61,7 @@ class Capacities(Checked):
     """Subscribers, notifiers, clients or writers."""
 
 
-class DeregisterNodeState(enum.Enum):
+class DeregisterNodeState(Choice):
     """What is left when a node has gone."""
 
     HAS_OWNERS = _native.DONE
@@ -82,18 +84,20 @@ class DeadNode(Checked):
 class DynamicConfig:
     """A service, to which nodes register and ports are attached.
 
-    It may be used by several threads: each call takes the service's lock, and is carried out whole
-    before or after any other. A call on a service that was closed, also while the call waited,
-    raises `NoService`. Use it in a `with` statement, or close it. It cannot be copied.
+    It may be used by several threads, by finalizers and in the child of a fork: each call of the
+    library keeps the interpreter's global lock, and is carried out whole before or after any other.
+    No lock is taken beside that one. Where the interpreter runs without it, use a service by one
+    thread at a time.
+
+    A call on a service that was closed raises `NoService`. Use it in a `with` statement, or close
+    it. It cannot be copied.
     """
 
-    __slots__ = ("_lock", "_place", "__weakref__")
-    _lock: threading.RLock
+    __slots__ = ("_place", "__weakref__")
     _place: _native.Service
 
     def __new__(cls, *_: object, **__: object) -> "DynamicConfig":
         service = super().__new__(cls)
-        service._lock = threading.RLock()
         service._place = _native.Service()
         return service
 
@@ -199,12 +203,14 @@ class DynamicConfig:
         self, node_id: UniqueNodeId, keep: Iterable[UniquePortId] = ()
     ) -> DeadNode:
         """Removes the ports of a dead node, but for those whose id has the number of one in `keep`,
-        and reports how many went. Where no port is left, the node goes too, with all its handles.
+        and reports how many went. Numbers are looked at and not roles: a listener that is kept
+        keeps the notifier of the same number too, though their ids are not equal. Where no port is
+        left, the node goes too, with all its handles.
 
         Raises `NoService`.
         """
         instance(node_id, UniqueNodeId, "remove_dead_node_id")
-        kept = list(keep)
+        kept = items(keep, "remove_dead_node_id.keep")
         for port_id in kept:
             instance(port_id, UniquePortId, "remove_dead_node_id.keep")
         ids = (_native.Id * len(kept))(*(port_id._lent() for port_id in kept))
@@ -215,24 +221,31 @@ class DynamicConfig:
     @contextmanager
     def registered(self, node_id: UniqueNodeId) -> Iterator[ContainerHandle]:
         """Registers a node for a `with` statement, and deregisters it at its end. Raises what
-        `register_node_id` does, and `deregister_node_id` at the end.
+        `register_node_id` does, and at the end what the statement raised, or else what
+        `deregister_node_id` does.
         """
         handle = self.register_node_id(node_id)
         try:
             yield handle
-        finally:
-            self.deregister_node_id(handle)
+        except BaseException:
+            with suppress(Refused):
+                self.deregister_node_id(handle)
+            raise
+        self.deregister_node_id(handle)
 
     @contextmanager
     def attached(self, details: PortDetails) -> Iterator[ContainerHandle]:
         """Attaches a port for a `with` statement, and releases it at its end. Raises what `attach`
-        does, and `release_port` at the end.
+        does, and at the end what the statement raised, or else what `release_port` does.
         """
         handle = self.attach(details)
         try:
             yield handle
-        finally:
-            self.release_port(handle)
+        except BaseException:
+            with suppress(Refused):
+                self.release_port(handle)
+            raise
+        self.release_port(handle)
 
     # ---- Questions. All raise `NoService`. ----
 
@@ -323,15 +336,15 @@ class DynamicConfig:
 
     def list_node_ids(self) -> "tuple[UniqueNodeId, ...]":
         """The nodes by rising slot, one for each handle."""
-        nodes = self._listed("list_node_ids", _native.Id, _native.nodes_at)
-        return tuple(UniqueNodeId._of(id) for id in nodes)
+        rows = self._rows("list_node_ids", _native.Id, _native.ID, _native.nodes_at)
+        return tuple(unchecked(UniqueNodeId, row) for row in rows)
 
     def list_ports(self, role: Role) -> "tuple[PortDetails, ...]":
         """The ports of a role by rising slot. Raises `RoleNotInPattern`."""
         instance(role, Role, "list_ports")
         what = f"list ports, {role}"
-        ports = self._listed(what, _native.Port, _native.ports_at, role.value)
-        return tuple(details_of(port) for port in ports)
+        rows = self._rows(what, _native.Port, _native.PORT, _native.ports_at, role.value)
+        return tuple(map(details_of_row, rows))
 
     def ports_of(self, node_id: UniqueNodeId) -> "tuple[PortDetails, ...]":
         """The ports of a node: those of the first kind by rising slot, then those of the second.
@@ -339,8 +352,9 @@ class DynamicConfig:
         """
         instance(node_id, UniqueNodeId, "ports_of")
         what = f"ports of {node_id}"
-        ports = self._listed(what, _native.Port, _native.ports_of_at, node_id._lent())
-        return tuple(details_of(port) for port in ports)
+        lent = node_id._lent()
+        rows = self._rows(what, _native.Port, _native.PORT, _native.ports_of_at, lent)
+        return tuple(map(details_of_row, rows))
 
     def list_publishers(self) -> "tuple[PublisherDetails, ...]":
         """The publishers by rising slot. Raises `RoleNotInPattern`; so do the next seven."""
@@ -382,7 +396,7 @@ class DynamicConfig:
         return bool(self._call(_native.service_number_at).status == NoService.status)
 
     def close(self) -> None:
-        """Frees the service, after the calls that hold it. Closing it again does nothing."""
+        """Frees the service. Closing it again does nothing."""
         self._call(_native.service_free_at)
 
     def __enter__(self) -> "DynamicConfig":
@@ -399,14 +413,20 @@ class DynamicConfig:
     def __del__(self) -> None:
         self.close()
 
+    def __repr__(self) -> str:
+        """What makes an empty service of this pattern, number and room; tickets are not named."""
+        if self.closed:
+            return "<a closed DynamicConfig>"
+        room = Capacities(self.max_nodes, *(self.max_ports(role) for role in self.port_roles))
+        return f"DynamicConfig({self.messaging_pattern!r}, {self.service_number}, {room})"
+
     def __reduce__(self) -> NoReturn:
         raise TypeError("a DynamicConfig cannot be copied or pickled")
 
     # ---- Calls of the library ----
 
     def _call(self, function: Any, *arguments: Any) -> Any:
-        with self._lock:
-            return function(self._place, 1, *arguments)
+        return function(self._place, 1, *arguments)
 
     def _flag(self, what: str, function: Any, *arguments: Any) -> bool:
         answer = self._call(function, *arguments)
@@ -418,12 +438,15 @@ class DynamicConfig:
         check(answer.status, what)
         return int(answer.count)
 
-    def _listed(self, what: str, element: Any, function: Any, *arguments: Any) -> "list[Any]":
+    def _rows(
+        self, what: str, element: Any, row: struct.Struct, function: Any, *arguments: Any
+    ) -> "Iterator[tuple[int, ...]]":
+        """What a call lists, each element as a row of numbers."""
         capacity = 16
         while True:
             out = (element * capacity)()
             answer = self._call(function, *arguments, out, capacity)
             if answer.status != _native.BUFFER_TOO_SHORT:
                 check(answer.status, what)
-                return list(out[: answer.count])
+                return row.iter_unpack(ctypes.string_at(out, row.size * answer.count))
             capacity = answer.count

@@ -1,7 +1,7 @@
 """What a call raises. `Error` is the base of all.
 
-`WrongType`, `OutOfRange` and `NotUtf8` are raised before the library is asked: what was given has
-no whole form that it takes. All others are its refusals, one class a status of `include/iox2sd.h`.
+`WrongType`, `OutOfRange`, `NotUtf8` and `NoIdText` are raised before the library is asked: what was
+given has no whole form that it takes. All others are its refusals, one class a status of `include/iox2sd.h`.
 The text of a status is the library's own.
 """
 
@@ -22,10 +22,16 @@ class OutOfRange(Error, OverflowError):
     """An integer is negative, or needs more bits than its parameter has."""
 
 
+class NoIdText(Error, ValueError):
+    """A text is not that of an id: lower-case hexadecimal digits without leading zeros, at most
+    those of 128 bits.
+    """
+
+
 class Refused(Error):
     """The library refused a call. A status that has no class of its own is raised as this one."""
 
-    status: int
+    status: int = _native.UNKNOWN_STATUS
     """The number of the status in `include/iox2sd.h`."""
 
     def __init__(self, what: str, at: "int | None" = None, unit: str = "byte") -> None:

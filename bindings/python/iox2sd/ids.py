@@ -1,18 +1,18 @@
 """Ids of nodes, ports and services, and who has which role."""
 
-import enum
 import functools
+import struct
 from dataclasses import dataclass
 from typing import TypeVar, Union
 
 from . import _native
-from ._arguments import U32, Checked
-from .errors import NoNode
+from ._arguments import U32, Checked, Choice, shown, unchecked, utf8
+from .errors import NoIdText, NoNode, OutOfRange, WrongType
 
 _Id = TypeVar("_Id", bound="UniqueId")
 
 
-class Role(enum.Enum):
+class Role(Choice):
     """What an entry of a service is."""
 
     NODE = 0
@@ -62,6 +62,30 @@ class UniqueId(Checked):
 
     @classmethod
     def _of(cls: "type[_Id]", id: _native.Id) -> _Id:
+        return unchecked(cls, (id.process, id.seconds, id.nanoseconds, id.counter))
+
+    @classmethod
+    def from_value(cls: "type[_Id]", value: int) -> _Id:
+        """The id with this `value`. Raises `OutOfRange` past 2^128 - 1."""
+        what = f"{cls.__name__}.from_value"
+        if isinstance(value, bool) or not isinstance(value, int):
+            raise WrongType(f"{what}: expected int, got {shown(value)}")
+        plain = int.__index__(value)
+        if not 0 <= plain < 1 << 128:
+            raise OutOfRange(f"{what}: expected 0 to 2^128 - 1, got {shown(plain)}")
+        return cls(*struct.unpack(">4I", plain.to_bytes(16, "big")))
+
+    @classmethod
+    def from_text(cls: "type[_Id]", text: str) -> _Id:
+        """The id with this text, as `str` prints it. Raises `NoIdText` for each other text."""
+        what = f"{cls.__name__}.from_text"
+        given = utf8(text, what).decode()
+        try:
+            id = UniqueId.from_value(int(given, 16))
+        except (ValueError, OutOfRange):
+            raise NoIdText(f"{what} {shown(given)}: not the text of an id") from None
+        if str(id) != given:
+            raise NoIdText(f"{what} {shown(given)}: not the text of an id")
         return cls(id.process, id.seconds, id.nanoseconds, id.counter)
 
 

@@ -1,15 +1,15 @@
 """Types of messages: where their parts lie, who may read them, and how many chunks are needed."""
 
-import enum
 from dataclasses import dataclass
 from typing import Any
 
 from . import _native
-from ._arguments import Checked, Size, instance, number, shown, utf8
+from ._arguments import Checked, Choice, Size, instance, number, shown, utf8
 from .errors import Incompatible, check
+from .texts import lent
 
 
-class TypeVariant(enum.Enum):
+class TypeVariant(Choice):
     """How many values of a type a message has."""
 
     FIXED_SIZE = 0
@@ -35,12 +35,15 @@ class TypeDetail(Checked):
 
     def __post_init__(self) -> None:
         Checked.__post_init__(self)
-        lent = _native.MessageDetails(*[self._lent()] * 3)
-        check(_native.message_compatible_at(lent, 1, lent, 1).status, shown(self))
+        name = utf8(self.type_name, "TypeDetail.type_name").decode()
+        object.__setattr__(self, "type_name", name)
+        details = _native.MessageDetails(*[self._lent()] * 3)
+        check(_native.message_compatible_at(details, 1, details, 1).status, shown(self))
 
     def _lent(self) -> _native.TypeDetail:
-        name = utf8(self.type_name, "TypeDetail.type_name")
-        return _native.TypeDetail(name, len(name), self.variant.value, self.size, self.alignment)
+        return _native.TypeDetail(
+            *lent(self.type_name), self.variant.value, self.size, self.alignment
+        )
 
 
 @dataclass(frozen=True, slots=True)

@@ -14,7 +14,8 @@ def run_script(script: Union[str, bytes]) -> str:
     Raises `BadLine` with the number of a bad line and the reply lines to those before it, and
     `NoMemory`.
     """
-    given = script if isinstance(script, bytes) else utf8(script, "run_script")
+    # Joining gives the bytes that a subclass has itself, whatever its methods say.
+    given = b"".join((script,)) if isinstance(script, bytes) else utf8(script, "run_script")
     capacity = 256 + len(given)
     while True:
         out = (ctypes.c_uint8 * capacity)()

@@ -9,13 +9,13 @@ from dataclasses import dataclass, fields
 from typing import Any, Optional
 
 from . import _native
-from ._arguments import U32, U64, Checked, Size, instance, shown
+from ._arguments import U32, U64, Checked, Choice, Size, instance, shown
 from .errors import check
 from .messages import counted
-from .texts import Path
+from .texts import Path, lent
 
 
-class BackpressureStrategy(enum.Enum):
+class BackpressureStrategy(Choice):
     """What a sender does where a receiver's buffer is full and may not overflow."""
 
     RETRY_UNTIL_DELIVERED = 0
@@ -24,7 +24,7 @@ class BackpressureStrategy(enum.Enum):
     """It leaves the receiver out."""
 
 
-class AllocationStrategy(enum.Enum):
+class AllocationStrategy(Choice):
     """How the room for messages grows where their length is known at run time alone."""
 
     BEST_FIT = 0
@@ -219,7 +219,7 @@ def _lent(settings: Any, kind: Any) -> Any:
     return kind(**{f.name: _plain(getattr(settings, f.name)) for f in fields(settings)})
 
 
-class DefaultText(enum.Enum):
+class DefaultText(Choice):
     """A text of the configuration."""
 
     ROOT_PATH = 0
@@ -272,5 +272,4 @@ def node_directory(root: Path) -> Path:
 
 def _directory(root: Path, what: str, function: Any) -> Path:
     instance(root, Path, what)
-    encoded = root.encode()
-    return Path._written(what, function, encoded, len(encoded))
+    return Path._written(what, function, *lent(root))

@@ -183,12 +183,12 @@ PatternStaticConfig = Union[
 ]
 """What a service of any pattern is."""
 
-_PATTERNS = {
-    PublishSubscribeStaticConfig: MessagingPattern.PUBLISH_SUBSCRIBE,
-    EventStaticConfig: MessagingPattern.EVENT,
-    RequestResponseStaticConfig: MessagingPattern.REQUEST_RESPONSE,
-    BlackboardStaticConfig: MessagingPattern.BLACKBOARD,
-}
+_PATTERNS = (
+    (PublishSubscribeStaticConfig, MessagingPattern.PUBLISH_SUBSCRIBE),
+    (EventStaticConfig, MessagingPattern.EVENT),
+    (RequestResponseStaticConfig, MessagingPattern.REQUEST_RESPONSE),
+    (BlackboardStaticConfig, MessagingPattern.BLACKBOARD),
+)
 
 
 @dataclass(frozen=True, slots=True)
@@ -212,7 +212,8 @@ class StaticConfig(Checked):
     @property
     def messaging_pattern(self) -> MessagingPattern:
         """The messaging pattern of the service."""
-        return _PATTERNS[type(self.pattern_config)]
+        config = self.pattern_config
+        return next(pattern for kind, pattern in _PATTERNS if isinstance(config, kind))
 
     def has_same_messaging_pattern(self, other: "StaticConfig") -> bool:
         """Whether both services have one messaging pattern."""

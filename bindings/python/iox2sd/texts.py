@@ -1,16 +1,15 @@
 """Names, keys, values, paths and hash texts. Each is a `str` that was found to be legal."""
 
-import enum
 from typing import Any, ClassVar, TypeVar
 
 from . import _native
-from ._arguments import instance, shown, utf8
+from ._arguments import Choice, instance, shown, utf8
 from .errors import IllegalByte, TooLong, check
 
 _Text = TypeVar("_Text", bound="Text")
 
 
-class MessagingPattern(enum.Enum):
+class MessagingPattern(Choice):
     """The pattern by which the ports of a service exchange messages."""
 
     PUBLISH_SUBSCRIBE = 0
@@ -26,6 +25,9 @@ class MessagingPattern(enum.Enum):
 class Text(str):
     """The base of all texts. Raises `WrongType` for all but a `str`, and `NotUtf8` for halves of
     surrogate pairs. Slices, sums and other parts of a text are plain `str` again.
+
+    Of a subclass of `str`, as a member of a `class Topic(str, Enum)`, the text is what it holds as
+    a `str`, whatever its `__str__` says.
     """
 
     __slots__ = ()
@@ -33,10 +35,12 @@ class Text(str):
 
     def __new__(cls: "type[_Text]", text: str) -> _Text:
         encoded = utf8(text, cls.__name__)
+        plain = encoded.decode()
         answer = cls._check(encoded, len(encoded))
-        has_place = answer.status in (TooLong.status, IllegalByte.status)
-        check(answer.status, f"{cls.__name__} {shown(text)}", answer.at if has_place else None)
-        return super().__new__(cls, text)
+        if answer.status != _native.DONE:
+            has_place = answer.status in (TooLong.status, IllegalByte.status)
+            check(answer.status, f"{cls.__name__} {shown(plain)}", answer.at if has_place else None)
+        return super().__new__(cls, plain)
 
     def __repr__(self) -> str:
         return f"{type(self).__name__}({super().__repr__()})"
@@ -49,8 +53,9 @@ class Text(str):
         return cls(text)
 
 
-def _lent(text: Text) -> "tuple[bytes, int]":
-    encoded = text.encode()
+def lent(text: str) -> "tuple[bytes, int]":
+    """A text as the library takes it: its own bytes, and how many these are."""
+    encoded = str.encode(text)
     return encoded, len(encoded)
 
 
@@ -126,7 +131,7 @@ class Path(Text):
         """
         instance(entry, Path, "Path.add_path_entry")
         what = f"{shown(self)} and {shown(entry)}"
-        return Path._written(what, _native.path_join, *_lent(self), *_lent(entry))
+        return Path._written(what, _native.path_join, *lent(self), *lent(entry))
 
 
 class FileName(Text):
@@ -158,7 +163,7 @@ class FilePath(Text):
         instance(path, Path, "FilePath.from_path_and_file")
         instance(file, FileName, "FilePath.from_path_and_file")
         what = f"{shown(path)} and {shown(file)}"
-        return cls._written(what, _native.file_path_join, *_lent(path), *_lent(file))
+        return cls._written(what, _native.file_path_join, *lent(path), *lent(file))
 
 
 class RestrictedFileName(Text):
@@ -188,4 +193,4 @@ class ServiceHash(RestrictedFileName):
         internal = isinstance(service_name, InternalServiceName)
         function = _native.internal_hash_text if internal else _native.hash_text
         what = f"hash text of {shown(service_name)}"
-        return cls._written(what, function, messaging_pattern.value, *_lent(service_name))
+        return cls._written(what, function, messaging_pattern.value, *lent(service_name))

@@ -38,7 +38,10 @@ class Sets(unittest.TestCase):
     def test_pairs_may_repeat(self):
         self.assertEqual(len(AttributeSet([pair("a", "b")] * 16)), 16)
         longest = pair("k" * 64, "v" * 256)
-        self.assertEqual(AttributeSet([longest])[0], longest)
+        made = AttributeSet([longest])
+        self.assertEqual(made[0], longest)
+        value = made.key_value(AttributeKey("k" * 64), 0)
+        self.assertEqual((value, type(value)), ("v" * 256, AttributeValue))
 
     def test_seventeen_pairs(self):
         with self.assertRaises(iox2sd.TooMany) as caught:

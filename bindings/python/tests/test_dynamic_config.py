@@ -188,6 +188,17 @@ class Patterns(unittest.TestCase):
                 self.assertEqual((config.service_number, *numbers), (7, 1, 2, 3))
 
 
+    def test_texts_that_evaluate(self):
+        for pattern, *_ in PATTERNS:
+            with DynamicConfig(pattern, MOST, Capacities(1, 2, 3)) as made:
+                text = repr(made)
+                room = "Capacities(nodes=1, first=2, second=3)"
+                self.assertEqual(text, f"DynamicConfig({pattern!r}, {MOST}, {room})")
+                with eval(text, vars(iox2sd)) as again:
+                    self.assertEqual(repr(again), text)
+            self.assertEqual(repr(made), "<a closed DynamicConfig>")
+
+
 class Nodes(unittest.TestCase):
     def test_register_and_deregister(self):
         with service() as made:
@@ -268,6 +279,43 @@ class Nodes(unittest.TestCase):
                     self.assertEqual(made.port(port), publisher(1))
                 self.assertEqual(made.list_publishers(), ())
             self.assertTrue(made.is_locked)
+
+
+    def test_an_exception_leaves_a_with_statement(self):
+        """What was registered and attached is given back, and the exception is the body's own."""
+
+        class Own(Exception):
+            pass
+
+        made = service()
+        with self.assertRaises(Own), made:
+            raise Own
+        self.assertTrue(made.closed)
+        with service() as made:
+            made.register_node_id(OTHER)
+            with self.assertRaises(Own), made.registered(NODE):
+                raise Own
+            self.assertEqual(made.list_node_ids(), (OTHER,))
+            with self.assertRaises(Own), made.registered(NODE):
+                with made.attached(publisher(1)):
+                    raise Own
+            self.assertEqual((made.list_node_ids(), made.list_publishers()), ((OTHER,), ()))
+            # Where giving back is refused too, the body's exception is raised.
+            with self.assertRaises(Own), made.registered(NODE):
+                made.attach(publisher(2))
+                raise Own
+            self.assertEqual(made.list_node_ids(), (OTHER, NODE))
+        with service() as made:
+            with self.assertRaises(iox2sd.PortsStillAttached), made.registered(NODE):
+                made.attach(publisher(1))
+            with self.assertRaises(iox2sd.ForeignHandle), made.attached(publisher(2)) as port:
+                made.release_port(port)
+
+    def test_a_node_without_a_place(self):
+        with service(1) as made:
+            made.register_node_id(NODE)
+            with self.assertRaises(iox2sd.OutOfSpace), made.registered(OTHER):
+                self.fail("nothing was registered")
 
 
 class Ports(unittest.TestCase):

@@ -25,6 +25,39 @@ class Errors(unittest.TestCase):
         for kind in errors._KINDS.values():
             self.assertIn(kind.__name__, iox2sd.__all__)
 
+    def test_bases_of_each_error(self):
+        """Which classes of Python, and which of this package, an error is one of."""
+        refused = {
+            ValueError: "BadAlignment BadDuration BadLine Empty IllegalByte NoFileName NoNode"
+            " NotUtf8 ReservedPrefix RoleNotInPattern TooLong TooMany TooManyRequired",
+            LookupError: "ForeignHandle NodeNotRegistered",
+            OverflowError: "TooLarge",
+            MemoryError: "NoMemory",
+            iox2sd.Incompatible: "OtherName OtherVariant OtherSize OtherAlignment"
+            " GreaterAlignment",
+            object: "HasService IllegalHash Incompatible IsLocked MissingKey MissingPair NoService"
+            " OutOfSpace PortsStillAttached",
+        }
+        expected: "dict[str, tuple[type, ...]]" = {
+            name: (iox2sd.Refused,) if base is object else (iox2sd.Refused, base)
+            for base, names in refused.items()
+            for name in names.split()
+        }
+        for name in refused[iox2sd.Incompatible].split():
+            expected[name] = (iox2sd.Incompatible,)
+        expected["Error"] = (Exception,)
+        expected["Refused"] = (iox2sd.Error,)
+        expected["NoIdText"] = (iox2sd.Error, ValueError)
+        expected["WrongType"] = (iox2sd.Error, TypeError)
+        expected["OutOfRange"] = (iox2sd.Error, OverflowError)
+        found = {
+            name: getattr(iox2sd, name).__bases__
+            for name in iox2sd.__all__
+            if isinstance(getattr(iox2sd, name), type)
+            and issubclass(getattr(iox2sd, name), BaseException)
+        }
+        self.assertEqual(found, expected)
+
     def test_an_error_says_what_and_where(self):
         with self.assertRaises(iox2sd.IllegalByte) as caught:
             iox2sd.ServiceName("a\0")

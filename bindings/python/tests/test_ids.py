@@ -50,6 +50,31 @@ class Ids(unittest.TestCase):
             copies = [copy.copy(id), copy.deepcopy(id), pickle.loads(pickle.dumps(id))]
             self.assertEqual(copies, [id] * 3)
 
+    def test_ids_are_read_back(self):
+        for kind in KINDS:
+            for parts in ((1, 2, 3, 4), (MOST, MOST, MOST, MOST), (0, 0, 0, 1), (1, 0, 0, 0)):
+                id = kind(*parts)
+                for read in (kind.from_text(str(id)), kind.from_value(id.value)):
+                    self.assertEqual((read, type(read)), (id, kind))
+            wrong = ("", "0a", "A", "+a", "-1", " a", "a ", "0x1", "g", "1_0", "00", "\u0661")
+            for text in (*wrong, "1" + "0" * 32, "9" * 10**4):
+                with self.assertRaises(iox2sd.NoIdText):
+                    kind.from_text(text)
+            for strange in (1, None, b"1"):
+                with self.assertRaises(iox2sd.WrongType):
+                    kind.from_text(strange)
+            for strange in ("1", None, True, 1.0):
+                with self.assertRaises(iox2sd.WrongType):
+                    kind.from_value(strange)
+            for far in (-1, 2**128):
+                with self.assertRaises(iox2sd.OutOfRange):
+                    kind.from_value(far)
+        self.assertEqual(UniqueServiceId.from_text("0"), UniqueServiceId(0, 0, 0, 0))
+        with self.assertRaises(iox2sd.NoNode):
+            UniqueNodeId.from_text("0")
+        with self.assertRaises(iox2sd.NoNode):
+            UniqueNodeId.from_value(1 << 64)
+
     def test_ids_of_nodes(self):
         for id in (UniqueNodeId(1, 5, 6, 0), UniqueNodeId(0, 5, 6, 1), UniqueNodeId(3, 5, 6, 4)):
             self.assertEqual(id.owner_id, id.process * 2**32 + id.counter)

@@ -24,7 +24,7 @@ use crate::sys;
 /// use iox2sd::container::Role;
 /// assert_eq!(Role::Publisher.to_string(), "Publisher");
 /// ```
-#[derive(Clone, Copy, Debug, PartialEq, Eq, Hash)]
+#[derive(Clone, Copy, Debug, PartialEq, Eq, PartialOrd, Ord, Hash)]
 #[repr(u64)]
 pub enum Role {
     /// A node.
@@ -48,7 +48,13 @@ pub enum Role {
 }
 
 impl Role {
-    const ALL: [Role; 9] = [
+    /// All roles, by their numbers in the headers.
+    ///
+    /// ```
+    /// use iox2sd::container::Role;
+    /// assert_eq!(Role::ALL.map(|role| role as usize), [0, 1, 2, 3, 4, 5, 6, 7, 8]);
+    /// ```
+    pub const ALL: [Role; 9] = [
         Role::Node,
         Role::Publisher,
         Role::Subscriber,
@@ -68,7 +74,7 @@ impl Role {
 shown_by_name!(Role);
 
 /// What registering a node and attaching a port give, and what gives them back. No handle of a
-/// service is ever given twice.
+/// service is ever given twice. Handles are ordered by service, role, slot and ticket.
 ///
 /// ```
 /// use iox2sd::container::{ContainerHandle, Role};
@@ -77,7 +83,7 @@ shown_by_name!(Role);
 /// assert_eq!((handle.service(), handle.role()), (7, Role::Node));
 /// assert_eq!((handle.slot(), handle.ticket()), (0, 3));
 /// ```
-#[derive(Clone, Copy, Debug, PartialEq, Eq)]
+#[derive(Clone, Copy, Debug, PartialEq, Eq, PartialOrd, Ord, Hash)]
 pub struct ContainerHandle {
     service: u64,
     role: Role,

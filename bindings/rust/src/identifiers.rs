@@ -17,7 +17,10 @@
 use crate::library;
 use crate::sys;
 use std::cmp::Ordering;
+use std::error::Error;
 use std::fmt;
+use std::mem::size_of;
+use std::str::FromStr;
 
 /// The number that the operating system gives a process.
 ///
@@ -176,6 +179,28 @@ macro_rules! unique_id {
             }
         }
 
+        impl TryFrom<u128> for $name {
+            type Error = IdError;
+
+            /// The id with this [`value`](Self::value).
+            fn try_from(value: u128) -> Result<Self, IdError> {
+                Self::of_parts(parts(value)).ok_or(IdError::NoNode)
+            }
+        }
+
+        impl FromStr for $name {
+            type Err = IdError;
+
+            /// The id with this text, as it is printed: lower-case digits without leading zeros.
+            fn from_str(given: &str) -> Result<Self, IdError> {
+                let found = u128::from_str_radix(given, RADIX).map_err(|_| IdError::NoText)?;
+                if text(parts(found)) != given {
+                    return Err(IdError::NoText);
+                }
+                Self::try_from(found)
+            }
+        }
+
         impl fmt::Display for $name {
             fn fmt(&self, f: &mut fmt::Formatter<'_>) -> fmt::Result {
                 f.pad(&text(self.parts))
@@ -223,6 +248,10 @@ macro_rules! unique_ids {
                 /// ```
                 pub fn new(process: u32, seconds: u32, nanoseconds: u32, counter: u32) -> Self {
                     Self::of(sys::iox2sd_id { process, seconds, nanoseconds, counter })
+                }
+
+                fn of_parts(parts: sys::iox2sd_id) -> Option<Self> {
+                    Some(Self::of(parts))
                 }
             }
         )*
@@ -274,6 +303,10 @@ impl UniqueNodeId {
             nanoseconds,
             counter,
         };
+        Self::of_parts(parts)
+    }
+
+    fn of_parts(parts: sys::iox2sd_id) -> Option<Self> {
         library::id_is_node(parts).then(|| Self::of(parts))
     }
 
@@ -324,6 +357,30 @@ pub enum UniquePortId {
     Writer(UniqueWriterId),
 }
 
+/// Defines how the id of each kind of ports becomes that of a port of any kind.
+macro_rules! port_ids {
+    ($($kind:ident: $name:ident)*) => {
+        $(
+            impl From<$name> for UniquePortId {
+                fn from(id: $name) -> Self {
+                    UniquePortId::$kind(id)
+                }
+            }
+        )*
+    };
+}
+
+port_ids! {
+    Publisher: UniquePublisherId
+    Subscriber: UniqueSubscriberId
+    Notifier: UniqueNotifierId
+    Listener: UniqueListenerId
+    Client: UniqueClientId
+    Server: UniqueServerId
+    Reader: UniqueReaderId
+    Writer: UniqueWriterId
+}
+
 impl UniquePortId {
     pub(crate) fn parts(&self) -> sys::iox2sd_id {
         match self {
@@ -362,8 +419,62 @@ fn text(parts: sys::iox2sd_id) -> String {
     library::id_text(parts).unwrap_or_else(|status| library::unexpected(status))
 }
 
+/// Why there is no id of a number or of a text.
+///
+/// ```
+/// use iox2sd::identifiers::{IdError, UniqueListenerId, UniqueNodeId};
+///
+/// let id: UniqueListenerId = "1000000000000000000000002".parse()?;
+/// assert_eq!(id, UniqueListenerId::new(1, 0, 0, 2));
+/// assert_eq!(UniqueListenerId::try_from(id.value()), Ok(id));
+/// assert_eq!("0a".parse::<UniqueListenerId>(), Err(IdError::NoText));
+/// assert_eq!(UniqueNodeId::try_from(0), Err(IdError::NoNode));
+/// # Ok::<(), IdError>(())
+/// ```
+#[derive(Clone, Copy, Debug, PartialEq, Eq, Hash)]
+pub enum IdError {
+    /// The text is none of an id: lower-case hexadecimal digits without leading zeros, at most
+    /// those of 128 bits.
+    NoText,
+    /// It is the id of no node: process and counter are both 0.
+    NoNode,
+}
+
+impl fmt::Display for IdError {
+    fn fmt(&self, f: &mut fmt::Formatter<'_>) -> fmt::Result {
+        f.pad(match self {
+            IdError::NoText => "not the text of an id",
+            IdError::NoNode => "not the id of a node",
+        })
+    }
+}
+
+impl Error for IdError {}
+
+/// The base of the numbers that ids are printed as.
+const RADIX: u32 = 16;
+
 fn value(parts: sys::iox2sd_id) -> u128 {
-    u128::from_str_radix(&text(parts), 16).expect("the text of an id is a hexadecimal number")
+    u128::from_str_radix(&text(parts), RADIX).expect("the text of an id is a hexadecimal number")
+}
+
+/// The four parts of a value, from the highest bits on.
+fn parts(value: u128) -> sys::iox2sd_id {
+    let bytes = value.to_be_bytes();
+    let mut words = bytes.chunks_exact(size_of::<u32>()).map(|word| {
+        u32::from_be_bytes(word.try_into().expect("a chunk has the bytes of one word"))
+    });
+    let mut next = || {
+        words
+            .next()
+            .expect("a value has as many words as an id has parts")
+    };
+    sys::iox2sd_id {
+        process: next(),
+        seconds: next(),
+        nanoseconds: next(),
+        counter: next(),
+    }
 }
 
 fn order(one: sys::iox2sd_id, other: sys::iox2sd_id) -> Ordering {

@@ -20,6 +20,7 @@ use crate::text::{shown_as_text, Text};
 use std::cmp::Ordering;
 use std::hash::{Hash, Hasher};
 use std::marker::PhantomData;
+use std::str::FromStr;
 
 /// Why a text is no semantic string.
 ///
@@ -276,6 +277,15 @@ impl<C: Content> TryFrom<&str> for SemanticString<C> {
 
     /// As [`SemanticString::new`] of the text's bytes.
     fn try_from(text: &str) -> Result<Self, SemanticStringError> {
+        Self::new(text.as_bytes())
+    }
+}
+
+impl<C: Content> FromStr for SemanticString<C> {
+    type Err = SemanticStringError;
+
+    /// As [`SemanticString::new`] of the text's bytes.
+    fn from_str(text: &str) -> Result<Self, SemanticStringError> {
         Self::new(text.as_bytes())
     }
 }

@@ -13,6 +13,7 @@ use crate::library;
 use crate::sys;
 use crate::text::{shown_as_text, Text};
 use std::ops::Deref;
+use std::str::FromStr;
 
 /// Why a text is no service name.
 ///
@@ -166,6 +167,24 @@ impl TryFrom<&str> for ServiceName {
 
     /// As [`ServiceName::internal_new`], so a name with the prefix is taken.
     fn try_from(name: &str) -> Result<Self, ServiceNameError> {
+        Self::internal_new(name)
+    }
+}
+
+impl TryFrom<String> for ServiceName {
+    type Error = ServiceNameError;
+
+    /// As of a `&str`.
+    fn try_from(name: String) -> Result<Self, ServiceNameError> {
+        Self::internal_new(&name)
+    }
+}
+
+impl FromStr for ServiceName {
+    type Err = ServiceNameError;
+
+    /// As [`ServiceName::internal_new`], so a name with the prefix is taken.
+    fn from_str(name: &str) -> Result<Self, ServiceNameError> {
         Self::internal_new(name)
     }
 }

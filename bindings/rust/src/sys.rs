@@ -387,65 +387,65 @@ extern "C" {
         kept_count: usize,
     ) -> iox2sd_death_answer;
     pub fn iox2sd_service_number_at(
-        places: *mut iox2sd_service,
+        places: *const iox2sd_service,
         count: usize,
     ) -> iox2sd_number_answer;
-    pub fn iox2sd_roles_at(places: *mut iox2sd_service, count: usize) -> iox2sd_roles_answer;
+    pub fn iox2sd_roles_at(places: *const iox2sd_service, count: usize) -> iox2sd_roles_answer;
     pub fn iox2sd_has_role_at(
-        places: *mut iox2sd_service,
+        places: *const iox2sd_service,
         count: usize,
         role: u64,
     ) -> iox2sd_flag_answer;
-    pub fn iox2sd_is_locked_at(places: *mut iox2sd_service, count: usize) -> iox2sd_flag_answer;
+    pub fn iox2sd_is_locked_at(places: *const iox2sd_service, count: usize) -> iox2sd_flag_answer;
     pub fn iox2sd_number_of_nodes_at(
-        places: *mut iox2sd_service,
+        places: *const iox2sd_service,
         count: usize,
     ) -> iox2sd_count_answer;
-    pub fn iox2sd_max_nodes_at(places: *mut iox2sd_service, count: usize) -> iox2sd_count_answer;
+    pub fn iox2sd_max_nodes_at(places: *const iox2sd_service, count: usize) -> iox2sd_count_answer;
     pub fn iox2sd_has_room_for_node_at(
-        places: *mut iox2sd_service,
+        places: *const iox2sd_service,
         count: usize,
     ) -> iox2sd_flag_answer;
     pub fn iox2sd_count_ports_at(
-        places: *mut iox2sd_service,
+        places: *const iox2sd_service,
         count: usize,
         role: u64,
     ) -> iox2sd_count_answer;
     pub fn iox2sd_max_ports_at(
-        places: *mut iox2sd_service,
+        places: *const iox2sd_service,
         count: usize,
         role: u64,
     ) -> iox2sd_count_answer;
     pub fn iox2sd_has_room_at(
-        places: *mut iox2sd_service,
+        places: *const iox2sd_service,
         count: usize,
         role: u64,
     ) -> iox2sd_flag_answer;
     pub fn iox2sd_find_node_at(
-        places: *mut iox2sd_service,
+        places: *const iox2sd_service,
         count: usize,
         handle: iox2sd_handle,
     ) -> iox2sd_id_answer;
     pub fn iox2sd_find_port_at(
-        places: *mut iox2sd_service,
+        places: *const iox2sd_service,
         count: usize,
         handle: iox2sd_handle,
     ) -> iox2sd_port_answer;
     pub fn iox2sd_nodes_at(
-        places: *mut iox2sd_service,
+        places: *const iox2sd_service,
         count: usize,
         out: *mut iox2sd_id,
         capacity: usize,
     ) -> iox2sd_count_answer;
     pub fn iox2sd_ports_at(
-        places: *mut iox2sd_service,
+        places: *const iox2sd_service,
         count: usize,
         role: u64,
         out: *mut iox2sd_port,
         capacity: usize,
     ) -> iox2sd_count_answer;
     pub fn iox2sd_ports_of_at(
-        places: *mut iox2sd_service,
+        places: *const iox2sd_service,
         count: usize,
         node: iox2sd_id,
         out: *mut iox2sd_port,
@@ -501,21 +501,21 @@ extern "C" {
         capacity: usize,
     ) -> iox2sd_text_answer;
 
-    pub fn iox2sd_attributes_check(
+    pub fn iox2sd_attributes_check_at(
         pairs: *const iox2sd_attribute,
         length: usize,
     ) -> iox2sd_place_answer;
-    pub fn iox2sd_attributes_sort(
+    pub fn iox2sd_attributes_sort_at(
         pairs: *mut iox2sd_attribute,
         length: usize,
     ) -> iox2sd_place_answer;
-    pub fn iox2sd_attribute_values(
+    pub fn iox2sd_attribute_values_at(
         pairs: *const iox2sd_attribute,
         length: usize,
         key: *const u8,
         key_length: usize,
     ) -> iox2sd_count_answer;
-    pub fn iox2sd_attribute_value(
+    pub fn iox2sd_attribute_value_at(
         pairs: *const iox2sd_attribute,
         length: usize,
         key: *const u8,
@@ -524,7 +524,7 @@ extern "C" {
         out: *mut u8,
         capacity: usize,
     ) -> iox2sd_text_answer;
-    pub fn iox2sd_attributes_verify(
+    pub fn iox2sd_attributes_verify_at(
         pairs: *const iox2sd_attribute,
         length: usize,
         required: *const iox2sd_attribute,

@@ -95,6 +95,30 @@ macro_rules! shown_as_text {
                 self.as_str() == *other
             }
         }
+
+        impl$(<$($generics)*>)? PartialEq<String> for $name {
+            fn eq(&self, other: &String) -> bool {
+                self.as_str() == other
+            }
+        }
+
+        impl$(<$($generics)*>)? PartialEq<$name> for str {
+            fn eq(&self, other: &$name) -> bool {
+                self == other.as_str()
+            }
+        }
+
+        impl$(<$($generics)*>)? PartialEq<$name> for &str {
+            fn eq(&self, other: &$name) -> bool {
+                *self == other.as_str()
+            }
+        }
+
+        impl$(<$($generics)*>)? PartialEq<$name> for String {
+            fn eq(&self, other: &$name) -> bool {
+                self == other.as_str()
+            }
+        }
     };
 }
 pub(crate) use shown_as_text;

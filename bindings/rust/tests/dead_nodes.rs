@@ -4,7 +4,11 @@
 mod common;
 
 use common::{node, ports_of_kind, service, KINDS};
-use iox2sd::dynamic_config::{DeregisterNodeState, DynamicConfig, PortCleanupAction, PortDetails};
+use iox2sd::dynamic_config::{
+    DeregisterNodeState, DynamicConfig, ListenerDetails, NotifierDetails, PortCleanupAction,
+    PortDetails,
+};
+use iox2sd::identifiers::{UniqueListenerId, UniqueNotifierId, UniquePortId};
 use iox2sd::messaging_pattern::MessagingPattern;
 use std::panic::{catch_unwind, AssertUnwindSafe};
 
@@ -87,6 +91,40 @@ fn a_port_that_stays_keeps_its_node() {
         assert_eq!(service.number_of_nodes(), 4);
         assert_eq!(ports_of(&service, 2).len(), 4);
     }
+}
+
+/// The library keeps ids by their numbers, as the page of `remove_dead_node_id` says.
+#[test]
+fn ports_whose_ids_have_one_value_stay_together() {
+    let mut service = service(MessagingPattern::Event, 1, [1, 1]);
+    let node_id = node(1);
+    let listener_id = UniqueListenerId::new(1, 2, 3, 4);
+    let notifier_id = UniqueNotifierId::new(1, 2, 3, 4);
+    let skipped = UniquePortId::Listener(listener_id);
+    assert_ne!(skipped, UniquePortId::Notifier(notifier_id));
+    service.register_node_id(node_id).unwrap();
+    let listener = ListenerDetails {
+        listener_id,
+        node_id,
+    };
+    service.attach(listener).unwrap();
+    let notifier = NotifierDetails {
+        notifier_id,
+        node_id,
+    };
+    service.attach(notifier).unwrap();
+    let state = service.remove_dead_node_id(&node_id, |port| {
+        if port == skipped {
+            PortCleanupAction::SkipPort
+        } else {
+            PortCleanupAction::RemovePort
+        }
+    });
+    assert_eq!(state, DeregisterNodeState::HasOwners);
+    assert_eq!(
+        ports_of(&service, 1),
+        [listener.into(), PortDetails::from(notifier)]
+    );
 }
 
 #[test]

@@ -195,10 +195,106 @@ fn words(text: &str) -> String {
 }
 
 #[test]
-fn a_service_is_sent_because_the_header_says_so() {
-    let sentence = "A service may be moved to another thread, ordered by a lock or a thread's \
-                    start or join, and is used by one thread at a time, by the functions that \
-                    only ask too.";
-    assert!(words(&read("../../include/iox2sd.h")).contains(sentence));
-    assert!(words(&read("src/library/service.rs")).contains(sentence));
+fn a_service_is_sent_and_shared_because_the_header_says_so() {
+    let sentences = [
+        "On one service any number of questions may run at once, or one change alone.",
+        "A service may be moved to another thread; a move and a change are ordered with other calls \
+         by a lock or by a thread's start or join.",
+    ];
+    for sentence in sentences {
+        assert!(words(&read("../../include/iox2sd.h")).contains(sentence));
+        assert!(words(&read("src/library/service.rs")).contains(sentence));
+    }
+}
+
+/// `PowerOfTwo` as `POWER_OF_TWO`.
+fn upper(name: &str) -> String {
+    let mut out = String::new();
+    for letter in name.chars() {
+        if letter.is_uppercase() && !out.is_empty() {
+            out.push('_');
+        }
+        out.extend(letter.to_uppercase());
+    }
+    out
+}
+
+#[test]
+fn each_enumerator_has_the_number_of_its_name() {
+    let mut count = 0;
+    for file in [
+        "container.rs",
+        "messaging_pattern.rs",
+        "config/choices.rs",
+        "static_config/message_type_details.rs",
+    ] {
+        for line in read(&format!("src/{file}")).lines() {
+            let Some((name, constant)) = line.trim().split_once(" = sys::IOX2SD_") else {
+                continue;
+            };
+            let constant = constant.trim_end_matches(',');
+            let end = if constant.ends_with("_SEGMENT") {
+                "_SEGMENT"
+            } else {
+                ""
+            };
+            assert_eq!(constant, upper(name) + end, "{file}");
+            count += 1;
+        }
+    }
+    // Roles, patterns, strategies, kinds of segments, variants and parts of messages.
+    assert_eq!(count, 9 + 4 + 2 + 3 + 2 + 2 + 3);
+}
+
+/// The field of Rust that an expression is the value of: what stands before the last single `:`.
+fn field_of(before: &str) -> Option<&str> {
+    let end = before.trim_end_matches(|letter| letter != ':');
+    let end = end.strip_suffix(':')?;
+    if end.ends_with(':') {
+        return field_of(end.trim_end_matches(':'));
+    }
+    end.rsplit(|letter: char| !letter.is_alphanumeric() && letter != '_')
+        .next()
+}
+
+#[test]
+fn each_field_of_a_struct_is_read_and_written_by_its_name() {
+    let mut count = 0;
+    let text = squeezed(&without_comments(&read("src/config/patterns.rs"))).replace(' ', "");
+    for (at, _) in text.match_indices("settings.") {
+        let before = &text[..at];
+        if before.ends_with("letdeadline=") {
+            continue;
+        }
+        let read = text[at + "settings.".len()..]
+            .split(|letter: char| !letter.is_alphanumeric() && letter != '_')
+            .next();
+        assert_eq!(
+            field_of(before),
+            read,
+            "{}",
+            &before[at.saturating_sub(80)..]
+        );
+        count += 1;
+    }
+    assert_eq!(count, 11 + 7 + 17 + 2);
+    let details = read("src/dynamic_config/details.rs");
+    for line in details.lines().map(str::trim) {
+        let Some((field, library)) = line.split_once(" = ") else {
+            continue;
+        };
+        let (Some((field, kind)), false) = (field.split_once(": "), field.contains("let ")) else {
+            continue;
+        };
+        let library = library.trim_end_matches(';');
+        if kind == "DataSegmentType" {
+            assert_eq!((field, library), ("data_segment_type", "data_segment"));
+        } else if ["usize", "u8"].contains(&kind) {
+            assert_eq!(field, library);
+        } else {
+            continue;
+        }
+        count += 1;
+    }
+    assert_eq!(count, 37 + 4 + 1 + 5 + 5);
 }

@@ -60,7 +60,7 @@ fn no_limit_stands_in_the_code() {
     let expected = ["0", "1", "16", "2", "256", "9"].map(str::to_string);
     assert_eq!(numbers, BTreeSet::from(expected));
     assert_eq!(places("256"), ["text.rs: const ROOM: usize = 256;"]);
-    assert_eq!(places("16)").len(), 1, "{:?}", places("16)"));
+    assert_eq!(places(" 16;"), ["identifiers.rs: const RADIX: u32 = 16;"]);
     for limit in ["isize::MAX", "checked_", "wrapping_", "saturating_"] {
         assert_eq!(places(limit), Vec::<String>::new(), "{limit}");
     }

@@ -63,6 +63,37 @@ fn a_service_moves_from_thread_to_thread() {
     thread::spawn(move || drop(service)).join().unwrap();
 }
 
+/// All that a service answers.
+fn answers(service: &DynamicConfig) -> String {
+    let nodes: Vec<_> = service.nodes().collect();
+    let ports = service.ports_of(&node(1));
+    format!(
+        "{:?} {} {} {} {nodes:?} {ports:?} {:?}",
+        service.kind(),
+        service.number_of_nodes(),
+        service.has_room_for_node(),
+        service.is_locked(),
+        service.ports_of(&node(2)),
+    )
+}
+
+#[test]
+fn sixteen_threads_ask_one_service_at_once() {
+    for (kind, ..) in KINDS {
+        let mut service = service(kind, 2, [1, 1]);
+        service.register_node_id(node(1)).unwrap();
+        for port in ports_of_kind(kind, node(1), 5) {
+            service.attach(port).unwrap();
+        }
+        let wanted = answers(&service);
+        thread::scope(|threads| {
+            for _ in 0..16 {
+                threads.spawn(|| (0..200).for_each(|_| assert_eq!(answers(&service), wanted)));
+            }
+        });
+    }
+}
+
 #[test]
 fn threads_share_a_service_behind_a_lock() {
     let shared = Arc::new(Mutex::new(service(KINDS[1].0, 16, [1, 1])));
@@ -85,11 +116,12 @@ fn threads_share_a_service_behind_a_lock() {
 }
 
 #[test]
-fn values_are_sent_and_shared() {
+fn values_and_services_are_sent_and_shared() {
     fn is_sent_and_shared<T: Send + Sync>() {}
     is_sent_and_shared::<iox2sd::attribute::AttributeVerifier>();
     is_sent_and_shared::<iox2sd::config::Config>();
     is_sent_and_shared::<iox2sd::static_config::StaticConfig>();
     is_sent_and_shared::<iox2sd::container::ContainerHandle>();
     is_sent_and_shared::<iox2sd::dynamic_config::PortDetails>();
+    is_sent_and_shared::<DynamicConfig>();
 }

@@ -1,11 +1,12 @@
 -- Callbacks that may be asked about items in turn.
-use Rattle.std.proofs.Common.{List, [], ◌∷◌, ◌++◌, map, refl, sym, subst, inl, inr}
+use Rattle.std.proofs.Common.{List, [], ◌∷◌, ◌++◌, map, refl, sym, subst}
 use Rattle.std.specs.Fn.{Mut, Called, CalledAt, Takes, TakesAt}
 use denote.Ref.{Bor}
 use denote.Param.Always.{always_mut, mut_next}
-use Rattle.iox2_texts.specs.Attribute.{Visits}
 use Rattle.iox2_texts.specs.declared.bounded.callback_progression.CallbackProgression.{CallbackProgression}
-use Rattle.iox2_texts.specs.declared.bounded.callback_progression.CallbackProgression.TheVariants.{Continue, Stop}
+use Rattle.iox2_texts.specs.declared.bounded.callback_progression.CallbackProgression.TheVariants.{Continue}
+use Rattle.iox2_texts.proofs.Callable.{takes_always, next_always, always_after_visits}
+pub use Rattle.iox2_texts.proofs.Callable.{CanVisit-by, CanVisit-from_always, CanVisit-from_total}
 use Rattle.iox2_container.specs.Steps.{Asked, Visit}
 use Rattle.iox2_container.specs.Callbacks.{MayAsk, CanBeAsked, MayVisit, CanVisit}
 
@@ -21,18 +22,6 @@ module _ {F A R : Type 0} (takes : F → A → Type 0) (calls : F → A → R �
 
   pub CanBeAsked-by : (f : F) (items : List A) → I f items → CanBeAsked takes calls f items
   CanBeAsked-by f items i = record { asks = may_ask_by f items i }
-
-module _ {F A : Type 0} (takes : F → A → Type 0) (calls : F → A → CallbackProgression → F → Type 0)
-    (I : F → List A → Type 0)
-    (asks : (f : F) (x : A) (xs : List A) → I f (x ∷ xs) → takes f x)
-    (keeps : (f : F) (x : A) (xs : List A) (h : F) → I f (x ∷ xs) → calls f x Continue h
-    → I h xs) where
-  may_visit_by : (f : F) (items : List A) → I f items → MayVisit takes calls f items
-  may_visit_by f [] i = tt
-  may_visit_by f (x ∷ xs) i = (asks f x xs i, λ h c. may_visit_by h xs (keeps f x xs h i c))
-
-  pub CanVisit-by : (f : F) (items : List A) → I f items → CanVisit takes calls f items
-  CanVisit-by f items i = record { visits = may_visit_by f items i }
 
 -- what holds at first, and what each call keeps, holds in the end
 pub Asked-keeps : {F A R : Type 0} (calls : F → A → R → F → Type 0)
@@ -50,24 +39,17 @@ Asked-keeps calls I keeps f (x ∷ xs) (r ∷ rs) h i a =
 -- a callback that may always be called may be asked
 -- about any items, and always be called afterwards
 module _ {F A R : Type 0} (g : Mut F (Bor A × Unit {0}) R) where
-  takes_always : (f : F) (x : A) → always_mut g f → TakesAt g f x
-  takes_always f x m = λ y e. (m.at ((y, tt) ∷ [])).0
-
-  next_always : (f : F) (x : A) (r : R) (h : F) → always_mut g f → CalledAt g f x r h
-      → always_mut g h
-  next_always f x r h m c = mut_next g f (c.shown, tt) r h h c.called refl m
-
   pub CanBeAsked-from_always : (f : F) (items : List A) → always_mut g f
       → CanBeAsked (TakesAt g) (CalledAt g) f items
   CanBeAsked-from_always =
       CanBeAsked-by (TakesAt g) (CalledAt g) (λ f _. always_mut g f)
-      (λ f x xs m. takes_always f x m) (λ f x xs r h m c. next_always f x r h m c)
+      (λ f x xs m. takes_always g f x m) (λ f x xs r h m c. next_always g f x r h m c)
 
   pub always_after_Asked : (f : F) (items : List A) (answers : List R) (h : F) → always_mut g f
       → Asked (CalledAt g) f items answers h → always_mut g h
   always_after_Asked =
       Asked-keeps (CalledAt g) (λ f _ _. always_mut g f)
-      (λ f x xs r rs h m c. next_always f x r h m c)
+      (λ f x xs r rs h m c. next_always g f x r h m c)
 
 -- the same, where it takes the items by value
 pub CanBeAsked-from_always_values : {F A R : Type 0} (g : Mut F (A × Unit {0}) R) (f : F)
@@ -79,23 +61,10 @@ CanBeAsked-from_always_values g =
     (λ f x xs r h m c. mut_next g f (x, tt) r h h c refl m)
 
 -- and where it is shown items
-module _ {F A : Type 0} (g : Mut F (Bor A × Unit {0}) CallbackProgression) where
-  pub CanVisit-from_always : (f : F) (items : List A) → always_mut g f
-      → CanVisit (TakesAt g) (CalledAt g) f items
-  CanVisit-from_always =
-      CanVisit-by (TakesAt g) (CalledAt g) (λ f _. always_mut g f)
-      (λ f x xs m. takes_always g f x m) (λ f x xs h m c. next_always g f x Continue h m c)
-
-  always_after_visits : (f : F) (items : List A) (h : F) → always_mut g f
-      → Visits (CalledAt g) f items h → always_mut g h
-  always_after_visits f [] h m done = subst (always_mut g) (sym done) m
-  always_after_visits f (x ∷ xs) h m (inl stopped) = next_always g f x Stop h m stopped
-  always_after_visits f (x ∷ xs) h m (inr goes) =
-      always_after_visits goes.0 xs h (next_always g f x Continue goes.0 m goes.1) goes.2
-
-  pub always_after_Visit : (f : F) (items : List A) (h : F) → always_mut g f
-      → Visit (CalledAt g) f items h → always_mut g h
-  always_after_Visit f items h m visit = always_after_visits f items h m visit.visits
+pub always_after_Visit : {F A : Type 0} (g : Mut F (Bor A × Unit {0}) CallbackProgression)
+    (f : F) (items : List A) (h : F) → always_mut g f → Visit (CalledAt g) f items h
+    → always_mut g h
+always_after_Visit g f items h m visit = always_after_visits g f items h m visit.visits
 
 -- a callback that takes any item in any state
 pub CanBeAsked-from_total : {F A R : Type 0} {takes : F → A → Type 0} {calls : F → A → R → F
@@ -104,12 +73,6 @@ pub CanBeAsked-from_total : {F A R : Type 0} {takes : F → A → Type 0} {calls
 CanBeAsked-from_total {takes = takes} {calls = calls} {f = f} {items = items} h =
     CanBeAsked-by takes calls (λ _ _. Unit {0}) (λ g x xs i. h g x)
     (λ g x xs r k i c. tt) f items tt
-
-pub CanVisit-from_total : {F A : Type 0} {takes : F → A → Type 0} {calls : F → A
-    → CallbackProgression → F → Type 0} {f : F} {items : List A} → ((g : F) (x : A) → takes g x)
-    → CanVisit takes calls f items
-CanVisit-from_total {takes = takes} {calls = calls} {f = f} {items = items} h =
-    CanVisit-by takes calls (λ _ _. Unit {0}) (λ g x xs i. h g x) (λ g x xs k i c. tt) f items tt
 
 -- a callback that asks another one about each item, seen in another way
 module _ {F G A B R S : Type 0} (takes : F → A → Type 0) (calls : F → A → R → F → Type 0)

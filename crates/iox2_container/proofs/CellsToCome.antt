@@ -1,13 +1,16 @@
 -- Passes over cells, as far as the cells to come, whose
 -- callbacks may be asked about what stands there.
-use Rattle.std.proofs.Common.{◌≡◌, ℕ, zero, suc, ◌+◌, ◌≤◌, Bool, true, false, Option, Some, None, List, [], ◌∷◌, length, drop, take, refl, sym, ◌∙◌, ap, add-one, arith}
+use Rattle.std.proofs.Common.{◌≡◌, ℕ, zero, suc, ◌+◌, ◌≤◌, Bool, true, false, Option, Some, None, List, [], ◌∷◌, length, map, drop, take, refl, sym, ◌∙◌, ap, add-one, arith}
 use Rattle.std.specs.Prelude.{slice_get, slice_set, IsTrue, if◌then◌else◌}
 use Rattle.iox2_texts.specs.declared.bounded.callback_progression.CallbackProgression.{CallbackProgression}
 use Rattle.iox2_texts.specs.declared.bounded.callback_progression.CallbackProgression.TheVariants.{Continue}
+use Rattle.iox2_container.specs.declared.container.passes.Found.{Found}
+use Rattle.iox2_container.specs.declared.container.slots.cell.Cell.{Cell}
 use Rattle.iox2_container.specs.declared.container.slots.cell.Occupant.{Occupant}
+use Rattle.iox2_container.specs.Cells.{occupant, shown}
 use Rattle.iox2_container.specs.State.{Entry}
 use Rattle.iox2_container.specs.Places.{NoneFrom, entries_from}
-use Rattle.iox2_container.specs.Passes.{AreOthers, AskedOfCell, Swept, SweptCell, TakesCell, TakesDead}
+use Rattle.iox2_container.specs.Passes.{AreOthers, AskedOfCell, IsNextOf, Swept, SweptCell, TakesCell, TakesDead}
 use Rattle.iox2_container.specs.Steps.{candidates, is_of}
 use Rattle.iox2_container.specs.Callbacks.{MayAsk, MayVisit}
 use Rattle.iox2_container.proofs.AskedInTurn.{details_of}
@@ -125,6 +128,35 @@ sweep_past takes calls node id f g cs m i j gone l others =
     over_others node id m (λ k. HasSwept takes calls (is_of node id) f cs k g m gone) i j l others
     (λ k h o. sweep_more takes calls (is_of node id) f g g cs m m k gone gone false
     (o.0, o.1, other_swept calls node id g o.0 o.2) refl (add_zero gone))
+
+-- the next entry of the node, after places that are passed over
+module _ {F T N : Type 0} (takes : F → T → Type 0) (calls : F → T → Bool → F → Type 0)
+    (node : T → ℕ) (id : ℕ) (f g : F) (cs : List (Option (Occupant T))) (a : List (Cell T N))
+    (i end gone : ℕ) (found : Found T) (next : IsNextOf node id (map shown a) i end found)
+    (w : HasSwept takes calls (is_of node id) f cs i g (map shown a) gone) where
+  so_far : HasSwept takes calls (is_of node id) f cs found.slot g (map shown a) gone
+  so_far = sweep_past takes calls node id f g cs (map shown a) i found.slot gone next.order
+      next.others w
+
+  -- the callback may be asked about it
+  pub takes_next : takes g found.details
+  takes_next =
+      (sweep_at takes calls (is_of node id) g cs found.slot
+      (Some (occupant next.here.1.0 found.details))
+      (sym (so_far.later found.slot (omega arith)) ∙ next.here.1.1) so_far.callable).0
+      next.here.0
+
+  -- it is swept
+  pub sweep_next : (b n : List (Cell T N)) (h : F) (gone' : ℕ) (goes : Bool) → b ≡ a
+      → calls g found.details goes h
+      → map shown n ≡ (if goes then slice_set (map shown b) found.slot None else map shown b)
+      → gone' ≡ gone + (if goes then 1 else 0)
+      → HasSwept takes calls (is_of node id) f cs (found.slot + 1) h (map shown n) gone'
+  sweep_next b n h gone' goes b_is called n_is gone_is =
+      let cell : Option (Occupant T) = Some (occupant next.here.1.0 found.details) in
+      let swept : SweptCell calls (is_of node id) g cell goes h = rw next.here.0 called in
+      sweep_more takes calls (is_of node id) f g h cs (map shown a) (map shown n) found.slot gone
+      gone' goes (cell, next.here.1.1, swept) (rw b_is at n_is) gone_is so_far
 
 -- after the last entry all are swept
 pub sweep_ends : {F T : Type 0} (takes : F → T → Type 0) (calls : F → T → Bool → F → Type 0)

@@ -1,12 +1,15 @@
 -- How many entries a test holds of.
-use Rattle.std.proofs.Common.{◌≡◌, ℕ, suc, ◌+◌, ◌≤◌, ◌<◌, Bool, true, false, Option, Some, None, List, [], ◌∷◌, ◌++◌, length, take, refl, sym, ◌∙◌, ap, arith, add-one, inl, inr}
-use Rattle.std.specs.Prelude.{All, if◌then◌else◌, nat_lt, not, slice_get, ◌&&◌}
+use Rattle.std.proofs.Common.{◌≡◌, ℕ, suc, ◌+◌, ◌≤◌, ◌<◌, Bool, true, false, Option, Some, None, List, [], ◌∷◌, ◌++◌, length, map, take, refl, sym, ◌∙◌, ap, arith, add-one, inl, inr}
+use Rattle.std.specs.Prelude.{All, MatchOption, is_some, if◌then◌else◌, nat_lt, not, slice_get, ◌&&◌}
 use Rattle.std.proofs.lemmas.List.{append-nil}
 use Rattle.std.proofs.lemmas.List.Elements.{All-nil, All-cons}
 use Rattle.iox2_container.specs.declared.container.slots.cell.Occupant.{Occupant}
-use Rattle.std.proofs.lemmas.Bool.{lt-ltb, le-ltb}
+use Rattle.iox2_container.specs.declared.container.passes.Found.{Found}
+use Rattle.iox2_container.specs.declared.container.slots.cell.Cell.{Cell}
+use Rattle.std.proofs.lemmas.Bool.{lt-ltb}
 use Rattle.std.proofs.lemmas.Bool.Decides.{leb_tells}
-use Rattle.iox2_container.specs.Passes.{AreOthers, IsNextOf, PlaceIsOf, cell_is_of}
+use Rattle.iox2_container.specs.Cells.{occupant, shown}
+use Rattle.iox2_container.specs.Passes.{AreOthers, IsAt, IsNextOf, PlaceIsOf, cell_is_of}
 use Rattle.iox2_container.specs.Places.{NoneFrom, entries_from}
 use Rattle.iox2_container.specs.State.{Entry}
 use Rattle.iox2_container.specs.Steps.{InsertsOne, candidates, is_of, staying}
@@ -127,58 +130,149 @@ others_more node id from i to cells b others is miss e =
     others_join node id from i i to cells others (other_at node id i to cells b is miss e)
     (omega arith)
 
--- what looks at four places in turn told
-module _ {T : Type 0} (node : T → ℕ) (id at : ℕ) (cells : List (Option (Occupant T)))
-    {a b c : Bool} (first : PlaceIsOf node id cells at a)
-    (second : PlaceIsOf node id cells (at + 1) b)
-    (third : PlaceIsOf node id cells (at + 2) c) where
-  others_two : a ≡ false → b ≡ false → AreOthers node id cells at (at + 2)
-  others_two e f =
-      others_more node id at (at + 1) (at + 2) cells b
-      (other_at node id at (at + 1) cells a first e refl) second f (omega arith)
+-- no place is passed over
+pub others_none : {T : Type 0} (node : T → ℕ) (id at : ℕ) (cells : List (Option (Occupant T)))
+    → AreOthers node id cells at at
+others_none node id at cells k l h = absurd (omega (arith, l, h))
 
-  others_three : a ≡ false → b ≡ false → c ≡ false → AreOthers node id cells at (at + 3)
-  others_three e f g =
-      others_more node id at (at + 2) (at + 3) cells c (others_two e f) third g (omega arith)
+-- what was found in a place that has it, after other places
+pub next_here : {T : Type 0} (node : T → ℕ) (id from at to : ℕ) (cells : List (Option (Occupant T)))
+    (details : T) → from ≤ at → at < to → AreOthers node id cells from at
+    → IsAt node id cells at details
+    → IsNextOf node id cells from to (record { slot = at; details = details })
+next_here node id from at to cells details l h others here =
+    record { order = l; before = h; others = others; here = here }
 
-  pub found_third : a ≡ false → b ≡ false → c ≡ true → IsNextOf node id cells at (at + 4) (at + 2)
-  found_third e f g = record {
-    order = omega arith;
-    before = omega arith;
-    others = others_two e f;
-    here = rw (sym g) third;
-  }
+-- what looks at four places in turn found
+module _ {T N : Type 0} (node : T → ℕ) (id at : ℕ) (a b : List (Cell T N))
+    (first : PlaceIsOf node id (map shown a) at false) (b_is : b ≡ a) where
+  others_one : AreOthers node id (map shown a) at (at + 1)
+  others_one = other_at node id at (at + 1) (map shown a) false first refl refl
 
-  pub found_fourth : {d : Bool} → a ≡ false → b ≡ false → c ≡ false
-      → PlaceIsOf node id cells (at + 3) d → d ≡ true → IsNextOf node id cells at (at + 4) (at + 3)
-  found_fourth e f g fourth h = record {
-    order = omega arith;
-    before = omega arith;
-    others = others_three e f g;
-    here = rw (sym h) fourth;
-  }
+  others_two : PlaceIsOf node id (map shown b) (at + 1) false
+      → AreOthers node id (map shown a) at (at + 2)
+  others_two second =
+      others_more node id at (at + 1) (at + 2) (map shown a) false others_one (rw b_is at second)
+      refl (omega arith)
 
-  pub none_of_four : {d : Bool} → a ≡ false → b ≡ false → c ≡ false
-      → PlaceIsOf node id cells (at + 3) d → d ≡ false → AreOthers node id cells at (at + 4)
-  none_of_four e f g fourth h =
-      others_more node id at (at + 3) (at + 4) cells _ (others_three e f g) fourth h (omega arith)
+  pub found_third : (c : List (Cell T N)) (details : T)
+      → PlaceIsOf node id (map shown b) (at + 1) false → c ≡ b
+      → IsAt node id (map shown c) (at + 2) details
+      → IsNextOf node id (map shown a) at (at + 4) (record { slot = at + 2; details = details })
+  found_third c details second c_is here =
+      next_here node id at (at + 2) (at + 4) (map shown a) details (omega arith) (omega arith)
+      (others_two second) (rw b_is at (rw c_is at here))
 
--- a search finds whether some entry is the node's
-pub found_is : {T : Type 0} (node : T → ℕ) (id end at : ℕ) (cells : List (Option (Occupant T)))
-    → at ≤ end → NoneFrom cells end → AreOthers node id cells 0 at
-    → (at < end → PlaceIsOf node id cells at true)
-    → nat_lt at end ≡ nat_lt 0 (counted (is_of node id) (entries_from 0 cells))
-found_is {T} node id end at cells within free others found =
-    elim (leb_tells end at) as
-    (λ _. nat_lt at end ≡ nat_lt 0 (counted (is_of node id) (entries_from 0 cells))) [
-      | inl later ↦
-          let same : at ≡ end = omega (arith, later.1) in
-          let all : counted (is_of node id) (entries_from 0 cells) ≡ 0 =
-          ap (counted (is_of node id)) (sym (all_before 0 end cells free))
-          ∙ (rw (sym same) (none_counted node id at cells others)) in
-          le-ltb at end (omega (arith, later.1)) ∙ ap (nat_lt 0) (sym all)
-      | inr less ↦ lt-ltb at end less.1 ∙ sym (some_counted node id at cells true (found less.1) refl)
-    ]
+  others_three : (c : List (Cell T N)) → PlaceIsOf node id (map shown b) (at + 1) false → c ≡ b
+      → PlaceIsOf node id (map shown c) (at + 2) false
+      → AreOthers node id (map shown a) at (at + 3)
+  others_three c second c_is third =
+      others_more node id at (at + 2) (at + 3) (map shown a) false (others_two second)
+      (rw b_is at (rw c_is at third)) refl (omega arith)
+
+  pub found_fourth : (c d : List (Cell T N)) (details : T)
+      → PlaceIsOf node id (map shown b) (at + 1) false → c ≡ b
+      → PlaceIsOf node id (map shown c) (at + 2) false → d ≡ c
+      → IsAt node id (map shown d) (at + 3) details
+      → IsNextOf node id (map shown a) at (at + 4) (record { slot = at + 3; details = details })
+  found_fourth c d details second c_is third d_is here =
+      next_here node id at (at + 3) (at + 4) (map shown a) details (omega arith) (omega arith)
+      (others_three c second c_is third) (rw b_is at (rw c_is at (rw d_is at here)))
+
+  pub none_of_four : (c d : List (Cell T N))
+      → PlaceIsOf node id (map shown b) (at + 1) false → c ≡ b
+      → PlaceIsOf node id (map shown c) (at + 2) false → d ≡ c
+      → PlaceIsOf node id (map shown d) (at + 3) false
+      → AreOthers node id (map shown a) at (at + 4)
+  none_of_four c d second c_is third d_is fourth =
+      others_more node id at (at + 3) (at + 4) (map shown a) false
+      (others_three c second c_is third) (rw b_is at (rw c_is at (rw d_is at fourth))) refl
+      (omega arith)
+
+-- what was found from a place on, after other places
+pub next_after : {T N : Type 0} (node : T → ℕ) (id from at end to : ℕ) (a b : List (Cell T N))
+    (found : Found T) → from ≤ at → end ≤ to → AreOthers node id (map shown a) from at → b ≡ a
+    → IsNextOf node id (map shown b) at end found → IsNextOf node id (map shown a) from to found
+next_after node id from at end to a b found l m others b_is next =
+    let mine = rw b_is at next in record {
+      order = omega (arith, mine.order);
+      before = omega (arith, mine.before);
+      others = others_join node id from at at found.slot (map shown a) others mine.others
+          (omega arith);
+      here = mine.here;
+    }
+
+-- other places after others
+pub others_after : {T N : Type 0} (node : T → ℕ) (id from at to : ℕ) (a b : List (Cell T N))
+    → AreOthers node id (map shown a) from at → b ≡ a → AreOthers node id (map shown b) at to
+    → AreOthers node id (map shown a) from to
+others_after node id from at to a b others b_is after =
+    others_join node id from at at to (map shown a) others (rw b_is at after) (omega arith)
+
+pub found_after : {T N : Type 0} (node : T → ℕ) (id from at to : ℕ) (a b : List (Cell T N))
+    (o : Option (Found T)) → from ≤ at → AreOthers node id (map shown a) from at → b ≡ a
+    → MatchOption o (AreOthers node id (map shown b) at to) (IsNextOf node id (map shown b) at to)
+    → MatchOption o (AreOthers node id (map shown a) from to)
+    (IsNextOf node id (map shown a) from to)
+found_after node id from at to a b None l others b_is after =
+    others_after node id from at to a b others b_is after
+found_after node id from at to a b (Some found) l others b_is next =
+    next_after node id from at to to a b found l (omega arith) others b_is next
+
+-- the node's details in a place are an entry of it
+pub is_at_counted : {T : Type 0} (node : T → ℕ) (id at : ℕ) (cells : List (Option (Occupant T)))
+    (details : T) → IsAt node id cells at details
+    → true ≡ nat_lt 0 (counted (is_of node id) (entries_from 0 cells))
+is_at_counted node id at cells details here =
+    sym (some_counted node id at cells true
+    (Some (occupant here.1.0 details), here.1.1, sym here.0) refl)
+
+-- where no place has an entry of the node, it has none
+pub nowhere_counted : {T : Type 0} (node : T → ℕ) (id end : ℕ) (cells : List (Option (Occupant T)))
+    → NoneFrom cells end → AreOthers node id cells 0 end
+    → false ≡ nat_lt 0 (counted (is_of node id) (entries_from 0 cells))
+nowhere_counted {T} node id end cells free others =
+    let all : counted (is_of node id) (entries_from 0 cells) ≡ 0 =
+    ap (counted (is_of node id)) (sym (all_before 0 end cells free))
+    ∙ none_counted node id end cells others in
+    ap (nat_lt 0) (sym all)
+
+-- a search says whether the node has an entry, where the places before it have none
+pub found_is : {T N : Type 0} (node : T → ℕ) (id at end : ℕ) (a b : List (Cell T N))
+    (o : Option (Found T)) → NoneFrom (map shown a) end → AreOthers node id (map shown a) 0 at
+    → b ≡ a
+    → MatchOption o (AreOthers node id (map shown b) at end) (IsNextOf node id (map shown b) at end)
+    → is_some o ≡ nat_lt 0 (counted (is_of node id) (entries_from 0 (map shown a)))
+found_is node id at end a b None free others b_is after =
+    nowhere_counted node id end (map shown a) free
+    (others_after node id 0 at end a b others b_is after)
+found_is node id at end a b (Some found) free others b_is next =
+    is_at_counted node id found.slot (map shown a) found.details (rw b_is at next).here
+
+-- what a search found is an entry of the node
+pub found_counted : {T N : Type 0} (node : T → ℕ) (id at end : ℕ) (a b : List (Cell T N))
+    (o : Option (Found T)) → b ≡ a
+    → MatchOption o (AreOthers node id (map shown b) at end) (IsNextOf node id (map shown b) at end)
+    → is_some o ≡ true
+    → true ≡ nat_lt 0 (counted (is_of node id) (entries_from 0 (map shown a)))
+found_counted node id at end a b None b_is after some = (cc)
+found_counted node id at end a b (Some found) b_is next some =
+    is_at_counted node id found.slot (map shown a) found.details (rw b_is at next).here
+
+-- as are the node's details in a place
+pub here_counted : {T : Type 0} (node : T → ℕ) (id at : ℕ) (cells : List (Option (Occupant T)))
+    (o : Option T) → MatchOption o (PlaceIsOf node id cells at false) (IsAt node id cells at)
+    → is_some o ≡ true
+    → true ≡ nat_lt 0 (counted (is_of node id) (entries_from 0 cells))
+here_counted node id at cells None other some = (cc)
+here_counted node id at cells (Some details) here some =
+    is_at_counted node id at cells details here
+
+-- what is true where nothing was found
+pub nothing_found : {X : Type 0} (P : Type 0) (Q : X → Type 0) (o : Option X) → MatchOption o P Q
+    → is_some o ≡ false → P
+nothing_found P Q None holds none = holds
+nothing_found P Q (Some x) holds none = (cc)
 
 -- one entry more
 pub counted-InsertsOne : {T : Type 0} (p : T → Bool) (old new : List (Entry T)) (x : Entry T)

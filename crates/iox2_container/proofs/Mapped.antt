@@ -1,5 +1,5 @@
 -- What a call does, it does with other details too.
-use Rattle.std.proofs.Common.{◌≡◌, ◌≢◌, ℕ, ◌<◌, Bool, length, Result, Ok, Err, List, [], ◌∷◌, map, sym, ◌∙◌, ap, arith}
+use Rattle.std.proofs.Common.{◌≡◌, ◌≢◌, ℕ, ◌<◌, Bool, length, Result, Ok, Err, List, [], ◌∷◌, map, refl, sym, ◌∙◌, ap, arith}
 use Rattle.std.specs.Prelude.{◌==◌, AllPairs}
 use Rattle.std.proofs.lemmas.List.{map-append, length-map}
 use Rattle.std.proofs.lemmas.List.Elements.{All-map, filter_agree}
@@ -11,7 +11,7 @@ use Rattle.iox2_container.specs.declared.container.refusal.ContainerRemoveError.
 use Rattle.iox2_container.specs.declared.container.release.ReleaseMode.{ReleaseMode}
 use Rattle.iox2_container.specs.declared.container.release.ReleaseState.{ReleaseState}
 use Rattle.iox2_container.specs.Handle.{Handle}
-use Rattle.iox2_container.specs.ContainerState.{ContainerState}
+use Rattle.iox2_container.specs.ContainerState.{ContainerState, Reads}
 use Rattle.iox2_container.specs.State.{Entry, RegistryState, IsRegistry, handle_of}
 use Rattle.iox2_container.specs.Steps.{AddStep, RemoveStep, InsertsOne, IsUnknownHandle, HasEntry, candidates, entries_of, is_of}
 use Rattle.iox2_container.proofs.ListEdits.{filter-map}
@@ -135,6 +135,15 @@ entries_of-as g node node' same id r =
     ap length
     (candidates-as g (is_of node id) (is_of node' id) (λ x. ap (λ n. n == id) (same x)) r.entries)
     ∙ length-map (candidates (is_of node id) r.entries) (entry_as g)
+
+-- slots that were read
+pub Reads-as : {T U : Type 0} (g : T → U) (old new : ContainerState T) → Reads old new
+    → Reads (container_as g old) (container_as g new)
+Reads-as g old new reads = (ap (registry_as g) reads.0, reads.1, reads.2)
+
+-- slots that were not
+pub no_reads : {T : Type 0} (c : ContainerState T) → Reads c c
+no_reads c = (refl, omega arith, omega arith)
 
 -- who has a handle, and whether there is room, with other details
 pub IsUnknownHandle-as : {T U : Type 0} (g : T → U) (r : RegistryState T) (handle : Handle)

@@ -11,7 +11,7 @@ use Rattle.std.proofs.lemmas.Option.{slice_get_within}
 use Rattle.iox2_container.specs.declared.container.slots.cell.Occupant.{Occupant}
 use Rattle.iox2_container.specs.Cells.{occupant}
 use Rattle.iox2_container.specs.State.{Entry}
-use Rattle.iox2_container.specs.Places.{entries_from, IsTakenAt}
+use Rattle.iox2_container.specs.Places.{entries_from}
 use Rattle.iox2_container.specs.Passes.{AreOthers, PlaceIsOf, Swept, SweptCell, cell_is_of}
 use Rattle.iox2_container.specs.Steps.{Asked, candidates, is_leaving, is_of, staying}
 use Rattle.iox2_container.proofs.AskedInTurn.{Asked-push, details_of, taken_more, taken_free}
@@ -208,12 +208,3 @@ pub length_kept : {C : Type 0} (m n : List (Option C)) (i : ℕ) (goes : Bool)
     → n ≡ (if goes then slice_set m i None else m) → length n ≡ length m
 length_kept m n i true e = ap length e ∙ length-set m i None
 length_kept m n i false e = ap length e
-
--- what goes stands in the cell
-pub goes_is_taken : {F T : Type 0} (calls : F → T → Bool → F → Type 0) (is_dead : T → Bool)
-    (f h : F) (cells : List (Option (Occupant T))) (slot : ℕ) (cell : Option (Occupant T))
-    (goes : Bool) → slice_get cells slot ≡ Some cell → SweptCell calls is_dead f cell goes h
-    → goes ≡ true → IsTakenAt cells slot
-goes_is_taken calls is_dead f h cells slot None goes e s t =
-    (let z : false ≡ true = sym s.0 ∙ t in cc)
-goes_is_taken calls is_dead f h cells slot (Some o) goes e s t = (o, e)

@@ -1,7 +1,6 @@
 -- When a callback may be asked about items in turn.
 use Rattle.std.specs.Prelude.{List, [], ◌∷◌, ⊤}
-use Rattle.iox2_texts.specs.declared.bounded.callback_progression.CallbackProgression.{CallbackProgression}
-use Rattle.iox2_texts.specs.declared.bounded.callback_progression.CallbackProgression.TheVariants.{Continue}
+pub use Rattle.iox2_texts.specs.Callbacks.{MayVisit, CanVisit}
 
 -- the callback may be asked about each item in order: about the first in the state f, and about
 -- each later one in every state that the call on the one before it may leave
@@ -16,16 +15,3 @@ MayAsk {F} {A} {R} takes calls f (item ∷ items) =
 pub record CanBeAsked {F A R : Type 0} (takes : F → A → Type 0) (calls : F → A → R → F → Type 0)
     (f : F) (items : List A) : Type 0 where
   pub asks : MayAsk takes calls f items
-
--- the callback may be asked about each item in order, for as long as it answers `Continue`
-abbrev pub MayVisit : {F A : Type 0} → (F → A → Type 0) → (F → A → CallbackProgression → F → Type 0)
-    → F → List A → Type 0
-MayVisit takes calls f [] = ⊤
-MayVisit {F} takes calls f (item ∷ items) =
-    takes f item × ((g : F) → calls f item Continue g → MayVisit takes calls g items)
-
--- the callback may be asked about each item in order, up to the first answer `Stop`; a record
--- round `MayVisit`, so that a proof finds the calls in it
-pub record CanVisit {F A : Type 0} (takes : F → A → Type 0)
-    (calls : F → A → CallbackProgression → F → Type 0) (f : F) (items : List A) : Type 0 where
-  pub visits : MayVisit takes calls f items

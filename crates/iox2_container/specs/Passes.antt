@@ -1,9 +1,11 @@
 -- What a pass over all places does with one of them, and in all.
-use Rattle.std.specs.Prelude.{◌≡◌, ℕ, ◌+◌, ◌≤◌, ◌<◌, Bool, true, false, IsTrue, Option, Some, None, List, length, map, slice_get, ⊤}
+use Rattle.std.specs.Prelude.{◌≡◌, ℕ, ◌+◌, ◌-◌, ◌≤◌, ◌<◌, Bool, true, false, IsTrue, Option, Some, None, List, length, map, slice_get, ⊤}
 use Rattle.std.specs.Bool.{MatchBool}
 use Rattle.iox2_texts.specs.declared.bounded.callback_progression.CallbackProgression.{CallbackProgression}
 use Rattle.iox2_texts.specs.declared.bounded.callback_progression.CallbackProgression.TheVariants.{Continue}
+use Rattle.iox2_container.specs.declared.container.passes.Found.{Found}
 use Rattle.iox2_container.specs.declared.container.slots.cell.Occupant.{Occupant}
+use Rattle.iox2_container.specs.Cells.{occupant}
 use Rattle.iox2_container.specs.State.{Entry}
 use Rattle.iox2_container.specs.Steps.{Asked, marks_of, candidates, staying, is_of}
 
@@ -39,13 +41,29 @@ abbrev pub AreOthers : {T : Type 0} → (T → ℕ) → ℕ → List (Option (Oc
 AreOthers node id cells from to = (slot : ℕ) → from ≤ slot → slot < to
     → PlaceIsOf node id cells slot false
 
--- the first place from `from` on and before `to` where an entry of the node stands
+-- details of the node stand in a cell
+abbrev pub CellHas : {T : Type 0} → (T → ℕ) → ℕ → Option (Occupant T) → T → Type 0
+CellHas {T} node id cell details =
+    (is_of node id details ≡ true) × ((ticket : ℕ) × (cell ≡ Some (occupant ticket details)))
+
+-- details of the node stand in the cell of this slot
+abbrev pub IsAt : {T : Type 0} → (T → ℕ) → ℕ → List (Option (Occupant T)) → ℕ → T → Type 0
+IsAt {T} node id cells slot details = (is_of node id details ≡ true)
+    × ((ticket : ℕ) × (slice_get cells slot ≡ Some (Some (occupant ticket details))))
+
+-- the first entry of the node in the slots from `from` on and before `to`
 pub record IsNextOf {T : Type 0} (node : T → ℕ) (id : ℕ) (cells : List (Option (Occupant T)))
-    (from to slot : ℕ) : Type 0 where
-  pub order : from ≤ slot
-  pub before : slot < to
-  pub others : AreOthers node id cells from slot
-  pub here : PlaceIsOf node id cells slot true
+    (from to : ℕ) (found : Found T) : Type 0 where
+  pub order : from ≤ found.slot
+  pub before : found.slot < to
+  pub others : AreOthers node id cells from found.slot
+  pub here : IsAt node id cells found.slot found.details
+
+-- how many slots a search from `from` on looked at: those up
+-- to the one that it found, and with it, or all before `to`
+abbrev pub looked_at : {T : Type 0} → ℕ → ℕ → Option (Found T) → ℕ
+looked_at from to None = to - from
+looked_at from to (Some found) = found.slot + 1 - from
 
 -- whether what is in a cell goes, where a callback is asked about it if it is the dead node's
 abbrev pub SweptCell : {F T : Type 0} → (F → T → Bool → F → Type 0) → (T → Bool) → F

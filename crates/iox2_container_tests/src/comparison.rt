@@ -75,7 +75,7 @@ const D: Node = Node(4, 0, 1);
 
 const E: Node = Node(5, 0, 1);
 
-const TWO_COME_AGAIN: [Call; 10] = [
+static TWO_COME_AGAIN: [Call; 10] = [
     Call::Add(A),
     Call::Add(B),
     Call::Add(C),
@@ -88,7 +88,7 @@ const TWO_COME_AGAIN: [Call; 10] = [
     Call::Remove(3, ReleaseMode::Default),
 ];
 
-const TWO_COME_TO_A_SCAN: [Reply; 10] = [
+static TWO_COME_TO_A_SCAN: [Reply; 10] = [
     Reply::Handle(0, 0),
     Reply::Handle(1, 1),
     Reply::Handle(2, 2),
@@ -101,7 +101,7 @@ const TWO_COME_TO_A_SCAN: [Reply; 10] = [
     Reply::NoHandle,
 ];
 
-const TWO_COME_TO_A_LIST: [Reply; 10] = [
+static TWO_COME_TO_A_LIST: [Reply; 10] = [
     Reply::Handle(0, 0),
     Reply::Handle(1, 1),
     Reply::Handle(2, 2),
@@ -128,7 +128,7 @@ fn freed_places_are_taken_in_other_orders(rt: HostRuntime) -> Result<(), Fail> {
 
 /// Two recoveries keep an entry or take it, the last one
 /// locks, and removals name calls that gave no live handle.
-const TWO_ARE_RECOVERED: [Call; 9] = [
+static TWO_ARE_RECOVERED: [Call; 9] = [
     Call::Add(A),
     Call::Add(B),
     Call::Recover(A, &[], ReleaseMode::LockIfLastIndex),
@@ -140,7 +140,7 @@ const TWO_ARE_RECOVERED: [Call; 9] = [
     Call::Remove(9, ReleaseMode::Default),
 ];
 
-const BOTH_RECOVER: [Reply; 9] = [
+static BOTH_RECOVER: [Reply; 9] = [
     Reply::Handle(0, 0),
     Reply::Handle(1, 1),
     UNLOCKED,
@@ -164,9 +164,9 @@ fn both_recover_and_lock(rt: HostRuntime) -> Result<(), Fail> {
 }
 
 /// With two tickets.
-const THREE_COME: [Call; 3] = [Call::Add(A), Call::Add(A), Call::Add(A)];
+static THREE_COME: [Call; 3] = [Call::Add(A), Call::Add(A), Call::Add(A)];
 
-const TWO_FIND_A_TICKET: [Reply; 3] = [
+static TWO_FIND_A_TICKET: [Reply; 3] = [
     Reply::Handle(0, 0),
     Reply::Handle(1, 1),
     Reply::Refused(ContainerAddFailure::OutOfSpace),
@@ -184,7 +184,7 @@ fn both_run_out_of_tickets(rt: HostRuntime) -> Result<(), Fail> {
 }
 
 /// Of five entries the first two go, and two come in their places.
-const FIVE_ARE_LISTED: [Call; 10] = [
+static FIVE_ARE_LISTED: [Call; 10] = [
     Call::Add(A),
     Call::Add(A),
     Call::Add(B),
@@ -197,7 +197,7 @@ const FIVE_ARE_LISTED: [Call; 10] = [
     Call::List,
 ];
 
-const FIVE_OF_A_SCAN: [Reply; 10] = [
+static FIVE_OF_A_SCAN: [Reply; 10] = [
     Reply::Handle(0, 0),
     Reply::Handle(1, 1),
     Reply::Handle(2, 2),
@@ -210,7 +210,7 @@ const FIVE_OF_A_SCAN: [Reply; 10] = [
     Reply::Entries(&[B, A, B, C, C]),
 ];
 
-const FIVE_OF_A_LIST: [Reply; 10] = [
+static FIVE_OF_A_LIST: [Reply; 10] = [
     Reply::Handle(0, 0),
     Reply::Handle(1, 1),
     Reply::Handle(2, 2),

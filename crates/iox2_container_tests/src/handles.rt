@@ -1,6 +1,6 @@
 //! Handles that do not belong, and handles of another registry that do.
 use super::nodes::{A, B};
-use super::registries::{Entry, both, nodes_are_answered};
+use super::registries::{Entry, list, nodes_are_answered, scan};
 use super::rows::{Handle, NOT_OWNED, Row, are_answered};
 use iox2_container::container::*;
 use iox2_ids::identifiers::UniqueNodeId;
@@ -13,7 +13,7 @@ const FIRST: Handle = Handle(7, Role::Node, 0, 0);
 const LIVE: Handle = Handle(7, Role::Node, 1, 1);
 
 /// On a registry of three places, with a live entry in slot 1.
-const STRANGERS_ARE_REFUSED: [Row; 18] = [
+static STRANGERS_ARE_REFUSED: [Row; 18] = [
     Row::Add(Entry(1, A), Ok(FIRST)),
     Row::Add(Entry(1, A), Ok(LIVE)),
     Row::Remove(FIRST, ReleaseMode::Default, Ok(ReleaseState::Unlocked)),
@@ -65,19 +65,19 @@ fn handles_that_do_not_belong(rt: HostRuntime) -> Result<(), Fail> {
     )
 }
 
-const A_COMES: [Row; 1] = [Row::Add(Entry(1, A), Ok(FIRST))];
+static A_COMES: [Row; 1] = [Row::Add(Entry(1, A), Ok(FIRST))];
 
-const B_COMES: [Row; 1] = [Row::Add(Entry(2, B), Ok(FIRST))];
+static B_COMES: [Row; 1] = [Row::Add(Entry(2, B), Ok(FIRST))];
 
 /// By the handle that the other registry gave.
-const A_GOES: [Row; 3] = [
+static A_GOES: [Row; 3] = [
     Row::Get(FIRST, Some(Entry(1, A))),
     Row::Remove(FIRST, ReleaseMode::Default, Ok(ReleaseState::Unlocked)),
     Row::Holds(0, false),
 ];
 
 /// By the handle that the first registry gave.
-const B_GOES: [Row; 2] = [
+static B_GOES: [Row; 2] = [
     Row::Remove(FIRST, ReleaseMode::Default, Ok(ReleaseState::Unlocked)),
     Row::Holds(0, false),
 ];
@@ -96,12 +96,15 @@ fn handles_are_values<R: Registry<UniqueNodeId>>(
 }
 
 #[test]
-fn containers_of_one_service_and_role_accept_each_others_handles(
-    rt: HostRuntime,
-) -> Result<(), Fail> {
-    let alloc = rt.alloc();
-    let (mut scan, mut list) = both(alloc, Role::Node, (1, u64::MAX))?;
-    let (mut other_scan, mut other_list) = both(alloc, Role::Node, (1, u64::MAX))?;
-    handles_are_values(&rt, alloc, &mut scan, &mut other_scan)?;
-    handles_are_values(&rt, alloc, &mut list, &mut other_list)
+fn scans_of_one_service_and_role_accept_each_others_handles(rt: HostRuntime) -> Result<(), Fail> {
+    let mut one = scan(rt.alloc(), Role::Node, (1, u64::MAX))?;
+    let mut other = scan(rt.alloc(), Role::Node, (1, u64::MAX))?;
+    handles_are_values(&rt, rt.alloc(), &mut one, &mut other)
+}
+
+#[test]
+fn lists_of_one_service_and_role_accept_each_others_handles(rt: HostRuntime) -> Result<(), Fail> {
+    let mut one = list(rt.alloc(), Role::Node, (1, u64::MAX))?;
+    let mut other = list(rt.alloc(), Role::Node, (1, u64::MAX))?;
+    handles_are_values(&rt, rt.alloc(), &mut one, &mut other)
 }

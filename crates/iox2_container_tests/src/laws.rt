@@ -5,7 +5,7 @@ use iox2_container::container::*;
 use iox2_container::laws::*;
 use std::test::Fail;
 
-const REPLIES: [Reply; 13] = [
+static REPLIES: [Reply; 13] = [
     Reply::Handle(1, 2),
     Reply::Handle(1, 3),
     Reply::Refused(ContainerAddFailure::IsLocked),

@@ -15,7 +15,7 @@ use test_support::memory::may_be_refused;
 const CALLS: usize = 7;
 
 /// How many entries there are after this many calls.
-const ENTRIES_AFTER: [usize; 8] = [0, 1, 2, 3, 2, 1, 2, 2];
+static ENTRIES_AFTER: [usize; 8] = [0, 1, 2, 3, 2, 1, 2, 2];
 
 /// On the first replies of the scan, or all of them.
 fn each_add_gave_its_handle(

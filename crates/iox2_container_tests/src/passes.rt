@@ -8,7 +8,7 @@ use std::test::Fail;
 const OTHER: Node = Node(2, 0, 2);
 
 /// On a registry of three places, of which a recovery frees the first and the last.
-const TWO_PLACES_ARE_RECOVERED: [Row; 5] = [
+static TWO_PLACES_ARE_RECOVERED: [Row; 5] = [
     Row::Add(Entry(10, A), Ok(Handle(7, Role::Publisher, 0, 0))),
     Row::Add(Entry(11, OTHER), Ok(Handle(7, Role::Publisher, 1, 1))),
     Row::Add(Entry(12, A), Ok(Handle(7, Role::Publisher, 2, 2))),
@@ -23,7 +23,7 @@ const TWO_PLACES_ARE_RECOVERED: [Row; 5] = [
 ];
 
 /// The scan takes the lowest place first.
-const THE_SCAN_USES_THEM_AGAIN: [Row; 5] = [
+static THE_SCAN_USES_THEM_AGAIN: [Row; 5] = [
     Row::Add(Entry(13, A), Ok(Handle(7, Role::Publisher, 0, 3))),
     Row::Add(Entry(14, OTHER), Ok(Handle(7, Role::Publisher, 2, 4))),
     Row::Add(Entry(15, A), OUT_OF_SPACE),
@@ -35,7 +35,7 @@ const THE_SCAN_USES_THEM_AGAIN: [Row; 5] = [
 ];
 
 /// The list takes the place first that was freed last.
-const THE_LIST_USES_THEM_AGAIN: [Row; 5] = [
+static THE_LIST_USES_THEM_AGAIN: [Row; 5] = [
     Row::Add(Entry(13, A), Ok(Handle(7, Role::Publisher, 2, 3))),
     Row::Add(Entry(14, OTHER), Ok(Handle(7, Role::Publisher, 0, 4))),
     Row::Add(Entry(15, A), OUT_OF_SPACE),
@@ -63,7 +63,7 @@ const ONE_OF_FIVE: Node = Node(1, 1, 5);
 const TWO_OF_FIVE: Node = Node(1, 2, 5);
 
 /// With two tickets: a recovery asks and goes by the whole id.
-const ONE_OF_AN_OWNER_IS_RECOVERED: [Row; 9] = [
+static ONE_OF_AN_OWNER_IS_RECOVERED: [Row; 9] = [
     Row::Recover(
         ONE_OF_FIVE,
         &[true],
@@ -113,7 +113,7 @@ fn nodes_that_share_an_owner_id(rt: HostRuntime) -> Result<(), Fail> {
 }
 
 /// On a registry of three places.
-const A_LISTING_STOPS: [Row; 4] = [
+static A_LISTING_STOPS: [Row; 4] = [
     Row::Add(Entry(10, A), Ok(Handle(7, Role::Publisher, 0, 0))),
     Row::Add(Entry(11, A), Ok(Handle(7, Role::Publisher, 1, 1))),
     Row::Add(Entry(12, A), Ok(Handle(7, Role::Publisher, 2, 2))),
@@ -126,7 +126,7 @@ fn a_listing_stops_at_its_second_entry(rt: HostRuntime) -> Result<(), Fail> {
 }
 
 /// On a registry of four places, three of them with entries of one node.
-const ANSWERS_GO_BY_TURN: [Row; 7] = [
+static ANSWERS_GO_BY_TURN: [Row; 7] = [
     Row::Add(Entry(10, A), Ok(Handle(7, Role::Publisher, 0, 0))),
     Row::Add(Entry(11, OTHER), Ok(Handle(7, Role::Publisher, 1, 1))),
     Row::Add(Entry(12, A), Ok(Handle(7, Role::Publisher, 2, 2))),
@@ -154,7 +154,7 @@ fn three_candidates_answered_yes_no_yes(rt: HostRuntime) -> Result<(), Fail> {
 }
 
 /// On a registry of three places.
-const THE_LAST_THAT_LEAVES_LOCKS: [Row; 6] = [
+static THE_LAST_THAT_LEAVES_LOCKS: [Row; 6] = [
     Row::Add(Entry(1, A), Ok(Handle(7, Role::Node, 0, 0))),
     Row::Remove(
         Handle(7, Role::Node, 0, 0),

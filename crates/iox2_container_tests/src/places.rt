@@ -1,15 +1,15 @@
 //! Which places and tickets entries take.
 use super::nodes::{A, Node};
-use super::registries::{Entry, Port, both, nodes_are_answered};
+use super::registries::{Entry, Port, list, nodes_are_answered, scan};
 use super::rows::{Handle, NOT_OWNED, OUT_OF_SPACE, Row, are_answered};
 use iox2_container::container::*;
 use iox2_ids::identifiers::UniqueNodeId;
-use std::alloc::{AllocError, Global};
+use std::alloc::Global;
 use std::process::Abort;
 use std::test::Fail;
 
 /// On a registry of three places and two tickets.
-const TICKETS_RUN_OUT: [Row; 5] = [
+static TICKETS_RUN_OUT: [Row; 5] = [
     Row::Add(Entry(1, A), Ok(Handle(7, Role::Node, 0, 0))),
     Row::Add(Entry(1, A), Ok(Handle(7, Role::Node, 1, 1))),
     Row::Add(Entry(1, A), OUT_OF_SPACE),
@@ -23,7 +23,7 @@ fn a_third_entry_wants_a_ticket(rt: HostRuntime) -> Result<(), Fail> {
 }
 
 /// On a registry of three places, where the entries of the lower two leave.
-const TWO_PLACES_ARE_FREED: [Row; 5] = [
+static TWO_PLACES_ARE_FREED: [Row; 5] = [
     Row::Add(Entry(1, A), Ok(Handle(7, Role::Node, 0, 0))),
     Row::Add(Entry(1, A), Ok(Handle(7, Role::Node, 1, 1))),
     Row::Add(Entry(1, A), Ok(Handle(7, Role::Node, 2, 2))),
@@ -39,12 +39,12 @@ const TWO_PLACES_ARE_FREED: [Row; 5] = [
     ),
 ];
 
-const THE_LOWEST_IS_TAKEN: [Row; 2] = [
+static THE_LOWEST_IS_TAKEN: [Row; 2] = [
     Row::Add(Entry(1, A), Ok(Handle(7, Role::Node, 0, 3))),
     Row::Holds(2, false),
 ];
 
-const THE_LAST_FREED_IS_TAKEN: [Row; 2] = [
+static THE_LAST_FREED_IS_TAKEN: [Row; 2] = [
     Row::Add(Entry(1, A), Ok(Handle(7, Role::Node, 1, 3))),
     Row::Holds(2, false),
 ];
@@ -61,7 +61,7 @@ fn the_scan_takes_the_lowest_and_the_list_the_last_freed(rt: HostRuntime) -> Res
 }
 
 /// On a registry with no place or no ticket.
-const NOTHING_FITS: [Row; 4] = [
+static NOTHING_FITS: [Row; 4] = [
     Row::Add(Entry(1, A), OUT_OF_SPACE),
     Row::Get(Handle(7, Role::Node, 0, 0), None),
     Row::Remove(
@@ -87,22 +87,10 @@ fn no_place_or_no_ticket(rt: HostRuntime) -> Result<(), Fail> {
 #[test]
 fn places_that_no_memory_holds(rt: HostRuntime) {
     let most = usize::MAX;
-    let scan: Result<Container<Port>, AllocError> = Container::new(
-        rt.alloc(),
-        7,
-        Role::Publisher,
-        most,
-        1,
-    );
-    let list: Result<ListContainer<Port>, AllocError> = ListContainer::new(
-        rt.alloc(),
-        7,
-        Role::Publisher,
-        most,
-        1,
-    );
-    let slots = Slots::new(rt.alloc(), most, 0u16);
-    assert_eq!(rt; [scan.is_err(), list.is_err(), slots.is_err()], [true; 3]);
+    let scan = scan::<Port>(rt.alloc(), Role::Publisher, (most, 1)).is_err();
+    let list = list::<Port>(rt.alloc(), Role::Publisher, (most, 1)).is_err();
+    let slots = Slots::new(rt.alloc(), most, 0u16).is_err();
+    assert_eq!(rt; [scan, list, slots], [true; 3]);
 }
 
 #[test]
@@ -123,7 +111,7 @@ fn one_comes(slot: u32) -> [Row<'static>; 1] {
     [Row::Add(Entry(1, Node(1, 0, slot.wrapping_add(1))), Ok(handle))]
 }
 
-const NO_PLACE_IS_LEFT: [Row; 2] = [Row::Add(Entry(1, A), OUT_OF_SPACE), Row::Holds(100, false)];
+static NO_PLACE_IS_LEFT: [Row; 2] = [Row::Add(Entry(1, A), OUT_OF_SPACE), Row::Holds(100, false)];
 
 /// The entry of this slot goes, and locks where it is the last.
 fn one_goes(slot: usize) -> [Row<'static>; 3] {
@@ -157,9 +145,13 @@ fn all_places_are_filled_and_drained<R: Registry<UniqueNodeId>>(
 }
 
 #[test]
-fn a_hundred_places(rt: HostRuntime) -> Result<(), Fail> {
-    let alloc = rt.alloc();
-    let (mut scan, mut list) = both(alloc, Role::Node, (100, u64::MAX))?;
-    all_places_are_filled_and_drained(&rt, alloc, &mut scan)?;
-    all_places_are_filled_and_drained(&rt, alloc, &mut list)
+fn a_hundred_places_of_a_scan(rt: HostRuntime) -> Result<(), Fail> {
+    let mut scan = scan(rt.alloc(), Role::Node, (100, u64::MAX))?;
+    all_places_are_filled_and_drained(&rt, rt.alloc(), &mut scan)
+}
+
+#[test]
+fn a_hundred_places_of_a_list(rt: HostRuntime) -> Result<(), Fail> {
+    let mut list = list(rt.alloc(), Role::Node, (100, u64::MAX))?;
+    all_places_are_filled_and_drained(&rt, rt.alloc(), &mut list)
 }

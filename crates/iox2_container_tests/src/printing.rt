@@ -1,20 +1,23 @@
 //! What `Debug` prints of containers, calls and answers: some text of each, which fails where its
 //! writer does.
 use super::nodes::{A, B, C};
-use super::registries::Entry;
+use super::registries::{Entry, list, scan};
 use super::rows::{Handle, Row, are_answered};
 use iox2_container::container::*;
 use iox2_ids::identifiers::UniqueNodeId;
+use std::alloc::Global;
+use std::fmt::Debug;
+use std::process::Abort;
 use std::test::Fail;
 use test_support::printing::is_shown;
 
-const ALL_STAY: [Row; 3] = [
+static ALL_STAY: [Row; 3] = [
     Row::Add(Entry(1, A), Ok(Handle(7, Role::Node, 0, 0))),
     Row::Add(Entry(2, B), Ok(Handle(7, Role::Node, 1, 1))),
     Row::Add(Entry(3, C), Ok(Handle(7, Role::Node, 2, 2))),
 ];
 
-const ONE_LEAVES: [Row; 4] = [
+static ONE_LEAVES: [Row; 4] = [
     Row::Add(Entry(1, A), Ok(Handle(7, Role::Node, 0, 0))),
     Row::Add(Entry(2, B), Ok(Handle(7, Role::Node, 1, 1))),
     Row::Remove(
@@ -25,18 +28,39 @@ const ONE_LEAVES: [Row; 4] = [
     Row::Add(Entry(3, C), Ok(Handle(7, Role::Node, 1, 2))),
 ];
 
+/// Makes the calls of the rows on a registry, which is then shown.
+fn is_shown_then<R: Registry<UniqueNodeId> + Debug>(
+    rt: &impl Abort,
+    alloc: Global,
+    registry: &mut R,
+    rows: &[Row],
+) -> Result<(), Fail> {
+    are_answered(rt, alloc, registry, rows)?;
+    assert!(rt; is_shown(registry));
+    Ok(())
+}
+
 #[test]
-fn containers_are_shown_with_their_entries(rt: HostRuntime) -> Result<(), Fail> {
-    let alloc = rt.alloc();
-    let mut scan: Container<UniqueNodeId> = Container::new(alloc, 7, Role::Node, 4, 9)?;
-    are_answered(&rt, alloc, &mut scan, &ALL_STAY)?;
-    assert!(rt; is_shown(&scan));
-    let mut list: ListContainer<UniqueNodeId> = ListContainer::new(alloc, 7, Role::Node, 4, 9)?;
-    are_answered(&rt, alloc, &mut list, &ONE_LEAVES)?;
-    assert!(rt; is_shown(&list));
-    let empty: ListContainer<UniqueNodeId> = ListContainer::new(alloc, 7, Role::Node, 0, 9)?;
-    assert!(rt; is_shown(&empty));
-    assert!(rt; is_shown(&Slots::new(alloc, 3, 5u64)?));
+fn a_scan_is_shown_with_its_entries(rt: HostRuntime) -> Result<(), Fail> {
+    let mut scan = scan(rt.alloc(), Role::Node, (4, 9))?;
+    is_shown_then(&rt, rt.alloc(), &mut scan, &ALL_STAY)
+}
+
+#[test]
+fn a_list_is_shown_with_its_entries(rt: HostRuntime) -> Result<(), Fail> {
+    let mut list = list(rt.alloc(), Role::Node, (4, 9))?;
+    is_shown_then(&rt, rt.alloc(), &mut list, &ONE_LEAVES)
+}
+
+#[test]
+fn an_empty_list_is_shown(rt: HostRuntime) -> Result<(), Fail> {
+    let mut list = list(rt.alloc(), Role::Node, (0, 9))?;
+    is_shown_then(&rt, rt.alloc(), &mut list, &[])
+}
+
+#[test]
+fn slots_are_shown(rt: HostRuntime) -> Result<(), Fail> {
+    assert!(rt; is_shown(&Slots::new(rt.alloc(), 3, 5u64)?));
     Ok(())
 }
 
@@ -60,13 +84,14 @@ fn calls_are_shown(rt: HostRuntime) -> Result<(), Fail> {
 #[test]
 fn replies_are_shown(rt: HostRuntime) -> Result<(), Fail> {
     let id = A.id()?;
+    let entries = vec![in rt.alloc(); id, id]?;
     let replies = [
         RegistryReply::Handle(ContainerHandle::from_parts(7, Role::Reader, 2, 3)),
         RegistryReply::Refused(ContainerAddFailure::IsLocked),
         RegistryReply::State(ReleaseState::Locked),
         RegistryReply::NotOwned,
         RegistryReply::NoHandle,
-        RegistryReply::Entries(vec![in rt.alloc(); id, id]?),
+        RegistryReply::Entries(entries),
         RegistryReply::Count(2),
     ];
     for reply in &replies {

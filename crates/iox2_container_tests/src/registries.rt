@@ -3,7 +3,7 @@ use super::nodes::Node;
 use super::rows::{Row, are_answered};
 use iox2_container::container::*;
 use iox2_ids::identifiers::UniqueNodeId;
-use std::alloc::Global;
+use std::alloc::{AllocError, Global};
 use std::fmt::Debug;
 use std::process::Abort;
 use std::test::Fail;
@@ -67,15 +67,58 @@ pub(super) fn all_details<T: Details>(alloc: Global, entries: &[Entry]) -> Resul
     Ok(all)
 }
 
-/// A new scan and a new free list of service 7, with these places and tickets.
-pub(super) fn both<T: Details>(
+/// A new scan of service 7, with this capacity and these tickets.
+pub(super) fn scan<T: Details>(
     alloc: Global,
     role: Role,
     (capacity, tickets): (usize, u64),
-) -> Result<(Container<T>, ListContainer<T>), Fail> {
-    let scan = Container::new(alloc, 7, role, capacity, tickets)?;
-    let list = ListContainer::new(alloc, 7, role, capacity, tickets)?;
-    Ok((scan, list))
+) -> Result<Container<T>, AllocError> {
+    Container::new(alloc, 7, role, capacity, tickets)
+}
+
+/// A new free list of service 7, with this capacity and these tickets.
+pub(super) fn list<T: Details>(
+    alloc: Global,
+    role: Role,
+    (capacity, tickets): (usize, u64),
+) -> Result<ListContainer<T>, AllocError> {
+    ListContainer::new(alloc, 7, role, capacity, tickets)
+}
+
+/// Makes the calls of the rows on a registry, and then those that it answers in its own way.
+fn are_all_answered<T: Details, R: Registry<T>>(
+    rt: &impl Abort,
+    alloc: Global,
+    registry: &mut R,
+    rows: &[Row],
+    of_its_own: &[Row],
+) -> Result<(), Fail> {
+    are_answered(rt, alloc, registry, rows)?;
+    are_answered(rt, alloc, registry, of_its_own)
+}
+
+/// Makes the calls of the rows on a new scan.
+fn a_scan_answers<T: Details>(
+    rt: &impl Abort,
+    alloc: Global,
+    (role, size): (Role, (usize, u64)),
+    rows: &[Row],
+    of_scan: &[Row],
+) -> Result<(), Fail> {
+    let mut scan: Container<T> = scan(alloc, role, size)?;
+    are_all_answered(rt, alloc, &mut scan, rows, of_scan)
+}
+
+/// Makes the calls of the rows on a new free list.
+fn a_list_answers<T: Details>(
+    rt: &impl Abort,
+    alloc: Global,
+    (role, size): (Role, (usize, u64)),
+    rows: &[Row],
+    of_list: &[Row],
+) -> Result<(), Fail> {
+    let mut list: ListContainer<T> = list(alloc, role, size)?;
+    are_all_answered(rt, alloc, &mut list, rows, of_list)
 }
 
 /// Makes the calls of the rows on a new scan and a new free list
@@ -87,11 +130,8 @@ pub(super) fn nodes_are_answered(
     rows: &[Row],
     [of_scan, of_list]: [&[Row]; 2],
 ) -> Result<(), Fail> {
-    let (mut scan, mut list) = both::<UniqueNodeId>(alloc, Role::Node, size)?;
-    are_answered(rt, alloc, &mut scan, rows)?;
-    are_answered(rt, alloc, &mut scan, of_scan)?;
-    are_answered(rt, alloc, &mut list, rows)?;
-    are_answered(rt, alloc, &mut list, of_list)
+    a_scan_answers::<UniqueNodeId>(rt, alloc, (Role::Node, size), rows, of_scan)?;
+    a_list_answers::<UniqueNodeId>(rt, alloc, (Role::Node, size), rows, of_list)
 }
 
 /// As `nodes_are_answered`, of ports.
@@ -102,9 +142,6 @@ pub(super) fn ports_are_answered(
     rows: &[Row],
     [of_scan, of_list]: [&[Row]; 2],
 ) -> Result<(), Fail> {
-    let (mut scan, mut list) = both::<Port>(alloc, Role::Publisher, size)?;
-    are_answered(rt, alloc, &mut scan, rows)?;
-    are_answered(rt, alloc, &mut scan, of_scan)?;
-    are_answered(rt, alloc, &mut list, rows)?;
-    are_answered(rt, alloc, &mut list, of_list)
+    a_scan_answers::<Port>(rt, alloc, (Role::Publisher, size), rows, of_scan)?;
+    a_list_answers::<Port>(rt, alloc, (Role::Publisher, size), rows, of_list)
 }

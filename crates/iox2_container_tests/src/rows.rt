@@ -71,16 +71,17 @@ fn adds<T: Details, R: Registry<T>>(
     rt: &impl Abort,
     registry: &mut R,
     at: usize,
-    details: T,
+    entry: Entry,
     wanted: Result<Handle, ContainerAddFailure>,
-) {
-    let told = registry.add(details);
-    let parts = match &told {
+) -> Result<(), Fail> {
+    let answer = registry.add(entry.details()?);
+    let parts = match &answer {
         Ok(handle) => Ok(Handle::of(handle)),
         Err(why) => Err(*why),
     };
     let handle = wanted.map(|handle| handle.whole());
-    assert_eq!(rt; (at, told, parts), (at, handle, wanted));
+    assert_eq!(rt; (at, answer, parts), (at, handle, wanted));
+    Ok(())
 }
 
 /// Removes the entry of a handle in the row of this index.
@@ -142,6 +143,41 @@ fn are_entries<T: Details>(
     Ok(())
 }
 
+/// Recovers a dead node in the row of this index.
+fn recovers<T: Details, R: Registry<T>>(
+    rt: &impl Abort,
+    alloc: Global,
+    registry: &mut R,
+    at: usize,
+    (dead, answers, mode): (Node, &[bool], ReleaseMode),
+    (asked, wanted): (&[Entry], ReleaseState),
+) -> Result<(), Fail> {
+    let (found, state) = recovered(alloc, registry, dead, answers, mode)?;
+    assert_eq!(rt; (at, state), (at, wanted));
+    are_entries(rt, alloc, at, &found, asked)
+}
+
+/// Lists the entries in the row of this index.
+fn lists<T: Details, R: Registry<T>>(
+    rt: &impl Abort,
+    alloc: Global,
+    registry: &R,
+    at: usize,
+    (most, wanted): (usize, &[Entry]),
+) -> Result<(), Fail> {
+    are_entries(rt, alloc, at, &listed_up_to(alloc, registry, most), wanted)
+}
+
+/// Counts the entries, and compares the lock, in the row of this index.
+fn holds<T: Details, R: Registry<T>>(
+    rt: &impl Abort,
+    registry: &R,
+    at: usize,
+    wanted: (usize, bool),
+) {
+    assert_eq!(rt; (at, (registry.len(), registry.is_locked())), (at, wanted));
+}
+
 /// Looks up a handle in the row of this index.
 fn gets<T: Details, R: Registry<T>>(
     rt: &impl Abort,
@@ -179,27 +215,24 @@ fn is_answered<T: Details, R: Registry<T>>(
     row: &Row,
 ) -> Result<(), Fail> {
     match *row {
-        Row::Add(entry, wanted) => adds(rt, registry, at, entry.details()?, wanted),
+        Row::Add(entry, wanted) => adds(rt, registry, at, entry, wanted)?,
         Row::Remove(handle, mode, wanted) => {
             removes(rt, registry, at, (handle.whole(), mode), wanted);
         }
         Row::Recover(dead, answers, mode, asked, wanted) => {
-            let (found, state) = recovered(alloc, registry, dead, answers, mode)?;
-            are_entries(rt, alloc, at, &found, asked)?;
-            assert_eq!(rt; (at, state), (at, wanted));
+            recovers(
+                rt,
+                alloc,
+                registry,
+                at,
+                (dead, answers, mode),
+                (asked, wanted),
+            )?;
         }
         Row::Get(handle, wanted) => gets(rt, registry, at, handle.whole(), wanted)?,
-        Row::List(most, wanted) => {
-            let found = listed_up_to(alloc, registry, most);
-            are_entries(rt, alloc, at, &found, wanted)?;
-        }
+        Row::List(most, wanted) => lists(rt, alloc, registry, at, (most, wanted))?,
         Row::EntriesOf(node, wanted) => has_entries_of(rt, registry, at, node, wanted)?,
-        Row::Holds(entries, locked) => {
-            assert_eq!(rt;
-                (at, registry.len(), registry.is_locked()),
-                (at, entries, locked)
-            );
-        }
+        Row::Holds(entries, locked) => holds(rt, registry, at, (entries, locked)),
         Row::Capacity(wanted) => assert_eq!(rt; (at, registry.capacity()), (at, wanted)),
     }
     Ok(())

@@ -8,14 +8,14 @@ use Rattle.iox2_container.specs.declared.container.release.ReleaseMode.TheVarian
 use Rattle.iox2_container.specs.declared.container.release.ReleaseState.{ReleaseState}
 use Rattle.iox2_container.specs.declared.container.role.Role.{Role}
 use Rattle.iox2_container.specs.Changes.{Adds, Removes}
-use Rattle.iox2_container.specs.ContainerState.{ContainerState}
+use Rattle.iox2_container.specs.ContainerState.{ContainerState, Reads}
 use Rattle.iox2_container.specs.Handle.{Handle}
 use Rattle.iox2_container.specs.State.{Entry, RegistryState, IsRegistry}
 use Rattle.iox2_container.specs.Steps.{AddStep, RemoveStep}
 use Rattle.iox2_container.proofs.Keeping.{All-gain, All-loss}
 use Rattle.iox2_dynamic.specs.declared.dynamic_config.port_details.PortDetails.{PortDetails}
 use Rattle.iox2_dynamic.specs.Details.{node_of}
-use Rattle.iox2_dynamic.specs.Ports.{Ports, AddsTo, RemovesFrom}
+use Rattle.iox2_dynamic.specs.Ports.{Ports, AddsTo, ReadsPorts, RemovesFrom}
 use Rattle.iox2_dynamic.specs.PortsState.{Side, of_side, other_side}
 use Rattle.iox2_dynamic.specs.PortsState.Side.{First, Second}
 use Rattle.iox2_dynamic.specs.Service.{Service, IsService, IsPortRegistry, ArePorts, entries_of_node, first_role, second_role}
@@ -86,6 +86,29 @@ with_ports s kind ports k i p = record {
   role_is = i.role_is;
   ports_are = subst (λ (n : PatternKind). ArePorts s.nodes.registry n ports) (sym k) p;
 }
+
+-- what a search for a node keeps
+pub nodes_read : (s : Service) (nodes : ContainerState ℕ) → Reads s.nodes nodes → IsService s
+    → IsService (record s { nodes = nodes })
+nodes_read s nodes reads i = record {
+  nodes_are = subst IsRegistry (sym reads.0) i.nodes_are;
+  role_is = ap (λ (r : RegistryState ℕ). r.role) reads.0 ∙ i.role_is;
+  ports_are =
+      subst (λ (r : RegistryState ℕ). ArePorts r s.pattern s.ports) (sym reads.0) i.ports_are;
+}
+
+-- what a search for the ports of a node keeps
+pub ports_read : (s : Service) (kind : PatternKind) (ports : Ports) → kind ≡ s.pattern
+    → ReadsPorts s.ports ports → IsService s
+    → IsService (record s { pattern = kind; ports = ports })
+ports_read s kind ports k reads i =
+    let nodes = s.nodes.registry in
+    with_ports s kind ports k i (record {
+      first = subst (IsPortRegistry nodes (first_role s.pattern)) (sym reads.0.0)
+          i.ports_are.first;
+      second = subst (IsPortRegistry nodes (second_role s.pattern)) (sym reads.1.0)
+          i.ports_are.second;
+    })
 
 -- what attaching a port keeps
 pub attach_kept : (s : Service) (kind : PatternKind) (ports : Ports) (d : PortDetails)

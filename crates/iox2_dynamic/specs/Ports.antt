@@ -9,7 +9,7 @@ use Rattle.iox2_container.specs.declared.container.release.ReleaseMode.TheVarian
 use Rattle.iox2_container.specs.declared.container.release.ReleaseState.{ReleaseState}
 use Rattle.iox2_container.specs.declared.container.role.Role.{Role}
 use Rattle.iox2_container.specs.Handle.{Handle}
-use Rattle.iox2_container.specs.ContainerState.{ContainerState, fresh}
+use Rattle.iox2_container.specs.ContainerState.{ContainerState, Reads, fresh}
 use Rattle.iox2_container.specs.Callbacks.{CanVisit}
 use Rattle.iox2_container.specs.State.{RegistryState}
 use Rattle.iox2_container.specs.Steps.{Visit, IsUnknownHandle, HasEntry, TakesEntry, asked_about, entries_of, is_of, listed}
@@ -50,6 +50,10 @@ abbrev pub has_ports_of : ℕ → Ports → Bool
 has_ports_of id p =
     nat_lt 0 (entries_of node_of id p.first.registry) || nat_lt 0
     (entries_of node_of id p.second.registry)
+
+-- slots of both registries were read, none of them twice, and nothing else changed
+abbrev pub ReadsPorts : Ports → Ports → Type 0
+ReadsPorts old new = Reads old.first new.first × Reads old.second new.second
 
 -- the registry of the role takes this step, and the other one is as it was
 pub record OnSide (a b : Role) (old : Ports) (role : Role)

@@ -11,7 +11,7 @@ const B: Node = Node(0, 2);
 const C: Node = Node(0, 3);
 
 /// One place for nodes, and none for the first ports.
-const A_NODE_COMES_AND_GOES: [Row; 5] = [
+static A_NODE_COMES_AND_GOES: [Row; 5] = [
     Row::Attach(Kind::First, 9, A, Err(AttachError::NodeNotRegistered)),
     Row::Register(A, Ok(Handle(7, Kind::Node, 0, 0))),
     Row::Attach(Kind::First, 9, A, Err(AttachError::OutOfSpace)),
@@ -25,7 +25,7 @@ fn ports_want_a_registered_node_of_an_unlocked_service(rt: HostRuntime) -> Resul
 }
 
 /// One place for the first ports and two for the others.
-const A_PLACE_IS_USED_AGAIN: [Row; 11] = [
+static A_PLACE_IS_USED_AGAIN: [Row; 11] = [
     Row::Register(A, Ok(Handle(7, Kind::Node, 0, 0))),
     Row::Attach(Kind::First, 7, A, Ok(Handle(7, Kind::First, 0, 0))),
     Row::Attach(Kind::First, 8, A, Err(AttachError::OutOfSpace)),
@@ -45,7 +45,7 @@ fn a_place_is_taken_again_by_a_new_handle(rt: HostRuntime) -> Result<(), Fail> {
 }
 
 /// One of two nodes that share an owner id.
-const ONE_OF_AN_OWNER_IS_REGISTERED: [Row; 3] = [
+static ONE_OF_AN_OWNER_IS_REGISTERED: [Row; 3] = [
     Row::Register(ONE_OF_FIVE, Ok(Handle(7, Kind::Node, 0, 0))),
     Row::Attach(
         Kind::First,
@@ -69,7 +69,7 @@ fn another_node_of_the_same_owner_id_is_not_registered(rt: HostRuntime) -> Resul
 }
 
 /// Two tickets of each kind.
-const TWO_TICKETS_ARE_USED: [Row; 7] = [
+static TWO_TICKETS_ARE_USED: [Row; 7] = [
     Row::Register(A, Ok(Handle(7, Kind::Node, 0, 0))),
     Row::Register(B, Ok(Handle(7, Kind::Node, 1, 1))),
     Row::Deregister(Handle(7, Kind::Node, 1, 1), Ok(true)),
@@ -79,7 +79,7 @@ const TWO_TICKETS_ARE_USED: [Row; 7] = [
     Row::Attach(Kind::First, 11, A, Err(AttachError::OutOfSpace)),
 ];
 
-const NO_TICKET_IS_LEFT: [Row; 1] = [Row::Register(
+static NO_TICKET_IS_LEFT: [Row; 1] = [Row::Register(
     A,
     Err(RegisterNodeResult::ExceedsMaxNumberOfNodes),
 )];

@@ -8,7 +8,7 @@ use std::test::Fail;
 
 /// A node with two ports of each kind. The callback keeps
 /// one port of each, and none when it is asked again.
-const A_CALLBACK_IS_ASKED_AGAIN: [Row; 13] = [
+static A_CALLBACK_IS_ASKED_AGAIN: [Row; 13] = [
     Row::Register(A, Ok(Handle(7, Kind::Node, 0, 0))),
     Row::Attach(Kind::First, 11, A, Ok(Handle(7, Kind::First, 0, 0))),
     Row::Attach(Kind::First, 12, A, Ok(Handle(7, Kind::First, 1, 1))),
@@ -31,7 +31,7 @@ fn a_callback_sees_each_port_once_and_keeps_two(rt: HostRuntime) -> Result<(), F
 
 /// A dead node has ports 10 and 11, and another node of its owner id port 12. The callback keeps
 /// port 10, and is not asked about that of the other node.
-const ONE_PORT_IS_KEPT: [Row; 12] = [
+static ONE_PORT_IS_KEPT: [Row; 12] = [
     Row::Register(ONE_OF_FIVE, Ok(Handle(7, Kind::Node, 0, 0))),
     Row::Register(TWO_OF_FIVE, Ok(Handle(7, Kind::Node, 1, 1))),
     Row::Attach(
@@ -72,13 +72,13 @@ fn a_kept_port_keeps_its_node_and_another_node_stays(rt: HostRuntime) -> Result<
 }
 
 /// One place for nodes.
-const NO_NODE_IS_RECOVERED: [Row; 2] = [
+static NO_NODE_IS_RECOVERED: [Row; 2] = [
     Row::Recover(A, &[], &[], true),
     Row::Register(A, Ok(Handle(7, Kind::Node, 0, 0))),
 ];
 
 /// No place for nodes.
-const NO_NODE_FITS: [Row; 2] = [
+static NO_NODE_FITS: [Row; 2] = [
     Row::Register(A, Err(RegisterNodeResult::ExceedsMaxNumberOfNodes)),
     Row::Recover(A, &[], &[], true),
 ];
@@ -90,7 +90,7 @@ fn a_node_that_was_never_registered_locks_nothing(rt: HostRuntime) -> Result<(),
 }
 
 /// Both handles of a node go at once, and with the last node the service closes.
-const ALL_HANDLES_GO: [Row; 6] = [
+static ALL_HANDLES_GO: [Row; 6] = [
     Row::Register(A, Ok(Handle(7, Kind::Node, 0, 0))),
     Row::Register(A, Ok(Handle(7, Kind::Node, 1, 1))),
     Row::Attach(Kind::First, 9, A, Ok(Handle(7, Kind::First, 0, 0))),
@@ -105,7 +105,7 @@ fn a_dead_node_leaves_with_all_its_handles(rt: HostRuntime) -> Result<(), Fail> 
 }
 
 /// A publisher and a subscriber of one node.
-const ONE_OF_EACH_KIND: [Row; 3] = [
+static ONE_OF_EACH_KIND: [Row; 3] = [
     Row::Register(ONE_OF_FIVE, Ok(Handle(7, Kind::Node, 0, 0))),
     Row::Attach(
         Kind::First,

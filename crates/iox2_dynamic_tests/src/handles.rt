@@ -11,7 +11,7 @@ const NOT_A_NODE: Result<bool, DeregisterError> = Err(
 /// Registers the node twice and attaches two ports of it, and takes the first of either out again.
 /// With a node and a port left in slot 1 with ticket 1, neither kind has the handles that differ in
 /// one part, the stale one of slot 0, or that of the other kind.
-const STRANGERS_ARE_REFUSED: [Row; 22] = [
+static STRANGERS_ARE_REFUSED: [Row; 22] = [
     Row::Register(A, Ok(Handle(7, Kind::Node, 0, 0))),
     Row::Register(A, Ok(Handle(7, Kind::Node, 1, 1))),
     Row::Attach(Kind::First, 8, A, Ok(Handle(7, Kind::First, 0, 0))),

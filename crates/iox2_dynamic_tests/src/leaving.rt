@@ -47,7 +47,7 @@ fn a_node_does_not_leave_its_other_ports_behind(rt: HostRuntime) -> Result<(), F
 }
 
 /// The ports of one node keep no other.
-const A_NODE_WITHOUT_PORTS_LEAVES: [Row; 5] = [
+static A_NODE_WITHOUT_PORTS_LEAVES: [Row; 5] = [
     Row::Register(ONE_OF_FIVE, Ok(Handle(7, Kind::Node, 0, 0))),
     Row::Register(TWO_OF_FIVE, Ok(Handle(7, Kind::Node, 1, 1))),
     Row::Attach(

@@ -23,7 +23,7 @@ fn note_two<T: Attached>(seen: &mut ArrayVec<u128, 4>, details: &T) -> CallbackP
 }
 
 /// Three ports of the first kind and one of the second, of counters 9 to 12.
-const THREE_AND_ONE: [Row; 5] = [
+static THREE_AND_ONE: [Row; 5] = [
     Row::Register(A, Ok(Handle(7, Kind::Node, 0, 0))),
     Row::Attach(Kind::First, 9, A, Ok(Handle(7, Kind::First, 0, 0))),
     Row::Attach(Kind::First, 10, A, Ok(Handle(7, Kind::First, 1, 1))),
@@ -149,7 +149,7 @@ fn a_service_tells_its_pattern(rt: HostRuntime) -> Result<(), Fail> {
 }
 
 /// Three nodes, of which two share an owner id.
-const THREE_NODES: [Row; 3] = [
+static THREE_NODES: [Row; 3] = [
     Row::Register(TWO_OF_FIVE, Ok(Handle(7, Kind::Node, 0, 0))),
     Row::Register(A, Ok(Handle(7, Kind::Node, 1, 1))),
     Row::Register(ONE_OF_FIVE, Ok(Handle(7, Kind::Node, 2, 2))),
@@ -159,7 +159,7 @@ const THREE_NODES: [Row; 3] = [
 const LISTED: [u128; 3] = [(2 << 64) + 5, 1, (1 << 64) + 5];
 
 /// How many nodes are asked for, and which are listed.
-const UP_TO_A_STOP: [(usize, &[u128]); 4] = [
+static UP_TO_A_STOP: [(usize, &[u128]); 4] = [
     (1, &[LISTED[0]]),
     (2, &[LISTED[0], LISTED[1]]),
     (3, &LISTED),

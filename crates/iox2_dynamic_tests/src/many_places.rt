@@ -4,7 +4,7 @@ use super::services::*;
 use iox2_dynamic::dynamic_config::*;
 use std::test::Fail;
 
-const TWO_PORTS_COME: [Row; 3] = [
+static TWO_PORTS_COME: [Row; 3] = [
     Row::Register(A, Ok(Handle(7, Kind::Node, 0, 0))),
     Row::Attach(Kind::First, 9, A, Ok(Handle(7, Kind::First, 0, 0))),
     Row::Attach(Kind::Second, 10, A, Ok(Handle(7, Kind::Second, 0, 0))),
@@ -27,7 +27,7 @@ fn one_comes_and_goes(ticket: u64) -> [Row<'static>; 4] {
     ]
 }
 
-const ALL_PORTS_GO: [Row; 4] = [
+static ALL_PORTS_GO: [Row; 4] = [
     Row::Attach(Kind::First, 12, A, Ok(Handle(7, Kind::First, 1, 3001))),
     Row::Recover(A, &[], &[9, 12, 10], false),
     Row::Ports(Kind::First, Some(&[])),

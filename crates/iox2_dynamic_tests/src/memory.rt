@@ -11,7 +11,7 @@ use std::test::Fail;
 use test_support::memory::may_be_refused;
 
 /// One ticket of each kind.
-pub(super) const EACH_KIND_HAS_ONE: [Row; 10] = [
+pub(super) static EACH_KIND_HAS_ONE: [Row; 10] = [
     Row::Register(A, Ok(Handle(7, Kind::Node, 0, 0))),
     Row::Attach(Kind::First, 9, A, Ok(Handle(7, Kind::First, 0, 0))),
     Row::Attach(Kind::Second, 10, A, Ok(Handle(7, Kind::Second, 0, 0))),
@@ -28,7 +28,7 @@ pub(super) const EACH_KIND_HAS_ONE: [Row; 10] = [
 ];
 
 /// A port and then its node leave.
-const ALL_LEAVE: [Row; 5] = [
+static ALL_LEAVE: [Row; 5] = [
     Row::Register(A, Ok(Handle(7, Kind::Node, 0, 0))),
     Row::Attach(Kind::Second, 9, A, Ok(Handle(7, Kind::Second, 0, 0))),
     Row::Release(Handle(7, Kind::Second, 0, 0), Ok(())),

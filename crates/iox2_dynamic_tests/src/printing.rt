@@ -8,7 +8,7 @@ use std::test::Fail;
 use test_support::printing::is_shown;
 
 /// Two nodes, and ports of both kinds.
-const SOME_ARE_ATTACHED: [Row; 5] = [
+static SOME_ARE_ATTACHED: [Row; 5] = [
     Row::Register(A, Ok(Handle(7, Kind::Node, 0, 0))),
     Row::Register(ONE_OF_FIVE, Ok(Handle(7, Kind::Node, 1, 1))),
     Row::Attach(Kind::First, 8, A, Ok(Handle(7, Kind::First, 0, 0))),

@@ -8,7 +8,7 @@ use std::process::Abort;
 use std::test::Fail;
 
 /// There is room as long as a place is left, and none without a lock or with one.
-const ROOM_BY_PLACES: [Row; 8] = [
+static ROOM_BY_PLACES: [Row; 8] = [
     Row::Room([true, true, true], false),
     Row::Register(A, Ok(Handle(7, Kind::Node, 0, 0))),
     Row::Room([false, true, true], false),
@@ -25,7 +25,7 @@ fn room_goes_by_places(rt: HostRuntime) -> Result<(), Fail> {
 }
 
 /// A service that is locked has no room, although places and tickets are left.
-const NO_ROOM_WITH_A_LOCK: [Row; 4] = [
+static NO_ROOM_WITH_A_LOCK: [Row; 4] = [
     Row::Room([true, true, true], false),
     Row::Register(A, Ok(Handle(7, Kind::Node, 0, 0))),
     Row::Deregister(Handle(7, Kind::Node, 0, 0), Ok(false)),
@@ -38,7 +38,7 @@ fn a_locked_service_has_no_room(rt: HostRuntime) -> Result<(), Fail> {
 }
 
 /// Without a ticket there is no room, although places are left.
-const ROOM_BY_TICKETS: [Row; 4] = [
+static ROOM_BY_TICKETS: [Row; 4] = [
     Row::Register(A, Ok(Handle(7, Kind::Node, 0, 0))),
     Row::Room([false, true, true], false),
     Row::Attach(Kind::Second, 9, A, Ok(Handle(7, Kind::Second, 0, 0))),
@@ -56,7 +56,7 @@ fn room_goes_by_tickets(rt: HostRuntime) -> Result<(), Fail> {
 
 /// A handle stands for what was given it, by its service, its kind, its
 /// slot and its ticket, until that goes.
-const HANDLES: [Row; 11] = [
+static HANDLES: [Row; 11] = [
     Row::Register(A, Ok(Handle(7, Kind::Node, 0, 0))),
     Row::Attach(Kind::Second, 9, A, Ok(Handle(7, Kind::Second, 0, 0))),
     Row::StandsFor(Handle(7, Kind::Node, 0, 0), Some(1)),
@@ -76,7 +76,7 @@ fn a_handle_stands_for_what_was_given_it(rt: HostRuntime) -> Result<(), Fail> {
 }
 
 /// Two nodes that share an owner id, and ports of both of each kind.
-const ALL_ARE_ATTACHED: [Row; 6] = [
+static ALL_ARE_ATTACHED: [Row; 6] = [
     Row::Register(ONE_OF_FIVE, Ok(Handle(7, Kind::Node, 0, 0))),
     Row::Register(TWO_OF_FIVE, Ok(Handle(7, Kind::Node, 1, 1))),
     Row::Attach(

@@ -156,6 +156,62 @@ fn stands_for(
     assert_eq!(rt; (at, (node, port)), (at, found));
 }
 
+/// Registers a node in the row of this index, and compares the answer.
+fn registers(
+    rt: &impl Abort,
+    service: &mut DynamicConfig,
+    pattern: &Pattern,
+    at: usize,
+    row: (Node, Result<Handle, RegisterNodeResult>),
+) -> Result<(), Fail> {
+    let (node, wanted) = row;
+    let answer = service.register_node_id(node.id()?);
+    assert_eq!(rt; (at, answer), (at, wanted.map(|handle| handle.on(pattern))));
+    Ok(())
+}
+
+/// Takes out a node in the row of this index, and compares the answer.
+fn deregisters(
+    rt: &impl Abort,
+    service: &mut DynamicConfig,
+    at: usize,
+    handle: ContainerHandle,
+    wanted: Result<bool, DeregisterError>,
+) {
+    let answer = service.deregister_node_id(handle).map(has_owners);
+    assert_eq!(rt; (at, answer), (at, wanted));
+}
+
+/// Attaches a port in the row of this index, and compares the answer.
+fn attaches(
+    rt: &impl Abort,
+    service: &mut DynamicConfig,
+    pattern: &Pattern,
+    at: usize,
+    row: (Kind, u32, Node, Result<Handle, AttachError>),
+) -> Result<(), Fail> {
+    let (kind, counter, node, wanted) = row;
+    let answer = attach(rt, service, pattern.role(kind), counter, node.id()?)?;
+    assert_eq!(rt; (at, answer), (at, wanted.map(|handle| handle.on(pattern))));
+    Ok(())
+}
+
+/// Releases a port in the row of this index, and compares the answer.
+fn releases(
+    rt: &impl Abort,
+    service: &mut DynamicConfig,
+    at: usize,
+    handle: ContainerHandle,
+    wanted: Result<(), ContainerRemoveError>,
+) {
+    assert_eq!(rt; (at, service.release_port(handle)), (at, wanted));
+}
+
+/// Compares how many nodes are listed in the row of this index.
+fn has_nodes(rt: &impl Abort, service: &DynamicConfig, at: usize, count: u64) {
+    assert_eq!(rt; (at, count_nodes(service)), (at, count));
+}
+
 /// Makes the call of the row of this index, and compares its answer. No call takes memory.
 fn is_answered(
     rt: &impl Abort,
@@ -165,30 +221,18 @@ fn is_answered(
     row: &Row,
 ) -> Result<(), Fail> {
     match *row {
-        Row::Register(node, wanted) => {
-            let told = service.register_node_id(node.id()?);
-            assert_eq!(rt; (at, told), (at, wanted.map(|handle| handle.on(pattern))));
-        }
+        Row::Register(node, wanted) => registers(rt, service, pattern, at, (node, wanted))?,
         Row::Deregister(handle, wanted) => {
-            let told = service
-                .deregister_node_id(handle.on(pattern))
-                .map(has_owners);
-            assert_eq!(rt; (at, told), (at, wanted));
+            deregisters(rt, service, at, handle.on(pattern), wanted);
         }
         Row::Attach(kind, counter, node, wanted) => {
-            let told = attach(rt, service, pattern.role(kind), counter, node.id()?)?;
-            assert_eq!(rt; (at, told), (at, wanted.map(|handle| handle.on(pattern))));
+            attaches(rt, service, pattern, at, (kind, counter, node, wanted))?;
         }
-        Row::Release(handle, wanted) => {
-            assert_eq!(rt;
-                (at, service.release_port(handle.on(pattern))),
-                (at, wanted)
-            );
-        }
+        Row::Release(handle, wanted) => releases(rt, service, at, handle.on(pattern), wanted),
         Row::Recover(dead, kept, asked, owned) => {
             recovers(rt, service, at, &dead.id()?, kept, (asked, owned));
         }
-        Row::Nodes(count) => assert_eq!(rt; (at, count_nodes(service)), (at, count)),
+        Row::Nodes(count) => has_nodes(rt, service, at, count),
         Row::Ports(kind, wanted) => lists(rt, service, at, pattern.role(kind), wanted),
         Row::Room(room, is_locked) => has_room(rt, service, pattern, at, (room, is_locked)),
         Row::StandsFor(handle, wanted) => {

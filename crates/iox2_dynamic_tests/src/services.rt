@@ -68,7 +68,7 @@ pub(super) const BLACKBOARD: Pattern = Pattern {
     other: Role::Client,
 };
 
-pub(super) const PATTERNS: [Pattern; 4] = [PUBLISH_SUBSCRIBE, EVENT, REQUEST_RESPONSE, BLACKBOARD];
+pub(super) static PATTERNS: [Pattern; 4] = [PUBLISH_SUBSCRIBE, EVENT, REQUEST_RESPONSE, BLACKBOARD];
 
 /// A node of process 1 with these seconds, no nanoseconds and this counter.
 #[derive(Clone, Copy)]
@@ -94,10 +94,10 @@ pub(super) fn service(
     alloc: Global,
     pattern: PatternKind,
     places: (usize, usize, usize),
-) -> Result<DynamicConfig, AllocError> {
+) -> Result<Box<DynamicConfig>, AllocError> {
     let (nodes, first, second) = places;
     let settings = MessagingPatternSettings::new(pattern, first, second);
-    DynamicConfig::new(alloc, &settings, nodes, 7)
+    Ok(Box::new(alloc, DynamicConfig::new(alloc, &settings, nodes, 7)?)?)
 }
 
 /// As `service`, with this many tickets of each kind.
@@ -106,10 +106,13 @@ pub(super) fn service_by_tickets(
     pattern: PatternKind,
     places: (usize, usize, usize),
     tickets: u64,
-) -> Result<DynamicConfig, AllocError> {
+) -> Result<Box<DynamicConfig>, AllocError> {
     let (nodes, first, second) = places;
     let settings = MessagingPatternSettings::new(pattern, first, second);
-    DynamicConfig::with_tickets(alloc, &settings, nodes, 7, tickets)
+    Ok(Box::new(
+        alloc,
+        DynamicConfig::with_tickets(alloc, &settings, nodes, 7, tickets)?,
+    )?)
 }
 
 /// The number of the port of process 1 with this counter.

@@ -3,6 +3,10 @@
 #![tactic(auto)]
 
 #[cfg(test)]
+mod digits;
+#[cfg(test)]
 mod ids;
+#[cfg(test)]
+mod kinds;
 #[cfg(test)]
 mod printing;

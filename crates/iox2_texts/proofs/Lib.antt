@@ -1,3 +1,4 @@
+pub mod Callable
 pub mod ListingLemmas
 pub mod Multiple
 pub mod PathLemmas

@@ -3,6 +3,7 @@ use Rattle.std.proofs.Common.{◌≡◌, ℕ, ◌+◌, ◌<◌, Bool, true, fals
 use Rattle.std.specs.Cmp.Lexicographic.{pointwise}
 use Rattle.iox2_texts.specs.Pair.{Pair}
 use Rattle.iox2_texts.specs.Attribute.{has_key, values_of, Visits}
+use Rattle.iox2_texts.specs.Callbacks.{MayVisit}
 use Rattle.iox2_texts.specs.declared.bounded.callback_progression.CallbackProgression.{CallbackProgression}
 use Rattle.iox2_texts.specs.declared.bounded.callback_progression.CallbackProgression.TheVariants.{Continue, Stop}
 use Rattle.iox2_texts.proofs.ValueLemmas.{values-here, values-later}
@@ -55,3 +56,31 @@ module _ {F : Type 0} (step : F → List ℕ → CallbackProgression → F → T
   visits-pass before last has later =
       subst (λ vs. Visits step before vs last)
       (sym (values-later key pairs i item inside has)) later
+
+  module _ (takes : F → List ℕ → Type 0) where
+    may_visit-here : (before : F) → has_key key (get_or pairs i item) ≡ true
+        → MayVisit takes step before (values_of (drop i pairs) key)
+        → MayVisit takes step before (item.value ∷ values_of (drop (i + 1) pairs) key)
+    may_visit-here before has may = subst (MayVisit takes step before) (sym (values_at has)) may
+
+    -- the callback may be called on the value of a pair with the key
+    pub may_visit-first : (before : F) → has_key key (get_or pairs i item) ≡ true
+        → MayVisit takes step before (values_of (drop i pairs) key) → takes before item.value
+    may_visit-first before has may = (may_visit-here before has may).0
+
+    -- after a call that goes on it may be called on the later values
+    pub may_visit-continue : (before between : F) (shown : List ℕ) (r : CallbackProgression)
+        → has_key key (get_or pairs i item) ≡ true → shown ≡ item.value → r ≡ Continue
+        → step before shown r between → MayVisit takes step before (values_of (drop i pairs) key)
+        → MayVisit takes step between (values_of (drop (i + 1) pairs) key)
+    may_visit-continue before between shown r has shows goes called may =
+        (may_visit-here before has may).1 between
+        (subst (λ v. step before v Continue between) shows
+        (subst (λ q. step before shown q between) goes called))
+
+    -- and past a pair with another key too
+    pub may_visit-pass : (before : F) → has_key key (get_or pairs i item) ≡ false
+        → MayVisit takes step before (values_of (drop i pairs) key)
+        → MayVisit takes step before (values_of (drop (i + 1) pairs) key)
+    may_visit-pass before has may =
+        subst (MayVisit takes step before) (values-later key pairs i item inside has) may

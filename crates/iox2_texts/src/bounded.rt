@@ -197,7 +197,11 @@ impl<const N: usize> Default for StaticString<N> {
 
 /// The text itself.
 impl<const N: usize> fmt::Display for StaticString<N> {
+    ghost use Rattle.std.specs.Fmt.{styled_text};
+
     ghost output = { λ s. Some s };
+
+    ghost styled_output = { λ s spec. Some (styled_text spec s) };
 
     fn fmt<W: fmt::Write>(&self, f: &mut fmt::Formatter<W>) -> fmt::Result {
         f.pad(self.as_str())

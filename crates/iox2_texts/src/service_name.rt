@@ -162,7 +162,11 @@ impl TryFrom<&str> for ServiceName {
 
 /// The text of the name.
 impl fmt::Display for ServiceName {
+    ghost use Rattle.std.specs.Fmt.{styled_text};
+
     ghost output = { λ s. Some s };
+
+    ghost styled_output = { λ s spec. Some (styled_text spec s) };
 
     fn fmt<W: fmt::Write>(&self, f: &mut fmt::Formatter<W>) -> fmt::Result {
         f.pad(self.as_str())

@@ -1,6 +1,6 @@
 //! Worked examples of texts. They are tests of what no contract says, with values from
 //! outside: worked rows, printed texts, and each public call once.
-#![tactic(auto)]
+#![tactic(auto, using(iox2_texts::proofs::Callable::callbacks))]
 
 #[cfg(test)]
 mod failing;

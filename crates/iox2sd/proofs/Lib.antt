@@ -5,3 +5,4 @@ pub mod Roles
 pub mod Listings
 pub mod NodeListings
 pub mod Dying
+pub mod Lending

@@ -20,7 +20,7 @@ use Rattle.iox2sd.specs.declared.service.changes.HandleAnswer.{HandleAnswer}
 use Rattle.iox2sd.specs.declared.status.Status.{Status}
 use Rattle.iox2sd.specs.declared.status.Status.TheVariants as status
 
--- a handle, or the status of a refusal
+-- a handle, or the status of a refusal with the handle that stands for nothing
 abbrev pub handle_answer : Result Handle Status → HandleAnswer
 handle_answer (Ok handle) = record { status = code status.Done; handle = handle }
 handle_answer (Err s) = record { status = code s; handle = no_handle }

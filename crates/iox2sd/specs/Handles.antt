@@ -26,9 +26,13 @@ ReadsRole number None = (role : Role) → role_number role ≢ number
 abbrev pub told : ContainerHandle → Handle
 told h = record { service = h.service; role = role_number h.role; slot = h.slot; ticket = h.ticket }
 
--- the handle whose parts are all 0
+-- the number of no role
+abbrev pub no_role : ℕ
+no_role = 18446744073709551615
+
+-- the handle that stands for nothing, as its role is none
 abbrev pub no_handle : Handle
-no_handle = record { service = 0; role = 0; slot = 0; ticket = 0 }
+no_handle = record { service = 0; role = no_role; slot = 0; ticket = 0 }
 
 -- the handle that C's handle tells, or that its role is none
 abbrev pub ReadsHandle : Handle → Option ContainerHandle → Type 0

@@ -18,3 +18,4 @@ pub mod NodeListings
 -- Inner facts: what a slot owns.
 pub mod Slots
 pub mod Heap
+pub mod Lending

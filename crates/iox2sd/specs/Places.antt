@@ -17,9 +17,8 @@ held place = place.slot.service
 abbrev pub Nothing : Type 0
 Nothing = Unit {0}
 
--- a call on the service that is held went by the table, and what it made was told; where none is
--- held, that is told, and
--- the rest of the caller's memory is as it was
+-- a call that changes the service that is held went by the table, and the answer is what it made;
+-- where none is held, the answer says so, and the rest of the caller's memory is as it was
 abbrev pub Called : {M R : Type 0} → (M → R) → (Status → M) → Type 0 → (Held → M → Held → Type 0)
     → Option Held → R → Option Held → Type 0
 Called tell refuse Rest Table None answer new = (answer ≡ tell (refuse status.NoService))
@@ -27,12 +26,26 @@ Called tell refuse Rest Table None answer new = (answer ≡ tell (refuse status.
 Called {M} tell refuse Rest Table (Some old) answer new =
     (made : M) × (answer ≡ tell made) × (after : Held) × (new ≡ Some after) × Table old made after
 
--- the same at a place that may be NULL, which is told before all else. The place is sound
--- afterwards, and no other place
--- has changed
+-- the same at a place that may be NULL, which is reported before all else. The place is sound
+-- afterwards, and no other place has changed
 abbrev pub At : {M R : Type 0} → (M → R) → (Status → M) → Type 0 → (Held → M → Held → Type 0)
     → List Service → R → List Service → Type 0
 At tell refuse Rest Table [] answer new = (answer ≡ tell (refuse status.Null)) × (new ≡ []) × Rest
 At tell refuse Rest Table (place ∷ others) answer new =
     (left : Service) × (new ≡ left ∷ others) × IsSoundPlace left
     × Called tell refuse Rest Table (held place) answer (held left)
+
+-- the answer to a question is what it says of the service that is held; where none is held, the
+-- answer says so, and the rest of the caller's memory is as it was
+abbrev pub AskedOf : {M R : Type 0} → (M → R) → (Status → M) → Type 0 → (Held → M → Type 0)
+    → Option Held → R → Type 0
+AskedOf tell refuse Rest Says None answer = (answer ≡ tell (refuse status.NoService)) × Rest
+AskedOf {M} tell refuse Rest Says (Some service) answer =
+    (made : M) × (answer ≡ tell made) × Says service made
+
+-- the same at a place that may be NULL, which is reported before all else
+abbrev pub Asked : {M R : Type 0} → (M → R) → (Status → M) → Type 0 → (Held → M → Type 0)
+    → List Service → R → Type 0
+Asked tell refuse Rest Says [] answer = (answer ≡ tell (refuse status.Null)) × Rest
+Asked tell refuse Rest Says (place ∷ others) answer =
+    AskedOf tell refuse Rest Says (held place) answer

@@ -27,9 +27,9 @@ abbrev pub flag_answer : Result Bool Status → FlagAnswer
 flag_answer (Ok is_so) = record { status = code status.Done; yes = is_so }
 flag_answer (Err s) = record { status = code s; yes = false }
 
--- a question that is never refused: this of the service is told, and the service is as it was
-abbrev pub Gives : {A : Type 0} → (Held → A) → Held → Result A Status → Held → Type 0
-Gives f old made new = (made ≡ Ok (f old)) × (new ≡ old)
+-- a question that is never refused: the answer is this of the service
+abbrev pub Gives : {A : Type 0} → (Held → A) → Held → Result A Status → Type 0
+Gives f service made = made ≡ Ok (f service)
 
 -- the roles of the pattern's ports
 abbrev pub roles_in : Held → Roles

@@ -1,8 +1,11 @@
 //! Handles as plain values.
-ghost use Rattle.std.specs.Prelude.{◌≡◌};
+ghost use Rattle.std.specs.Prelude.{◌≡◌, None};
 ghost use Rattle.iox2sd.specs.Handles.{role_number, ReadsRole, told, no_handle, ReadsHandle};
 
 use iox2_container::container::{ContainerHandle, Role};
+
+/// The role of a handle that stands for nothing.
+const NO_ROLE: u64 = u64::MAX;
 
 /// What registering and attaching give, and what a call by handle is given. It has no padding, so C
 /// may compare its bytes.
@@ -67,13 +70,14 @@ impl Handle {
         }
     }
 
-    /// The handle whose parts are all 0.
-    pub(super) fn zero() -> Handle
-        ensures { result ≡ no_handle }
+    /// The handle that stands for nothing: its role is none, so each call refuses it.
+    pub(super) fn none() -> Handle
+        ensures parts { result ≡ no_handle }
+        ensures refused { ReadsHandle result None }
     {
         Handle {
             service: 0,
-            role: 0,
+            role: NO_ROLE,
             slot: 0,
             ticket: 0,
         }

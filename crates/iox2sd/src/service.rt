@@ -1,5 +1,7 @@
 //! Services that a caller from C keeps.
 ghost use Rattle.std.specs.Prelude.{◌≡◌, Some, None, IfSome, IfNone};
+ghost use Rattle.std.specs.Borrow.{sem};
+ghost use Rattle.iox2sd.specs.Lending.{LendsHeld};
 ghost use Rattle.iox2sd.specs.Places.{IsSoundPlace, held};
 
 pub mod changes;
@@ -44,6 +46,19 @@ impl Service {
         Some(self.slot.take(alloc))
     }
 
+    /// Borrows the service, where there is one. It stays in the place.
+    pub(super) fn lend(&mut self) -> Option<&mut DynamicConfig>
+        requires { IsSoundPlace self.old }
+        ensures* writes_back { sem 𝓛 (LendsHeld self.entry result) }
+        ensures some { IfSome result (λ service. held self.old ≡ Some service.now) }
+        ensures none { IfNone result (held self.old ≡ None) }
+    {
+        if !self.full {
+            return None;
+        }
+        Some(self.slot.lend())
+    }
+
     /// Puts a service in, where there is none.
     pub(super) fn put(&mut self, service: Box<DynamicConfig>)
         requires sound { IsSoundPlace self.old }
@@ -62,4 +77,12 @@ fn is_send<T: Send>() {}
 /// A service may be sent to another thread.
 pub fn service_is_send() {
     is_send::<Service>();
+}
+
+/// Is called of types alone whose values may be shared with another thread.
+fn is_sync<T: Sync>() {}
+
+/// A service may be shared with another thread.
+pub fn service_is_sync() {
+    is_sync::<Service>();
 }

@@ -1,5 +1,5 @@
 -- Whole scripts.
-use Rattle.std.specs.Prelude.{◌≡◌, ℕ, ◌<◌, ◌≤◌, Bool, true, false, List, ◌++◌, Result, Ok, Err, drop, length}
+use Rattle.std.specs.Prelude.{◌≡◌, ℕ, ◌<◌, ◌≤◌, Bool, true, false, if◌then◌else◌, List, ◌++◌, Result, Ok, Err, drop, length}
 use Rattle.service_descriptions.specs.Script.{Scripted}
 use Rattle.service_descriptions.specs.declared.replay.lines.script.ScriptError.{ScriptError}
 use Rattle.service_descriptions.specs.declared.replay.lines.script.ScriptError.TheVariants as error
@@ -8,18 +8,25 @@ use Rattle.iox2sd_script.specs.declared.script.ScriptAnswer.{ScriptAnswer}
 use Rattle.iox2sd_script.specs.declared.status.Status.{Status}
 use Rattle.iox2sd_script.specs.declared.status.Status.TheVariants as status
 
--- the status of a script that ended so, whose reply lines fitted or did not
+-- the status of a script that ended so, whose reply lines fit the buffer or do not: want of memory
+-- is reported before too short a buffer
 abbrev pub end_status : Bool → Result (Unit {0}) ScriptError → Status
-end_status false end = status.BufferTooShort
-end_status true (Ok done) = status.Done
-end_status true (Err (error.BadLine k)) = status.BadLine
-end_status true (Err (error.NoMemory why)) = status.NoMemory
+end_status fits (Ok done) = if fits then status.Done else status.BufferTooShort
+end_status fits (Err (error.BadLine k)) = if fits then status.BadLine else status.BufferTooShort
+end_status fits (Err (error.NoMemory why)) = status.NoMemory
 
 -- the number of the bad line, or 0
 abbrev pub bad_line : Result (Unit {0}) ScriptError → ℕ
 bad_line (Ok done) = 0
 bad_line (Err (error.BadLine k)) = k
 bad_line (Err (error.NoMemory why)) = 0
+
+-- the reported length of reply lines of this length: none where memory was refused and they do not
+-- fit
+abbrev pub end_length : Bool → Result (Unit {0}) ScriptError → ℕ → ℕ
+end_length fits (Ok done) n = n
+end_length fits (Err (error.BadLine k)) n = n
+end_length fits (Err (error.NoMemory why)) n = if fits then n else 0
 
 -- the text stands at the front of the buffer, or does not fit there and the buffer is as it was
 abbrev pub Writes : List ℕ → List ℕ → Bool → List ℕ → Type 0
@@ -34,5 +41,5 @@ Answers script old answer new =
     × (answer ≡ record {
       status = code (end_status fits end);
       line = bad_line end;
-      length = length text;
+      length = end_length fits end (length text);
     })

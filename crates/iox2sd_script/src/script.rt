@@ -1,6 +1,6 @@
 //! Whole scripts.
 ghost use Rattle.std.specs.Prelude.{◌≡◌};
-ghost use Rattle.iox2sd_script.specs.Scripts.{end_status, bad_line, Writes, Answers};
+ghost use Rattle.iox2sd_script.specs.Scripts.{end_status, bad_line, end_length, Writes, Answers};
 
 use super::status::Status;
 use service_descriptions::replay::{ScriptError, run_script};
@@ -14,19 +14,31 @@ pub struct ScriptAnswer {
     pub status: u32,
     /// The number of the bad line, from 1 on, or 0 where no line is bad.
     pub line: usize,
-    /// How many bytes the reply lines have, whether they fitted or not.
+    /// How many bytes the reply lines have, also where they do not fit; 0 where memory was refused
+    /// and they do not fit.
     pub length: usize,
 }
 
-/// The status of a script that ended so, whose reply lines fitted or did not.
+/// The status of a script that ended so. Where memory was refused, that is reported before the
+/// length of the buffer.
 fn end_status(fits: bool, end: &Result<(), ScriptError>) -> Status
     ensures { result ≡ end_status fits end.now }
 {
     match end {
+        Err(ScriptError::NoMemory(_)) => Status::NoMemory,
         _ if !fits => Status::BufferTooShort,
         Ok(()) => Status::Done,
         Err(ScriptError::BadLine(_)) => Status::BadLine,
-        Err(ScriptError::NoMemory(_)) => Status::NoMemory,
+    }
+}
+
+/// The reported length of reply lines of this length.
+fn end_length(fits: bool, end: &Result<(), ScriptError>, length: usize) -> usize
+    ensures { result ≡ end_length fits end.now length }
+{
+    match end {
+        Err(ScriptError::NoMemory(_)) if !fits => 0,
+        _ => length,
     }
 }
 
@@ -55,11 +67,12 @@ fn write(text: &[u8], out: &mut [u8]) -> bool
 }
 
 /// Runs a script, and writes its reply lines to the front of the buffer where they all fit; else
-/// the buffer stays as it was, the status is `BufferTooShort`, and a call with a longer buffer runs
-/// the script again from its start.
+/// the buffer stays as it was.
 ///
-/// Refused are a bad line (`BadLine`), with the reply lines to the commands before it, and want of
-/// memory (`NoMemory`), with nothing or the whole reply lines of some first commands.
+/// Refused are, in this order, want of memory (`NoMemory`), with nothing or the whole reply lines
+/// of some first commands; too short a buffer (`BufferTooShort`), and a call with a longer one runs
+/// the script again from its start; and a bad line (`BadLine`), with the reply lines to the
+/// commands before it.
 #[unsafe(no_mangle)]
 pub extern "C" fn iox2sd_script_run(alloc: Global, script: &[u8], out: &mut [u8]) -> ScriptAnswer
     ensures { Answers script.now out.old result out.new }
@@ -70,6 +83,6 @@ pub extern "C" fn iox2sd_script_run(alloc: Global, script: &[u8], out: &mut [u8]
     ScriptAnswer {
         status: end_status(fits, &end).code(),
         line: bad_line(&end),
-        length: text.len(),
+        length: end_length(fits, &end, text.len()),
     }
 }

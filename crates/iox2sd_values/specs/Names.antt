@@ -1,5 +1,5 @@
 -- The names of services, and their hash texts.
-use Rattle.std.specs.Prelude.{◌≡◌, ℕ, List, ◌++◌, Option, Some, None, Result, Ok, Err, IsUtf8}
+use Rattle.std.specs.Prelude.{◌≡◌, ℕ, List, ◌++◌, Some, None, Result, Ok, Err, IsUtf8}
 use lib.Chars.{codes}
 use Rattle.iox2_config.specs.Hashing.{ReadsPattern, hash_input, sha1_text}
 use Rattle.iox2_config.specs.declared.hash.input.PatternKind.{PatternKind}
@@ -44,9 +44,12 @@ abbrev pub TellsPrefixed : List ℕ → List ℕ → TextAnswer → List ℕ →
 TellsPrefixed bytes old answer new = (made : Result (List ℕ) Status) × Prefixes bytes made
     × TellsText made old answer new
 
--- what making the hash text of a pattern and a name answers
+-- what making the hash text of a pattern and a name answers: the text that SHA-1 gives, or that it
+-- cannot be the name of a file, each only where it is so
 abbrev pub MakesText : PatternKind → List ℕ → Result (List ℕ) Status → Type 0
-MakesText kind name (Ok text) = text ≡ sha1_text (hash_input kind name)
+MakesText kind name (Ok text) =
+    (text ≡ sha1_text (hash_input kind name))
+    × IsRestrictedName 64 (sha1_text (hash_input kind name))
 MakesText kind name (Err status.IllegalHash) =
     ¬ (IsRestrictedName 64 (sha1_text (hash_input kind name)))
 MakesText kind name (Err _) = ⊥

@@ -1,6 +1,6 @@
 -- What a caller requires of a set of attributes, and where what fails stands in the caller's
 -- arrays.
-use Rattle.std.specs.Prelude.{◌≡◌, ℕ, ◌+◌, ◌≤◌, List, [], Option, Some, None, Result, Ok, Err, map, take, length, slice_get, All}
+use Rattle.std.specs.Prelude.{◌≡◌, ℕ, ◌+◌, ◌≤◌, List, [], Some, Result, Ok, Err, map, take, length, slice_get, All}
 use Rattle.iox2_texts.specs.Attribute.{IsListing}
 use Rattle.iox2_texts.specs.Name.{MakesName}
 use Rattle.iox2_texts.specs.Pair.{Pair}
@@ -20,11 +20,6 @@ use Rattle.iox2sd_values.specs.declared.status.Status.TheVariants as status
 -- the element at the place has the property, and none before it has
 abbrev pub IsFirst : {X : Type 0} → (X → Type 0) → List X → ℕ → Type 0
 IsFirst {X} P xs i = (x : X) × (slice_get xs i ≡ Some x) × P x × All (λ y. ¬ (P y)) (take i xs)
-
--- the first place of an element with the property, if one has it
-abbrev pub Finds : {X : Type 0} → (X → Type 0) → List X → Option ℕ → Type 0
-Finds P xs (Some i) = IsFirst P xs i
-Finds P xs None = All (λ y. ¬ (P y)) xs
 
 -- the key as the layer has it
 abbrev pub text_of : Key → List ℕ

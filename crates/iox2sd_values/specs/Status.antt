@@ -6,25 +6,11 @@ use Rattle.iox2sd_values.specs.declared.status.Status.TheVariants as status
 -- the number of a status
 abbrev pub code : Status → ℕ
 code status.Done = 0
-code status.DoneLocked = 1
 code status.BufferTooShort = 2
-code status.NoMemory = 3
-code status.NoService = 4
-code status.HasService = 5
 code status.UnknownPattern = 6
-code status.UnknownRole = 7
-code status.NoNode = 8
-code status.IsLocked = 9
-code status.OutOfSpace = 10
-code status.ForeignHandle = 11
-code status.PortsStillAttached = 12
-code status.NodeNotRegistered = 13
-code status.RoleNotInPattern = 14
-code status.UnknownSegment = 15
 code status.BadKey = 16
 code status.BadValue = 17
 code status.TooMany = 18
-code status.NotVerified = 19
 code status.Null = 20
 code status.Empty = 40
 code status.TooLong = 41

@@ -37,7 +37,7 @@ pub struct Key<'a> {
 /// Told is the first pair of the first seventeen that is wrong, with its place: of a wrong key
 /// (`BadKey`), of a right key and a wrong value (`BadValue`), or the seventeenth (`TooMany`).
 #[unsafe(no_mangle)]
-pub extern "C" fn iox2sd_attributes_check(pairs: &[Attribute<'_>]) -> PlaceAnswer
+pub extern "C" fn iox2sd_attributes_check_at(pairs: &[Attribute<'_>]) -> PlaceAnswer
     ensures { TellsSet pairs.now result }
 {
     let mut at = 0;
@@ -51,7 +51,7 @@ pub extern "C" fn iox2sd_attributes_check(pairs: &[Attribute<'_>]) -> PlaceAnswe
 ///
 /// Refused as by `iox2sd_attributes_check`, and then the array stays as it was.
 #[unsafe(no_mangle)]
-pub extern "C" fn iox2sd_attributes_sort(pairs: &mut [Attribute<'_>]) -> PlaceAnswer
+pub extern "C" fn iox2sd_attributes_sort_at(pairs: &mut [Attribute<'_>]) -> PlaceAnswer
     ensures { SortsSet pairs.old result pairs.new }
 {
     let mut at = 0;
@@ -69,7 +69,7 @@ pub extern "C" fn iox2sd_attributes_sort(pairs: &mut [Attribute<'_>]) -> PlaceAn
 /// Refused are, in this order, pairs that `iox2sd_attributes_check` refuses, with its status, and a
 /// wrong key (`BadAskedKey`).
 #[unsafe(no_mangle)]
-pub extern "C" fn iox2sd_attribute_values(pairs: &[Attribute<'_>], key: &[u8]) -> CountAnswer
+pub extern "C" fn iox2sd_attribute_values_at(pairs: &[Attribute<'_>], key: &[u8]) -> CountAnswer
     ensures { CountsValues pairs.now key.now result }
 {
     let mut at = 0;
@@ -88,7 +88,7 @@ pub extern "C" fn iox2sd_attribute_values(pairs: &[Attribute<'_>], key: &[u8]) -
 /// Refused are, in this order, pairs that `iox2sd_attributes_check` refuses, with its status, a
 /// wrong key (`BadAskedKey`), and an index that the key has no value for (`NoSuchValue`).
 #[unsafe(no_mangle)]
-pub extern "C" fn iox2sd_attribute_value(
+pub extern "C" fn iox2sd_attribute_value_at(
     pairs: &[Attribute<'_>],
     key: &[u8],
     index: usize,
@@ -112,14 +112,14 @@ pub extern "C" fn iox2sd_attribute_value(
 
 /// Whether a set has each required pair, and for each required key some pair with it.
 ///
-/// Refused are, in this order, pairs that `iox2sd_attributes_check` refuses, with its answer;
-/// required pairs that are wrong (`BadRequiredKey`, `BadRequiredValue`), required keys that are
-/// (`BadAskedKey`), and what is required beyond sixteen pairs and keys together
-/// (`TooManyRequired`), with the place in its array; the least required pair that the set lacks
-/// (`MissingPair`), and then the first required key that it lacks (`MissingKey`), with the first
-/// place in its array.
+/// Refused are, in this order, pairs that `iox2sd_attributes_check` refuses, with its answer; the
+/// first invalid required pair, with its index: of an invalid key (`BadRequiredKey`), of a valid
+/// key and an invalid value (`BadRequiredValue`), or the seventeenth (`TooManyRequired`); the first
+/// invalid required key, with its index (`BadAskedKey`, or `TooManyRequired` of the seventeenth of
+/// pairs and keys together); the least required pair that the set lacks (`MissingPair`), and then
+/// the first required key that it lacks (`MissingKey`), with its first index.
 #[unsafe(no_mangle)]
-pub extern "C" fn iox2sd_attributes_verify(
+pub extern "C" fn iox2sd_attributes_verify_at(
     pairs: &[Attribute<'_>],
     required: &[Attribute<'_>],
     keys: &[Key<'_>],

@@ -7,44 +7,16 @@ ghost use Rattle.iox2sd_values.specs.Status.{code};
 pub enum Status {
     /// It was done.
     Done = 0,
-    /// It was done, and the service is locked for good.
-    DoneLocked = 1,
     /// The buffer is too short.
     BufferTooShort = 2,
-    /// Memory was refused.
-    NoMemory = 3,
-    /// The place holds no service.
-    NoService = 4,
-    /// The place holds a service already.
-    HasService = 5,
     /// The number is not that of a messaging pattern.
     UnknownPattern = 6,
-    /// The number is not that of a role.
-    UnknownRole = 7,
-    /// The id is that of no node: its process and its counter are 0.
-    NoNode = 8,
-    /// The service is locked for good.
-    IsLocked = 9,
-    /// No place or no ticket is left.
-    OutOfSpace = 10,
-    /// No entry has the handle.
-    ForeignHandle = 11,
-    /// Some port has the node, and the handle is the node's only one.
-    PortsStillAttached = 12,
-    /// The node of the port is not registered.
-    NodeNotRegistered = 13,
-    /// The pattern has no ports of the role.
-    RoleNotInPattern = 14,
-    /// The number is not that of a kind of data segment.
-    UnknownSegment = 15,
     /// A key of an attribute is empty, too long or holds a forbidden byte.
     BadKey = 16,
     /// A value of an attribute is empty, too long or holds a forbidden byte.
     BadValue = 17,
     /// There are more than sixteen.
     TooMany = 18,
-    /// A required pair or key is not there.
-    NotVerified = 19,
     /// NULL where a place is wanted.
     Null = 20,
     /// The text is empty where that is forbidden.

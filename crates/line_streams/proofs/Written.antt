@@ -1,8 +1,17 @@
--- Known bytes over several writes.
+-- Known bytes over several reads and writes.
 use Rattle.std.proofs.Common.{◌≡◌, ℕ, ◌-◌, List, ◌++◌, length, take, drop, Option, Some, None, ap, sym, ◌∙◌, append_assoc}
 use Rattle.std.proofs.lemmas.List.{take-append-drop}
-use Rattle.std.specs.Io.KnownBytes.{Appends}
+use Rattle.std.specs.Io.KnownBytes.{Appends, Consumes}
 use Rattle.line_streams.proofs.Fronts.{slice_tail}
+
+-- what was read, and then some more
+pub consumes_more : (a b c : Option (List ℕ)) (xs ys : List ℕ) → Consumes a b xs → Consumes b c ys
+    → Consumes a c (xs ++ ys)
+consumes_more None b c xs ys p q = tt
+consumes_more (Some xa) None c xs ys p q = absurd p
+consumes_more (Some xa) (Some xb) None xs ys p q = absurd q
+consumes_more (Some xa) (Some xb) (Some xc) xs ys p q =
+    p ∙ ap (λ (r : List ℕ). xs ++ r) q ∙ sym (append_assoc xs ys xc)
 
 -- what was appended, and then some more
 pub appends_more : (a b c : Option (List ℕ)) (xs ys : List ℕ) → Appends a b xs → Appends b c ys

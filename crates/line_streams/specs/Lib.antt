@@ -1,5 +1,6 @@
--- Promises: how phrases are spelled.
+-- Promises: how phrases are spelled, and what a failed stream has read or written.
 pub mod Spelling
+pub mod Streams
 -- Lemmas that the laws of the phrases cite: each is read in one way.
 pub mod Numerals
 pub mod OneWay

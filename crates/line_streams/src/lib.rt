@@ -3,6 +3,7 @@
 #![tactic(auto)]
 
 mod end;
+pub mod laws;
 mod list;
 mod number;
 mod phrase;

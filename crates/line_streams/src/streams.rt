@@ -2,22 +2,30 @@
 //!
 //! A read or a write that fails is not tried again,
 //! whatever its cause: an interrupted one counts as failed.
-ghost use Rattle.std.specs.Prelude.{◌≡◌, IfOk, IfSome, OnOk};
+ghost use Rattle.std.specs.Prelude.{◌≡◌, [], Some, IfOk, IfSome, IsOk, OnErr, OnOk};
 ghost use Rattle.std.specs.Io.KnownBytes.{Appends, IsAtEnd};
+ghost use Rattle.line_streams.specs.Streams.{ConsumesSome, AppendsBeginning};
 
 use std::alloc::{AllocError, Global};
 use std::io;
 use std::io::{ErrorKind, Read, Write};
 
 /// All bytes of a reader, in pieces of at most 4096, or the refusal of memory for them.
+///
+/// An error is the reader's own. What was read before it, or before memory was refused, is lost.
+/// Memory is never refused where there is no byte.
 pub fn read_all<R: Read>(alloc: Global, reader: &mut R) -> io::Result<Result<Vec<u8>, AllocError>>
     ensures bytes { IfOk result (λ read. IfOk read (λ all.
         IfSome (R.remaining reader.old) (λ input. all.items ≡ input))) }
     ensures end { IfOk result (λ read. OnOk read (IsAtEnd (R.remaining reader.new))) }
+    ensures nothing { R.remaining reader.old ≡ Some [] → IfOk result (λ read. IsOk read) }
+    ensures err { OnErr result (ConsumesSome (R.remaining reader.old) (R.remaining reader.new)) }
+    ensures refused { IfOk result (λ read. OnErr read
+        (ConsumesSome (R.remaining reader.old) (R.remaining reader.new))) }
 {
     let mut all = Vec::new(alloc);
     let mut piece = [0u8; 4096];
-    for _ in 0..u64::MAX {
+    'pieces: loop {
         let n = reader.read(&mut piece)?;
         if n == 0 {
             return Ok(Ok(all));
@@ -25,14 +33,21 @@ pub fn read_all<R: Read>(alloc: Global, reader: &mut R) -> io::Result<Result<Vec
         if let Err(why) = all.extend_from_slice(&piece[..n]) {
             return Ok(Err(why));
         }
+        // For the proof that the loop ends: a list has fewer than 2^64 bytes.
+        let _fits = all.len();
     }
-    // Not reached: no list has room for so many bytes.
-    Err(io::Error::from(ErrorKind::Other))
 }
 
-/// Writes all bytes.
+/// Writes all bytes. No bytes are always written.
+///
+/// An error is the writer's own, or of the kind `WriteZero` where the writer took no byte. Some
+/// first bytes were written before it.
 pub fn write_whole<W: Write>(writer: &mut W, bytes: &[u8]) -> io::Result<()>
-    ensures { OnOk result (Appends (W.contents writer.old) (W.contents writer.new) bytes.now) }
+    ensures whole { OnOk result
+        (Appends (W.contents writer.old) (W.contents writer.new) bytes.now) }
+    ensures nothing { bytes.now ≡ [] → IsOk result }
+    ensures err { OnErr result
+        (AppendsBeginning (W.contents writer.old) (W.contents writer.new) bytes.now) }
 {
     let mut rest = bytes;
     while rest.len() > 0 {

@@ -37,7 +37,7 @@ differs old new (Some h) (Some g) n k = λ e.
     ap (λ (x : Handle). tickets_of old x.role) e in
     absurd (omega (arith, ticket, tickets, n.ticket, k))
 
-keeps : (old new : Service) (handles : List (Option Handle)) (given : Option Handle)
+pub keeps : (old new : Service) (handles : List (Option Handle)) (given : Option Handle)
     → Moves old new given → KeepsHandles old handles → KeepsHandles new (handles ++ given ∷ [])
 keeps old new handles given m k = record {
   given = All-push (IsGiven new) handles given

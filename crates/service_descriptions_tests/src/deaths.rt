@@ -9,7 +9,7 @@ use service_descriptions::replay::{Cleanup, Command};
 use std::alloc::{AllocError, Global};
 
 /// A node and two ports of each kind.
-const COMING: [&str; 5] = [
+static COMING: [&str; 5] = [
     "register 1.0.0.1",
     "add publisher 1.0.0.11 1.0.0.1",
     "add publisher 1.0.0.12 1.0.0.1",
@@ -17,7 +17,7 @@ const COMING: [&str; 5] = [
     "add subscriber 1.0.0.14 1.0.0.1",
 ];
 
-const LISTINGS: [&str; 3] = ["list publisher", "list subscriber", "nodes"];
+static LISTINGS: [&str; 3] = ["list publisher", "list subscriber", "nodes"];
 
 /// The lines of the replies, on a service with room for them.
 pub(super) const LINES: &str =

@@ -6,6 +6,8 @@
 #[cfg(test)]
 mod deaths;
 #[cfg(test)]
+mod debugs;
+#[cfg(test)]
 mod descriptions;
 #[cfg(test)]
 mod line_runs;

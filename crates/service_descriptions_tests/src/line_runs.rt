@@ -42,7 +42,7 @@ fn assert_serves(rt: &(impl Abort + AllocGlobal), script: &str, lines: &str) -> 
 
 #[test]
 fn worked_scripts(rt: HostRuntime) -> Result<(), Fail> {
-    for (script, lines) in ROWS {
+    for (script, lines) in &ROWS {
         assert_serves(&rt, script, lines)?;
     }
     Ok(())

@@ -41,9 +41,8 @@ fn is_same(one: &Command, other: &Command) -> bool {
     }
 }
 
-#[test]
-fn commands(rt: HostRuntime) -> Result<(), Fail> {
-    let alloc = rt.alloc();
+/// Lines, and the commands that they are. A vector owns these, whose drop is a function of its own.
+fn command_rows(alloc: Global) -> Result<Vec<(&'static str, Command)>, Fail> {
     let one = UniqueNodeId::new(1, 2, 3, 4).ok_or("an id")?;
     let last = UniqueNodeId::new(MOST, MOST, MOST, MOST).ok_or("an id")?;
     let publisher = PortDetails::Publisher(PublisherDetails {
@@ -99,82 +98,95 @@ fn commands(rt: HostRuntime) -> Result<(), Fail> {
             Command::Dead(last, Cleanup::ByPort(many_kept)),
         ),
     ];
-    for (line, command) in &rows {
-        let read = read_line(alloc, line.as_bytes())?.ok_or("a command")?;
-        assert!(rt; is_same(&read, command), "at {line}");
+    Ok(Vec::from_array(alloc, rows)?)
+}
+
+/// Whether a line is read as this command.
+fn is_read_as(alloc: Global, line: &str, command: &Command) -> Result<bool, AllocError> {
+    let read = read_line(alloc, line.as_bytes())?;
+    Ok(read.is_some_and(|read| is_same(&read, command)))
+}
+
+#[test]
+fn commands(rt: HostRuntime) -> Result<(), Fail> {
+    for (line, command) in &command_rows(rt.alloc())? {
+        assert!(rt; is_read_as(rt.alloc(), line, command)?, "at {line}");
     }
     Ok(())
 }
 
+static NO_COMMANDS: [&str; 62] = [
+    "",
+    "register",
+    "register ",
+    "register 1.0.0",
+    "register 1.0.0.1.1",
+    "register 1..0.1",
+    "register 01.0.0.1",
+    "register 00.0.0.1",
+    "register 1.0.0.01",
+    "register +1.0.0.1",
+    "register -1.0.0.1",
+    "register 0.5.6.0",
+    "register 4294967296.0.0.1",
+    "register 1.0.0.4294967296",
+    "register  1.0.0.1",
+    " register 1.0.0.1",
+    "register 1.0.0.1 ",
+    "register 1.0.0.1\r",
+    "register 1.0.0.1\n",
+    "register 1.0.0.1 1.0.0.1",
+    "Register 1.0.0.1",
+    "registers 1.0.0.1",
+    "deregister",
+    "deregister ",
+    "deregister 00",
+    "deregister 01",
+    "deregister +1",
+    "deregister 0x1",
+    "deregister 1 ",
+    "deregister 1 1",
+    "deregister 18446744073709551616",
+    "deregister 100000000000000000000",
+    "service event 7 1 2 2",
+    "nodes ",
+    "nodes 1",
+    "node",
+    "add listener 1.0.0.9",
+    "add listener 1.0.0.9 0.5.6.0",
+    "add node 1.0.0.9 1.0.0.1",
+    "add listener 1.0.0.9  1.0.0.1",
+    "add listener 1.0.0.9 1.0.0.1 ",
+    "release",
+    "release 07",
+    "list",
+    "list node",
+    "list  listener",
+    "list listeners",
+    "count listener ",
+    "count listener 1",
+    "dead",
+    "dead 0.5.6.0",
+    "dead 1.0.0.1 ",
+    "dead 1.0.0.1 skip",
+    "dead 1.0.0.1 skip ",
+    "dead 1.0.0.1 skip 1.0.0",
+    "dead 1.0.0.1 skip 1.0.0.9 ",
+    "dead 1.0.0.1 skip  1.0.0.9",
+    "dead 1.0.0.1 skip 1.0.0.9  1.0.0.10",
+    "dead 1.0.0.1 1.0.0.9",
+    "dead 1.0.0.1 skip 4294967295.4294967295.4294967295.4294967295 4294967295.4294967295.4294967295.4294967296",
+    "verify",
+    "layout message 1",
+];
+
 #[test]
 fn no_commands(rt: HostRuntime) -> Result<(), Fail> {
-    let lines = [
-        "",
-        "register",
-        "register ",
-        "register 1.0.0",
-        "register 1.0.0.1.1",
-        "register 1..0.1",
-        "register 01.0.0.1",
-        "register 00.0.0.1",
-        "register 1.0.0.01",
-        "register +1.0.0.1",
-        "register -1.0.0.1",
-        "register 0.5.6.0",
-        "register 4294967296.0.0.1",
-        "register 1.0.0.4294967296",
-        "register  1.0.0.1",
-        " register 1.0.0.1",
-        "register 1.0.0.1 ",
-        "register 1.0.0.1\r",
-        "register 1.0.0.1\n",
-        "register 1.0.0.1 1.0.0.1",
-        "Register 1.0.0.1",
-        "registers 1.0.0.1",
-        "deregister",
-        "deregister ",
-        "deregister 00",
-        "deregister 01",
-        "deregister +1",
-        "deregister 0x1",
-        "deregister 1 ",
-        "deregister 1 1",
-        "deregister 18446744073709551616",
-        "deregister 100000000000000000000",
-        "service event 7 1 2 2",
-        "nodes ",
-        "nodes 1",
-        "node",
-        "add listener 1.0.0.9",
-        "add listener 1.0.0.9 0.5.6.0",
-        "add node 1.0.0.9 1.0.0.1",
-        "add listener 1.0.0.9  1.0.0.1",
-        "add listener 1.0.0.9 1.0.0.1 ",
-        "release",
-        "release 07",
-        "list",
-        "list node",
-        "list  listener",
-        "list listeners",
-        "count listener ",
-        "count listener 1",
-        "dead",
-        "dead 0.5.6.0",
-        "dead 1.0.0.1 ",
-        "dead 1.0.0.1 skip",
-        "dead 1.0.0.1 skip ",
-        "dead 1.0.0.1 skip 1.0.0",
-        "dead 1.0.0.1 skip 1.0.0.9 ",
-        "dead 1.0.0.1 skip  1.0.0.9",
-        "dead 1.0.0.1 skip 1.0.0.9  1.0.0.10",
-        "dead 1.0.0.1 1.0.0.9",
-        "dead 1.0.0.1 skip 4294967295.4294967295.4294967295.4294967295 4294967295.4294967295.4294967295.4294967296",
-        "verify",
-        "layout message 1",
-    ];
-    for line in lines {
-        let found = read_line(rt.alloc(), line.as_bytes())?;
-        assert!(rt; found.is_none(), "at {line}");
+    for line in &NO_COMMANDS {
+        assert!(rt;
+            read_line(rt.alloc(), line.as_bytes())?.is_none(),
+            "at {line}"
+        );
     }
     Ok(())
 }
@@ -186,14 +198,15 @@ fn line_of(alloc: Global, reply: &Reply) -> Result<Vec<u8>, AllocError> {
     Ok(out)
 }
 
-#[test]
-fn reply_lines(rt: HostRuntime) -> Result<(), Fail> {
-    let alloc = rt.alloc();
+/// Replies, and their lines.
+fn reply_rows(alloc: Global) -> Result<Vec<(Reply, &'static str)>, Fail> {
     let one = UniqueNodeId::new(1, 0, 0, 1).ok_or("an id")?;
     let key = AttributeKey::new(b"b").ok().ok_or("a key")?;
     let value = AttributeValue::new(b"1").ok().ok_or("a value")?;
     let pair = (key.copied(), value);
     let most = usize::MAX;
+    let nodes = vec![in alloc; one, one]?;
+    let ports = vec![in alloc; listener(one)]?;
     let rows = [
         (
             Reply::Handle(ContainerHandle::from_parts(7, Role::Node, 0, 0)),
@@ -217,10 +230,10 @@ fn reply_lines(rt: HostRuntime) -> Result<(), Fail> {
         (Reply::Count(most), "count 18446744073709551615\n"),
         (Reply::Nodes(Vec::new(alloc)), "list\n"),
         (
-            Reply::Nodes(vec![in alloc; one, one]?),
+            Reply::Nodes(nodes),
             "list 1000000000000000000000001 1000000000000000000000001\n",
         ),
-        (Reply::Ports(vec![in alloc; listener(one)]?), "list 0\n"),
+        (Reply::Ports(ports), "list 0\n"),
         (Reply::Verified, "verified\n"),
         (
             Reply::Refused(AttributeVerificationError::NonExistingKey(key)),
@@ -238,8 +251,13 @@ fn reply_lines(rt: HostRuntime) -> Result<(), Fail> {
         (Reply::Compatible(false), "incompatible\n"),
         (Reply::NoDescription, "no-description\n"),
     ];
-    for (reply, line) in &rows {
-        assert_eq!(rt; line_of(alloc, reply)?.as_slice(), line.as_bytes());
+    Ok(Vec::from_array(alloc, rows)?)
+}
+
+#[test]
+fn reply_lines(rt: HostRuntime) -> Result<(), Fail> {
+    for (reply, line) in &reply_rows(rt.alloc())? {
+        assert_eq!(rt; line_of(rt.alloc(), reply)?.as_slice(), line.as_bytes());
     }
     Ok(())
 }

@@ -69,11 +69,16 @@ fn commands_at_last(alloc: Global, dead: UniqueNodeId) -> Result<Vec<Command>, A
     }
 }
 
+/// A new service with room for two nodes and two ports of each kind.
+fn state(alloc: Global) -> Result<Box<ServiceState>, AllocError> {
+    Ok(Box::new(alloc, ServiceState::new(alloc, &SETTINGS, 2, 9)?)?)
+}
+
 /// The service, made again where memory was refused.
-fn state_at_last(alloc: Global) -> Result<ServiceState, AllocError> {
-    match ServiceState::new(alloc, &SETTINGS, 2, 9) {
+fn state_at_last(alloc: Global) -> Result<Box<ServiceState>, AllocError> {
+    match state(alloc) {
         Ok(state) => Ok(state),
-        Err(_) => ServiceState::new(alloc, &SETTINGS, 2, 9),
+        Err(_) => state(alloc),
     }
 }
 

@@ -23,7 +23,7 @@ fn gives(rt: &(impl Abort + AllocGlobal), script: &str, lines: &str, bad: Option
 
 #[test]
 fn worked_scripts(rt: HostRuntime) {
-    for (script, lines) in ROWS {
+    for (script, lines) in &ROWS {
         gives(&rt, script, lines, None);
     }
 }

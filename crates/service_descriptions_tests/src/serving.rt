@@ -35,10 +35,13 @@ fn asked(line: &str) -> Option<(u64, usize, MessagingPatternSettings)> {
 }
 
 /// The service that a script's first line asks for.
-pub(super) fn new_service(alloc: Global, line: &str) -> Result<ServiceState, Fail> {
+pub(super) fn new_service(alloc: Global, line: &str) -> Result<Box<ServiceState>, Fail> {
     let words = line.strip_prefix("service ").ok_or("a service line")?;
     let (number, max_nodes, settings) = asked(words).ok_or("a service line")?;
-    Ok(ServiceState::new(alloc, &settings, max_nodes, number)?)
+    Ok(Box::new(
+        alloc,
+        ServiceState::new(alloc, &settings, max_nodes, number)?,
+    )?)
 }
 
 /// Appends the commands that these lines spell.

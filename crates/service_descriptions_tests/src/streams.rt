@@ -165,7 +165,7 @@ fn gives(
 
 #[test]
 fn worked_scripts(rt: HostRuntime) {
-    for (script, lines) in ROWS {
+    for (script, lines) in &ROWS {
         for pieces in [[1, 1], [40, 20], [4096, 4096]] {
             gives(&rt, script, pieces, (0, lines, ""));
         }

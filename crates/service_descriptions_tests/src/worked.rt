@@ -11,7 +11,7 @@ pub(super) const SKIPPED: (&str, &str) = (
 );
 
 /// The scripts with their reply lines.
-pub(super) const ROWS: [(&str, &str); 16] = [
+pub(super) static ROWS: [(&str, &str); 16] = [
     (SCRIPT, LINES),
     SKIPPED,
     // A place is taken again under another ticket.

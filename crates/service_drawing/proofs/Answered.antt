@@ -3,11 +3,13 @@ use Rattle.std.proofs.Common.{◌≡◌, ℕ, List, Option, Some, None, IfSome, 
 use Rattle.std.specs.Result.{IsErr, IsErrAnd, MatchResult}
 use Rattle.std.specs.declared.alloc.Global.{Global}
 use Rattle.service_drawing.specs.Descriptions.{StopsReading}
+use Rattle.service_drawing.specs.Reasons.{IsReason}
 use Rattle.service_drawing.specs.Streams.{status_of, TellsBadLine, Draws, Answers}
 use Rattle.service_drawing.specs.declared.arguments.Asked.{Asked}
 use Rattle.service_drawing.specs.declared.fault.Fault.{Fault}
 use Rattle.service_drawing.specs.declared.fault.Fault.TheVariants.{BadArgument, BadLine, NoMemory}
 use Rattle.service_drawing.specs.declared.reading.expected.Expected.{Expected}
+use Rattle.service_drawing.proofs.Reasons.{one_reason}
 
 -- the status 0 is that of an answer
 pub answered_at_zero : (end : Result (String Global) Fault) (P : Type 0) → IfOk end (λ text. P)
@@ -32,13 +34,15 @@ answers_for given asked field expected end e f h =
 
 -- the line that is told is that where reading stopped
 pub draws_no_more : (bytes : List ℕ) (expected : Expected) (fault : Fault)
-    → StopsReading expected.rest.now bytes → TellsBadLine bytes expected fault
-    → Draws bytes (Err fault)
+    → StopsReading expected.rest.now bytes × IsReason expected.reason expected.rest.now bytes
+    → TellsBadLine bytes expected fault → Draws bytes (Err fault)
 draws_no_more bytes expected (BadLine line cause prefix form) s h = record {
   left = expected.rest.now;
   reason = expected.reason;
-  stops = s;
-  number = h.0 s.read s.parts;
+  stops = s.0;
+  number = h.0 s.0.read s.0.parts;
+  found = s.1;
+  alone = λ other h. one_reason expected.reason other expected.rest.now bytes s.1 h;
   because = h.1;
 }
 draws_no_more bytes expected BadArgument s h = h

@@ -3,8 +3,8 @@ use Rattle.std.proofs.Common.{◌≡◌, ℕ, ◌+◌, ◌<◌, ◌≤◌, true,
 use Rattle.std.proofs.lemmas.List.Sorted.{IsPermutation-cons, IsPermutation-to_front, IsPermutation-trans}
 use Rattle.iox2_texts.specs.Attribute.{IsListing}
 use Rattle.iox2_texts.specs.Pair.{Pair}
-use Rattle.service_drawing.specs.Lines.{IsLine, HasNoLine, HasLineOf, IsPair, pair_text, GivesPair, HasAttributes, HasLinesOf, Whole, Begins, StopsAt}
-use Rattle.service_drawing.proofs.LinesOf.{UpTo, more_lines, all_lines, lines_stop, goes_on, longer_by_one, no_key}
+use Rattle.service_drawing.specs.Lines.{IsLine, HasNoLine, HasLineOf, IsPair, pair_text, GivesPair, HasAttributes, HasLinesOf, Whole, Begins, StopsAt, UpTo}
+use Rattle.service_drawing.proofs.LinesOf.{more_lines, all_lines, lines_stop, goes_on, longer_by_one, no_key}
 
 -- what was read so far
 pub record Reading (set : List Pair) (at bytes : List ℕ) : Type 0 where

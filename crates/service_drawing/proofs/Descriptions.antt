@@ -54,7 +54,7 @@ in_turn bytes g =
     ((d.kind, d.name), h.at_settings, h.service, settings)
 
 -- the line of a service tells its pattern
-service_same : (j k : PatternKind) (m n x y bytes : List ℕ) → HasService j m x bytes
+pub service_same : (j k : PatternKind) (m n x y bytes : List ℕ) → HasService j m x bytes
     → HasService k n y bytes → (j ≡ k) × (x ≡ y)
 service_same j k m n x y bytes p q =
     let same = line_one _ _ x y bytes p.line q.line in

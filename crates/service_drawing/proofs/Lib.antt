@@ -8,6 +8,7 @@ mod MessageParts
 mod Messages
 mod Naming
 mod Pairs
+mod Reasons
 mod Required
 mod ServiceNames
 mod SettingLines

@@ -1,16 +1,10 @@
 -- Lines of one kind that were read, and what no further line may be.
 use Rattle.std.proofs.Common.{◌≡◌, ◌<◌, ℕ, List, [], ◌∷◌, ◌++◌, Some, None, length, map, refl, sym, ap, ◌∙◌, subst, arith, length-append}
 use Rattle.std.proofs.lemmas.List.{length-map}
-use Rattle.service_drawing.specs.Lines.{IsLine, HasNoLine, HasSameLine, Stops, HasLineOf, HasLinesOf}
+use Rattle.service_drawing.specs.Lines.{IsLine, HasNoLine, HasSameLine, Stops, HasLineOf, HasLinesOf, UpTo}
 use Rattle.service_drawing.proofs.Messages.{same_text}
 use Rattle.service_drawing.proofs.Stops.{IsPart, moves_as, line_moves, moves_then, line_later, none_begins, AreApart, other_line}
 use Rattle.service_drawing.proofs.Words.{line_one}
-
--- these lines stand before this place
-abbrev pub UpTo : {A : Type 0} → List ℕ → (A → List ℕ → Type 0) → List A → List ℕ → List ℕ → Type 0
-UpTo begin Spells [] at bytes = bytes ≡ at
-UpTo begin Spells (x ∷ xs) at bytes =
-    (mid : List ℕ) × HasLineOf begin Spells x mid bytes × UpTo begin Spells xs at mid
 
 -- one more line
 pub more_lines : {A : Type 0} (begin : List ℕ) (Spells : A → List ℕ → Type 0) (xs : List A) (x : A)

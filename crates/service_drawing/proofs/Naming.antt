@@ -1,7 +1,8 @@
 -- Settings that are found by their names.
-use Rattle.std.proofs.Common.{◌≡◌, ℕ, ◌<◌, ◌≤◌, List, Bool, false, length, get_or, ap, Some, None, slice_get, inl, inr, subst, sym, ◌∙◌, arith}
+use Rattle.std.proofs.Common.{◌≡◌, ◌≢◌, ℕ, ◌<◌, ◌≤◌, ◌∷◌, ◌++◌, List, Bool, false, length, get_or, ap, Some, None, slice_get, inl, inr, subst, sym, ◌∙◌, arith}
 use Rattle.std.proofs.lemmas.Option.{none-some, slice_get_within, slice_get_cases, slice_get-get_or}
-use Rattle.service_drawing.specs.Settings.{HasName, IsSetting, IsNamed}
+use Rattle.service_drawing.specs.Settings.{HasName, IsSetting, IsNamed, word_of}
+use Rattle.service_drawing.proofs.Words.{longer}
 
 -- the setting of this number has another name
 pub not_named : (names : List (List ℕ)) (i : ℕ) (word name : List ℕ) → Some name ≡ slice_get names i
@@ -30,3 +31,8 @@ as_word names i word other e h = subst (λ (w : List ℕ). IsSetting names i w) 
 pub marked_at : (given : List Bool) (index : ℕ) (mark : Bool) → index < length given
     → get_or given index false ≡ mark → slice_get given index ≡ Some mark
 marked_at given index mark within e = slice_get-get_or given index false within ∙ ap Some e
+
+-- a space stands behind the word
+pub spaced : (text word rest : List ℕ) → word_of text ≡ word → text ≡ word ++ 32 ∷ rest
+    → word_of text ≢ text
+spaced text word rest e f same = longer word rest 32 (sym e ∙ same ∙ f)

@@ -5,9 +5,9 @@ use Rattle.std.proofs.lemmas.List.Elements.{filter_map-append}
 use Rattle.std.proofs.lemmas.List.Sorted.{length_permutation}
 use Rattle.iox2_texts.specs.Attribute.{IsListing}
 use Rattle.iox2_texts.specs.Verify.{Requirements}
-use Rattle.service_drawing.specs.Lines.{IsLine, HasNoLine, HasLinesOf, Requirement, OfPair, OfKey, GivesRequirement, RequiresToo, number_required, RequiresMore, RequiresNoMore, pair_of, key_of, HasRequirements, Whole, Begins, StopsAt}
+use Rattle.service_drawing.specs.Lines.{IsLine, HasNoLine, HasLinesOf, Requirement, OfPair, OfKey, GivesRequirement, RequiresToo, number_required, RequiresMore, RequiresNoMore, pair_of, key_of, HasRequirements, Whole, Begins, StopsAt, UpTo}
 use Rattle.service_drawing.proofs.Attributes.{listed_more}
-use Rattle.service_drawing.proofs.LinesOf.{UpTo, more_lines, all_lines, lines_stop, goes_on, longer_by_one, no_key}
+use Rattle.service_drawing.proofs.LinesOf.{more_lines, all_lines, lines_stop, goes_on, longer_by_one, no_key}
 
 -- what was read so far
 pub record Requiring (required : Requirements) (at bytes : List ℕ) : Type 0 where

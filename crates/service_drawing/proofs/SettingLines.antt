@@ -6,12 +6,12 @@ use Rattle.std.proofs.lemmas.Cmp.{nat_eq_equiv}
 use Rattle.std.proofs.lemmas.List.{append_cancel_left, map-append}
 use Rattle.std.proofs.lemmas.List.Folds.{list_any-append}
 use Rattle.std.proofs.lemmas.Map.Keys.{IsDistinct-push}
-use Rattle.service_drawing.specs.Lines.{IsLine, HasNoLine, HasLinesOf, Begins, Stops}
+use Rattle.service_drawing.specs.Lines.{IsLine, HasNoLine, HasLinesOf, Begins, Stops, UpTo}
 use Rattle.service_drawing.specs.Settings.{IsSetting, MayBecome, Assignment, GivesSetting, assigned, HasSettings, Sets, NamesMarked, IsNotSet, word_of, value_text}
 use Rattle.service_drawing.specs.declared.reading.cause.Reason.{Reason}
 use Rattle.service_drawing.specs.declared.reading.cause.Reason.TheVariants.{InternalName, UnknownSetting, SetTwice, OtherForm}
 use Rattle.service_drawing.specs.declared.settings.value.Value.{Value}
-use Rattle.service_drawing.proofs.LinesOf.{UpTo, more_lines, all_lines, lines_stop, GoesOn, goes_on}
+use Rattle.service_drawing.proofs.LinesOf.{more_lines, all_lines, lines_stop, GoesOn, goes_on}
 use Rattle.service_drawing.proofs.Words.{longer}
 
 -- the numbers of the settings
@@ -238,17 +238,18 @@ not_set names defaults values given reason at bytes text tail r l bad other rest
 
     go : (why : Reason) → ¬ IsNotSet names values given text why
     go InternalName b = b
-    go UnknownSetting b = b next.one.index next.spelled.setting.named
+    go UnknownSetting b = b.1 next.one.index next.spelled.setting.named
     go SetTwice b =
-        let same : b.index ≡ next.one.index =
-        one_setting names b.index next.one.index (word_of text) b.setting next.spelled.setting in
+        let m = b.1 in
+        let same : m.index ≡ next.one.index =
+        one_setting names m.index next.one.index (word_of text) m.setting next.spelled.setting in
         let once : IsDistinct nat_eq (numbers r.sets ++ next.one.index ∷ numbers next.more) =
         subst (IsDistinct nat_eq) next.keys h.once in
-        let fresh : list_any (nat_eq b.index) (numbers r.sets) ≡ false =
+        let fresh : list_any (nat_eq m.index) (numbers r.sets) ≡ false =
         subst (λ i. list_any (nat_eq i) (numbers r.sets) ≡ false) (sym same)
         (earlier_differ (numbers r.sets) (numbers next.more) next.one.index once) in
-        let marked : true ≡ list_any (nat_eq b.index) (numbers r.sets) =
-        r.marks b.index true b.marked in
+        let marked : true ≡ list_any (nat_eq m.index) (numbers r.sets) =
+        r.marks m.index true m.marked in
         cc
     go OtherForm b =
         elim b.0 [

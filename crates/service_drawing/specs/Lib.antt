@@ -3,6 +3,7 @@ pub mod Arguments
 pub mod Causes
 pub mod Descriptions
 pub mod Lines
+pub mod Reasons
 pub mod Settings
 pub mod Streams
 -- Inner facts: where the parts of a drawn message lie, and which messages the ports send.

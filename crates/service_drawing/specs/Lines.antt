@@ -78,6 +78,12 @@ pub record HasLineOf {A : Type 0} (begin : List ℕ) (Spells : A → List ℕ �
   pub line : IsLine (begin ++ text) rest bytes
   pub spelled : Spells x text
 
+-- the bytes begin with a line of each of these in this order, up to what is left
+abbrev pub UpTo : {A : Type 0} → List ℕ → (A → List ℕ → Type 0) → List A → List ℕ → List ℕ → Type 0
+UpTo begin Spells [] left bytes = bytes ≡ left
+UpTo begin Spells (x ∷ xs) left bytes =
+    (mid : List ℕ) × HasLineOf begin Spells x mid bytes × UpTo begin Spells xs left mid
+
 -- the bytes begin with a line of each of these in this order, and no more follow
 abbrev pub HasLinesOf : {A : Type 0} → List ℕ → (A → List ℕ → Type 0) → List A → List ℕ → List ℕ
     → Type 0

@@ -1,5 +1,5 @@
 -- The settings of services, by their numbers.
-use Rattle.std.specs.Prelude.{◌≡◌, ◌==◌, ◌⊎◌, ℕ, List, [], ◌∷◌, ◌++◌, Bool, codes, cond, map, nat_eq, ◌<◌, ◌^◌, length, Some, None, IfSome, true, false, slice_get, slice_index, slice_set}
+use Rattle.std.specs.Prelude.{◌≡◌, ◌≢◌, ◌==◌, ◌⊎◌, ℕ, List, [], ◌∷◌, ◌++◌, Bool, codes, cond, map, nat_eq, ◌<◌, ◌^◌, length, Some, None, IfSome, true, false, slice_get, slice_index, slice_set}
 use Rattle.std.specs.List.{before_first, IsDistinct}
 use Rattle.std.specs.Fmt.{decimal}
 use Rattle.std.specs.Duration.{as_nanos}
@@ -200,11 +200,13 @@ pub record NamesMarked (names : List (List ℕ)) (given : List Bool) (text : Lis
   pub setting : IsSetting names index (word_of text)
   pub marked : slice_get given index ≡ Some mark
 
--- for this reason no setting is set: the name is looked at first, then whether it was set before
+-- for this reason no setting is set: the name, behind which a space stands, is looked at first,
+-- then whether it was set before
 abbrev pub IsNotSet : List (List ℕ) → List Value → List Bool → List ℕ → Reason → Type 0
 IsNotSet names values given text UnknownSetting =
-    (index : ℕ) → ¬ HasName names index (word_of text)
-IsNotSet names values given text SetTwice = NamesMarked names given text true
+    (word_of text ≢ text) × ((index : ℕ) → ¬ HasName names index (word_of text))
+IsNotSet names values given text SetTwice =
+    (word_of text ≢ text) × NamesMarked names given text true
 IsNotSet names values given text OtherForm =
     ((word_of text ≡ text) ⊎ NamesMarked names given text false)
     × ((set : Assignment) → ¬ GivesSetting names values set text)

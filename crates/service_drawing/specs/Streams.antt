@@ -8,6 +8,7 @@ use Rattle.std.specs.declared.vec.IntoIter.{IntoIter}
 use Rattle.service_drawing.specs.Arguments.{AsksFor, IsDrawing, IsTextOrNoMemory}
 use Rattle.service_drawing.specs.Causes.{IsCause}
 use Rattle.service_drawing.specs.Descriptions.{IsDescription, StopsReading}
+use Rattle.service_drawing.specs.Reasons.{IsReason}
 use Rattle.service_drawing.specs.declared.arguments.Asked.{Asked}
 use Rattle.service_drawing.specs.declared.arguments.Asked.TheVariants.{Drawing, Help, Version}
 use Rattle.service_drawing.specs.declared.arguments.TheConstants.{HELP, VERSION}
@@ -60,12 +61,15 @@ TellsBadLine bytes expected (BadLine line cause prefix form) =
 TellsBadLine bytes expected BadArgument = ⊥
 TellsBadLine bytes expected NoMemory = ⊥
 
--- the line of this number is bad for this cause: it is the first that no description has there
+-- the line of this number is bad for this cause: it is the first that no description has there, and
+-- its cause follows from the reason why none has it
 pub record IsBadLine (line : ℕ) (cause : Cause) (bytes : List ℕ) : Type 0 where
   pub left : List ℕ
   pub reason : Reason
   pub stops : StopsReading left bytes
   pub number : line ≡ count_by (λ b. b == 10) stops.read + 1
+  pub found : IsReason reason left bytes
+  pub alone : (other : Reason) → IsReason other left bytes → other ≡ reason
   pub because : IsCause left reason cause
 
 -- what is drawn of the bytes: a description, or the number of the first line that none has there

@@ -1,9 +1,12 @@
 //! Descriptions as lines.
 ghost use Rattle.std.specs.Prelude.{◌≡◌, ℕ, List, codes, IfOk, IfErr, MatchResult};
+ghost use Rattle.iox2_config.specs.Defaults.{default_defaults};
 ghost use Rattle.iox2_config.specs.TypeDetailParts.{TypeDetailParts};
 ghost use Rattle.service_drawing.specs.Descriptions.{HasDescription, StopsReading};
 ghost use Rattle.service_drawing.specs.Lines.{HasType, HasExchange, StopsAt};
-ghost use Rattle.service_drawing.specs.Settings.{HasConfiguration};
+ghost use Rattle.service_drawing.specs.Reasons.{IsReason, IsSettingReason};
+ghost use Rattle.service_drawing.specs.Settings.{HasConfiguration, section};
+ghost use Rattle.service_drawing.specs.declared.reading.cause.Reason.TheVariants.{OtherForm};
 
 mod attributes;
 pub(crate) mod cause;
@@ -27,7 +30,9 @@ use settings::settings_before;
 fn configuration_before(bytes: &[u8], kind: PatternKind) -> Result<(Config, &[u8]), Expected<'_>>
     ensures { MatchResult result
         (λ found. HasConfiguration kind found.0 found.1.now bytes.now)
-        (λ expected. StopsAt (HasConfiguration kind) expected.rest.now bytes.now) }
+        (λ expected. StopsAt (HasConfiguration kind) expected.rest.now bytes.now
+        × IsSettingReason (section kind).names ((section kind).values default_defaults)
+        expected.reason expected.rest.now bytes.now) }
 {
     let mut config = Config::default();
     match kind {
@@ -57,6 +62,7 @@ fn key_type_before(bytes: &[u8]) -> Result<(TypeDetail, &[u8]), Expected<'_>>
         (λ expected. (t : TypeDetailParts) (rest : List ℕ)
         → ¬ HasType (codes "key ") t rest bytes.now) }
     ensures place { IfErr result (λ expected. expected.rest.now ≡ bytes.now) }
+    ensures reason { IfErr result (λ expected. expected.reason ≡ OtherForm) }
 {
     fixed_before(
         bytes,
@@ -69,7 +75,8 @@ fn key_type_before(bytes: &[u8]) -> Result<(TypeDetail, &[u8]), Expected<'_>>
 /// The lines of what the ports exchange.
 fn exchange_before(bytes: &[u8], kind: PatternKind) -> Result<(Exchange, &[u8]), Expected<'_>>
     ensures { MatchResult result (λ found. HasExchange kind found.0 found.1.now bytes.now)
-        (λ expected. StopsAt (HasExchange kind) expected.rest.now bytes.now) }
+        (λ expected. StopsAt (HasExchange kind) expected.rest.now bytes.now
+        × (expected.reason ≡ OtherForm)) }
 {
     match kind {
         PatternKind::PublishSubscribe => {
@@ -92,7 +99,8 @@ fn exchange_before(bytes: &[u8], kind: PatternKind) -> Result<(Exchange, &[u8]),
 /// The service that the lines describe, or what was expected in the place of the first bad one.
 pub(crate) fn read_description(bytes: &[u8]) -> Result<Description, Expected<'_>>
     ensures { MatchResult result (λ d. HasDescription d bytes.now)
-        (λ expected. StopsReading expected.rest.now bytes.now) }
+        (λ expected. StopsReading expected.rest.now bytes.now
+        × IsReason expected.reason expected.rest.now bytes.now) }
 {
     let (service, rest) = service_before(bytes)?;
     let (config, rest) = configuration_before(rest, service.kind)?;

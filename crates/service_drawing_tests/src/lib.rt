@@ -14,6 +14,10 @@ mod good;
 #[cfg(test)]
 mod memory;
 #[cfg(test)]
+mod parts;
+#[cfg(test)]
 mod refusals;
+#[cfg(test)]
+mod reports;
 #[cfg(test)]
 mod running;

@@ -17,7 +17,7 @@ fn attach(rt: &impl Abort, service: &mut DynamicConfig, port: PortDetails) {
 
 /// Node 1, which is registered twice, with a publisher
 /// and a subscriber, and node 2 with a publisher.
-fn peopled(rt: &impl Abort, alloc: Global) -> Result<DynamicConfig, Fail> {
+fn peopled(rt: &impl Abort, alloc: Global) -> Result<Box<DynamicConfig>, Fail> {
     let mut service = service(alloc, 3)?;
     service.register_node_id(node(rt, 1))?;
     service.register_node_id(node(rt, 2))?;

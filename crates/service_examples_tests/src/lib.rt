@@ -6,6 +6,8 @@
 #[cfg(test)]
 mod counting;
 #[cfg(test)]
+mod debugs;
+#[cfg(test)]
 mod joining;
 #[cfg(test)]
 mod life;

@@ -1,10 +1,9 @@
 //! A service for the callers: its description, its types, its nodes and its ports.
 use iox2_config::config::{Config, DataSegmentType};
-use iox2_config::hash::Sha1Hasher;
+use iox2_config::hash::{PatternKind, Sha1Hasher};
 use iox2_config::types::{MessageTypeDetails, TypeDetail, TypeVariant};
 use iox2_dynamic::dynamic_config::{
     DynamicConfig, MessagingPatternSettings, PortDetails, PublisherDetails, SubscriberDetails,
-    publish_subscribe,
 };
 use iox2_ids::identifiers::{UniqueNodeId, UniquePublisherId, UniqueServiceId, UniqueSubscriberId};
 use iox2_static::static_config::StaticConfig;
@@ -59,17 +58,9 @@ pub(super) fn description(rt: &impl Abort) -> StaticConfig {
 
 /// A service of number 7 with this many places for
 /// nodes, two for publishers and two for subscribers.
-pub(super) fn service(alloc: Global, nodes: usize) -> Result<DynamicConfig, AllocError> {
-    let ports = publish_subscribe::DynamicConfigSettings {
-        number_of_publishers: 2,
-        number_of_subscribers: 2,
-    };
-    DynamicConfig::new(
-        alloc,
-        &MessagingPatternSettings::PublishSubscribe(ports),
-        nodes,
-        7,
-    )
+pub(super) fn service(alloc: Global, nodes: usize) -> Result<Box<DynamicConfig>, AllocError> {
+    let settings = MessagingPatternSettings::new(PatternKind::PublishSubscribe, 2, 2);
+    Ok(Box::new(alloc, DynamicConfig::new(alloc, &settings, nodes, 7)?)?)
 }
 
 /// Somebody who wants messages of two numbers from a service of this color.

@@ -1,4 +1,4 @@
-//! Values that are printed into a writer that fails.
+//! Values that are printed into a writer that fails, or that takes one text alone.
 use std::fmt;
 use std::fmt::{Debug, Display, Write};
 
@@ -59,4 +59,43 @@ pub fn is_shown(value: &impl Debug) -> bool {
 /// Whether the value is printed and shown, each as above.
 pub fn is_printed_and_shown(value: &(impl Display + Debug)) -> bool {
     is_printed(value) && is_shown(value)
+}
+
+/// Takes the pieces of one text in turn, and fails at any other.
+#[derive(Drop)]
+struct Expected<'a> {
+    left: &'a [u8],
+}
+
+impl Write for Expected<'_> {
+    fn write_str(&mut self, text: &str) -> fmt::Result {
+        match self.left.strip_prefix(text.as_bytes()) {
+            Some(left) => {
+                self.left = left;
+                Ok(())
+            }
+            None => Err(fmt::Error),
+        }
+    }
+}
+
+/// Whether the value prints exactly this text.
+pub fn is_printed_as(value: &impl Display, text: &str) -> bool {
+    let mut writer = Expected {
+        left: text.as_bytes(),
+    };
+    write!(writer, "{value}").is_ok() && writer.left.is_empty()
+}
+
+/// As `is_printed_as`, by `Debug`.
+pub fn is_shown_as(value: &impl Debug, text: &str) -> bool {
+    let mut writer = Expected {
+        left: text.as_bytes(),
+    };
+    write!(writer, "{value:?}").is_ok() && writer.left.is_empty()
+}
+
+/// Whether each value shows the text beside it.
+pub fn are_shown_as<T: Debug>(table: &[(T, &str)]) -> bool {
+    table.iter().all(|(value, text)| is_shown_as(value, text))
 }

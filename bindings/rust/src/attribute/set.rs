@@ -51,7 +51,7 @@ error_by_path!(AttributeDefinitionError);
 /// );
 /// # Ok::<(), Box<dyn std::error::Error>>(())
 /// ```
-#[derive(Clone, Debug, Default, PartialEq, Eq)]
+#[derive(Clone, Debug, Default, PartialEq, Eq, Hash)]
 pub struct AttributeSet {
     attributes: Vec<Attribute>,
 }

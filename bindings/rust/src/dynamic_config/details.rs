@@ -32,7 +32,7 @@ macro_rules! details {
         )*
     ) => {
         $(#[$documentation])*
-        #[derive(Clone, Copy, Debug, PartialEq, Eq)]
+        #[derive(Clone, Copy, Debug, PartialEq, Eq, Hash)]
         pub struct $name {
             /// Its id.
             pub $id: $id_type,
@@ -269,7 +269,7 @@ details! {
 /// assert_eq!(port.node_id(), node_id);
 /// assert_eq!(port.port_id(), UniquePortId::Writer(writer_id));
 /// ```
-#[derive(Clone, Copy, Debug, PartialEq, Eq)]
+#[derive(Clone, Copy, Debug, PartialEq, Eq, Hash)]
 pub enum PortDetails {
     /// A port that sends samples.
     Publisher(PublisherDetails),

@@ -34,7 +34,7 @@ use std::vec;
 /// assert_eq!(service.max_ports(Role::Server), Some(2));
 /// # Ok::<(), iox2sd::dynamic_config::AllocError>(())
 /// ```
-#[derive(Clone, Copy, Debug, PartialEq, Eq)]
+#[derive(Clone, Copy, Debug, PartialEq, Eq, Hash)]
 pub struct DynamicConfigSettings {
     /// How many servers there may be at a time.
     pub number_of_servers: usize,

@@ -22,7 +22,7 @@ use std::vec;
 /// assert!(service.is_event());
 /// # Ok::<(), iox2sd::dynamic_config::AllocError>(())
 /// ```
-#[derive(Clone, Copy, Debug, PartialEq, Eq)]
+#[derive(Clone, Copy, Debug, PartialEq, Eq, Hash)]
 pub enum MessagingPatternSettings {
     /// A request-response service.
     RequestResponse(request_response::DynamicConfigSettings),
@@ -32,6 +32,26 @@ pub enum MessagingPatternSettings {
     Event(event::DynamicConfigSettings),
     /// A blackboard service.
     Blackboard(blackboard::DynamicConfigSettings),
+}
+
+/// Defines how the room of each pattern becomes that of a service.
+macro_rules! settings_of {
+    ($($variant:ident: $module:ident)*) => {
+        $(
+            impl From<$module::DynamicConfigSettings> for MessagingPatternSettings {
+                fn from(room: $module::DynamicConfigSettings) -> Self {
+                    MessagingPatternSettings::$variant(room)
+                }
+            }
+        )*
+    };
+}
+
+settings_of! {
+    RequestResponse: request_response
+    PublishSubscribe: publish_subscribe
+    Event: event
+    Blackboard: blackboard
 }
 
 impl MessagingPatternSettings {
@@ -75,12 +95,7 @@ enum MessagingPattern {
 /// A port stands only on a registered node. When the last node has gone, the service is locked for
 /// good. No handle is ever given twice, and one that was given back is refused for good.
 ///
-/// A service may be sent to another thread, but it is not shared without a lock:
-///
-/// ```compile_fail,E0277
-/// fn share<T: Sync>() {}
-/// share::<iox2sd::dynamic_config::DynamicConfig>();
-/// ```
+/// A service may be sent to another thread, and many threads may ask it at once:
 ///
 /// ```
 /// use iox2sd::dynamic_config::{event, DynamicConfig, MessagingPatternSettings};
@@ -91,7 +106,11 @@ enum MessagingPattern {
 /// let mut service = DynamicConfig::new(&MessagingPatternSettings::Event(room), 1, 7)?;
 /// let node = UniqueNodeId::new(1, 0, 0, 1).expect("the id of a node");
 /// let other = thread::spawn(move || service.register_node_id(node).map(|_| service));
-/// assert_eq!(other.join().expect("it ends")?.number_of_nodes(), 1);
+/// let service = other.join().expect("it ends")?;
+/// thread::scope(|threads| {
+///     threads.spawn(|| assert_eq!(service.number_of_nodes(), 1));
+///     threads.spawn(|| assert!(!service.is_locked()));
+/// });
 /// # Ok::<(), Box<dyn std::error::Error>>(())
 /// ```
 pub struct DynamicConfig {
@@ -342,9 +361,13 @@ impl DynamicConfig {
     /// goes too, with all its handles; where it was the last one, the service is locked for good.
     /// Where one is left, no node goes.
     ///
-    /// Nothing is changed before the callback has answered for all ports. Ports of the node that
-    /// share one id stay together where it answers [`SkipPort`](PortCleanupAction::SkipPort) for
-    /// one of them.
+    /// Nothing is changed before the callback has answered for all ports.
+    ///
+    /// What stays is told by the [`value`](UniquePortId::value) of an id, whatever its kind: ports
+    /// of the node with one value stay together where the callback answers
+    /// [`SkipPort`](PortCleanupAction::SkipPort) for one of them. A listener that is skipped keeps
+    /// the notifier of the same value too, though their [`UniquePortId`]s are not equal. Where ids
+    /// are unique, each port is answered for alone.
     ///
     /// ```
     /// use iox2sd::dynamic_config::{

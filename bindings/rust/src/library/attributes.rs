@@ -30,7 +30,7 @@ pub(crate) fn attribute_capacity(attribute: Attribute) -> usize {
     loop {
         let pairs = pairs(&attributes);
         // SAFETY: the array is a slice, and its texts are those of attributes that live on.
-        let answer = unsafe { sys::iox2sd_attributes_check(pairs.as_ptr(), pairs.len()) };
+        let answer = unsafe { sys::iox2sd_attributes_check_at(pairs.as_ptr(), pairs.len()) };
         match answer.status {
             sys::IOX2SD_TOO_MANY => return answer.at,
             sys::IOX2SD_DONE => attributes.resize(2 * attributes.len(), attribute),
@@ -43,7 +43,7 @@ pub(crate) fn attribute_capacity(attribute: Attribute) -> usize {
 pub(crate) fn sorted(attributes: &[Attribute]) -> Result<Vec<Attribute>, u32> {
     let mut pairs = pairs(attributes);
     // SAFETY: as above; the call moves the elements of the array.
-    let answer = unsafe { sys::iox2sd_attributes_sort(pairs.as_mut_ptr(), pairs.len()) };
+    let answer = unsafe { sys::iox2sd_attributes_sort_at(pairs.as_mut_ptr(), pairs.len()) };
     done(answer.status)?;
     let of = |pair: &sys::iox2sd_attribute| {
         let is_same = |a: &&Attribute| a.key().as_bytes().as_ptr() == pair.key;
@@ -56,7 +56,7 @@ pub(crate) fn attribute_values(attributes: &[Attribute], key: &AttributeKey) -> 
     let (pairs, key) = (pairs(attributes), key.as_bytes());
     // SAFETY: as above; the key is a slice.
     let answer = unsafe {
-        sys::iox2sd_attribute_values(pairs.as_ptr(), pairs.len(), key.as_ptr(), key.len())
+        sys::iox2sd_attribute_values_at(pairs.as_ptr(), pairs.len(), key.as_ptr(), key.len())
     };
     done(answer.status)?;
     Ok(answer.count)
@@ -70,7 +70,7 @@ pub(crate) fn attribute_value(
     let (pairs, key) = (pairs(attributes), key.as_bytes());
     // SAFETY: as above; `out` is a slice that overlaps no other argument.
     text(|out| unsafe {
-        sys::iox2sd_attribute_value(
+        sys::iox2sd_attribute_value_at(
             pairs.as_ptr(),
             pairs.len(),
             key.as_ptr(),
@@ -96,7 +96,7 @@ pub(crate) fn verify(
     let keys: Vec<_> = required_keys.iter().map(key).collect();
     // SAFETY: the arrays are slices, and their texts are those of attributes and keys that live on.
     let answer = unsafe {
-        sys::iox2sd_attributes_verify(
+        sys::iox2sd_attributes_verify_at(
             pairs.as_ptr(),
             pairs.len(),
             required.as_ptr(),

@@ -2,27 +2,38 @@
 
 use super::{done, list, unexpected};
 use crate::sys;
-use std::cell::UnsafeCell;
 use std::ptr;
 
 /// A service of the library's, which is freed where it is dropped.
 pub(crate) struct Service {
-    place: UnsafeCell<sys::iox2sd_service>,
+    place: sys::iox2sd_service,
 }
 
-// SAFETY: `iox2sd.h` says: "A service may be moved to another thread, ordered by a lock or a thread's
-// start or join, and is used by one thread at a time, by the functions that only ask too." Values of
-// Rust move in such an order alone, and the cell makes this type not `Sync`.
+// SAFETY: `iox2sd.h` says: "A service may be moved to another thread; a move and a change are ordered
+// with other calls by a lock or by a thread's start or join." Values of Rust are moved and changed in
+// such an order alone.
 unsafe impl Send for Service {}
 
-/// Calls an export on the place of a service.
-macro_rules! call {
+// SAFETY: `iox2sd.h` says: "On one service any number of questions may run at once, or one change
+// alone." A `&` runs questions alone, and a `&mut`, which changes need, excludes all others.
+unsafe impl Sync for Service {}
+
+/// Calls an export that changes a service.
+macro_rules! change {
     ($service:expr, $export:ident $(, $argument:expr)*) => {{
-        // SAFETY: the place is one service that nobody else has. The cell lets the call change it,
-        // and no other call runs on it meanwhile: the cell is on one thread at a time, and the
-        // library calls nothing back. A pointer among the arguments is that of a slice or of a
-        // value that lives through the call, before its length.
-        unsafe { sys::$export($service.place.get(), 1 $(, $argument)*) }
+        // SAFETY: the place is one service, which the `&mut` gives to this call alone. A pointer
+        // among the arguments is that of a slice or of a value that lives through the call, before
+        // its length.
+        unsafe { sys::$export(&mut $service.place, 1 $(, $argument)*) }
+    }};
+}
+
+/// Calls an export that asks a service, by a pointer to `const`.
+macro_rules! ask {
+    ($service:expr, $export:ident $(, $argument:expr)*) => {{
+        // SAFETY: the place is one service, which no call changes while there is a `&` to it. The
+        // other arguments are as of a change.
+        unsafe { sys::$export(&$service.place, 1 $(, $argument)*) }
     }};
 }
 
@@ -33,14 +44,13 @@ impl Service {
         capacities: sys::iox2sd_capacities,
         tickets: u64,
     ) -> Result<Self, u32> {
-        let none = sys::iox2sd_service {
-            full: false,
-            at: ptr::null_mut(),
+        let mut service = Service {
+            place: sys::iox2sd_service {
+                full: false,
+                at: ptr::null_mut(),
+            },
         };
-        let service = Service {
-            place: UnsafeCell::new(none),
-        };
-        done(call!(
+        done(change!(
             service,
             iox2sd_service_make_at,
             pattern,
@@ -52,24 +62,24 @@ impl Service {
     }
 
     pub(crate) fn register(&mut self, node: sys::iox2sd_id) -> Result<sys::iox2sd_handle, u32> {
-        let answer = call!(self, iox2sd_register_at, node);
+        let answer = change!(self, iox2sd_register_at, node);
         done(answer.status)?;
         Ok(answer.handle)
     }
 
     /// Whether the service is locked now.
     pub(crate) fn deregister(&mut self, handle: sys::iox2sd_handle) -> Result<bool, u32> {
-        locked(call!(self, iox2sd_deregister_at, handle))
+        locked(change!(self, iox2sd_deregister_at, handle))
     }
 
     pub(crate) fn attach(&mut self, port: &sys::iox2sd_port) -> Result<sys::iox2sd_handle, u32> {
-        let answer = call!(self, iox2sd_attach_at, port, 1);
+        let answer = change!(self, iox2sd_attach_at, port, 1);
         done(answer.status)?;
         Ok(answer.handle)
     }
 
     pub(crate) fn release(&mut self, handle: sys::iox2sd_handle) -> Result<(), u32> {
-        done(call!(self, iox2sd_release_at, handle))
+        done(change!(self, iox2sd_release_at, handle))
     }
 
     /// Whether the service is locked now.
@@ -78,77 +88,77 @@ impl Service {
         dead: sys::iox2sd_id,
         kept: &[sys::iox2sd_id],
     ) -> Result<bool, u32> {
-        locked(call!(self, iox2sd_dead_at, dead, kept.as_ptr(), kept.len()).status)
+        locked(change!(self, iox2sd_dead_at, dead, kept.as_ptr(), kept.len()).status)
     }
 
     pub(crate) fn number(&self) -> u64 {
-        let answer = call!(self, iox2sd_service_number_at);
+        let answer = ask!(self, iox2sd_service_number_at);
         granted(answer.status, answer.number)
     }
 
     /// The roles of the two kinds of ports.
     pub(crate) fn roles(&self) -> (u64, u64) {
-        let answer = call!(self, iox2sd_roles_at);
+        let answer = ask!(self, iox2sd_roles_at);
         granted(answer.status, (answer.first, answer.second))
     }
 
     pub(crate) fn has_role(&self, role: u64) -> bool {
-        let answer = call!(self, iox2sd_has_role_at, role);
+        let answer = ask!(self, iox2sd_has_role_at, role);
         granted(answer.status, answer.yes)
     }
 
     pub(crate) fn is_locked(&self) -> bool {
-        let answer = call!(self, iox2sd_is_locked_at);
+        let answer = ask!(self, iox2sd_is_locked_at);
         granted(answer.status, answer.yes)
     }
 
     pub(crate) fn number_of_nodes(&self) -> usize {
-        let answer = call!(self, iox2sd_number_of_nodes_at);
+        let answer = ask!(self, iox2sd_number_of_nodes_at);
         granted(answer.status, answer.count)
     }
 
     pub(crate) fn max_nodes(&self) -> usize {
-        let answer = call!(self, iox2sd_max_nodes_at);
+        let answer = ask!(self, iox2sd_max_nodes_at);
         granted(answer.status, answer.count)
     }
 
     pub(crate) fn has_room_for_node(&self) -> bool {
-        let answer = call!(self, iox2sd_has_room_for_node_at);
+        let answer = ask!(self, iox2sd_has_room_for_node_at);
         granted(answer.status, answer.yes)
     }
 
     pub(crate) fn count_ports(&self, role: u64) -> Option<usize> {
-        let answer = call!(self, iox2sd_count_ports_at, role);
+        let answer = ask!(self, iox2sd_count_ports_at, role);
         of_role(answer.status, answer.count)
     }
 
     pub(crate) fn max_ports(&self, role: u64) -> Option<usize> {
-        let answer = call!(self, iox2sd_max_ports_at, role);
+        let answer = ask!(self, iox2sd_max_ports_at, role);
         of_role(answer.status, answer.count)
     }
 
     pub(crate) fn has_room(&self, role: u64) -> Option<bool> {
-        let answer = call!(self, iox2sd_has_room_at, role);
+        let answer = ask!(self, iox2sd_has_room_at, role);
         of_role(answer.status, answer.yes)
     }
 
     pub(crate) fn node(&self, handle: sys::iox2sd_handle) -> Option<sys::iox2sd_id> {
-        let answer = call!(self, iox2sd_find_node_at, handle);
+        let answer = ask!(self, iox2sd_find_node_at, handle);
         of_handle(answer.status, answer.id)
     }
 
     pub(crate) fn port(&self, handle: sys::iox2sd_handle) -> Option<sys::iox2sd_port> {
-        let answer = call!(self, iox2sd_find_port_at, handle);
+        let answer = ask!(self, iox2sd_find_port_at, handle);
         of_handle(answer.status, answer.port)
     }
 
     pub(crate) fn nodes(&self) -> Vec<sys::iox2sd_id> {
-        list(|out| call!(self, iox2sd_nodes_at, out.as_mut_ptr(), out.len()))
+        list(|out| ask!(self, iox2sd_nodes_at, out.as_mut_ptr(), out.len()))
             .unwrap_or_else(|status| unexpected(status))
     }
 
     pub(crate) fn ports(&self, role: u64) -> Option<Vec<sys::iox2sd_port>> {
-        match list(|out| call!(self, iox2sd_ports_at, role, out.as_mut_ptr(), out.len())) {
+        match list(|out| ask!(self, iox2sd_ports_at, role, out.as_mut_ptr(), out.len())) {
             Ok(ports) => Some(ports),
             Err(sys::IOX2SD_ROLE_NOT_IN_PATTERN) => None,
             Err(other) => unexpected(other),
@@ -157,7 +167,7 @@ impl Service {
 
     /// The ports of the node with exactly this id.
     pub(crate) fn ports_of(&self, node: sys::iox2sd_id) -> Vec<sys::iox2sd_port> {
-        list(|out| call!(self, iox2sd_ports_of_at, node, out.as_mut_ptr(), out.len()))
+        list(|out| ask!(self, iox2sd_ports_of_at, node, out.as_mut_ptr(), out.len()))
             .unwrap_or_else(|status| unexpected(status))
     }
 }
@@ -165,7 +175,7 @@ impl Service {
 impl Drop for Service {
     fn drop(&mut self) {
         // A place that holds no service is refused, and nothing is to be freed there.
-        let _ = call!(self, iox2sd_service_free_at);
+        let _ = change!(self, iox2sd_service_free_at);
     }
 }
 

@@ -1,18 +1,18 @@
 //! What a container does with all its places, one after another.
-ghost use Rattle.std.specs.Prelude.{◌≡◌, ◌+◌, ◌*◌, ◌≤◌, ◌<◌, ℕ, Option, Some, None, IsTrue, true, false, nat_lt};
-ghost use Rattle.std.specs.Prelude.{MatchOption, length, map, slice_get, slice_set};
+ghost use Rattle.std.specs.Prelude.{◌≡◌, ◌+◌, ◌≤◌, ◌<◌, IsTrue, false, nat_lt};
+ghost use Rattle.std.specs.Prelude.{MatchOption, length, map, slice_set, if◌then◌else◌};
 ghost use Rattle.std.specs.Fn.{CalledAt, TakesAt};
-ghost use Rattle.iox2_container.specs.declared.container.slots.cell.Occupant.{Occupant};
 ghost use Rattle.iox2_container.specs.Cells.{shown};
-ghost use Rattle.iox2_container.specs.Places.{details_in, entries_from};
+ghost use Rattle.iox2_container.specs.Places.{IsTakenAt, details_in, entries_from};
 ghost use Rattle.iox2_container.specs.Callbacks.{CanBeAsked, CanVisit};
-ghost use Rattle.iox2_container.specs.Passes.{AskedOfCell, AreOthers, PlaceIsOf, SweptCell, Swept, cell_is_of};
-ghost use Rattle.iox2_container.specs.Passes.{IsNextOf, TakesCell, TakesDead};
+ghost use Rattle.iox2_container.specs.Passes.{AskedOfCell, AreOthers, PlaceIsOf, Swept, cell_is_of};
+ghost use Rattle.iox2_container.specs.Passes.{CellHas, IsAt, IsNextOf, TakesCell, looked_at};
 ghost use Rattle.iox2_container.specs.Steps.{Visit, candidates, is_of};
 
 use super::attached::Attached;
 use super::free::SlotAllocator;
 use super::places::Places;
+use super::slot_map::Looks;
 use super::slots::Occupant;
 use iox2_ids::identifiers::UniqueNodeId;
 use iox2_texts::bounded::CallbackProgression;
@@ -39,22 +39,31 @@ fn show<T: Copy, F: FnMut(&T) -> CallbackProgression>(
     }
 }
 
-/// Asks the callback about each entry in turn, until it stops.
+/// Asks the callback about each entry in turn, until it stops. It looks at each place at most once.
 pub(super) fn visit<T: Copy, S: SlotAllocator<T>, F: FnMut(&T) -> CallbackProgression>(
     places: &Places<T, S::Next>,
     free: &S,
     f: &mut F,
+    looks: &mut Looks,
 )
     requires fits { S.fits free.now places.now.cells }
     requires callable { CanVisit (TakesAt F.FnMut) (CalledAt F.FnMut) f.old
         (details_in (map shown places.now.cells)) }
-    ensures { Visit (CalledAt F.FnMut) f.old (details_in (map shown places.now.cells)) f.new }
+    ensures visit { Visit (CalledAt F.FnMut) f.old (details_in (map shown places.now.cells)) f.new }
+    ensures looks { looks.new.touches.count ≤ looks.old.touches.count + length places.now.cells }
 {
     for slot in 0..free.end(places) {
-        if let CallbackProgression::Stop = show(places.peek_at(slot), f) {
+        if let CallbackProgression::Stop = show(places.peek_at(slot, looks), f) {
             return;
         }
     }
+}
+
+/// An entry that a search found, and where.
+#[derive(Clone, Copy, Debug)]
+struct Found<T: Copy> {
+    slot: usize,
+    details: T,
 }
 
 /// Whether what stands in a place is the node's.
@@ -67,187 +76,209 @@ fn belongs_to<T: Attached + Copy>(cell: Option<Occupant<T>>, node: &UniqueNodeId
     }
 }
 
-/// Whether what stands in this place is the node's.
-pub(super) fn is_of_node<T: Attached + Copy, N: Copy>(
-    places: &Places<T, N>,
-    slot: usize,
-    node: &UniqueNodeId,
-) -> bool
-    requires { slot < length places.now.cells }
-    ensures { PlaceIsOf T.node node.now (map shown places.now.cells) slot result }
+/// The details in a cell, if they are the node's.
+fn of_node<T: Attached + Copy>(cell: Option<Occupant<T>>, node: &UniqueNodeId) -> Option<T>
+    ensures { MatchOption result
+        (false ≡ cell_is_of T.node node.now cell)
+        (CellHas T.node node.now cell) }
 {
-    belongs_to(places.peek_at(slot), node)
+    match cell {
+        Some(occupant) => {
+            if occupant.details.node_id() == *node {
+                Some(occupant.details)
+            } else {
+                None
+            }
+        }
+        None => None,
+    }
 }
 
-/// The same as [`next_of`], one place after another.
+/// The details in a slot, if they are the node's.
+#[inline(always)]
+fn look_for<T: Attached + Copy, N: Copy>(
+    places: &mut Places<T, N>,
+    slot: usize,
+    node: &UniqueNodeId,
+) -> Option<T>
+    requires { slot < length places.old.cells }
+    ensures cells { places.new.cells ≡ places.old.cells }
+    ensures touches { places.new.touches ≡ places.old.touches + 1 }
+    ensures found { MatchOption result
+        (PlaceIsOf T.node node.now (map shown places.old.cells) slot false)
+        (IsAt T.node node.now (map shown places.old.cells) slot) }
+{
+    of_node(places.look(slot), node)
+}
+
+/// The same as [`next_of`], one slot after another.
 fn next_by_one<T: Attached + Copy, N: Copy>(
-    places: &Places<T, N>,
+    places: &mut Places<T, N>,
     start: usize,
     end: usize,
     node: &UniqueNodeId,
-) -> usize
+) -> Option<Found<T>>
     requires order { start ≤ end }
-    requires within { end ≤ length places.now.cells }
-    ensures order { (start ≤ result) × (result ≤ end) }
-    ensures others { AreOthers T.node node.now (map shown places.now.cells) start result }
-    ensures found { result < end →
-        PlaceIsOf T.node node.now (map shown places.now.cells) result true }
+    requires within { end ≤ length places.old.cells }
+    ensures cells { places.new.cells ≡ places.old.cells }
+    ensures touches { places.new.touches ≡ places.old.touches + looked_at start end result }
+    ensures found { MatchOption result
+        (AreOthers T.node node.now (map shown places.old.cells) start end)
+        (IsNextOf T.node node.now (map shown places.old.cells) start end) }
 {
     for slot in start..end {
-        if is_of_node(places, slot, node) {
-            return slot;
+        if let Some(details) = look_for(places, slot, node) {
+            return Some(Found { slot, details });
         }
-    }
-    end
-}
-
-/// The first of four places where an entry of the node stands.
-#[inline(always)]
-fn next_of_four<T: Attached + Copy, N: Copy>(
-    places: &Places<T, N>,
-    slot: usize,
-    node: &UniqueNodeId,
-) -> Option<usize>
-    requires { slot + 4 ≤ length places.now.cells }
-    ensures { MatchOption result
-        (AreOthers T.node node.now (map shown places.now.cells) slot (slot + 4))
-        (IsNextOf T.node node.now (map shown places.now.cells) slot (slot + 4)) }
-{
-    // For the proof: the number of places fits a `usize`.
-    let _fits = places.len();
-    let first = is_of_node(places, slot, node);
-    if first {
-        return Some(slot);
-    }
-    let second = is_of_node(places, slot + 1, node);
-    if second {
-        return Some(slot + 1);
-    }
-    let third = is_of_node(places, slot + 2, node);
-    if third {
-        return Some(slot + 2);
-    }
-    let fourth = is_of_node(places, slot + 3, node);
-    if fourth {
-        return Some(slot + 3);
     }
     None
 }
 
-/// The first place from one on where an entry of the node stands; the end, where none stands before
-/// it. Eight places are looked at in one turn.
+/// The same as [`next_of`], for four slots.
+#[inline(always)]
+fn next_of_four<T: Attached + Copy, N: Copy>(
+    places: &mut Places<T, N>,
+    slot: usize,
+    node: &UniqueNodeId,
+) -> Option<Found<T>>
+    requires { slot + 4 ≤ length places.old.cells }
+    ensures cells { places.new.cells ≡ places.old.cells }
+    ensures touches { places.new.touches ≡ places.old.touches + looked_at slot (slot + 4) result }
+    ensures found { MatchOption result
+        (AreOthers T.node node.now (map shown places.old.cells) slot (slot + 4))
+        (IsNextOf T.node node.now (map shown places.old.cells) slot (slot + 4)) }
+{
+    // For the proof: the number of slots fits a `usize`.
+    let _fits = places.len();
+    if let Some(details) = look_for(places, slot, node) {
+        return Some(Found { slot, details });
+    }
+    if let Some(details) = look_for(places, slot + 1, node) {
+        return Some(Found {
+            slot: slot + 1,
+            details,
+        });
+    }
+    if let Some(details) = look_for(places, slot + 2, node) {
+        return Some(Found {
+            slot: slot + 2,
+            details,
+        });
+    }
+    if let Some(details) = look_for(places, slot + 3, node) {
+        return Some(Found {
+            slot: slot + 3,
+            details,
+        });
+    }
+    None
+}
+
+/// The first entry of the node from one slot on and before the end. It reads each slot up to that
+/// of the entry once, or each slot before the end, and no other. Eight are read in one turn.
 fn next_of<T: Attached + Copy, N: Copy>(
-    places: &Places<T, N>,
+    places: &mut Places<T, N>,
     start: usize,
     end: usize,
     node: &UniqueNodeId,
-) -> usize
+) -> Option<Found<T>>
     requires order { start ≤ end }
-    requires within { end ≤ length places.now.cells }
-    ensures order { (start ≤ result) × (result ≤ end) }
-    ensures others { AreOthers T.node node.now (map shown places.now.cells) start result }
-    ensures found { result < end →
-        PlaceIsOf T.node node.now (map shown places.now.cells) result true }
+    requires within { end ≤ length places.old.cells }
+    ensures cells { places.new.cells ≡ places.old.cells }
+    ensures touches { places.new.touches ≡ places.old.touches + looked_at start end result }
+    ensures found { MatchOption result
+        (AreOthers T.node node.now (map shown places.old.cells) start end)
+        (IsNextOf T.node node.now (map shown places.old.cells) start end) }
 {
     let mut slot = start;
     while end - slot >= 8 {
         if let Some(found) = next_of_four(places, slot, node) {
-            return found;
+            return Some(found);
         }
         if let Some(found) = next_of_four(places, slot + 4, node) {
-            return found;
+            return Some(found);
         }
         slot += 8;
     }
     next_by_one(places, slot, end, node)
 }
 
-/// Whether an entry of the node stands in some place.
+/// Whether an entry of the node stands in some slot. It looks at the one where it may stand first,
+/// then at all before it, then at all after it: at none twice.
 pub(super) fn has_of<T: Attached + Copy, S: SlotAllocator<T>>(
-    places: &Places<T, S::Next>,
+    places: &mut Places<T, S::Next>,
     free: &S,
+    likely: usize,
     node: &UniqueNodeId,
 ) -> bool
-    requires { S.fits free.now places.now.cells }
-    ensures { result ≡ nat_lt 0
+    requires { S.fits free.now places.old.cells }
+    ensures cells { places.new.cells ≡ places.old.cells }
+    ensures touched { places.new.touches ≤ places.old.touches + length places.old.cells }
+    ensures counted { places.old.touches ≤ places.new.touches }
+    ensures has { result ≡ nat_lt 0
         (length (candidates (is_of T.node node.now)
-        (entries_from 0 (map shown places.now.cells)))) }
+        (entries_from 0 (map shown places.old.cells)))) }
 {
     let end = free.end(places);
-    next_of(places, 0, end, node) < end
+    if likely >= end {
+        return next_of(places, 0, end, node).is_some();
+    }
+    if look_for(places, likely, node).is_some() {
+        return true;
+    }
+    if next_of(places, 0, likely, node).is_some() {
+        return true;
+    }
+    next_of(places, likely + 1, end, node).is_some()
 }
 
-/// How many entries are those of the node.
+/// How many entries are those of the node. It looks at each place at most once.
 pub(super) fn count_of<T: Attached + Copy, S: SlotAllocator<T>>(
     places: &Places<T, S::Next>,
     free: &S,
     node: &UniqueNodeId,
+    looks: &mut Looks,
 ) -> usize
     requires { S.fits free.now places.now.cells }
-    ensures { result ≡
+    ensures looks { looks.new.touches.count ≤ looks.old.touches.count + length places.now.cells }
+    ensures count { result ≡
         length (candidates (is_of T.node node.now) (entries_from 0 (map shown places.now.cells))) }
 {
     let mut count = 0;
     for slot in 0..free.end(places) {
-        if belongs_to(places.peek_at(slot), node) {
+        if belongs_to(places.peek_at(slot, looks), node) {
             count += 1;
         }
     }
     count
 }
 
-/// Whether what stands in a place goes: it is the dead node's, and the callback says so.
-fn asks_to_go<T: Attached + Copy, F: FnMut(&T) -> bool>(
-    cell: Option<Occupant<T>>,
-    dead: &UniqueNodeId,
-    f: &mut F,
-) -> bool
-    requires { TakesDead (TakesAt F.FnMut) (is_of T.node dead.now) f.old cell }
-    ensures { SweptCell (CalledAt F.FnMut) (is_of T.node dead.now) f.old cell result f.new }
-{
-    match cell {
-        Some(occupant) => {
-            if occupant.details.node_id() == *dead {
-                ask(occupant.details, f)
-            } else {
-                false
-            }
-        }
-        None => false,
-    }
-}
-
-/// Clears the place, if what stands there goes.
-fn sweep_place<T: Attached + Copy, S: SlotAllocator<T>, F: FnMut(&T) -> bool>(
+/// Clears the slot of an entry that was found, if the callback says so.
+fn sweep_found<T: Attached + Copy, S: SlotAllocator<T>, F: FnMut(&T) -> bool>(
     places: &mut Places<T, S::Next>,
     free: &mut S,
-    slot: usize,
-    dead: &UniqueNodeId,
+    found: Found<T>,
     f: &mut F,
 ) -> bool
-    requires slot { slot < length places.old.cells }
     requires fits { S.fits free.old places.old.cells }
-    requires callable { (cell : Option (Occupant T))
-        → slice_get (map shown places.old.cells) slot ≡ Some cell
-        → TakesDead (TakesAt F.FnMut) (is_of T.node dead.now) f.old cell }
+    requires taken { IsTakenAt (map shown places.old.cells) found.slot }
+    requires callable { TakesAt F.FnMut f.old found.details }
     ensures fits { S.fits free.new places.new.cells }
-    ensures swept { (cell : Option (Occupant T))
-        × (slice_get (map shown places.old.cells) slot ≡ Some cell)
-        × SweptCell (CalledAt F.FnMut) (is_of T.node dead.now) f.old cell result f.new }
+    ensures asked { CalledAt F.FnMut f.old found.details result f.new }
     ensures gone { IsTrue result →
-        map shown places.new.cells ≡ slice_set (map shown places.old.cells) slot None }
+        map shown places.new.cells ≡ slice_set (map shown places.old.cells) found.slot None }
     ensures kept { result ≡ false → map shown places.new.cells ≡ map shown places.old.cells }
-    ensures touched { places.new.touches ≤ places.old.touches + 2 }
-    ensures counted { places.old.touches ≤ places.new.touches }
+    ensures touches { places.new.touches ≡ places.old.touches + (if result then 1 else 0) }
 {
-    let goes = asks_to_go(places.look(slot), dead, f);
+    let goes = ask(found.details, f);
     if goes {
-        free.clear(places, slot);
+        free.clear(places, found.slot);
     }
     goes
 }
 
-/// Clears the places of the dead node's entries for which the callback says so, and counts them.
+/// Clears the slots of the dead node's entries for which the callback says so, and counts them. It
+/// reads each slot at most once, and writes those that it clears.
 pub(super) fn sweep<T: Attached + Copy, S: SlotAllocator<T>, F: FnMut(&T) -> bool>(
     places: &mut Places<T, S::Next>,
     free: &mut S,
@@ -264,20 +295,17 @@ pub(super) fn sweep<T: Attached + Copy, S: SlotAllocator<T>, F: FnMut(&T) -> boo
         f.old (entries_from 0 (map shown places.old.cells))
         f.new (entries_from 0 (map shown places.new.cells)) result }
     ensures len { length (map shown places.new.cells) ≡ length (map shown places.old.cells) }
-    ensures touched { places.new.touches ≤ places.old.touches + 2 * length places.old.cells }
+    ensures touched { places.new.touches ≤ places.old.touches + length places.old.cells + result }
     ensures counted { places.old.touches ≤ places.new.touches }
 {
     let end = free.end(places);
     let mut gone = 0;
-    let mut slot = next_of(places, 0, end, dead);
-    places.count_reads(slot);
-    while slot < end {
-        if sweep_place(places, free, slot, dead, f) {
+    let mut start = 0;
+    while let Some(found) = next_of(places, start, end, dead) {
+        if sweep_found(places, free, found, f) {
             gone += 1;
         }
-        let next = next_of(places, slot + 1, end, dead);
-        places.count_reads(next - slot - 1);
-        slot = next;
+        start = found.slot + 1;
     }
     gone
 }

@@ -6,6 +6,7 @@ ghost use Rattle.iox2_container.specs.Places.{Finds};
 
 use super::free::SlotAllocator;
 use super::handle::ContainerHandle;
+use super::slot_map::Looks;
 use super::slots::{Cell, Occupant, Slots};
 
 /// Places in which entries stand, each with its ticket. A free one's cell keeps an `N`.
@@ -22,11 +23,13 @@ impl<T: Copy, N: Copy> Places<T, N> {
         self.read(slot).occupant()
     }
 
-    /// What stands in a place, for calls that change nothing.
-    pub(super) fn peek_at(&self, slot: usize) -> Option<Occupant<T>>
+    /// What stands in a place, for calls that change nothing, which count how often they look.
+    pub(super) fn peek_at(&self, slot: usize, looks: &mut Looks) -> Option<Occupant<T>>
         requires { slot < length self.now.cells }
-        ensures { slice_get (map shown self.now.cells) slot ≡ Some result }
+        ensures cell { slice_get (map shown self.now.cells) slot ≡ Some result }
+        ensures looks { looks.new.touches.count ≡ looks.old.touches.count + 1 }
     {
+        looks.count();
         self.peek(slot).occupant()
     }
 }
@@ -48,12 +51,17 @@ fn with_ticket<T: Copy>(cell: Option<Occupant<T>>, ticket: u64) -> Option<T>
     }
 }
 
-/// The details in the handle's place, if they have its ticket.
-pub(super) fn find<T: Copy, N: Copy>(places: &Places<T, N>, handle: ContainerHandle) -> Option<T>
+/// The details in the handle's place, if they have its ticket. It looks at that place alone, once.
+pub(super) fn find<T: Copy, N: Copy>(
+    places: &Places<T, N>,
+    handle: ContainerHandle,
+    looks: &mut Looks,
+) -> Option<T>
     requires { handle.slot < length places.now.cells }
-    ensures { Finds (map shown places.now.cells) handle result }
+    ensures found { Finds (map shown places.now.cells) handle result }
+    ensures looks { looks.new.touches.count ≡ looks.old.touches.count + 1 }
 {
-    with_ticket(places.peek_at(handle.slot()), handle.ticket())
+    with_ticket(places.peek_at(handle.slot(), looks), handle.ticket())
 }
 
 /// Takes the entry out of the handle's place, if it has its ticket.

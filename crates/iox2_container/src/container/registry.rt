@@ -3,7 +3,7 @@ ghost use Rattle.std.specs.Prelude.{◌≡◌, ℕ, ◌+◌, ◌≤◌, ◌↔�
 ghost use Rattle.std.specs.Fn.{CalledAt, TakesAt};
 ghost use Rattle.iox2_container.specs.Callbacks.{CanBeAsked, CanVisit};
 ghost use Rattle.iox2_container.specs.Changes.{Adds, Removes, RecoversBy};
-ghost use Rattle.iox2_container.specs.ContainerState.{ContainerState};
+ghost use Rattle.iox2_container.specs.ContainerState.{ContainerState, Reads};
 ghost use Rattle.iox2_container.specs.State.{IsRegistry};
 ghost use Rattle.iox2_container.specs.Steps.{IsUnknownHandle, HasEntry, TakesEntry, Visit};
 ghost use Rattle.iox2_container.specs.Steps.{asked_about, entries_of, is_of, listed};
@@ -50,7 +50,8 @@ pub trait Registry<T: Attached + Copy> {
 
     /// Asks the callback once about each entry of the dead node, by rising slot, and removes those
     /// that it answers with `true`. Says whether the registry is locked then. Where no entry goes,
-    /// nothing is locked. The callback must be callable on those entries in turn, each time as the
+    /// nothing is locked. It reads each slot at most once, and writes one for each entry that goes.
+    /// The callback must be callable on those entries in turn, each time as the
     /// call before left it.
     fn recover<F: FnMut(&T) -> bool>(
         &mut self,
@@ -62,7 +63,10 @@ pub trait Registry<T: Attached + Copy> {
             (asked_about (is_of T.node dead.now) (state self.old).registry) }
         ensures known { IsRegistry (state self.old).registry }
         ensures recovers { RecoversBy (CalledAt F.FnMut) (is_of T.node dead.now)
-            (state self.old) f.old mode result (state self.new) f.new };
+            (state self.old) f.old mode result (state self.new) f.new }
+        ensures few { (state self.new).touches + length (state self.new).registry.entries ≤
+            (state self.old).touches + (state self.old).registry.capacity
+            + length (state self.old).registry.entries };
 
     /// Calls the callback on the details by rising slot, each once, up to and with the first answer
     /// `Stop`. It must be callable on them in turn, each time as the call before left it.
@@ -79,9 +83,11 @@ pub trait Registry<T: Attached + Copy> {
             (HasEntry (state self.now).registry handle) }
         ensures kept { IsRegistry (state self.now).registry };
 
-    /// Whether the node has an entry.
-    fn has_entry_of(&self, node: &UniqueNodeId) -> bool
-        ensures { result ≡ nat_lt 0 (entries_of T.node node.now (state self.now).registry) };
+    /// Whether the node has an entry. It reads each slot at most once, and changes nothing else.
+    fn has_entry_of(&mut self, node: &UniqueNodeId) -> bool
+        ensures has { result ≡
+            nat_lt 0 (entries_of T.node node.now (state self.old).registry) }
+        ensures reads { Reads (state self.old) (state self.new) };
 
     /// How many entries are those of the node.
     fn entries_of(&self, node: &UniqueNodeId) -> usize

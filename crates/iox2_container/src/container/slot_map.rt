@@ -2,10 +2,12 @@
 ghost use Rattle.std.specs.Prelude.{◌≡◌, IfOk};
 ghost use Rattle.iox2_container.specs.ContainerState.{fresh};
 
+mod looks;
+
 use super::attached::Attached;
 use super::free::{FreeList, LowestFree, SlotAllocator};
 use super::handle::ContainerHandle;
-use super::passes::{count_of, has_of, is_of_node, sweep, visit};
+use super::passes::{count_of, has_of, sweep, visit};
 use super::places::{Places, find, take_out};
 use super::refusal::{ContainerAddFailure, ContainerRemoveError};
 use super::registry::Registry;
@@ -15,6 +17,7 @@ use super::role::Role;
 use super::slots::{Cell, Slots};
 use iox2_ids::identifiers::UniqueNodeId;
 use iox2_texts::bounded::CallbackProgression;
+pub(crate) use looks::Looks;
 use std::alloc::{AllocError, Global};
 use std::marker::Model;
 
@@ -128,7 +131,8 @@ impl<T: Attached + Copy, S: SlotAllocator<T>> Registry<T> for SlotMap<T, S> {
 
     fn for_each<F: FnMut(&T) -> CallbackProgression>(&self, f: &mut F) {
         if self.header.count() > 0 {
-            visit(&self.places, &self.free, f);
+            let mut looks = Looks::none();
+            visit(&self.places, &self.free, f, &mut looks);
         }
     }
 
@@ -136,24 +140,23 @@ impl<T: Attached + Copy, S: SlotAllocator<T>> Registry<T> for SlotMap<T, S> {
         if !self.header.may_have(handle, self.places.len()) {
             return None;
         }
-        find(&self.places, handle)
+        let mut looks = Looks::none();
+        find(&self.places, handle, &mut looks)
     }
 
     fn entries_of(&self, node: &UniqueNodeId) -> usize {
         if self.header.count() == 0 {
             return 0;
         }
-        count_of(&self.places, &self.free, node)
+        let mut looks = Looks::none();
+        count_of(&self.places, &self.free, node, &mut looks)
     }
 
-    fn has_entry_of(&self, node: &UniqueNodeId) -> bool {
+    fn has_entry_of(&mut self, node: &UniqueNodeId) -> bool {
         if self.header.count() == 0 {
             return false;
         }
-        if self.recent < self.places.len() && is_of_node(&self.places, self.recent, node) {
-            return true;
-        }
-        has_of(&self.places, &self.free, node)
+        has_of(&mut self.places, &self.free, self.recent, node)
     }
 
     fn len(&self) -> usize {

@@ -8,7 +8,7 @@ mod touches;
 pub(crate) use cell::{Cell, Occupant};
 use std::alloc::{AllocError, Global};
 use std::marker::Model;
-use touches::Touches;
+pub(crate) use touches::Touches;
 
 /// A fixed number of slots, each with a cell in it.
 ///
@@ -79,15 +79,5 @@ impl<C: Copy> Slots<C> {
         ensures { slice_get self.now.cells index ≡ Some result }
     {
         self.cells[index]
-    }
-
-    /// Counts this many reads of slots that `peek` made.
-    pub fn count_reads(&mut self, reads: usize)
-        ensures cells { self.new.cells ≡ self.old.cells }
-        ensures touches { self.new.touches ≡ self.old.touches + reads }
-    {
-        for _ in 0..reads {
-            self.touches = self.touches.one_more();
-        }
     }
 }

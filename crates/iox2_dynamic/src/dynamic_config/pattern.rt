@@ -6,7 +6,8 @@ ghost use Rattle.iox2_container.specs.Steps.{listed};
 ghost use Rattle.iox2_dynamic.specs.Details.{role_of};
 ghost use Rattle.iox2_dynamic.specs.Patterns.{kind_of_service, ports_of};
 ghost use Rattle.iox2_dynamic.specs.Ports.{AddsTo, RemovesFrom, RecoversBoth, CountsIn, ListsIn};
-ghost use Rattle.iox2_dynamic.specs.Ports.{IsNoPort, OfRole, StandsAmong, TakesIn, ports_of_node};
+ghost use Rattle.iox2_dynamic.specs.Ports.{IsNoPort, OfRole, ReadsPorts, StandsAmong, TakesIn};
+ghost use Rattle.iox2_dynamic.specs.Ports.{ports_of_node};
 ghost use Rattle.iox2_dynamic.specs.Ports.{CanListIn, has_ports_of, ports_asked_about};
 ghost use Rattle.iox2_dynamic.specs.Service.{HasRole, first_role, second_role};
 ghost use Rattle.iox2_dynamic.specs.Service.{capacities_in, fresh_ports};
@@ -118,8 +119,10 @@ impl MessagingPattern {
     }
 
     /// Whether some port has the node.
-    pub(super) fn has_ports_of(&self, id: &UniqueNodeId) -> bool
-        ensures { result ≡ has_ports_of id.now (ports_of self.now) }
+    pub(super) fn has_ports_of(&mut self, id: &UniqueNodeId) -> bool
+        ensures has { result ≡ has_ports_of id.now (ports_of self.old) }
+        ensures reads { ReadsPorts (ports_of self.old) (ports_of self.new) }
+        ensures kind { kind_of_service self.new ≡ kind_of_service self.old }
     {
         match self {
             MessagingPattern::RequestResponse(ports) => ports.has_ports_of(id),

@@ -5,7 +5,7 @@ ghost use Rattle.iox2_container.specs.Callbacks.{CanBeAsked, CanVisit};
 ghost use Rattle.iox2_container.specs.Steps.{Visit, listed};
 ghost use Rattle.iox2_dynamic.specs.Ports.{ports_as, empty_ports, has_ports_of, IsEither};
 ghost use Rattle.iox2_dynamic.specs.Ports.{AddsTo, RemovesFrom, RecoversBoth, CountsIn, CanListIn, ListsIn};
-ghost use Rattle.iox2_dynamic.specs.Ports.{IsNoPort, OfRole, StandsAmong, TakesIn};
+ghost use Rattle.iox2_dynamic.specs.Ports.{IsNoPort, OfRole, ReadsPorts, StandsAmong, TakesIn};
 ghost use Rattle.iox2_dynamic.specs.Ports.{ports_asked_about, ports_of_node};
 
 use super::cleanup::PortCleanupAction;
@@ -86,10 +86,15 @@ impl<A: PortKind, B: PortKind> PortRegistries<A, B> {
     }
 
     /// Whether some port has the node.
-    pub(super) fn has_ports_of(&self, node: &UniqueNodeId) -> bool
-        ensures { result ≡ has_ports_of node.now (ports_as A.details B.details self.now) }
+    pub(super) fn has_ports_of(&mut self, node: &UniqueNodeId) -> bool
+        ensures has { result ≡ has_ports_of node.now (ports_as A.details B.details self.old) }
+        ensures reads { ReadsPorts (ports_as A.details B.details self.old)
+            (ports_as A.details B.details self.new) }
     {
-        self.first.has_entry_of(node) || self.second.has_entry_of(node)
+        if self.first.has_entry_of(node) {
+            return true;
+        }
+        self.second.has_entry_of(node)
     }
 
     /// Adds a port of the first kind.

@@ -3,11 +3,14 @@ ghost use Rattle.std.specs.Prelude.{◌≡◌, ◌<◌, ◌↔◌, IfOk, IsTrue}
 ghost use Rattle.std.specs.Fn.{CalledAt, TakesAt};
 ghost use Rattle.iox2_config.specs.declared.hash.input.PatternKind.TheVariants as kind;
 ghost use Rattle.iox2_container.specs.Callbacks.{CanBeAsked, CanVisit};
+ghost use Rattle.iox2_container.specs.ContainerState.{Reads};
 ghost use Rattle.iox2_container.specs.Steps.{Visit, listed, release_state};
 ghost use Rattle.iox2_dynamic.specs.declared.dynamic_config.port_details.PortDetails.TheVariants as of;
 ghost use Rattle.iox2_dynamic.specs.Answers.{state_of};
 ghost use Rattle.iox2_dynamic.specs.Details.{role_of};
+ghost use Rattle.iox2_dynamic.specs.Patterns.{kind_of_service, ports_of};
 ghost use Rattle.iox2_dynamic.specs.Ports.{ports_as, ports_asked_about, CountsIn, CanListIn, ListsIn};
+ghost use Rattle.iox2_dynamic.specs.Ports.{ReadsPorts};
 ghost use Rattle.iox2_dynamic.specs.Service.{IsService, HasRole, first_role, second_role};
 ghost use Rattle.iox2_dynamic.specs.Service.{capacities_in, entries_of_node, fresh_service};
 ghost use Rattle.iox2_dynamic.specs.Steps.{RegisterStep, DeregisterStep, AttachStep, ReleaseStep};
@@ -34,8 +37,9 @@ use std::marker::Model;
 /// The nodes of a service and the ports of its pattern.
 ///
 /// The node of every port is registered. A service is locked for good when its last node leaves; so
-/// a locked service has no port. A refused call changes no entry, no lock and no ticket. No call on
-/// a service that was made takes memory.
+/// a locked service has no port. A refused call changes no entry, no lock and no ticket. Of the
+/// calls on a service that was made only `nodes`, `ports` and `ports_of` take memory, for their
+/// lists.
 #[derive(Debug, Drop)]
 pub struct DynamicConfig {
     pub(super) pattern: MessagingPattern,
@@ -51,6 +55,31 @@ impl Model for DynamicConfig {
     ghost view = { service_in };
 
     ghost invariant = { λ c. IsService (service_in c) };
+}
+
+/// Whether one entry of the node is all that it has, and some port has the node.
+fn is_last_of_ports(
+    pattern: &mut MessagingPattern,
+    nodes: &ServiceRegistry<UniqueNodeId>,
+    id: &UniqueNodeId,
+) -> bool
+    ensures last { result ≡ is_last_of_ports id.now (record {
+      pattern = kind_of_service pattern.old;
+      ports = ports_of pattern.old;
+      nodes = nodes.now;
+    }) }
+    ensures reads { ReadsPorts (ports_of pattern.old) (ports_of pattern.new) }
+    ensures kind { kind_of_service pattern.new ≡ kind_of_service pattern.old }
+{
+    pattern.has_ports_of(id) && nodes.entries_of(id) == 1
+}
+
+/// Whether the node is registered.
+fn is_registered(nodes: &mut ServiceRegistry<UniqueNodeId>, id: &UniqueNodeId) -> bool
+    ensures registered { IsTrue result ↔ (0 < entries_of_node id.now nodes.old.registry) }
+    ensures reads { Reads nodes.old nodes.new }
+{
+    nodes.has_entry_of(id)
 }
 
 impl DynamicConfig {
@@ -119,20 +148,13 @@ impl DynamicConfig {
         let Some(id) = self.nodes.get(handle) else {
             return Err(DeregisterError::ContainerHandleNotOwnedByContainer);
         };
-        if self.is_last_of_ports(&id) {
+        if is_last_of_ports(&mut self.pattern, &self.nodes, &id) {
             return Err(DeregisterError::PortsStillAttached);
         }
         match self.nodes.remove(handle, ReleaseMode::LockIfLastIndex) {
             Ok(state) => Ok(DeregisterNodeState::of(state)),
             Err(_) => unreachable!(),
         }
-    }
-
-    /// Whether one entry of the node is all that it has, and some port has the node.
-    fn is_last_of_ports(&self, id: &UniqueNodeId) -> bool
-        ensures { result ≡ is_last_of_ports id.now self.now }
-    {
-        self.pattern.has_ports_of(id) && self.nodes.entries_of(id) == 1
     }
 
     /// Calls the callback on the nodes by rising slot, one time
@@ -154,13 +176,6 @@ impl DynamicConfig {
         self.pattern.has_role(role)
     }
 
-    /// Whether the node is registered.
-    fn is_registered(&self, id: &UniqueNodeId) -> bool
-        ensures { IsTrue result ↔ (0 < entries_of_node id.now self.now.nodes.registry) }
-    {
-        self.nodes.has_entry_of(id)
-    }
-
     /// Attaches a port of one of the pattern's roles, as `has_role` says. Refused where the service
     /// is locked, else where the port's node is not registered, by its whole id, and else where
     /// there is no place or no ticket for the port.
@@ -172,7 +187,7 @@ impl DynamicConfig {
         if self.nodes.is_locked() {
             return Err(AttachError::ServiceIsLocked);
         }
-        if !self.is_registered(&details.node_id()) {
+        if !is_registered(&mut self.nodes, &details.node_id()) {
             return Err(AttachError::NodeNotRegistered);
         }
         let Ok(handle) = self.pattern.add(details) else {

@@ -31,7 +31,11 @@ impl Model for UniqueNodeId {
 
 /// The number in lower-case hexadecimal digits without leading zeros.
 impl fmt::Display for UniqueNodeId {
+    ghost use Rattle.std.specs.Fmt.{styled_text};
+
     ghost output = { λ id. Some (hexadecimal id) };
+
+    ghost styled_output = { λ id spec. Some (styled_text spec (hexadecimal id)) };
 
     fn fmt<W: fmt::Write>(&self, f: &mut fmt::Formatter<W>) -> fmt::Result {
         self.id.fmt(f)

@@ -29,7 +29,11 @@ impl<K> Model for UniqueId<K> {
 
 /// The number in lower-case hexadecimal digits without leading zeros.
 impl<K> fmt::Display for UniqueId<K> {
+    ghost use Rattle.std.specs.Fmt.{styled_text};
+
     ghost output = { λ id. Some (hexadecimal id) };
+
+    ghost styled_output = { λ id spec. Some (styled_text spec (hexadecimal id)) };
 
     fn fmt<W: fmt::Write>(&self, f: &mut fmt::Formatter<W>) -> fmt::Result {
         f.pad(Hexadecimal::new(self.value).as_str())

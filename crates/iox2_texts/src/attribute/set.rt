@@ -2,8 +2,9 @@
 ghost use Rattle.std.specs.Prelude.{◌≡◌, ◌+◌, ◌<◌, ◌≤◌, ◌↔◌, [], ◌∷◌, Some, length, IsTrue, IsOk};
 ghost use Rattle.std.specs.Prelude.{OnOk, OnErr, Contains, slice_get};
 ghost use Rattle.std.specs.Option.{option_copied};
-ghost use Rattle.std.specs.Fn.{CalledAt};
+ghost use Rattle.std.specs.Fn.{CalledAt, TakesAt};
 ghost use Rattle.iox2_texts.specs.Pair.{IsAttributes};
+ghost use Rattle.iox2_texts.specs.Callbacks.{CanVisit};
 ghost use Rattle.iox2_texts.specs.Attribute.{IsListing, ContainsKey, Visits, values_of};
 
 use super::pair::Attribute;
@@ -144,16 +145,18 @@ impl AttributeSet {
     /// Calls `callback` with the key's values in rising order,
     /// up to and with the first that it answers `Stop`.
     ///
-    /// The callback is left in the state after its last call.
+    /// It must be callable on them in turn, each time as the call before left it, and is left in
+    /// the state after its last call. One that may always be called may be called again.
     pub fn iter_key_values<F: FnMut(&AttributeValue) -> CallbackProgression>(
         &self,
         key: &AttributeKey,
         callback: &mut F,
     )
-        requires { F.IsAlwaysCallable callback.old }
+        requires { CanVisit (TakesAt F.FnMut) (CalledAt F.FnMut)
+            callback.old (values_of self.now key.now) }
         ensures visit { Visits (CalledAt F.FnMut)
             callback.old (values_of self.now key.now) callback.new }
-        ensures callable { F.IsAlwaysCallable callback.new }
+        ensures callable { F.IsAlwaysCallable callback.old → F.IsAlwaysCallable callback.new }
     {
         for attribute in self.attributes.as_slice() {
             if attribute.key() == key {

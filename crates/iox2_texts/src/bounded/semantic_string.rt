@@ -116,7 +116,11 @@ impl<C: Content, const N: usize> TryFrom<&str> for SemanticString<C, N> {
 
 /// The text itself.
 impl<C: Content, const N: usize> fmt::Display for SemanticString<C, N> {
+    ghost use Rattle.std.specs.Fmt.{styled_text};
+
     ghost output = { λ s. Some s };
+
+    ghost styled_output = { λ s spec. Some (styled_text spec s) };
 
     fn fmt<W: fmt::Write>(&self, f: &mut fmt::Formatter<W>) -> fmt::Result {
         f.pad(self.as_str())

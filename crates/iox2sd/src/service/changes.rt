@@ -11,7 +11,6 @@ use crate::handle::Handle;
 use crate::id::Id;
 use crate::port::Port;
 use crate::status::Status;
-use std::alloc::Global;
 
 /// The handle of what was registered or attached.
 #[repr(C)]
@@ -19,7 +18,7 @@ use std::alloc::Global;
 pub struct HandleAnswer {
     /// The number of a [`Status`].
     pub status: u32,
-    /// The handle; all 0 where the status is not that of `Done`.
+    /// The handle; where the status is not that of `Done`, one that stands for nothing.
     pub handle: Handle,
 }
 
@@ -36,7 +35,7 @@ impl HandleAnswer {
             },
             Err(status) => HandleAnswer {
                 status: status.code(),
-                handle: Handle::zero(),
+                handle: Handle::none(),
             },
         }
     }
@@ -47,23 +46,17 @@ impl HandleAnswer {
 /// Refused are, in this order, NULL, a place that holds no service, an id of no node, a locked
 /// service, and want of a place or a ticket.
 #[unsafe(no_mangle)]
-pub extern "C" fn iox2sd_register_at(
-    alloc: Global,
-    places: &mut [Service],
-    node: Id,
-) -> HandleAnswer
+pub extern "C" fn iox2sd_register_at(places: &mut [Service], node: Id) -> HandleAnswer
     requires { All IsSoundPlace places.old }
     ensures { At handle_answer Err Nothing (Registers node) places.old result places.new }
 {
     let [place, ..] = places else {
         return HandleAnswer::of(Err(Status::Null));
     };
-    let Some(mut held) = place.take(alloc) else {
+    let Some(service) = place.lend() else {
         return HandleAnswer::of(Err(Status::NoService));
     };
-    let made = register(&mut held, node);
-    place.put(held);
-    HandleAnswer::of(made)
+    HandleAnswer::of(register(service, node))
 }
 
 /// Deregisters the node with this handle, and tells whether the service is locked for good, as it
@@ -73,35 +66,31 @@ pub extern "C" fn iox2sd_register_at(
 /// that is not that of a node here, and one that is the only one of its node while some port has
 /// that node.
 #[unsafe(no_mangle)]
-pub extern "C" fn iox2sd_deregister_at(alloc: Global, places: &mut [Service], handle: Handle) -> u32
+pub extern "C" fn iox2sd_deregister_at(places: &mut [Service], handle: Handle) -> u32
     requires { All IsSoundPlace places.old }
     ensures { At code (λ s. s) Nothing (Deregisters handle) places.old result places.new }
 {
     let [place, ..] = places else {
         return Status::Null.code();
     };
-    let Some(mut held) = place.take(alloc) else {
+    let Some(service) = place.lend() else {
         return Status::NoService.code();
     };
-    let status = deregister(&mut held, handle);
-    place.put(held);
-    status.code()
+    deregister(service, handle).code()
 }
 
 /// Attaches a port to the service in a place that may be NULL.
-fn attach_in(alloc: Global, places: &mut [Service], port: &Port) -> HandleAnswer
+fn attach_in(places: &mut [Service], port: &Port) -> HandleAnswer
     requires { All IsSoundPlace places.old }
     ensures { At handle_answer Err Nothing (AttachesPort port.now) places.old result places.new }
 {
     let [place, ..] = places else {
         return HandleAnswer::of(Err(Status::Null));
     };
-    let Some(mut held) = place.take(alloc) else {
+    let Some(service) = place.lend() else {
         return HandleAnswer::of(Err(Status::NoService));
     };
-    let made = attach(&mut held, port);
-    place.put(held);
-    HandleAnswer::of(made)
+    HandleAnswer::of(attach(service, port))
 }
 
 /// Attaches a port of one of the pattern's roles.
@@ -111,17 +100,13 @@ fn attach_in(alloc: Global, places: &mut [Service], port: &Port) -> HandleAnswer
 /// a role that the pattern does not have, a locked service, a node that is not registered, by its
 /// whole id, and want of a place or a ticket.
 #[unsafe(no_mangle)]
-pub extern "C" fn iox2sd_attach_at(
-    alloc: Global,
-    places: &mut [Service],
-    ports: &[Port],
-) -> HandleAnswer
+pub extern "C" fn iox2sd_attach_at(places: &mut [Service], ports: &[Port]) -> HandleAnswer
     requires { All IsSoundPlace places.old }
     ensures { AttachesAt ports.now places.old result places.new }
 {
     match ports {
         [] => HandleAnswer::of(Err(Status::Null)),
-        [port, ..] => attach_in(alloc, places, port),
+        [port, ..] => attach_in(places, port),
     }
 }
 
@@ -130,17 +115,15 @@ pub extern "C" fn iox2sd_attach_at(
 /// Refused are, in this order, NULL, a place that holds no service, a number of no role, and a
 /// handle that is not that of a port here.
 #[unsafe(no_mangle)]
-pub extern "C" fn iox2sd_release_at(alloc: Global, places: &mut [Service], handle: Handle) -> u32
+pub extern "C" fn iox2sd_release_at(places: &mut [Service], handle: Handle) -> u32
     requires { All IsSoundPlace places.old }
     ensures { At code (λ s. s) Nothing (Releases handle) places.old result places.new }
 {
     let [place, ..] = places else {
         return Status::Null.code();
     };
-    let Some(mut held) = place.take(alloc) else {
+    let Some(service) = place.lend() else {
         return Status::NoService.code();
     };
-    let status = release(&mut held, handle);
-    place.put(held);
-    status.code()
+    release(service, handle).code()
 }

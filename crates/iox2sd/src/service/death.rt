@@ -13,7 +13,6 @@ use crate::id::Id;
 use crate::status::Status;
 use iox2_dynamic::dynamic_config::{DeregisterNodeState, DynamicConfig, PortCleanupAction};
 use iox2_ids::identifiers::{UniqueNodeId, UniquePortId};
-use std::alloc::Global;
 
 /// How many ports went with a dead node.
 #[repr(C)]
@@ -129,12 +128,7 @@ fn die(service: &mut DynamicConfig, dead: Id, kept: &[Id]) -> Death
 ///
 /// Refused are, in this order, NULL, a place that holds no service, and an id of no node.
 #[unsafe(no_mangle)]
-pub extern "C" fn iox2sd_dead_at(
-    alloc: Global,
-    places: &mut [Service],
-    dead: Id,
-    kept: &[Id],
-) -> DeathAnswer
+pub extern "C" fn iox2sd_dead_at(places: &mut [Service], dead: Id, kept: &[Id]) -> DeathAnswer
     requires { All IsSoundPlace places.old }
     ensures { At death_answer death.Refused Nothing (Dies dead kept.now)
         places.old result places.new }
@@ -142,10 +136,8 @@ pub extern "C" fn iox2sd_dead_at(
     let [place, ..] = places else {
         return DeathAnswer::of(Death::Refused(Status::Null));
     };
-    let Some(mut held) = place.take(alloc) else {
+    let Some(service) = place.lend() else {
         return DeathAnswer::of(Death::Refused(Status::NoService));
     };
-    let death = die(&mut held, dead, kept);
-    place.put(held);
-    DeathAnswer::of(death)
+    DeathAnswer::of(die(service, dead, kept))
 }

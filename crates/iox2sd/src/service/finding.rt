@@ -1,7 +1,9 @@
 //! What a handle stands for.
+#![tactic(auto, using(crate::proofs::Lending::same_places))]
+
 ghost use Rattle.std.specs.Prelude.{◌≡◌, All, Err};
 ghost use Rattle.iox2sd.specs.Finding.{id_answer, port_answer, FindsNode, FindsPort};
-ghost use Rattle.iox2sd.specs.Places.{IsSoundPlace, At, Nothing};
+ghost use Rattle.iox2sd.specs.Places.{IsSoundPlace, Asked, Nothing};
 
 use super::Service;
 use crate::handle::Handle;
@@ -9,7 +11,6 @@ use crate::id::Id;
 use crate::port::Port;
 use crate::status::Status;
 use iox2_dynamic::dynamic_config::DynamicConfig;
-use std::alloc::Global;
 
 /// A node.
 #[repr(C)]
@@ -98,45 +99,33 @@ fn find_port(service: &DynamicConfig, handle: Handle) -> Result<Port, Status>
 /// The node that was registered with this handle. Refused are, in this order, NULL, a place that
 /// holds no service, a number of no role, and each handle that is not that of a node here.
 #[unsafe(no_mangle)]
-pub extern "C" fn iox2sd_find_node_at(
-    alloc: Global,
-    places: &mut [Service],
-    handle: Handle,
-) -> IdAnswer
+pub extern "C" fn iox2sd_find_node_at(places: &mut [Service], handle: Handle) -> IdAnswer
     requires { All IsSoundPlace places.old }
-    ensures { At id_answer Err Nothing (λ old made new. FindsNode handle old made × (new ≡ old))
-        places.old result places.new }
+    ensures answer { Asked id_answer Err Nothing (FindsNode handle) places.old result }
+    ensures unchanged { places.new ≡ places.old }
 {
     let [place, ..] = places else {
         return IdAnswer::of(Err(Status::Null));
     };
-    let Some(held) = place.take(alloc) else {
+    let Some(service) = place.lend() else {
         return IdAnswer::of(Err(Status::NoService));
     };
-    let found = find_node(&held, handle);
-    place.put(held);
-    IdAnswer::of(found)
+    IdAnswer::of(find_node(service, handle))
 }
 
 /// The port that was attached with this handle. Refused are, in this order, NULL, a place that
 /// holds no service, a number of no role, and each handle that is not that of a port here.
 #[unsafe(no_mangle)]
-pub extern "C" fn iox2sd_find_port_at(
-    alloc: Global,
-    places: &mut [Service],
-    handle: Handle,
-) -> PortAnswer
+pub extern "C" fn iox2sd_find_port_at(places: &mut [Service], handle: Handle) -> PortAnswer
     requires { All IsSoundPlace places.old }
-    ensures { At port_answer Err Nothing (λ old made new. FindsPort handle old made × (new ≡ old))
-        places.old result places.new }
+    ensures answer { Asked port_answer Err Nothing (FindsPort handle) places.old result }
+    ensures unchanged { places.new ≡ places.old }
 {
     let [place, ..] = places else {
         return PortAnswer::of(Err(Status::Null));
     };
-    let Some(held) = place.take(alloc) else {
+    let Some(service) = place.lend() else {
         return PortAnswer::of(Err(Status::NoService));
     };
-    let found = find_port(&held, handle);
-    place.put(held);
-    PortAnswer::of(found)
+    PortAnswer::of(find_port(service, handle))
 }

@@ -3,7 +3,7 @@ ghost use Rattle.std.specs.Prelude.{◌≡◌, ◌↔◌, All, IsTrue};
 ghost use Rattle.iox2_dynamic.specs.Ports.{ports_as};
 ghost use Rattle.iox2_dynamic.specs.Service.{first_role};
 ghost use Rattle.iox2sd.specs.Listings.{Puts, PutsAll, ports_in, ports_of_kind, ListsPorts, listed_answer};
-ghost use Rattle.iox2sd.specs.Places.{IsSoundPlace, At};
+ghost use Rattle.iox2sd.specs.Places.{IsSoundPlace, Asked};
 ghost use Rattle.iox2sd.specs.Ports.{told_port};
 ghost use Rattle.iox2sd.specs.declared.service.listing.Listed.TheVariants as listed;
 
@@ -16,7 +16,6 @@ use iox2_config::hash::PatternKind;
 use iox2_container::container::Role;
 use iox2_dynamic::dynamic_config::{DynamicConfig, PortKind, PortRegistries, PortRoles};
 use iox2_texts::bounded::CallbackProgression;
-use std::alloc::Global;
 
 /// What became of a listing.
 pub(super) enum Listed {
@@ -156,25 +155,23 @@ fn list_ports(service: &DynamicConfig, role: u64, out: &mut [Port]) -> Listed
 ///
 /// Refused are, in this order, NULL, a place that holds no service, a number of no role, a role
 /// that the pattern does not have, and too short an array.
+#[tactic(auto, using(crate::proofs::Lending::same_places))]
 #[unsafe(no_mangle)]
 pub extern "C" fn iox2sd_ports_at(
-    alloc: Global,
     places: &mut [Service],
     role: u64,
     out: &mut [Port],
 ) -> CountAnswer
     requires { All IsSoundPlace places.old }
-    ensures { At listed_answer listed.Refused (out.new ≡ out.old)
-        (λ old made new. ListsPorts role out.old old made out.new × (new ≡ old))
-        places.old result places.new }
+    ensures answer { Asked listed_answer listed.Refused (out.new ≡ out.old)
+        (λ service made. ListsPorts role out.old service made out.new) places.old result }
+    ensures unchanged { places.new ≡ places.old }
 {
     let [place, ..] = places else {
         return Listed::Refused(Status::Null).answer();
     };
-    let Some(held) = place.take(alloc) else {
+    let Some(service) = place.lend() else {
         return Listed::Refused(Status::NoService).answer();
     };
-    let listed = list_ports(&held, role, out);
-    place.put(held);
-    listed.answer()
+    list_ports(service, role, out).answer()
 }

@@ -7,7 +7,7 @@ ghost use Rattle.iox2_dynamic.specs.Service.{first_role, second_role};
 ghost use Rattle.iox2sd.specs.Listings.{listed_answer};
 ghost use Rattle.iox2sd.specs.NodeListings.{Counts, PutsAt, Notes, NotesAll};
 ghost use Rattle.iox2sd.specs.NodeListings.{Stand, ports_of_in, ListsPortsOf};
-ghost use Rattle.iox2sd.specs.Places.{IsSoundPlace, At};
+ghost use Rattle.iox2sd.specs.Places.{IsSoundPlace, Asked};
 ghost use Rattle.iox2sd.specs.Ports.{told_port};
 ghost use Rattle.iox2sd.specs.declared.service.listing.Listed.TheVariants as listed;
 
@@ -21,7 +21,6 @@ use iox2_container::container::Role;
 use iox2_dynamic::dynamic_config::{DynamicConfig, PortDetails, PortRoles};
 use iox2_ids::identifiers::UniqueNodeId;
 use iox2_texts::bounded::CallbackProgression;
-use std::alloc::Global;
 
 /// One more, unless that is too large.
 fn one_more(count: Option<usize>) -> Option<usize>
@@ -121,25 +120,23 @@ fn list_ports_of(service: &DynamicConfig, node: Id, out: &mut [Port]) -> Listed
 ///
 /// Refused are, in this order, NULL, a place that holds no service, an id of no node, and too short
 /// an array; in its place `TooLarge` where the number that it needs passes a `usize`.
+#[tactic(auto, using(crate::proofs::Lending::same_places))]
 #[unsafe(no_mangle)]
 pub extern "C" fn iox2sd_ports_of_at(
-    alloc: Global,
     places: &mut [Service],
     node: Id,
     out: &mut [Port],
 ) -> CountAnswer
     requires { All IsSoundPlace places.old }
-    ensures { At listed_answer listed.Refused (out.new ≡ out.old)
-        (λ old made new. ListsPortsOf node out.old old made out.new × (new ≡ old))
-        places.old result places.new }
+    ensures answer { Asked listed_answer listed.Refused (out.new ≡ out.old)
+        (λ service made. ListsPortsOf node out.old service made out.new) places.old result }
+    ensures unchanged { places.new ≡ places.old }
 {
     let [place, ..] = places else {
         return Listed::Refused(Status::Null).answer();
     };
-    let Some(held) = place.take(alloc) else {
+    let Some(service) = place.lend() else {
         return Listed::Refused(Status::NoService).answer();
     };
-    let listed = list_ports_of(&held, node, out);
-    place.put(held);
-    listed.answer()
+    list_ports_of(service, node, out).answer()
 }

@@ -2,7 +2,7 @@
 ghost use Rattle.std.specs.Prelude.{◌≡◌, All};
 ghost use Rattle.iox2sd.specs.Ids.{id_of};
 ghost use Rattle.iox2sd.specs.Listings.{Puts, PutsAll, nodes_in, ListsNodes, listed_answer};
-ghost use Rattle.iox2sd.specs.Places.{IsSoundPlace, At};
+ghost use Rattle.iox2sd.specs.Places.{IsSoundPlace, Asked};
 ghost use Rattle.iox2sd.specs.declared.service.listing.Listed.TheVariants as listed;
 
 use super::Service;
@@ -13,7 +13,6 @@ use crate::status::Status;
 use iox2_dynamic::dynamic_config::DynamicConfig;
 use iox2_ids::identifiers::UniqueNodeId;
 use iox2_texts::bounded::CallbackProgression;
-use std::alloc::Global;
 
 /// Puts the ids of the nodes at the front of the array.
 fn put_nodes(service: &DynamicConfig, out: &mut [Id], used: &mut usize)
@@ -45,24 +44,19 @@ fn list_nodes(service: &DynamicConfig, out: &mut [Id]) -> Listed
 /// all, it stays as it was, and the number that it needs is told.
 ///
 /// Refused are, in this order, NULL, a place that holds no service, and too short an array.
+#[tactic(auto, using(crate::proofs::Lending::same_places))]
 #[unsafe(no_mangle)]
-pub extern "C" fn iox2sd_nodes_at(
-    alloc: Global,
-    places: &mut [Service],
-    out: &mut [Id],
-) -> CountAnswer
+pub extern "C" fn iox2sd_nodes_at(places: &mut [Service], out: &mut [Id]) -> CountAnswer
     requires { All IsSoundPlace places.old }
-    ensures { At listed_answer listed.Refused (out.new ≡ out.old)
-        (λ old made new. ListsNodes out.old old made out.new × (new ≡ old))
-        places.old result places.new }
+    ensures answer { Asked listed_answer listed.Refused (out.new ≡ out.old)
+        (λ service made. ListsNodes out.old service made out.new) places.old result }
+    ensures unchanged { places.new ≡ places.old }
 {
     let [place, ..] = places else {
         return Listed::Refused(Status::Null).answer();
     };
-    let Some(held) = place.take(alloc) else {
+    let Some(service) = place.lend() else {
         return Listed::Refused(Status::NoService).answer();
     };
-    let listed = list_nodes(&held, out);
-    place.put(held);
-    listed.answer()
+    list_nodes(service, out).answer()
 }

@@ -1,8 +1,10 @@
 //! How many nodes and ports there are, how many there may be, and whether there is room for one
 //! more.
+#![tactic(auto, using(crate::proofs::Lending::same_places))]
+
 ghost use Rattle.std.specs.Prelude.{◌≡◌, All, Err, length};
 ghost use Rattle.iox2sd.specs.Numbers.{told_count, AsksPorts, AsksRoom, AsksNodeRoom};
-ghost use Rattle.iox2sd.specs.Places.{IsSoundPlace, At, Nothing};
+ghost use Rattle.iox2sd.specs.Places.{IsSoundPlace, Asked, Nothing};
 ghost use Rattle.iox2sd.specs.Queries.{Gives, flag_answer};
 
 use super::Service;
@@ -11,7 +13,6 @@ use crate::answers::{CountAnswer, count};
 use crate::handle::role_of;
 use crate::status::Status;
 use iox2_dynamic::dynamic_config::DynamicConfig;
-use std::alloc::Global;
 
 /// The answer that tells how many, or why it does not.
 fn told(asked: Result<usize, Status>) -> CountAnswer
@@ -71,122 +72,104 @@ fn has_room_for_node(service: &DynamicConfig) -> Result<bool, Status>
 
 /// How many handles of nodes there are. Refused are NULL and a place that holds no service.
 #[unsafe(no_mangle)]
-pub extern "C" fn iox2sd_number_of_nodes_at(alloc: Global, places: &mut [Service]) -> CountAnswer
+pub extern "C" fn iox2sd_number_of_nodes_at(places: &mut [Service]) -> CountAnswer
     requires { All IsSoundPlace places.old }
-    ensures { At told_count Err Nothing (Gives (λ s. length s.nodes.registry.entries))
-        places.old result places.new }
+    ensures answer { Asked told_count Err Nothing (Gives (λ s. length s.nodes.registry.entries))
+        places.old result }
+    ensures unchanged { places.new ≡ places.old }
 {
     let [place, ..] = places else {
         return told(Err(Status::Null));
     };
-    let Some(held) = place.take(alloc) else {
+    let Some(service) = place.lend() else {
         return told(Err(Status::NoService));
     };
-    let number = held.number_of_nodes();
-    place.put(held);
-    told(Ok(number))
+    told(Ok(service.number_of_nodes()))
 }
 
 /// How many handles of nodes there may be at a time. Refused are NULL and a place that holds no
 /// service.
 #[unsafe(no_mangle)]
-pub extern "C" fn iox2sd_max_nodes_at(alloc: Global, places: &mut [Service]) -> CountAnswer
+pub extern "C" fn iox2sd_max_nodes_at(places: &mut [Service]) -> CountAnswer
     requires { All IsSoundPlace places.old }
-    ensures { At told_count Err Nothing (Gives (λ s. s.nodes.registry.capacity))
-        places.old result places.new }
+    ensures answer { Asked told_count Err Nothing (Gives (λ s. s.nodes.registry.capacity))
+        places.old result }
+    ensures unchanged { places.new ≡ places.old }
 {
     let [place, ..] = places else {
         return told(Err(Status::Null));
     };
-    let Some(held) = place.take(alloc) else {
+    let Some(service) = place.lend() else {
         return told(Err(Status::NoService));
     };
-    let number = held.max_nodes();
-    place.put(held);
-    told(Ok(number))
+    told(Ok(service.max_nodes()))
 }
 
 /// Whether `iox2sd_register` would register a node. Refused are NULL and a place that holds no
 /// service.
 #[unsafe(no_mangle)]
-pub extern "C" fn iox2sd_has_room_for_node_at(alloc: Global, places: &mut [Service]) -> FlagAnswer
+pub extern "C" fn iox2sd_has_room_for_node_at(places: &mut [Service]) -> FlagAnswer
     requires { All IsSoundPlace places.old }
-    ensures { At flag_answer Err Nothing (λ old made new. AsksNodeRoom old made × (new ≡ old))
-        places.old result places.new }
+    ensures answer { Asked flag_answer Err Nothing AsksNodeRoom places.old result }
+    ensures unchanged { places.new ≡ places.old }
 {
     let [place, ..] = places else {
         return FlagAnswer::of(Err(Status::Null));
     };
-    let Some(held) = place.take(alloc) else {
+    let Some(service) = place.lend() else {
         return FlagAnswer::of(Err(Status::NoService));
     };
-    let made = has_room_for_node(&held);
-    place.put(held);
-    FlagAnswer::of(made)
+    FlagAnswer::of(has_room_for_node(service))
 }
 
 /// How many ports of the role there are. Refused are, in this order, NULL, a place that holds no
 /// service, a number of no role, and a role that the pattern does not have.
 #[unsafe(no_mangle)]
-pub extern "C" fn iox2sd_count_ports_at(
-    alloc: Global,
-    places: &mut [Service],
-    role: u64,
-) -> CountAnswer
+pub extern "C" fn iox2sd_count_ports_at(places: &mut [Service], role: u64) -> CountAnswer
     requires { All IsSoundPlace places.old }
-    ensures { At told_count Err Nothing
-        (λ old made new. AsksPorts (λ r n. n ≡ length r.entries) role old made × (new ≡ old))
-        places.old result places.new }
+    ensures answer { Asked told_count Err Nothing (AsksPorts (λ r n. n ≡ length r.entries) role)
+        places.old result }
+    ensures unchanged { places.new ≡ places.old }
 {
     let [place, ..] = places else {
         return told(Err(Status::Null));
     };
-    let Some(held) = place.take(alloc) else {
+    let Some(service) = place.lend() else {
         return told(Err(Status::NoService));
     };
-    let made = count_ports(&held, role);
-    place.put(held);
-    told(made)
+    told(count_ports(service, role))
 }
 
 /// How many ports of the role there may be at a time. Refused as `iox2sd_count_ports` is.
 #[unsafe(no_mangle)]
-pub extern "C" fn iox2sd_max_ports_at(
-    alloc: Global,
-    places: &mut [Service],
-    role: u64,
-) -> CountAnswer
+pub extern "C" fn iox2sd_max_ports_at(places: &mut [Service], role: u64) -> CountAnswer
     requires { All IsSoundPlace places.old }
-    ensures { At told_count Err Nothing
-        (λ old made new. AsksPorts (λ r n. n ≡ r.capacity) role old made × (new ≡ old))
-        places.old result places.new }
+    ensures answer { Asked told_count Err Nothing (AsksPorts (λ r n. n ≡ r.capacity) role)
+        places.old result }
+    ensures unchanged { places.new ≡ places.old }
 {
     let [place, ..] = places else {
         return told(Err(Status::Null));
     };
-    let Some(held) = place.take(alloc) else {
+    let Some(service) = place.lend() else {
         return told(Err(Status::NoService));
     };
-    let made = max_ports(&held, role);
-    place.put(held);
-    told(made)
+    told(max_ports(service, role))
 }
 
 /// Whether `iox2sd_attach` would attach a port of the role, if its node is registered. Refused as
 /// `iox2sd_count_ports` is.
 #[unsafe(no_mangle)]
-pub extern "C" fn iox2sd_has_room_at(alloc: Global, places: &mut [Service], role: u64) -> FlagAnswer
+pub extern "C" fn iox2sd_has_room_at(places: &mut [Service], role: u64) -> FlagAnswer
     requires { All IsSoundPlace places.old }
-    ensures { At flag_answer Err Nothing (λ old made new. AsksRoom role old made × (new ≡ old))
-        places.old result places.new }
+    ensures answer { Asked flag_answer Err Nothing (AsksRoom role) places.old result }
+    ensures unchanged { places.new ≡ places.old }
 {
     let [place, ..] = places else {
         return FlagAnswer::of(Err(Status::Null));
     };
-    let Some(held) = place.take(alloc) else {
+    let Some(service) = place.lend() else {
         return FlagAnswer::of(Err(Status::NoService));
     };
-    let made = has_room(&held, role);
-    place.put(held);
-    FlagAnswer::of(made)
+    FlagAnswer::of(has_room(service, role))
 }

@@ -1,7 +1,9 @@
 //! Questions to a service: its pattern, its number, its lock, and what its ports are.
+#![tactic(auto, using(crate::proofs::Lending::same_places))]
+
 ghost use Rattle.std.specs.Prelude.{◌≡◌, All, Ok, Err};
 ghost use Rattle.iox2_config.specs.Hashing.{pattern_number};
-ghost use Rattle.iox2sd.specs.Places.{IsSoundPlace, At, Nothing};
+ghost use Rattle.iox2sd.specs.Places.{IsSoundPlace, Asked, Nothing};
 ghost use Rattle.iox2sd.specs.Queries.{Gives, AsksRole, number_answer, roles_answer, flag_answer};
 ghost use Rattle.iox2sd.specs.Queries.{roles_in};
 
@@ -9,7 +11,6 @@ use super::Service;
 use crate::handle::{role_number, role_of};
 use crate::status::Status;
 use iox2_dynamic::dynamic_config::{DynamicConfig, PortRoles};
-use std::alloc::Global;
 
 /// A number of the service.
 #[repr(C)]
@@ -138,92 +139,86 @@ fn has_role(service: &DynamicConfig, role: u64) -> Result<bool, Status>
 
 /// The number of the pattern. Refused are NULL and a place that holds no service.
 #[unsafe(no_mangle)]
-pub extern "C" fn iox2sd_pattern_at(alloc: Global, places: &mut [Service]) -> NumberAnswer
+pub extern "C" fn iox2sd_pattern_at(places: &mut [Service]) -> NumberAnswer
     requires { All IsSoundPlace places.old }
-    ensures { At number_answer Err Nothing (Gives (λ s. pattern_number s.pattern))
-        places.old result places.new }
+    ensures answer { Asked number_answer Err Nothing (Gives (λ s. pattern_number s.pattern))
+        places.old result }
+    ensures unchanged { places.new ≡ places.old }
 {
     let [place, ..] = places else {
         return NumberAnswer::of(Err(Status::Null));
     };
-    let Some(held) = place.take(alloc) else {
+    let Some(service) = place.lend() else {
         return NumberAnswer::of(Err(Status::NoService));
     };
-    let number = pattern(&held);
-    place.put(held);
-    NumberAnswer::of(Ok(number))
+    NumberAnswer::of(Ok(pattern(service)))
 }
 
 /// The roles of the pattern's two kinds of ports. Refused are NULL and a place that holds no
 /// service.
 #[unsafe(no_mangle)]
-pub extern "C" fn iox2sd_roles_at(alloc: Global, places: &mut [Service]) -> RolesAnswer
+pub extern "C" fn iox2sd_roles_at(places: &mut [Service]) -> RolesAnswer
     requires { All IsSoundPlace places.old }
-    ensures { At roles_answer Err Nothing (Gives roles_in) places.old result places.new }
+    ensures answer { Asked roles_answer Err Nothing (Gives roles_in) places.old result }
+    ensures unchanged { places.new ≡ places.old }
 {
     let [place, ..] = places else {
         return RolesAnswer::of(Err(Status::Null));
     };
-    let Some(held) = place.take(alloc) else {
+    let Some(service) = place.lend() else {
         return RolesAnswer::of(Err(Status::NoService));
     };
-    let roles = roles_of(&held);
-    place.put(held);
-    RolesAnswer::of(Ok(roles))
+    RolesAnswer::of(Ok(roles_of(service)))
 }
 
 /// The service's number, which each of its handles has. Refused are NULL and a place that holds no
 /// service.
 #[unsafe(no_mangle)]
-pub extern "C" fn iox2sd_service_number_at(alloc: Global, places: &mut [Service]) -> NumberAnswer
+pub extern "C" fn iox2sd_service_number_at(places: &mut [Service]) -> NumberAnswer
     requires { All IsSoundPlace places.old }
-    ensures { At number_answer Err Nothing (Gives (λ s. s.nodes.registry.service))
-        places.old result places.new }
+    ensures answer { Asked number_answer Err Nothing (Gives (λ s. s.nodes.registry.service))
+        places.old result }
+    ensures unchanged { places.new ≡ places.old }
 {
     let [place, ..] = places else {
         return NumberAnswer::of(Err(Status::Null));
     };
-    let Some(held) = place.take(alloc) else {
+    let Some(service) = place.lend() else {
         return NumberAnswer::of(Err(Status::NoService));
     };
-    let number = held.service_number();
-    place.put(held);
-    NumberAnswer::of(Ok(number))
+    NumberAnswer::of(Ok(service.service_number()))
 }
 
 /// Whether the service is locked for good. Refused are NULL and a place that holds no service.
 #[unsafe(no_mangle)]
-pub extern "C" fn iox2sd_is_locked_at(alloc: Global, places: &mut [Service]) -> FlagAnswer
+pub extern "C" fn iox2sd_is_locked_at(places: &mut [Service]) -> FlagAnswer
     requires { All IsSoundPlace places.old }
-    ensures { At flag_answer Err Nothing (Gives (λ s. s.nodes.registry.locked))
-        places.old result places.new }
+    ensures answer { Asked flag_answer Err Nothing (Gives (λ s. s.nodes.registry.locked))
+        places.old result }
+    ensures unchanged { places.new ≡ places.old }
 {
     let [place, ..] = places else {
         return FlagAnswer::of(Err(Status::Null));
     };
-    let Some(held) = place.take(alloc) else {
+    let Some(service) = place.lend() else {
         return FlagAnswer::of(Err(Status::NoService));
     };
-    let locked = held.is_locked();
-    place.put(held);
-    FlagAnswer::of(Ok(locked))
+    FlagAnswer::of(Ok(service.is_locked()))
 }
 
 /// Whether the pattern has ports of the role. Refused are, in this order, NULL, a place that holds
 /// no service, and a number of no role.
 #[unsafe(no_mangle)]
-pub extern "C" fn iox2sd_has_role_at(alloc: Global, places: &mut [Service], role: u64) -> FlagAnswer
+pub extern "C" fn iox2sd_has_role_at(places: &mut [Service], role: u64) -> FlagAnswer
     requires { All IsSoundPlace places.old }
-    ensures { At flag_answer Err Nothing (λ old made new. AsksRole role old made × (new ≡ old))
-        places.old result places.new }
+    ensures answer { Asked flag_answer Err Nothing (AsksRole role) places.old result }
+    ensures unchanged { places.new ≡ places.old }
 {
     let [place, ..] = places else {
         return FlagAnswer::of(Err(Status::Null));
     };
-    let Some(held) = place.take(alloc) else {
+    let Some(service) = place.lend() else {
         return FlagAnswer::of(Err(Status::NoService));
     };
-    let made = has_role(&held, role);
-    place.put(held);
-    FlagAnswer::of(made)
+    FlagAnswer::of(has_role(service, role))
 }

@@ -11,6 +11,7 @@ ghost use Rattle.service_drawing.specs.Lines.{type_text, payload_text, alignment
 ghost use Rattle.service_drawing.specs.Lines.{IsLine, HasNoLine, IsDescribed, IsOpenerOf};
 ghost use Rattle.service_drawing.specs.Lines.{AreAlignments, HasType, HasPayload, HasElements};
 ghost use Rattle.service_drawing.specs.Lines.{IsPlain, HasOpener, HasMessage, StopsAt};
+ghost use Rattle.service_drawing.specs.declared.reading.cause.Reason.TheVariants.{OtherForm};
 
 use super::expected::Expected;
 use super::words::{next_line, number, number_word};
@@ -152,6 +153,7 @@ pub(super) fn fixed_before<'a>(
         (λ expected. (t : TypeDetailParts) (rest : List ℕ)
         → ¬ HasType (prefix.now ++ word.now) t rest bytes.now) }
     ensures place { IfErr result (λ expected. expected.rest.now ≡ bytes.now) }
+    ensures reason { IfErr result (λ expected. expected.reason ≡ OtherForm) }
 {
     let expected = Expected::prefixed(bytes, prefix, form);
     let Some((text, rest)) = line_after(bytes, prefix, word) else {
@@ -173,6 +175,7 @@ fn payload_before<'a>(
         (λ expected. (t : TypeDetailParts) (rest : List ℕ)
         → ¬ HasPayload prefix.now t rest bytes.now) }
     ensures place { IfErr result (λ expected. expected.rest.now ≡ bytes.now) }
+    ensures reason { IfErr result (λ expected. expected.reason ≡ OtherForm) }
 {
     let expected = Expected::prefixed(
         bytes,
@@ -198,6 +201,7 @@ fn number_of_elements_before<'a>(
         (λ expected. (n : ℕ) (rest : List ℕ)
         → ¬ HasElements prefix.now Dynamic n rest bytes.now) }
     ensures place { IfErr result (λ expected. expected.rest.now ≡ bytes.now) }
+    ensures reason { IfErr result (λ expected. expected.reason ≡ OtherForm) }
 {
     let expected = Expected::prefixed(bytes, prefix, "elements NUMBER");
     let Some((text, rest)) = line_after(bytes, prefix, "elements ") else {
@@ -220,6 +224,7 @@ fn elements_before<'a>(
         (λ expected. (n : ℕ) (rest : List ℕ)
         → ¬ HasElements prefix.now variant n rest bytes.now) }
     ensures place { IfErr result (λ expected. expected.rest.now ≡ bytes.now) }
+    ensures reason { IfErr result (λ expected. expected.reason ≡ OtherForm) }
 {
     match variant {
         TypeVariant::FixedSize => Ok((1, bytes)),
@@ -239,6 +244,7 @@ fn opener_before<'a>(
         → ¬ HasOpener prefix.now opener rest bytes.now) }
     ensures same { IfOk result (λ found. IfSome found.0 (λ opener. IsOpenerOf opener service.now)) }
     ensures place { IfErr result (λ expected. expected.rest.now ≡ bytes.now) }
+    ensures reason { IfErr result (λ expected. expected.reason ≡ OtherForm) }
 {
     let Some((text, rest)) = line_after(bytes, prefix, "opener ") else {
         return Ok((None, bytes));
@@ -260,7 +266,8 @@ pub(super) fn message_before<'a>(
 ) -> Result<(Message, &'a [u8]), Expected<'a>>
     requires { IsPlain prefix.now }
     ensures { MatchResult result (λ found. HasMessage prefix.now found.0 found.1.now bytes.now)
-        (λ expected. StopsAt (HasMessage prefix.now) expected.rest.now bytes.now) }
+        (λ expected. StopsAt (HasMessage prefix.now) expected.rest.now bytes.now
+        × (expected.reason ≡ OtherForm)) }
 {
     let (header, rest) = fixed_before(
         bytes,

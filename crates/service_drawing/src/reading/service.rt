@@ -6,6 +6,7 @@ ghost use Rattle.iox2_config.specs.declared.hash.input.PatternKind.{PatternKind}
 ghost use Rattle.iox2_config.specs.Hashing.{pattern_word};
 ghost use Rattle.service_drawing.specs.Lines.{IsHashed, MayBeNamed, HasService};
 ghost use Rattle.service_drawing.specs.Lines.{HasNoPattern, IsNoService};
+ghost use Rattle.service_drawing.specs.Reasons.{IsServiceReason};
 
 use super::cause::Reason;
 use super::expected::Expected;
@@ -81,6 +82,7 @@ pub(super) fn service_before(bytes: &[u8]) -> Result<(Service, &[u8]), Expected<
         → ¬ HasService kind name rest bytes.now) }
     ensures hash { IfOk result (λ found. IsHashed found.0) }
     ensures place { IfErr result (λ expected. expected.rest.now ≡ bytes.now) }
+    ensures reason { IfErr result (λ expected. IsServiceReason expected.reason bytes.now) }
 {
     let expected = Expected::plain(
         bytes,

@@ -2,6 +2,7 @@
 ghost use Rattle.std.specs.Prelude.{◌≡◌, ◌<◌, ◌↔◌, ℕ, [], IsTrue, Some, IfOk, IfSome, IfErr, MatchOption, MatchResult};
 ghost use Rattle.std.specs.Prelude.{slice_get};
 ghost use Rattle.service_drawing.specs.Lines.{Begins, Stops};
+ghost use Rattle.service_drawing.specs.Reasons.{IsSettingReason};
 ghost use Rattle.service_drawing.specs.Settings.{HasName, HasSettings, IsDashed, IsNamed, IsNotSet};
 ghost use Rattle.service_drawing.specs.Settings.{IsSetting, Sets, dash_for};
 
@@ -87,7 +88,8 @@ fn set<S: Settings>(settings: &mut S, given: &mut [bool; 32], text: &[u8]) -> Re
 
 /// What was expected in the place of a line that sets nothing.
 fn expected<S: Settings>(bytes: &[u8], reason: Reason) -> Expected<'_>
-    ensures { result.rest.now ≡ bytes.now }
+    ensures place { result.rest.now ≡ bytes.now }
+    ensures reason { result.reason ≡ reason }
 {
     let (prefix, form) = match reason {
         Reason::UnknownSetting => ("set NAME VALUE with one of the names ", S::all_names()),
@@ -111,7 +113,9 @@ pub(super) fn settings_before<'a, S: Settings>(
         (λ rest. HasSettings S.names (S.values settings.old) (S.values settings.new) rest.now
         bytes.now)
         (λ expected. Stops (HasSettings S.names (S.values settings.old) (S.values settings.new) [])
-        (Begins (HasSettings S.names (S.values settings.old))) expected.rest.now bytes.now) }
+        (Begins (HasSettings S.names (S.values settings.old))) expected.rest.now bytes.now
+        × IsSettingReason S.names (S.values settings.old) expected.reason expected.rest.now
+        bytes.now) }
 {
     let mut given = [false; 32];
     let mut rest = bytes;

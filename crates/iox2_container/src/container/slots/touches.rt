@@ -6,8 +6,8 @@ use std::marker::Model;
 
 /// How often slots were read or written.
 #[derive(Debug, Drop)]
-pub(super) struct Touches {
-    pub(super) ghost count: { ℕ },
+pub(crate) struct Touches {
+    pub(crate) ghost count: { ℕ },
 }
 
 impl Model for Touches {
@@ -16,14 +16,14 @@ impl Model for Touches {
 
 impl Touches {
     /// No touch so far.
-    pub(super) fn none() -> Self
+    pub(crate) fn none() -> Self
         ensures { result.count ≡ 0 }
     {
         Touches {}
     }
 
     /// One touch more.
-    pub(super) fn one_more(&self) -> Self
+    pub(crate) fn one_more(&self) -> Self
         ensures { result.count ≡ self.now.count + 1 }
     {
         Touches {}

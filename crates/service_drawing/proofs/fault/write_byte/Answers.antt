@@ -6,5 +6,5 @@ pub returns : goal.returns
 returns g c =
     appends_then _ _ _ (codes ": it holds the byte " ++ c.as_bytes.result.now)
     (codes ", and a line holds bytes from 32 to 126; ") _ c.write_whole.result
-    c.in_ok-write_both.ensures c.write_whole.ensures
+    c.in_ok-write_both.ensures c.write_whole.ensures.whole
     (rw (c.as_bytes.ensures.value, c.format.ensures.text) refl)

@@ -1,43 +1,51 @@
 use Rattle.std.proofs.Common.{◌≡◌, List, [], ℕ, subst}
 use Rattle.service_drawing.specs.Lines.{HasRequirements}
-use Rattle.service_drawing.proofs.Descriptions.{no_service_here, stops_after_service, stops_in_settings, stops_after_settings, stops_in_exchange, stops_after_exchange, stops_in_attributes, stops_after_attributes, stops_in_required, stops_after_required, no_more}
+use Rattle.service_drawing.proofs.Descriptions.{no_service_here, stops_after_service, stops_in_settings, stops_in_exchange, stops_after_exchange, stops_in_attributes, stops_after_attributes, stops_in_required, stops_after_required, no_more}
 use Rattle.service_drawing.proofs.Answered.{handed_on}
+use Rattle.service_drawing.proofs.Reasons.{no_service_reason, reason_in_settings, stops_behind_settings}
 use Rattle.service_drawing.proofs.reading.read_description.Goals as goal
 
 pub returns-in_err-service : goal.returns-in_err-service
 returns-in_err-service c =
-    handed_on _ _ _ _ c.from_residual.ensures
-    (no_service_here _ c.args.bytes.now c.in_err-service.ensures.place
-    c.in_err-service.ensures.spelled)
+    let bad = c.in_err-service in
+    handed_on _ _ _ _ c.from_residual.ensures (
+      no_service_here _ c.args.bytes.now bad.ensures.place bad.ensures.spelled,
+      no_service_reason bad.field-0.0.reason _ c.args.bytes.now bad.ensures.spelled
+          bad.ensures.reason,
+    )
 
 pub returns-in_err-config : goal.returns-in_err-config
 returns-in_err-config c =
     let s = c.in_ok-service in
-    handed_on _ _ _ _ c.from_residual-in_err-config.ensures
-    (stops_after_service s.service.kind s.service.name _ s.rest.now c.args.bytes.now
-    s.ensures.spelled (stops_in_settings s.service.kind _ s.rest.now c.in_err-config.ensures))
+    let bad = c.in_err-config in
+    handed_on _ _ _ _ c.from_residual-in_err-config.ensures (
+      stops_after_service s.service.kind s.service.name _ s.rest.now c.args.bytes.now
+          s.ensures.spelled (stops_in_settings s.service.kind _ s.rest.now bad.ensures.0),
+      reason_in_settings bad.field-0.0.reason s.service.kind s.service.name _ s.rest.now
+          c.args.bytes.now s.ensures.spelled bad.ensures.1,
+    )
 
 pub returns-in_err-exchange : goal.returns-in_err-exchange
 returns-in_err-exchange c =
     let s = c.in_ok-service in
     let g = c.in_ok-config in
+    let bad = c.in_err-exchange in
     handed_on _ _ _ _ c.from_residual-in_err-exchange.ensures
-    (stops_after_service s.service.kind s.service.name _ s.rest.now c.args.bytes.now
-    s.ensures.spelled
-    (stops_after_settings s.service.kind g.config _ g.rest.now s.rest.now g.ensures
-    (stops_in_exchange s.service.kind _ g.rest.now c.in_err-exchange.ensures)))
+    (stops_behind_settings bad.field-0.0.reason s.service.kind s.service.name g.config _
+    g.rest.now s.rest.now c.args.bytes.now bad.ensures.1 s.ensures.spelled g.ensures
+    (stops_in_exchange s.service.kind _ g.rest.now bad.ensures.0))
 
 pub returns-in_err-attributes : goal.returns-in_err-attributes
 returns-in_err-attributes c =
     let s = c.in_ok-service in
     let g = c.in_ok-config in
     let x = c.in_ok-exchange in
+    let bad = c.in_err-attributes in
     handed_on _ _ _ _ c.from_residual-in_err-attributes.ensures
-    (stops_after_service s.service.kind s.service.name _ s.rest.now c.args.bytes.now
-    s.ensures.spelled
-    (stops_after_settings s.service.kind g.config _ g.rest.now s.rest.now g.ensures
+    (stops_behind_settings bad.field-0.0.reason s.service.kind s.service.name g.config _
+    g.rest.now s.rest.now c.args.bytes.now bad.ensures.1 s.ensures.spelled g.ensures
     (stops_after_exchange s.service.kind x.exchange _ x.rest.now g.rest.now x.ensures
-    (stops_in_attributes _ x.rest.now c.in_err-attributes.ensures))))
+    (stops_in_attributes _ x.rest.now bad.ensures.0)))
 
 pub returns-in_err-required : goal.returns-in_err-required
 returns-in_err-required c =
@@ -45,13 +53,13 @@ returns-in_err-required c =
     let g = c.in_ok-config in
     let x = c.in_ok-exchange in
     let a = c.in_ok-attributes in
+    let bad = c.in_err-required in
     handed_on _ _ _ _ c.from_residual-in_err-required.ensures
-    (stops_after_service s.service.kind s.service.name _ s.rest.now c.args.bytes.now
-    s.ensures.spelled
-    (stops_after_settings s.service.kind g.config _ g.rest.now s.rest.now g.ensures
+    (stops_behind_settings bad.field-0.0.reason s.service.kind s.service.name g.config _
+    g.rest.now s.rest.now c.args.bytes.now bad.ensures.1 s.ensures.spelled g.ensures
     (stops_after_exchange s.service.kind x.exchange _ x.rest.now g.rest.now x.ensures
     (stops_after_attributes a.attributes _ a.rest.now x.rest.now a.ensures
-    (stops_in_required _ a.rest.now c.in_err-required.ensures)))))
+    (stops_in_required _ a.rest.now bad.ensures.0))))
 
 pub returns-then-not-is_empty : goal.returns-then-not-is_empty
 returns-then-not-is_empty c =
@@ -60,13 +68,12 @@ returns-then-not-is_empty c =
     let x = c.in_ok-exchange in
     let a = c.in_ok-attributes in
     let r = c.in_ok-required in
-    stops_after_service s.service.kind s.service.name _ s.rest.now c.args.bytes.now
-    s.ensures.spelled
-    (stops_after_settings s.service.kind g.config _ g.rest.now s.rest.now g.ensures
+    stops_behind_settings c.plain.result.reason s.service.kind s.service.name g.config _
+    g.rest.now s.rest.now c.args.bytes.now c.plain.ensures.reason s.ensures.spelled g.ensures
     (stops_after_exchange s.service.kind x.exchange _ x.rest.now g.rest.now x.ensures
     (stops_after_attributes a.attributes _ a.rest.now x.rest.now a.ensures
     (stops_after_required r.required c.plain.result.rest.now r.rest.now a.rest.now
-    c.plain.ensures r.ensures c.if-not-is_empty.ensures))))
+    c.plain.ensures.place r.ensures c.if-not-is_empty.ensures)))
 
 pub returns : goal.returns
 returns c =

@@ -6,8 +6,8 @@ use Rattle.iox2_container.proofs.Counting.{counted, counted_more, few_more, one_
 use Rattle.iox2_container.proofs.container.passes.count_of.Goals as goal
 use Rattle.iox2_container.proofs.container.passes.count_of.Goals.{then-belongs_to, else-belongs_to}
 
-pub returns : goal.returns
-returns g c =
+pub returns-clause-count : goal.returns-clause-count
+returns-clause-count g c =
     let cells = map shown c.args.places.now.cells in
     c.loop-slot.invariant.count
     ∙ ap (counted (is_of g.T.Attached.node c.args.node.now))
@@ -25,7 +25,8 @@ loop-slot-preserved g c =
       count = counted_more g.T.Attached.node c.args.node.now c.loop-slot.slot c.loop-slot.count
           c.if-belongs_to.count
           (map shown c.args.places.now.cells) c.peek_at.result c.belongs_to.result
-          c.peek_at.ensures c.belongs_to.ensures by_is c.loop-slot.invariant.count;
+          c.peek_at.ensures.cell c.belongs_to.ensures by_is c.loop-slot.invariant.count;
       few = few_more c.loop-slot.count c.if-belongs_to.count c.loop-slot.slot c.belongs_to.result
           by_is c.loop-slot.invariant.few;
+      looks = omega (arith, c.peek_at.ensures.looks, c.loop-slot.invariant.looks);
     }

@@ -1,4 +1,4 @@
-use Rattle.std.proofs.Common.{◌≡◌, ◌≤◌, length, take, map}
+use Rattle.std.proofs.Common.{◌≡◌, ◌+◌, ◌≤◌, length, take, map}
 use Rattle.iox2_container.specs.Cells.{shown}
 use Rattle.iox2_container.specs.Places.{entries_from}
 use Rattle.iox2_container.specs.Steps.{candidates, is_of}
@@ -10,4 +10,5 @@ invariant-loop-slot g l = record {
       ≡ length (candidates (is_of g.T.Attached.node l.node)
       (entries_from 0 (take l.slot (map shown l.places.cells))));
   few : l.count ≤ l.slot;
+  looks : l.looks.touches.count ≡ l.fn.looks.touches.count + l.slot;
 }

@@ -1,8 +1,11 @@
-use Rattle.std.proofs.Common.{map}
+use Rattle.std.proofs.Common.{◌≡◌, ◌+◌, map}
 use Rattle.iox2_container.specs.Cells.{shown}
 use Rattle.iox2_container.specs.Passes.{AreOthers}
 use Rattle.iox2_container.proofs.container.passes.next_by_one.Given as goal
 
 abbrev pub invariant-loop-slot : goal.invariant-loop-slot
-invariant-loop-slot g l =
-    AreOthers g.T.Attached.node l.node (map shown l.places.cells) l.start l.slot
+invariant-loop-slot g l = record {
+  cells : l.places.cells ≡ l.fn.places.cells;
+  touches : l.places.touches + l.start ≡ l.fn.places.touches + l.slot;
+  others : AreOthers g.T.Attached.node l.node (map shown l.fn.places.cells) l.start l.slot;
+}

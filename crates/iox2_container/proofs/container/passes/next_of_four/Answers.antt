@@ -1,12 +1,27 @@
-use Rattle.std.proofs.Common.{rules}
 use Rattle.iox2_container.proofs.Counting.{found_third, found_fourth, none_of_four}
 use Rattle.iox2_container.proofs.container.passes.next_of_four.Goals as goal
 
-pub returns-then-third : goal.returns-then-third
-returns-then-third g c = search (rules, found_third)
+pub returns-in-Some-look_for-2-clause-found : goal.returns-in-Some-look_for-2-clause-found
+returns-in-Some-look_for-2-clause-found g c =
+    found_third g.T.Attached.node c.args.node.now c.args.slot c.args.places.now.cells
+    c.look_for.new.places.cells c.in_default.ensures.found c.look_for.ensures.cells
+    c.look_for-2.new.places.cells c.in-Some-look_for-2.details c.in_default-look_for.ensures.found
+    c.look_for-2.ensures.cells c.in-Some-look_for-2.ensures.found
 
-pub returns-then-fourth : goal.returns-then-fourth
-returns-then-fourth g c = search (rules, found_fourth)
+pub returns-in-Some-look_for-3-clause-found : goal.returns-in-Some-look_for-3-clause-found
+returns-in-Some-look_for-3-clause-found g c =
+    found_fourth g.T.Attached.node c.args.node.now c.args.slot c.args.places.now.cells
+    c.look_for.new.places.cells c.in_default.ensures.found c.look_for.ensures.cells
+    c.look_for-2.new.places.cells c.look_for-3.new.places.cells c.in-Some-look_for-3.details
+    c.in_default-look_for.ensures.found c.look_for-2.ensures.cells
+    c.in_default-look_for-2.ensures.found c.look_for-3.ensures.cells
+    c.in-Some-look_for-3.ensures.found
 
-pub returns : goal.returns
-returns g c = search (rules, none_of_four)
+pub returns-clause-found : goal.returns-clause-found
+returns-clause-found g c =
+    none_of_four g.T.Attached.node c.args.node.now c.args.slot c.args.places.now.cells
+    c.look_for.new.places.cells c.in_default.ensures.found c.look_for.ensures.cells
+    c.look_for-2.new.places.cells c.look_for-3.new.places.cells
+    c.in_default-look_for.ensures.found c.look_for-2.ensures.cells
+    c.in_default-look_for-2.ensures.found c.look_for-3.ensures.cells
+    c.in_default-look_for-3.ensures.found

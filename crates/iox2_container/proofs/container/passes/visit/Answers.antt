@@ -10,14 +10,14 @@ use Rattle.iox2_container.proofs.container.passes.visit.Goals as goal
 pub show-requires : goal.show-requires
 show-requires g c =
     (visit_at (TakesAt g.F.FnMut) (CalledAt g.F.FnMut) c.loop-slot.f
-    (map shown c.args.places.now.cells) c.loop-slot.slot c.peek_at.result c.peek_at.ensures
+    (map shown c.args.places.now.cells) c.loop-slot.slot c.peek_at.result c.peek_at.ensures.cell
     c.loop-slot.invariant.callable).0
 
-pub returns-in-Stop : goal.returns-in-Stop
-returns-in-Stop g c =
+pub returns-in-Stop-clause-visit : goal.returns-in-Stop-clause-visit
+returns-in-Stop-clause-visit g c =
     stops (CalledAt g.F.FnMut) c.args.f.now c.loop-slot.f c.show.new.f
     (map shown c.args.places.now.cells) c.loop-slot.slot c.peek_at.result c.show.result
-    c.peek_at.ensures c.show.ensures c.in-Stop.is c.loop-slot.invariant.asked
+    c.peek_at.ensures.cell c.show.ensures c.in-Stop.is c.loop-slot.invariant.asked
 
 pub loop-slot-preserved : goal.loop-slot-preserved
 loop-slot-preserved g c =
@@ -26,19 +26,20 @@ loop-slot-preserved g c =
     record {
       callable =
           (visit_at (TakesAt g.F.FnMut) (CalledAt g.F.FnMut) c.loop-slot.f cells c.loop-slot.slot
-          c.peek_at.result c.peek_at.ensures c.loop-slot.invariant.callable).1 c.show.new.f
+          c.peek_at.result c.peek_at.ensures.cell c.loop-slot.invariant.callable).1 c.show.new.f
           (rw goes at c.show.ensures);
       asked =
           subst (λ (n : ℕ). GoesOn (CalledAt g.F.FnMut) c.args.f.now
           (details_of (entries_from 0 (take n cells))) c.show.new.f)
           (sym (add-one c.loop-slot.slot))
           (goes_on (CalledAt g.F.FnMut) c.args.f.now c.loop-slot.f c.show.new.f cells
-          c.loop-slot.slot c.peek_at.result c.show.result c.peek_at.ensures c.show.ensures
+          c.loop-slot.slot c.peek_at.result c.show.result c.peek_at.ensures.cell c.show.ensures
           goes c.loop-slot.invariant.asked);
+      looks = omega (arith, c.peek_at.ensures.looks, c.loop-slot.invariant.looks);
     }
 
-pub returns : goal.returns
-returns g c =
+pub returns-clause-visit : goal.returns-clause-visit
+returns-clause-visit g c =
     let cells = map shown c.args.places.now.cells in
     let all : entries_from 0 (take c.loop-slot.slot cells) ≡ entries_from 0 cells =
     all_before 0 c.loop-slot.slot cells

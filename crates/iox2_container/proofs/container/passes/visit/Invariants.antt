@@ -1,4 +1,4 @@
-use Rattle.std.proofs.Common.{take, map}
+use Rattle.std.proofs.Common.{◌≡◌, ◌+◌, take, map}
 use Rattle.std.specs.Fn.{CalledAt, TakesAt}
 use Rattle.iox2_container.specs.Callbacks.{MayVisit}
 use Rattle.iox2_container.specs.Cells.{shown}
@@ -13,4 +13,5 @@ invariant-loop-slot g l = record {
       (details_from l.slot (map shown l.places.cells));
   asked : GoesOn (CalledAt g.F.FnMut) l.fn.f
       (details_of (entries_from 0 (take l.slot (map shown l.places.cells)))) l.f;
+  looks : l.looks.touches.count ≡ l.fn.looks.touches.count + l.slot;
 }

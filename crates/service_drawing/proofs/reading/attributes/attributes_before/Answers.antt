@@ -13,18 +13,22 @@ loop-text-preserved c =
     c.in-Ok.ensures.added c.in-Ok.ensures.len c.in-Ok.ensures.bound
 
 pub returns-in_default-pair_in : goal.returns-in_default-pair_in
-returns-in_default-pair_in c =
-    stops_at_attribute c.loop-text.attributes c.plain-expected.result.rest.now
-    c.loop-text.rest.now c.args.bytes.now c.in-Some.text.now c.in-Some.tail.now
-    c.plain-expected.ensures c.loop-text.invariant (search rules)
-    (inr c.in_default-pair_in.ensures)
+returns-in_default-pair_in c = (
+  stops_at_attribute c.loop-text.attributes c.plain-expected.result.rest.now
+      c.loop-text.rest.now c.args.bytes.now c.in-Some.text.now c.in-Some.tail.now
+      c.plain-expected.ensures.place c.loop-text.invariant (search rules)
+      (inr c.in_default-pair_in.ensures),
+  c.plain-expected.ensures.reason,
+)
 
 pub returns-in-Err : goal.returns-in-Err
-returns-in-Err c =
-    stops_at_attribute c.loop-text.attributes c.plain-expected.result.rest.now
-    c.loop-text.rest.now c.args.bytes.now c.in-Some.text.now c.in-Some.tail.now
-    c.plain-expected.ensures c.loop-text.invariant (search rules)
-    (inl (many (length c.loop-text.attributes) (λ few. c.in-Err.ensures.variant.1 few)))
+returns-in-Err c = (
+  stops_at_attribute c.loop-text.attributes c.plain-expected.result.rest.now
+      c.loop-text.rest.now c.args.bytes.now c.in-Some.text.now c.in-Some.tail.now
+      c.plain-expected.ensures.place c.loop-text.invariant (search rules)
+      (inl (many (length c.loop-text.attributes) (λ few. c.in-Err.ensures.variant.1 few))),
+  c.plain-expected.ensures.reason,
+)
 
 pub returns : goal.returns
 returns c =

@@ -9,10 +9,12 @@ loop-text-preserved c =
     c.in-Some-requiring.ensures
 
 pub returns-in_default-requiring : goal.returns-in_default-requiring
-returns-in_default-requiring c =
-    stops_at_required c.loop-text.required c.plain-expected.result.rest.now c.loop-text.rest.now
-    c.args.bytes.now c.in-Some.text.now c.in-Some.tail.now c.plain-expected.ensures
-    c.loop-text.invariant (search rules) c.in_default-requiring.ensures
+returns-in_default-requiring c = (
+  stops_at_required c.loop-text.required c.plain-expected.result.rest.now c.loop-text.rest.now
+      c.args.bytes.now c.in-Some.text.now c.in-Some.tail.now c.plain-expected.ensures.place
+      c.loop-text.invariant (search rules) c.in_default-requiring.ensures,
+  c.plain-expected.ensures.reason,
+)
 
 pub returns : goal.returns
 returns c =

@@ -1,6 +1,6 @@
 use Rattle.std.proofs.Common.{◌≡◌, ℕ, List, false, true, refl, inl, inr, rules, subst}
 use Rattle.service_drawing.specs.Settings.{HasName, word_of}
-use Rattle.service_drawing.proofs.Naming.{as_word, marked_at}
+use Rattle.service_drawing.proofs.Naming.{as_word, marked_at, spaced}
 use Rattle.service_drawing.proofs.SettingLines.{no_value_follows, not_a_value}
 use Rattle.service_drawing.proofs.reading.settings.set.Goals as goal
 
@@ -10,19 +10,25 @@ returns-in_default-clause-refused g c =
     (inl none, no_value_follows g.S.Settings.names _ c.args.text.now none)
 
 pub returns-in_default-find-clause-refused : goal.returns-in_default-find-clause-refused
-returns-in_default-find-clause-refused g c index h =
-    let word : word_of c.args.text.now ≡ c.in-Some.word.now = search rules in
-    c.in_default-find.ensures.name index
-    (subst (λ (w : List ℕ). HasName g.S.Settings.names index w) word h)
+returns-in_default-find-clause-refused g c =
+    let word : word_of c.args.text.now ≡ c.in-Some.word.now = search rules in (
+      spaced c.args.text.now c.in-Some.word.now c.in-Some.text.now word (search rules),
+      λ index h.
+          c.in_default-find.ensures.name index
+          (subst (λ (w : List ℕ). HasName g.S.Settings.names index w) word h),
+    )
 
 pub returns-then-given-index-clause-refused : goal.returns-then-given-index-clause-refused
-returns-then-given-index-clause-refused g c = record {
-  index = c.in-Some-find.index;
-  setting = as_word g.S.Settings.names c.in-Some-find.index c.in-Some.word.now
-      (word_of c.args.text.now) (search rules) (search rules);
-  marked = marked_at c.args.given.now c.in-Some-find.index true
-      (search rules) c.if-given-index.true;
-}
+returns-then-given-index-clause-refused g c = (
+  spaced c.args.text.now c.in-Some.word.now c.in-Some.text.now (search rules) (search rules),
+  record {
+    index = c.in-Some-find.index;
+    setting = as_word g.S.Settings.names c.in-Some-find.index c.in-Some.word.now
+        (word_of c.args.text.now) (search rules) (search rules);
+    marked = marked_at c.args.given.now c.in-Some-find.index true
+        (search rules) c.if-given-index.true;
+  },
+)
 
 pub returns-in-Some-of_kind-clause-set : goal.returns-in-Some-of_kind-clause-set
 returns-in-Some-of_kind-clause-set g c = record {

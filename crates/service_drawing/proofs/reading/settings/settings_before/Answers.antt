@@ -1,5 +1,6 @@
 use Rattle.std.proofs.Common.{rules}
 use Rattle.service_drawing.proofs.SettingLines.{none_set, one_more_setting, settings_whole, stops_at_setting}
+use Rattle.service_drawing.proofs.Reasons.{setting_reason}
 use Rattle.service_drawing.proofs.reading.settings.settings_before.Goals as goal
 
 pub loop-text-init : goal.loop-text-init
@@ -14,12 +15,18 @@ loop-text-preserved g c =
 
 pub returns-in-Err : goal.returns-in-Err
 returns-in-Err g c =
-    rw c.in-Err.ensures.kept
-    (stops_at_setting g.S.Settings.names (g.S.Settings.values c.args.settings.now)
-    (g.S.Settings.values c.loop-text.settings) c.loop-text.given c.in-Err.reason
-    c.expected.result.rest.now c.loop-text.rest.now c.args.bytes.now c.in-Some.text.now
-    c.in-Some.tail.now c.expected.ensures c.loop-text.invariant (search rules)
-    c.in-Err.ensures.refused)
+    rw c.in-Err.ensures.kept (
+      stops_at_setting g.S.Settings.names (g.S.Settings.values c.args.settings.now)
+          (g.S.Settings.values c.loop-text.settings) c.loop-text.given c.in-Err.reason
+          c.expected.result.rest.now c.loop-text.rest.now c.args.bytes.now c.in-Some.text.now
+          c.in-Some.tail.now c.expected.ensures.place c.loop-text.invariant (search rules)
+          c.in-Err.ensures.refused,
+      setting_reason g.S.Settings.names (g.S.Settings.values c.args.settings.now)
+          (g.S.Settings.values c.loop-text.settings) c.loop-text.given c.expected.result.reason
+          c.in-Err.reason c.expected.result.rest.now c.loop-text.rest.now c.args.bytes.now
+          c.in-Some.text.now c.in-Some.tail.now c.expected.ensures.reason c.expected.ensures.place
+          c.loop-text.invariant (search rules) c.in-Err.ensures.refused,
+    )
 
 pub returns : goal.returns
 returns g c =

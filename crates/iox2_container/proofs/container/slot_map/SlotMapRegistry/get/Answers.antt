@@ -14,4 +14,4 @@ returns-clause-details g c =
     c.self.view_is
     (names c.self.inside.header
     (map shown c.self.inside.places.cells) c.args.handle c.find.result parts.0 parts.1
-    c.find.ensures)
+    c.find.ensures.found)

@@ -7,6 +7,7 @@ use Rattle.iox2_container.specs.Changes.{RecoversBy}
 use Rattle.iox2_container.specs.ContainerState.{ContainerState, container}
 use Rattle.iox2_container.specs.HeaderAndPlaces.{AreRegistry, registry_of}
 use Rattle.iox2_container.specs.Steps.{is_of, release_state}
+use Rattle.iox2_container.proofs.CellEntries.{room_from}
 use Rattle.iox2_container.proofs.Recovering.{kept_recover, recovers_none}
 use Rattle.iox2_container.proofs.Removing.{nothing_left}
 use Rattle.iox2_container.proofs.container.slot_map.SlotMapRegistry.recover.Goals as goal
@@ -48,6 +49,8 @@ returns-clause-recovers g c =
         omega (
           arith,
           c.sweep-gone.ensures.touched,
+          c.sweep-gone.ensures.swept.gone_is,
+          room_from 0 (map shown c.self.inside.places.cells),
           touches,
           capacity,
           length-map c.self.inside.places.cells shown,

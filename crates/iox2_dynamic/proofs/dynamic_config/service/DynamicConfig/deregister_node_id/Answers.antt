@@ -1,8 +1,9 @@
-use Rattle.std.proofs.Common.{rules, ◌≡◌, false}
+use Rattle.std.proofs.Common.{sym, ◌∙◌}
 use Rattle.iox2_dynamic.specs.Fields.{service_in}
-use Rattle.iox2_dynamic.specs.Steps.{is_last_of_ports}
+use Rattle.iox2_dynamic.specs.Service.{Service}
 use Rattle.iox2_container.proofs.Handles.{not_foreign}
 use Rattle.iox2_dynamic.proofs.Keeping.{leaving_kept}
+use Rattle.iox2_dynamic.proofs.Moving.{ports_read}
 use Rattle.iox2_dynamic.proofs.dynamic_config.service.DynamicConfig.deregister_node_id.Goals as goal
 
 pub unreachable-requires : goal.unreachable-requires
@@ -12,11 +13,25 @@ unreachable-requires c =
 
 pub invariant_of-self : goal.invariant_of-self
 invariant_of-self c =
-    let last : is_last_of_ports c.in-Some.id (service_in c.self.inside) ≡ false = search rules in
-    leaving_kept
+    let new : Service =
+    service_in (record c.self.inside { pattern = c.is_last_of_ports.new.pattern }) in
+    ports_read (service_in c.self.inside) new.pattern new.ports c.is_last_of_ports.ensures.kind
+    c.is_last_of_ports.ensures.reads c.self.invariant
+
+pub returns-then-is_last_of_ports-clause-kept : goal.returns-then-is_last_of_ports-clause-kept
+returns-then-is_last_of_ports-clause-kept c = invariant_of-self c
+
+pub invariant_of-self-2 : goal.invariant_of-self-2
+invariant_of-self-2 c =
+    let new : Service =
+    service_in (record c.self.inside { pattern = c.is_last_of_ports.new.pattern }) in
+    ports_read (service_in (record c.self.inside { nodes = c.remove.new.self })) new.pattern
+    new.ports c.is_last_of_ports.ensures.kind c.is_last_of_ports.ensures.reads
+    (leaving_kept
     (service_in c.self.inside) c.remove.new.self c.args.handle c.in-Some.id
-    c.in-Some.ensures.details last c.in-Ok.ensures.removes.step.0 c.in-Ok.ensures.removes.kept
-    c.self.invariant
+    c.in-Some.ensures.details
+    (sym c.is_last_of_ports.ensures.last ∙ c.if-is_last_of_ports.false)
+    c.in-Ok.ensures.removes.step.0 c.in-Ok.ensures.removes.kept c.self.invariant)
 
 pub returns-clause-kept : goal.returns-clause-kept
-returns-clause-kept c = invariant_of-self c
+returns-clause-kept c = invariant_of-self-2 c

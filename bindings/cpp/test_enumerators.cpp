@@ -1,0 +1,279 @@
+// Each enumerator has the number that the C headers give its name, and each status its text. The
+// last line is 'N checks, N failed'.
+#include <iterator>
+
+#include "check.hpp"
+#include "iox2sd.hpp"
+
+namespace {
+
+using namespace iox2sd;
+
+/// What each status says.
+struct StatusText {
+    Status status;
+    const char* text;
+};
+
+constexpr StatusText texts[] = {
+    {Status::Done, "done"},
+    {Status::DoneLocked, "done, and the service is locked for good"},
+    {Status::BufferTooShort, "the buffer is too short"},
+    {Status::NoMemory, "no memory"},
+    {Status::NoService, "the place holds no service"},
+    {Status::HasService, "the place holds a service already"},
+    {Status::UnknownPattern, "unknown messaging pattern"},
+    {Status::UnknownRole, "unknown role"},
+    {Status::NoNode, "not the id of a node"},
+    {Status::IsLocked, "the service is locked for good"},
+    {Status::OutOfSpace, "no place or no ticket is left"},
+    {Status::ForeignHandle, "no entry has the handle"},
+    {Status::PortsStillAttached, "ports are still attached"},
+    {Status::NodeNotRegistered, "the node is not registered"},
+    {Status::RoleNotInPattern, "the pattern has no ports of the role"},
+    {Status::UnknownSegment, "unknown kind of data segment"},
+    {Status::BadKey, "not a key of a pair"},
+    {Status::BadValue, "not a value of a pair"},
+    {Status::TooMany, "more than sixteen pairs"},
+    {Status::Null, "NULL"},
+    {Status::UnknownStatus, "unknown status"},
+    {Status::Empty, "the text is empty"},
+    {Status::TooLong, "the text is too long"},
+    {Status::IllegalByte, "a byte may not stand in the text"},
+    {Status::NoFileName, "not the name of a file"},
+    {Status::ReservedPrefix, "the name begins with a reserved prefix"},
+    {Status::NotUtf8, "not UTF-8"},
+    {Status::BadServiceName, "not the name of a service"},
+    {Status::BadPath, "not a path"},
+    {Status::BadEntry, "the text may not be joined to a path"},
+    {Status::IllegalHash, "the hash text cannot be the name of a file"},
+    {Status::BadRequiredKey, "not a key of a required pair"},
+    {Status::BadRequiredValue, "not a value of a required pair"},
+    {Status::BadAskedKey, "not a key that may be asked for"},
+    {Status::TooManyRequired, "more than sixteen pairs and keys are required"},
+    {Status::MissingPair, "a required pair is not in the set"},
+    {Status::MissingKey, "no pair of the set has a required key"},
+    {Status::NoSuchValue, "the key has no value of this index"},
+    {Status::BadAlignment, "an alignment is not a power of two"},
+    {Status::TooLarge, "the answer would pass its range"},
+    {Status::UnknownVariant, "unknown variant"},
+    {Status::OtherName, "the types of a part have other names"},
+    {Status::OtherVariant, "the types of a part are of other variants"},
+    {Status::OtherSize, "the types of a part have other sizes"},
+    {Status::OtherAlignment, "the types of the headers have other alignments"},
+    {Status::GreaterAlignment, "the opener's type has a greater alignment than the service's"},
+    {Status::UnknownText, "unknown text of the configuration"},
+    {Status::BadLine, "a line of the script is not valid"},
+    {Status::UnknownStrategy, "unknown strategy"},
+    {Status::BadDuration, "the nanoseconds of a duration are a second or more"},
+};
+
+// The number of the C headers that each enumerator has. A switch that leaves one out does not
+// compile, since the compiler's warnings are errors.
+
+constexpr std::uint64_t none = UINT64_MAX;
+
+std::uint64_t of_header(Role role) {
+    switch (role) {
+        case Role::Node: return IOX2SD_NODE;
+        case Role::Publisher: return IOX2SD_PUBLISHER;
+        case Role::Subscriber: return IOX2SD_SUBSCRIBER;
+        case Role::Notifier: return IOX2SD_NOTIFIER;
+        case Role::Listener: return IOX2SD_LISTENER;
+        case Role::Client: return IOX2SD_CLIENT;
+        case Role::Server: return IOX2SD_SERVER;
+        case Role::Reader: return IOX2SD_READER;
+        case Role::Writer: return IOX2SD_WRITER;
+    }
+    return none;
+}
+
+std::uint64_t of_header(PatternKind kind) {
+    switch (kind) {
+        case PatternKind::PublishSubscribe: return IOX2SD_PUBLISH_SUBSCRIBE;
+        case PatternKind::Event: return IOX2SD_EVENT;
+        case PatternKind::RequestResponse: return IOX2SD_REQUEST_RESPONSE;
+        case PatternKind::Blackboard: return IOX2SD_BLACKBOARD;
+    }
+    return none;
+}
+
+std::uint64_t of_header(DataSegmentType type) {
+    switch (type) {
+        case DataSegmentType::Dynamic: return IOX2SD_DYNAMIC_SEGMENT;
+        case DataSegmentType::Static: return IOX2SD_STATIC_SEGMENT;
+    }
+    return none;
+}
+
+std::uint64_t of_header(TypeVariant variant) {
+    switch (variant) {
+        case TypeVariant::FixedSize: return IOX2SD_FIXED_SIZE;
+        case TypeVariant::Dynamic: return IOX2SD_DYNAMIC;
+    }
+    return none;
+}
+
+std::uint64_t of_header(MessagePart part) {
+    switch (part) {
+        case MessagePart::Header: return IOX2SD_HEADER;
+        case MessagePart::UserHeader: return IOX2SD_USER_HEADER;
+        case MessagePart::Payload: return IOX2SD_PAYLOAD;
+    }
+    return none;
+}
+
+std::uint64_t of_header(BackpressureStrategy strategy) {
+    switch (strategy) {
+        case BackpressureStrategy::RetryUntilDelivered: return IOX2SD_RETRY_UNTIL_DELIVERED;
+        case BackpressureStrategy::DiscardData: return IOX2SD_DISCARD_DATA;
+    }
+    return none;
+}
+
+std::uint64_t of_header(AllocationStrategy strategy) {
+    switch (strategy) {
+        case AllocationStrategy::BestFit: return IOX2SD_BEST_FIT;
+        case AllocationStrategy::PowerOfTwo: return IOX2SD_POWER_OF_TWO;
+        case AllocationStrategy::Static: return IOX2SD_STATIC;
+    }
+    return none;
+}
+
+std::uint64_t of_header(SettingsField field) {
+    switch (field) {
+        case SettingsField::BackpressureStrategy: return IOX2SD_BACKPRESSURE_STRATEGY;
+        case SettingsField::PublisherAllocationStrategy:
+            return IOX2SD_PUBLISHER_ALLOCATION_STRATEGY;
+        case SettingsField::Deadline: return IOX2SD_DEADLINE;
+        case SettingsField::ClientBackpressureStrategy: return IOX2SD_CLIENT_BACKPRESSURE_STRATEGY;
+        case SettingsField::ServerBackpressureStrategy: return IOX2SD_SERVER_BACKPRESSURE_STRATEGY;
+        case SettingsField::ClientAllocationStrategy: return IOX2SD_CLIENT_ALLOCATION_STRATEGY;
+        case SettingsField::ServerAllocationStrategy: return IOX2SD_SERVER_ALLOCATION_STRATEGY;
+        case SettingsField::CreationTimeout: return IOX2SD_CREATION_TIMEOUT;
+    }
+    return none;
+}
+
+std::uint64_t of_header(ConfigEntry entry) {
+    switch (entry) {
+        case ConfigEntry::RootPath: return IOX2SD_ROOT_PATH;
+        case ConfigEntry::Prefix: return IOX2SD_PREFIX;
+        case ConfigEntry::ServiceDirectory: return IOX2SD_SERVICE_DIRECTORY;
+        case ConfigEntry::DataSegmentSuffix: return IOX2SD_DATA_SEGMENT_SUFFIX;
+        case ConfigEntry::StaticConfigStorageSuffix: return IOX2SD_STATIC_CONFIG_STORAGE_SUFFIX;
+        case ConfigEntry::DynamicConfigStorageSuffix: return IOX2SD_DYNAMIC_CONFIG_STORAGE_SUFFIX;
+        case ConfigEntry::ConnectionSuffix: return IOX2SD_CONNECTION_SUFFIX;
+        case ConfigEntry::EventConnectionSuffix: return IOX2SD_EVENT_CONNECTION_SUFFIX;
+        case ConfigEntry::BlackboardMgmtSuffix: return IOX2SD_BLACKBOARD_MGMT_SUFFIX;
+        case ConfigEntry::BlackboardDataSuffix: return IOX2SD_BLACKBOARD_DATA_SUFFIX;
+        case ConfigEntry::NodeDirectory: return IOX2SD_NODE_DIRECTORY;
+        case ConfigEntry::MonitorSuffix: return IOX2SD_MONITOR_SUFFIX;
+        case ConfigEntry::NodeStaticConfigSuffix: return IOX2SD_NODE_STATIC_CONFIG_SUFFIX;
+        case ConfigEntry::ServiceTagSuffix: return IOX2SD_SERVICE_TAG_SUFFIX;
+        case ConfigEntry::PortTagSuffix: return IOX2SD_PORT_TAG_SUFFIX;
+        case ConfigEntry::GlobalMgmtSuffix: return IOX2SD_GLOBAL_MGMT_SUFFIX;
+        case ConfigEntry::ConfigFileName: return IOX2SD_CONFIG_FILE_NAME;
+        case ConfigEntry::ConfigFilePath: return IOX2SD_CONFIG_FILE_PATH;
+        case ConfigEntry::RelativeConfigPath: return IOX2SD_RELATIVE_CONFIG_PATH;
+        case ConfigEntry::UserConfigFilePath: return IOX2SD_USER_CONFIG_FILE_PATH;
+    }
+    return none;
+}
+
+std::uint64_t of_header(Status status) {
+    switch (status) {
+        case Status::Done: return IOX2SD_DONE;
+        case Status::DoneLocked: return IOX2SD_DONE_LOCKED;
+        case Status::BufferTooShort: return IOX2SD_BUFFER_TOO_SHORT;
+        case Status::NoMemory: return IOX2SD_NO_MEMORY;
+        case Status::NoService: return IOX2SD_NO_SERVICE;
+        case Status::HasService: return IOX2SD_HAS_SERVICE;
+        case Status::UnknownPattern: return IOX2SD_UNKNOWN_PATTERN;
+        case Status::UnknownRole: return IOX2SD_UNKNOWN_ROLE;
+        case Status::NoNode: return IOX2SD_NO_NODE;
+        case Status::IsLocked: return IOX2SD_IS_LOCKED;
+        case Status::OutOfSpace: return IOX2SD_OUT_OF_SPACE;
+        case Status::ForeignHandle: return IOX2SD_FOREIGN_HANDLE;
+        case Status::PortsStillAttached: return IOX2SD_PORTS_STILL_ATTACHED;
+        case Status::NodeNotRegistered: return IOX2SD_NODE_NOT_REGISTERED;
+        case Status::RoleNotInPattern: return IOX2SD_ROLE_NOT_IN_PATTERN;
+        case Status::UnknownSegment: return IOX2SD_UNKNOWN_SEGMENT;
+        case Status::BadKey: return IOX2SD_BAD_KEY;
+        case Status::BadValue: return IOX2SD_BAD_VALUE;
+        case Status::TooMany: return IOX2SD_TOO_MANY;
+        case Status::Null: return IOX2SD_NULL;
+        case Status::UnknownStatus: return IOX2SD_UNKNOWN_STATUS;
+        case Status::Empty: return IOX2SD_EMPTY;
+        case Status::TooLong: return IOX2SD_TOO_LONG;
+        case Status::IllegalByte: return IOX2SD_ILLEGAL_BYTE;
+        case Status::NoFileName: return IOX2SD_NO_FILE_NAME;
+        case Status::ReservedPrefix: return IOX2SD_RESERVED_PREFIX;
+        case Status::NotUtf8: return IOX2SD_NOT_UTF8;
+        case Status::BadServiceName: return IOX2SD_BAD_SERVICE_NAME;
+        case Status::BadPath: return IOX2SD_BAD_PATH;
+        case Status::BadEntry: return IOX2SD_BAD_ENTRY;
+        case Status::IllegalHash: return IOX2SD_ILLEGAL_HASH;
+        case Status::BadRequiredKey: return IOX2SD_BAD_REQUIRED_KEY;
+        case Status::BadRequiredValue: return IOX2SD_BAD_REQUIRED_VALUE;
+        case Status::BadAskedKey: return IOX2SD_BAD_ASKED_KEY;
+        case Status::TooManyRequired: return IOX2SD_TOO_MANY_REQUIRED;
+        case Status::MissingPair: return IOX2SD_MISSING_PAIR;
+        case Status::MissingKey: return IOX2SD_MISSING_KEY;
+        case Status::NoSuchValue: return IOX2SD_NO_SUCH_VALUE;
+        case Status::BadAlignment: return IOX2SD_BAD_ALIGNMENT;
+        case Status::TooLarge: return IOX2SD_TOO_LARGE;
+        case Status::UnknownVariant: return IOX2SD_UNKNOWN_VARIANT;
+        case Status::OtherName: return IOX2SD_OTHER_NAME;
+        case Status::OtherVariant: return IOX2SD_OTHER_VARIANT;
+        case Status::OtherSize: return IOX2SD_OTHER_SIZE;
+        case Status::OtherAlignment: return IOX2SD_OTHER_ALIGNMENT;
+        case Status::GreaterAlignment: return IOX2SD_GREATER_ALIGNMENT;
+        case Status::UnknownText: return IOX2SD_UNKNOWN_TEXT;
+        case Status::BadLine: return IOX2SD_BAD_LINE;
+        case Status::UnknownStrategy: return IOX2SD_UNKNOWN_STRATEGY;
+        case Status::BadDuration: return IOX2SD_BAD_DURATION;
+    }
+    return none;
+}
+
+/// Each of `count` numbers from `first` on is that of an enumerator of its own name.
+template <class Enum>
+void numbers(std::uint32_t first, std::uint32_t count) {
+    for (std::uint32_t number = first; number < first + count; ++number) {
+        CHECK(of_header(Enum{number}) == number);
+    }
+    CHECK(of_header(Enum{first + count}) == none);
+}
+
+void enumerators() {
+    numbers<Role>(IOX2SD_NODE, 9);
+    numbers<PatternKind>(IOX2SD_PUBLISH_SUBSCRIBE, 4);
+    numbers<DataSegmentType>(IOX2SD_DYNAMIC_SEGMENT, 2);
+    numbers<TypeVariant>(IOX2SD_FIXED_SIZE, 2);
+    numbers<MessagePart>(IOX2SD_HEADER, 3);
+    numbers<BackpressureStrategy>(IOX2SD_RETRY_UNTIL_DELIVERED, 2);
+    numbers<AllocationStrategy>(IOX2SD_BEST_FIT, 3);
+    numbers<SettingsField>(IOX2SD_BACKPRESSURE_STRATEGY, 8);
+    numbers<ConfigEntry>(IOX2SD_ROOT_PATH, 20);
+    // The numbers of statuses have gaps.
+    std::size_t statuses = 0;
+    for (std::uint32_t number = 0; number < 1000; ++number) {
+        const std::uint64_t found = of_header(Status{number});
+        CHECK(found == number || found == none);
+        statuses += found != none;
+    }
+    CHECK(statuses == std::size(texts));
+}
+
+void status_texts() {
+    for (const StatusText& each : texts) CHECK(text(each.status) == each.text);
+}
+
+}  // namespace
+
+int main() {
+    enumerators();
+    status_texts();
+    return end_of_checks();
+}

@@ -1,0 +1,377 @@
+"""What a caller does not expect: values that lie, finalizers, forks, and errors of Python's own."""
+
+import ctypes
+import enum
+import gc
+import os
+import subprocess
+import sys
+import tempfile
+import threading
+import time
+import unittest
+from pathlib import Path
+from typing import Any
+from unittest import mock
+
+import iox2sd
+from iox2sd import _native, errors
+
+from . import PACKAGE
+from .test_dynamic_config import NODE, publisher, service
+from .test_texts import ALL
+
+SECONDS = 20
+"""After how long a thread or a process counts as one that hangs."""
+
+
+class Topic(str, enum.Enum):
+    LIDAR = "lidar"
+
+
+class Liar(str):
+    """A text whose methods all say another one."""
+
+    def __str__(self) -> str:
+        return "iox2://\0"
+
+    __repr__ = __format__ = __str__  # type: ignore[assignment]
+
+    def encode(self, *_: Any) -> bytes:
+        return b"iox2://\0"
+
+    def __len__(self) -> int:
+        return 10**6
+
+    def __iter__(self):
+        return iter("iox2://\0")
+
+
+class Lying(int):
+    """A number whose methods all say another one."""
+
+    def __index__(self) -> int:
+        return -1
+
+    __int__ = __index__
+
+    def __lt__(self, _: object) -> bool:
+        return False
+
+    __gt__ = __le__ = __ge__ = __eq__ = __lt__  # type: ignore[assignment]
+    __hash__ = int.__hash__
+
+
+class LyingBytes(bytes):
+    def __len__(self) -> int:
+        return 10**6
+
+
+class Values(unittest.TestCase):
+    def test_a_text_keeps_what_was_checked(self):
+        for kind in ALL:
+            for given in (Topic.LIDAR, Liar("lidar")):
+                made = kind(given)
+                self.assertEqual((str(made), made.encode()), ("lidar", b"lidar"))
+                self.assertEqual(repr(made), f"{kind.__name__}('lidar')")
+                self.assertIs(type(made), kind)
+            with self.assertRaises(iox2sd.IllegalByte) as caught:
+                kind(Liar("li\0dar"))
+            self.assertTrue(str(caught.exception).startswith(f"{kind.__name__} 'li\\x00dar': "))
+        self.assertEqual(iox2sd.InternalServiceName.prefixed(Liar("x")), "iox2://x")
+        self.assertFalse(iox2sd.ServiceName.has_iox2_prefix(Liar("x")))
+
+    def test_a_subclass_of_a_text_is_lent_as_it_is(self):
+        class Mine(iox2sd.ServiceName):
+            def __str__(self) -> str:
+                return "another"
+
+            def encode(self, *_: Any) -> bytes:
+                return b"another"
+
+        class Key(iox2sd.AttributeKey):
+            def encode(self, *_: Any) -> bytes:
+                return b"another"
+
+        pattern = iox2sd.MessagingPattern.EVENT
+        expected = iox2sd.ServiceHash.new(iox2sd.ServiceName("mine"), pattern)
+        self.assertEqual(iox2sd.ServiceHash.new(Mine("mine"), pattern), expected)
+        value = iox2sd.AttributeValue("v")
+        pairs = iox2sd.AttributeSet([iox2sd.Attribute(Key("mine"), value)])
+        self.assertEqual(pairs[0].key, "mine")
+        self.assertEqual(pairs.number_of_key_values(Key("mine")), 1)
+
+    def test_a_name_of_a_type_keeps_what_was_checked(self):
+        for given in (Topic.LIDAR, Liar("lidar")):
+            made = iox2sd.TypeDetail(given, 1, 1)
+            self.assertEqual((made.type_name, type(made.type_name)), ("lidar", str))
+            self.assertEqual(made, iox2sd.TypeDetail("lidar", 1, 1))
+
+    def test_numbers_are_taken_by_their_value(self):
+        id = iox2sd.UniqueServiceId(Lying(1), Lying(2), Lying(3), Lying(4))
+        self.assertEqual(id, iox2sd.UniqueServiceId(1, 2, 3, 4))
+        self.assertEqual({type(part) for part in (id.process, id.counter)}, {int})
+        with self.assertRaises(iox2sd.OutOfRange):
+            iox2sd.UniqueServiceId(Lying(2**32), 2, 3, 4)
+        with iox2sd.DynamicConfig.event(
+            Lying(7), max_nodes=Lying(1), max_listeners=1, max_notifiers=1
+        ) as made:
+            self.assertEqual((made.service_number, made.max_nodes), (7, 1))
+
+    def test_bytes_of_a_script_are_taken_by_their_value(self):
+        with self.assertRaises(iox2sd.BadLine) as caught:
+            iox2sd.run_script(LyingBytes(b"nonsense\n"))
+        self.assertEqual(caught.exception.line, 1)
+
+
+class Errors(unittest.TestCase):
+    def test_subclasses_of_values(self):
+        class Event(iox2sd.EventStaticConfig):
+            __slots__ = ()
+
+        name, id = iox2sd.ServiceName("a"), iox2sd.UniqueServiceId(1, 2, 3, 4)
+        made = iox2sd.StaticConfig(name, id, Event.new())
+        self.assertIs(made.messaging_pattern, iox2sd.MessagingPattern.EVENT)
+
+        class Marked(iox2sd.Capacities):
+            """Its annotations are texts."""
+
+        Marked.__annotations__ = {"mark": "list[int]"}
+        self.assertEqual(Marked(1, 2, 3).second, 3)
+        with self.assertRaises(iox2sd.OutOfRange):
+            Marked(1, 2, -3)
+
+    def test_annotations_that_are_texts(self):
+        source = (
+            "from __future__ import annotations\n"
+            "from dataclasses import dataclass\n"
+            "import iox2sd\n"
+            "@dataclass(frozen=True, slots=True)\n"
+            "class Marked(iox2sd.Capacities):\n"
+            "    nodes: int\n"
+            "    mark: list[int] | None = None\n"
+        )
+        names: "dict[str, Any]" = {"__name__": "elsewhere"}
+        with mock.patch.dict(sys.modules, {"elsewhere": mock.Mock()}):
+            exec(source, names)
+        self.assertEqual(names["Marked"](1, 2, 3, [4]).mark, [4])
+        with self.assertRaises(iox2sd.WrongType):
+            names["Marked"]("1", 2, 3)
+
+    def test_what_cannot_be_iterated_over(self):
+        with service() as made:
+            for wrong in (None, 5, NODE):
+                with self.assertRaises(iox2sd.WrongType) as caught:
+                    made.remove_dead_node_id(NODE, wrong)
+                text = "remove_dead_node_id.keep: expected an iterable"
+                self.assertIn(text, str(caught.exception))
+                with self.assertRaises(iox2sd.WrongType) as caught:
+                    iox2sd.AttributeSet(wrong)
+                self.assertIn("AttributeSet: expected an iterable", str(caught.exception))
+
+    def test_an_error_of_a_program_s_own(self):
+        unknown = errors.status_text(_native.UNKNOWN_STATUS)
+        for kind in (iox2sd.Refused, iox2sd.Incompatible):
+            self.assertEqual(str(kind("x")), f"x: {unknown}")
+        self.assertEqual(unknown, "unknown status")
+
+    def test_a_union_is_named_by_its_members(self):
+        with self.assertRaises(iox2sd.WrongType) as caught:
+            iox2sd.EventSettings(deadline=5)
+        text = "EventSettings.deadline: expected Duration or None, got 5"
+        self.assertEqual(str(caught.exception), text)
+
+    def test_a_library_without_the_interface(self):
+        def imported(library: str) -> str:
+            environment = {**os.environ, "IOX2SD_LIBRARY": library, "PYTHONPATH": str(PACKAGE)}
+            command = [sys.executable, "-c", "import iox2sd"]
+            done = subprocess.run(command, env=environment, capture_output=True, text=True)
+            self.assertEqual(done.returncode, 1)
+            return done.stderr.splitlines()[-1]
+
+        text = "^ImportError: .* is no libiox2sd: it has no iox2sd_abi"
+        self.assertRegex(imported(_libc()), text)
+        self.assertRegex(imported("/nowhere/x.so"), "^ImportError: libiox2sd was not loaded: ")
+        with tempfile.TemporaryDirectory() as folder:
+            wrong = Path(folder, "wrong.so")
+            wrong.write_bytes(b"no library")
+            self.assertRegex(imported(str(wrong)), "^ImportError: libiox2sd was not loaded: ")
+
+
+def _libc() -> str:
+    """The file of the C library, which is no libiox2sd."""
+    for line in Path("/proc/self/maps").read_text().splitlines():
+        if "/libc" in line:
+            return line.split()[-1]
+    raise unittest.SkipTest("the C library was not found")
+
+
+class Calls(unittest.TestCase):
+    """No call waits for another one."""
+
+    def test_calls_keep_the_global_lock(self):
+        """Each but that of a script is one of a `PyDLL`, and so whole before or after any other."""
+        keeps = 4  # FUNCFLAG_PYTHONAPI of ctypes.
+        functions = {
+            name: type(function)._flags_ & keeps != 0
+            for name, function in vars(_native).items()
+            if isinstance(function, ctypes._CFuncPtr)
+        }
+        self.assertGreater(len(functions), 60)
+        self.assertEqual([name for name, kept in functions.items() if not kept], ["script_run"])
+
+    def joined(self, *threads: threading.Thread):
+        for thread in threads:
+            thread.start()
+        for thread in threads:
+            thread.join(SECONDS)
+        self.assertEqual([thread for thread in threads if thread.is_alive()], [])
+
+    def test_services_that_ask_each_other(self):
+        """As finalizers do, which run within any call, on any thread."""
+        one, other = service(), service()
+        both_within = threading.Barrier(2)
+        asked = _native.is_locked_at
+        answers: "list[int]" = []
+
+        def asks(place: Any, *arguments: Any) -> Any:
+            both_within.wait()
+            answers.append((other if place is one._place else one).number_of_nodes)
+            return asked(place, *arguments)
+
+        with mock.patch.object(_native, "is_locked_at", asks):
+            self.joined(
+                *(
+                    threading.Thread(target=lambda made=made: made.is_locked, daemon=True)
+                    for made in (one, other)
+                )
+            )
+        self.assertEqual(answers, [0, 0])
+
+    def test_a_service_that_is_closed_beside_a_call(self):
+        made = service()
+        within, closed = threading.Event(), threading.Event()
+        registered = _native.register_at
+        raised: "list[BaseException]" = []
+
+        def waits(*arguments: Any) -> Any:
+            within.set()
+            self.assertTrue(closed.wait(SECONDS))
+            return registered(*arguments)
+
+        def register():
+            try:
+                made.register_node_id(NODE)
+            except iox2sd.Error as error:
+                raised.append(error)
+
+        def close():
+            self.assertTrue(within.wait(SECONDS))
+            made.close()
+            closed.set()
+
+        with mock.patch.object(_native, "register_at", waits):
+            self.joined(
+                threading.Thread(target=register, daemon=True),
+                threading.Thread(target=close, daemon=True),
+            )
+        self.assertEqual([type(error) for error in raised], [iox2sd.NoService])
+
+    def test_a_service_that_is_closed_within_a_listing(self):
+        made = service(1, 100, 1)
+        made.register_node_id(NODE)
+        for counter in range(17):
+            made.attach(publisher(counter))
+        listed = _native.ports_at
+
+        def closes(*arguments: Any) -> Any:
+            answer = listed(*arguments)
+            if answer.status == _native.BUFFER_TOO_SHORT:
+                made.close()
+            return answer
+
+        with mock.patch.object(_native, "ports_at", closes):
+            with self.assertRaises(iox2sd.NoService):
+                made.list_publishers()
+
+    def test_a_finalizer_uses_the_service_that_is_called(self):
+        class Cycle:
+            def __init__(self) -> None:
+                self.itself = self
+
+            def __del__(self) -> None:
+                counted.append(made.number_of_nodes)
+
+        counted: "list[int]" = []
+        with service() as made:
+            asked = _native.is_locked_at
+
+            def collects(*arguments: Any) -> Any:
+                Cycle()
+                gc.collect()
+                return asked(*arguments)
+
+            with mock.patch.object(_native, "is_locked_at", collects):
+                self.assertFalse(made.is_locked)
+            self.assertEqual(counted, [0])
+
+    @unittest.skipUnless(hasattr(os, "fork"), "there is no fork")
+    def test_a_child_of_a_fork(self):
+        """While other threads call, each child uses the service that it has a copy of."""
+        made = service()
+        done = threading.Event()
+
+        def calls():
+            while not done.is_set():
+                made.list_node_ids()
+
+        threads = [threading.Thread(target=calls, daemon=True) for _ in range(4)]
+        interval = sys.getswitchinterval()
+        sys.setswitchinterval(1e-6)
+        try:
+            for thread in threads:
+                thread.start()
+            for _ in range(30):
+                child = os.fork()
+                if child == 0:
+                    made.register_node_id(NODE)
+                    os._exit(len(made.list_node_ids()))
+                self.assertEqual(self.status_of(child), 1)
+        finally:
+            sys.setswitchinterval(interval)
+            done.set()
+            for thread in threads:
+                thread.join()
+        self.assertEqual(made.list_node_ids(), ())
+
+    def status_of(self, child: int) -> int:
+        """The status of a process that ends in time; one that hangs is ended."""
+        last = time.monotonic() + SECONDS
+        while time.monotonic() < last:
+            ended, status = os.waitpid(child, os.WNOHANG)
+            if ended:
+                return os.waitstatus_to_exitcode(status)
+            time.sleep(0.001)
+        os.kill(child, 9)
+        os.waitpid(child, 0)
+        return self.fail("a child of a fork hangs")
+
+
+class Kept(unittest.TestCase):
+    def test_what_is_kept_is_told_by_numbers(self):
+        listener = iox2sd.UniqueListenerId(1, 2, 3, 4)
+        notifier = iox2sd.UniqueNotifierId(1, 2, 3, 4)
+        self.assertNotEqual(listener, notifier)
+        with iox2sd.DynamicConfig.event(
+            7, max_nodes=1, max_listeners=1, max_notifiers=1
+        ) as made:
+            made.register_node_id(NODE)
+            made.attach(iox2sd.ListenerDetails(listener_id=listener, node_id=NODE))
+            made.attach(iox2sd.NotifierDetails(notifier_id=notifier, node_id=NODE))
+            gone = made.remove_dead_node_id(NODE, [listener])
+            self.assertEqual((gone.first, gone.second), (0, 0))
+            self.assertEqual(len(made.ports_of(NODE)), 2)
+
+
+if __name__ == "__main__":
+    unittest.main()

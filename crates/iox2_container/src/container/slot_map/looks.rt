@@ -1,0 +1,28 @@
+//! A count for proofs of how often a call that changes nothing looked at slots.
+ghost use Rattle.std.specs.Prelude.{◌≡◌, ◌+◌};
+
+use crate::container::slots::Touches;
+
+/// How often slots were looked at. It takes no bytes. The calls of a registry alone begin a count.
+#[derive(Debug, Drop)]
+pub(crate) struct Looks {
+    touches: Touches,
+}
+
+impl Looks {
+    /// No look so far.
+    pub(super) fn none() -> Self
+        ensures { result.touches.count ≡ 0 }
+    {
+        Looks {
+            touches: Touches::none(),
+        }
+    }
+
+    /// Counts one look.
+    pub(crate) fn count(&mut self)
+        ensures { self.new.touches.count ≡ self.old.touches.count + 1 }
+    {
+        self.touches = self.touches.one_more();
+    }
+}

@@ -1,0 +1,298 @@
+-- The reason for which a line is bad.
+use Rattle.std.proofs.Common.{◌≡◌, ◌≢◌, ℕ, ◌≤◌, ◌<◌, true, false, Bool, List, [], ◌∷◌, ◌++◌, inl, inr, codes, map, length, nat_eq, IsTrue, refl, sym, ◌∙◌, ap, subst, arith, length-append}
+use Rattle.std.specs.List.{list_any, starts_with}
+use Rattle.std.proofs.lemmas.Bool.{false≢true}
+use Rattle.iox2_config.specs.Defaults.{IsDefaultConfig, default_defaults}
+use Rattle.iox2_config.specs.Hashing.{pattern_word}
+use Rattle.iox2_config.specs.declared.config.Config.{Config}
+use Rattle.iox2_config.specs.declared.config.defaults.Defaults.{Defaults}
+use Rattle.iox2_config.specs.declared.hash.input.PatternKind.{PatternKind}
+use Rattle.service_drawing.specs.Descriptions.{StopsReading}
+use Rattle.service_drawing.specs.Lines.{IsLine, HasLinesOf, UpTo, HasService, IsInternal, IsNoService, Stops}
+use Rattle.service_drawing.specs.Reasons.{BeginsInternal, IsServiceReason, AtSetting, IsUnknown, WasSet, IsSettingReason, AmongSettings, IsReason}
+use Rattle.service_drawing.specs.Settings.{HasName, IsSetting, GivesSetting, HasConfiguration, IsNotSet, NamesMarked, section, word_of}
+use Rattle.service_drawing.specs.declared.reading.cause.Reason.{Reason}
+use Rattle.service_drawing.specs.declared.reading.cause.Reason.TheVariants.{InternalName, UnknownSetting, SetTwice, OtherForm}
+use Rattle.service_drawing.specs.declared.settings.value.Value.{Value}
+use Rattle.service_drawing.proofs.Descriptions.{AfterSettings, service_same, stops_after_service, stops_after_settings}
+use Rattle.service_drawing.proofs.LinesOf.{up_moves, lines_move}
+use Rattle.service_drawing.proofs.Messages.{same_text}
+use Rattle.service_drawing.proofs.ServiceNames.{same_pattern}
+use Rattle.service_drawing.proofs.SettingLines.{Setting, numbers, one_setting, same_setting}
+use Rattle.service_drawing.proofs.Words.{line_one}
+
+line_within : (text rest bytes : List ℕ) → IsLine text rest bytes → length rest < length bytes
+line_within text rest bytes l =
+    omega (arith, ap length l.spelled, length-append text (10 ∷ rest))
+
+up_within : {A : Type 0} (begin : List ℕ) (Spells : A → List ℕ → Type 0) (xs : List A)
+    (at bytes : List ℕ) → UpTo begin Spells xs at bytes → length at ≤ length bytes
+up_within begin Spells xs at bytes u =
+    let m = up_moves begin Spells xs at bytes u in
+    omega (arith, ap length m.parts, length-append m.front at)
+
+lines_within : {A : Type 0} (begin : List ℕ) (Spells : A → List ℕ → Type 0) (xs : List A)
+    (rest bytes : List ℕ) → HasLinesOf begin Spells xs rest bytes → length rest ≤ length bytes
+lines_within begin Spells xs rest bytes h =
+    let m = lines_move begin Spells xs rest bytes h in
+    omega (arith, ap length m.parts, length-append m.front rest)
+
+-- the lines up to one place give the same keys
+same_keys : {A K : Type 0} (begin : List ℕ) (Spells : A → List ℕ → Type 0) (key : A → K)
+    → ((x y : A) (t : List ℕ) → Spells x t → Spells y t → key x ≡ key y) → (xs ys : List A)
+    (at bytes : List ℕ) → UpTo begin Spells xs at bytes → UpTo begin Spells ys at bytes
+    → map key xs ≡ map key ys
+same_keys begin Spells key same [] [] at bytes u v = refl
+same_keys begin Spells key same [] (y ∷ ys) at bytes u v =
+    absurd (omega (
+      arith,
+      ap length u,
+      line_within _ v.0 bytes v.1.line,
+      up_within begin Spells ys at v.0 v.2,
+    ))
+same_keys begin Spells key same (x ∷ xs) [] at bytes u v =
+    absurd (omega (
+      arith,
+      ap length v,
+      line_within _ u.0 bytes u.1.line,
+      up_within begin Spells xs at u.0 u.2,
+    ))
+same_keys {K = K} begin Spells key same (x ∷ xs) (y ∷ ys) at bytes u v =
+    let texts : u.1.text ≡ v.1.text =
+    same_text begin u.1.text u.0 bytes u.1.line v.1.text v.0 v.1.line in
+    let mids : v.0 ≡ u.0 = (line_one _ _ v.0 u.0 bytes v.1.line u.1.line).1 in
+    let keys : key x ≡ key y =
+    same x y v.1.text (subst (λ (t : List ℕ). Spells x t) texts u.1.spelled) v.1.spelled in
+    let more : map key xs ≡ map key ys =
+    same_keys begin Spells key same xs ys at u.0 u.2
+    (subst (λ (b : List ℕ). UpTo begin Spells ys at b) mids v.2) in
+    ap (λ k. k ∷ map key xs) keys ∙ ap (λ (l : List K). key y ∷ l) more
+
+-- behind all lines of a kind there is no place for one more
+no_further : {A : Type 0} (begin : List ℕ) (Spells : A → List ℕ → Type 0) (xs ys : List A)
+    (left rest read text tail bytes : List ℕ) → HasLinesOf begin Spells xs rest bytes
+    → rest ≡ read ++ left → UpTo begin Spells ys left bytes → IsLine (begin ++ text) tail left → ⊥
+no_further begin Spells [] [] left rest read text tail bytes h p u l =
+    h.1 text tail (subst (λ (b : List ℕ). IsLine (begin ++ text) tail b) (sym u) l)
+no_further begin Spells [] (y ∷ ys) left rest read text tail bytes h p u l =
+    h.1 u.1.text u.0 u.1.line
+no_further begin Spells (x ∷ xs) [] left rest read text tail bytes h p u l =
+    omega (
+      arith,
+      ap length u,
+      ap length p,
+      length-append read left,
+      line_within _ h.0 bytes h.1.line,
+      lines_within begin Spells xs rest h.0 h.2,
+    )
+no_further begin Spells (x ∷ xs) (y ∷ ys) left rest read text tail bytes h p u l =
+    let mids : u.0 ≡ h.0 = (line_one _ _ u.0 h.0 bytes u.1.line h.1.line).1 in
+    no_further begin Spells xs ys left rest read text tail h.0 h.2 p
+    (subst (λ (b : List ℕ). UpTo begin Spells ys left b) mids u.2) l
+
+-- the reason why the next line sets nothing
+pub setting_reason : (names : List (List ℕ)) (defaults values : List Value) (given : List Bool)
+    (reason found : Reason) (left at bytes text tail : List ℕ) → reason ≡ found → left ≡ at
+    → Setting names defaults values given at bytes → IsLine (codes "set " ++ text) tail at
+    → IsNotSet names values given text found → IsSettingReason names defaults reason left bytes
+setting_reason names defaults values given reason found left at bytes text tail f e r l bad =
+    subst (λ (a : List ℕ). IsSettingReason names defaults reason a bytes) (sym e)
+    (subst (λ why. IsSettingReason names defaults why at bytes) (sym f) (go found bad))
+  where
+    here : word_of text ≢ text → AtSetting names defaults at bytes
+    here spaced = record {
+      sets = r.sets;
+      before = r.lines;
+      text = text;
+      rest = tail;
+      line = l;
+      spaced = spaced;
+    }
+
+    one : (a : AtSetting names defaults at bytes) → a.text ≡ text
+    one a = same_text (codes "set ") a.text a.rest at a.line text tail l
+
+    without_space : (a : AtSetting names defaults at bytes) → ¬ (word_of text ≡ text)
+    without_space a none = a.spaced (subst (λ (t : List ℕ). word_of t ≡ t) (sym (one a)) none)
+
+    unknown : NamesMarked names given text false → ¬ IsUnknown names defaults at bytes
+    unknown m u =
+        u.none m.index
+        (subst (λ (t : List ℕ). HasName names m.index (word_of t)) (sym (one u.at))
+        m.setting.named)
+
+    was_set : NamesMarked names given text false → ¬ WasSet names defaults at bytes
+    was_set m w =
+        let same : w.index ≡ m.index =
+        one_setting names w.index m.index (word_of text)
+        (subst (λ (t : List ℕ). IsSetting names w.index (word_of t)) (one w.at) w.setting)
+        m.setting in
+        let keys : numbers w.at.sets ≡ numbers r.sets =
+        same_keys (codes "set ") (GivesSetting names defaults) (λ set. set.index)
+        (same_setting names defaults) w.at.sets r.sets at bytes w.at.before r.lines in
+        let fresh : false ≡ list_any (nat_eq w.index) (numbers w.at.sets) =
+        r.marks m.index false m.marked
+        ∙ ap (λ i. list_any (nat_eq i) (numbers r.sets)) (sym same)
+        ∙ ap (λ (k : List ℕ). list_any (nat_eq w.index) k) (sym keys) in
+        false≢true (fresh ∙ w.before)
+
+    go : (why : Reason) → IsNotSet names values given text why
+        → IsSettingReason names defaults why at bytes
+    go InternalName b = b
+    go UnknownSetting b = record { at = here b.0; none = b.1 }
+    go SetTwice b = record {
+      at = here b.0;
+      index = b.1.index;
+      setting = b.1.setting;
+      before = sym (r.marks b.1.index true b.1.marked);
+    }
+    go OtherForm b = (
+      λ u. elim b.0 [ inl none ↦ without_space u.at none | inr m ↦ unknown m u ],
+      λ w. elim b.0 [ inl none ↦ without_space w.at none | inr m ↦ was_set m w ],
+    )
+
+-- the reason is that of a configuration's defaults
+pub configuration_reason : (k : PatternKind) (start : Config) (reason : Reason)
+    (left bytes : List ℕ) → IsDefaultConfig start
+    → IsSettingReason (section k).names ((section k).values start.defaults) reason left bytes
+    → IsSettingReason (section k).names ((section k).values default_defaults) reason left bytes
+configuration_reason k start reason left bytes is h =
+    subst (λ (d : Defaults). IsSettingReason (section k).names ((section k).values d) reason left
+    bytes) is.defaults h
+
+-- bytes without a line do not begin with that of a service
+pub no_line_reason : (reason : Reason) (bytes : List ℕ) → reason ≡ OtherForm
+    → ((text rest : List ℕ) → ¬ IsLine text rest bytes) → IsServiceReason reason bytes
+no_line_reason reason bytes e none =
+    let outside : ¬ BeginsInternal bytes = λ i. none i.text i.rest i.line in
+    subst (λ r. IsServiceReason r bytes) (sym e) outside
+
+-- the reason why the first line spells no service
+pub service_reason : (reason : Reason) (line rest bytes : List ℕ) → IsLine line rest bytes
+    → IsNoService line reason → IsServiceReason reason bytes
+service_reason InternalName line rest bytes l b = record {
+  text = line;
+  rest = rest;
+  line = l;
+  internal = b;
+}
+service_reason UnknownSetting line rest bytes l b = b
+service_reason SetTwice line rest bytes l b = b
+service_reason OtherForm line rest bytes l b =
+    λ i. b (subst IsInternal (line_one i.text line i.rest rest bytes i.line l).0 i.internal)
+
+pub no_service_reason : (reason : Reason) (left bytes : List ℕ)
+    → ((k : PatternKind) (name rest : List ℕ) → ¬ HasService k name rest bytes)
+    → IsServiceReason reason bytes → IsReason reason left bytes
+no_service_reason InternalName left bytes none b = b
+no_service_reason UnknownSetting left bytes none b = absurd b
+no_service_reason SetTwice left bytes none b = absurd b
+no_service_reason OtherForm left bytes none b = (
+  b,
+  λ a. none a.kind a.name a.at_settings a.service,
+  λ a. none a.kind a.name a.at_settings a.service,
+)
+
+-- a service that is read has no internal name
+from_outside : (k : PatternKind) (name rest bytes : List ℕ) → HasService k name rest bytes
+    → ¬ BeginsInternal bytes
+from_outside k name rest bytes h i =
+    let lines = line_one i.text (pattern_word k ++ 32 ∷ name) i.rest rest bytes i.line h.line in
+    let same = same_pattern i.internal.0 k i.internal.1 name (sym i.internal.2 ∙ lines.0) in
+    h.named.from_outside
+    (subst (λ (n : List ℕ). IsTrue (starts_with nat_eq n (codes "iox2://"))) same.1 i.internal.3)
+
+-- the settings are those of the pattern of the first line
+of_the_pattern : (Holds : List (List ℕ) → List Value → List ℕ → List ℕ → Type 0)
+    (k : PatternKind) (name left rest bytes : List ℕ) → HasService k name rest bytes
+    → AmongSettings Holds left bytes
+    → Holds (section k).names ((section k).values default_defaults) left rest
+of_the_pattern Holds k name left rest bytes h a =
+    let same = service_same a.kind k a.name name a.at_settings rest bytes a.service h in
+    subst (λ j. Holds (section j).names ((section j).values default_defaults) left rest) same.0
+    (subst (λ (r : List ℕ). Holds (section a.kind).names
+    ((section a.kind).values default_defaults) left r) same.1 a.holds)
+
+pub reason_in_settings : (reason : Reason) (k : PatternKind) (name left rest bytes : List ℕ)
+    → HasService k name rest bytes
+    → IsSettingReason (section k).names ((section k).values default_defaults) reason left rest
+    → IsReason reason left bytes
+reason_in_settings InternalName k name left rest bytes h b = absurd b
+reason_in_settings UnknownSetting k name left rest bytes h b = record {
+  kind = k;
+  name = name;
+  at_settings = rest;
+  service = h;
+  holds = b;
+}
+reason_in_settings SetTwice k name left rest bytes h b = record {
+  kind = k;
+  name = name;
+  at_settings = rest;
+  service = h;
+  holds = b;
+}
+reason_in_settings OtherForm k name left rest bytes h b = (
+  from_outside k name rest bytes h,
+  λ a. b.0 (of_the_pattern IsUnknown k name left rest bytes h a),
+  λ a. b.1 (of_the_pattern WasSet k name left rest bytes h a),
+)
+
+-- behind the settings a line is bad for its form
+pub stops_behind_settings : (reason : Reason) (k : PatternKind) (name : List ℕ) (c : Config)
+    (left rest mid bytes : List ℕ) → reason ≡ OtherForm → HasService k name mid bytes
+    → HasConfiguration k c rest mid → Stops (AfterSettings k) (AfterSettings k) left rest
+    → StopsReading left bytes × IsReason reason left bytes
+stops_behind_settings reason k name c left rest mid bytes e h g s =
+    let names = (section k).names in
+    let defaults = (section k).values default_defaults in
+    let late : AtSetting names defaults left mid → ⊥ =
+    λ a. no_further (codes "set ") (GivesSetting names defaults) g.0.sets a.sets left rest s.read
+    a.text a.rest mid g.0.lines s.parts a.before a.line in
+    let form : IsReason OtherForm left bytes = (
+      from_outside k name mid bytes h,
+      λ a. late (of_the_pattern IsUnknown k name left mid bytes h a).at,
+      λ a. late (of_the_pattern WasSet k name left mid bytes h a).at,
+    ) in (
+      stops_after_service k name left mid bytes h (stops_after_settings k c left rest mid g s),
+      subst (λ r. IsReason r left bytes) (sym e) form,
+    )
+
+-- a setting that was set has a name
+known : (names : List (List ℕ)) (defaults : List Value) (left bytes : List ℕ)
+    → IsUnknown names defaults left bytes → ¬ WasSet names defaults left bytes
+known names defaults left bytes u w =
+    let texts : w.at.text ≡ u.at.text =
+    same_text (codes "set ") w.at.text w.at.rest left w.at.line u.at.text u.at.rest u.at.line in
+    u.none w.index
+    (subst (λ (t : List ℕ). HasName names w.index (word_of t)) texts w.setting.named)
+
+unknown_or_set : (left bytes : List ℕ) → AmongSettings IsUnknown left bytes
+    → ¬ AmongSettings WasSet left bytes
+unknown_or_set left bytes u w =
+    known (section u.kind).names ((section u.kind).values default_defaults) left u.at_settings
+    u.holds (of_the_pattern WasSet u.kind u.name left u.at_settings bytes u.service w)
+
+-- where one reason holds, no other does
+pub one_reason : (one other : Reason) (left bytes : List ℕ) → IsReason one left bytes
+    → IsReason other left bytes → other ≡ one
+one_reason InternalName InternalName left bytes p q = refl
+one_reason InternalName UnknownSetting left bytes p q =
+    absurd (from_outside q.kind q.name q.at_settings bytes q.service p)
+one_reason InternalName SetTwice left bytes p q =
+    absurd (from_outside q.kind q.name q.at_settings bytes q.service p)
+one_reason InternalName OtherForm left bytes p q = absurd (q.0 p)
+one_reason UnknownSetting InternalName left bytes p q =
+    absurd (from_outside p.kind p.name p.at_settings bytes p.service q)
+one_reason UnknownSetting UnknownSetting left bytes p q = refl
+one_reason UnknownSetting SetTwice left bytes p q = absurd (unknown_or_set left bytes p q)
+one_reason UnknownSetting OtherForm left bytes p q = absurd (q.1 p)
+one_reason SetTwice InternalName left bytes p q =
+    absurd (from_outside p.kind p.name p.at_settings bytes p.service q)
+one_reason SetTwice UnknownSetting left bytes p q = absurd (unknown_or_set left bytes q p)
+one_reason SetTwice SetTwice left bytes p q = refl
+one_reason SetTwice OtherForm left bytes p q = absurd (q.2 p)
+one_reason OtherForm InternalName left bytes p q = absurd (p.0 q)
+one_reason OtherForm UnknownSetting left bytes p q = absurd (p.1 q)
+one_reason OtherForm SetTwice left bytes p q = absurd (p.2 q)
+one_reason OtherForm OtherForm left bytes p q = refl
