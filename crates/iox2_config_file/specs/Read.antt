@@ -1,0 +1,82 @@
+-- What a file says of the settings.
+use Rattle.std.specs.Prelude.{◌≡◌, ℕ, List, [], ◌∷◌, ◌++◌, map, flat_map, Option, option_map, option_and_then, unwrap_or, codes}
+use Rattle.std.specs.List.{filter_map}
+use Rattle.iox2_config.specs.declared.config.Config.{Config}
+use Rattle.iox2_config_file.specs.declared.kind.Kind.{Kind}
+use Rattle.iox2_config_file.specs.declared.kind.Kind.TheVariants as kind
+use Rattle.iox2_config_file.specs.declared.section.Section.{Section}
+use Rattle.iox2_config_file.specs.declared.section.Row.{Row}
+use Rattle.iox2_config_file.specs.declared.section.Section.TheVariants as section
+use Rattle.iox2_config_file.specs.declared.kind.Fault.{Fault}
+use Rattle.iox2_config_file.specs.declared.fault.SettingFault.{SettingFault}
+use Rattle.iox2_config_file.specs.Values.{value_or, fault_in}
+use Rattle.iox2_config_file.specs.Settings.{Setting, settings_in, tables_in}
+use Rattle.toml.specs.Data.{Members, no_members, get_member, as_table}
+
+-- a key and what its value may be
+abbrev pub row_view : Row → List ℕ × Kind
+row_view row = (row.key.now, row.kind)
+
+-- the keys that a table may have: its settings, and then the tables in it
+abbrev pub rows_in : Section → Config → List (List ℕ × Kind)
+rows_in s c =
+    map (λ x. (x.key, x.kind)) (settings_in s c) ++ map (λ k. (k, kind.Table)) (tables_in s)
+
+-- the setting with the value at its key, if there is one
+abbrev pub read_setting : Members → Setting → Setting
+read_setting ms s = record s { value = value_or s.kind s.value (get_member s.key ms) }
+
+-- the members of the table at a key, none where the key has no table
+abbrev pub members_at : List ℕ → Members → Members
+members_at key ms = unwrap_or (option_and_then as_table (get_member key ms)) no_members
+
+-- the members of each table of a file, none where it is absent
+abbrev pub section_members : Section → Members → Members
+section_members section.Root file = file
+section_members section.Global file = members_at (codes "global") file
+section_members section.Service file =
+    members_at (codes "service") (members_at (codes "global") file)
+section_members section.Node file =
+    members_at (codes "node") (members_at (codes "global") file)
+section_members section.Defaults file = members_at (codes "defaults") file
+section_members section.PublishSubscribe file =
+    members_at (codes "publish-subscribe") (members_at (codes "defaults") file)
+section_members section.Event file = members_at (codes "event") (members_at (codes "defaults") file)
+section_members section.RequestResponse file =
+    members_at (codes "request-response") (members_at (codes "defaults") file)
+section_members section.Blackboard file =
+    members_at (codes "blackboard") (members_at (codes "defaults") file)
+
+-- the settings of a table, each with the value at its key, if there is one
+abbrev pub read_section : Section → Members → List Setting → List Setting
+read_section s file defaults = map (read_setting (section_members s file)) defaults
+
+-- each setting has the value at its key if there is one, and else its default
+abbrev pub IsSettingsOf : Config → Members → Config → Type 0
+IsSettingsOf defaults file config =
+    (s : Section) → settings_in s config ≡ read_section s file (settings_in s defaults)
+
+-- a fault with its place
+abbrev pub Located : Type 0
+Located = Section × List ℕ × Fault
+
+abbrev pub fault_view : SettingFault → Located
+fault_view f = (f.section, f.key.now, f.fault)
+
+-- what is wrong with the value of a key
+abbrev pub row_fault : Section → Members → List ℕ × Kind → Option Located
+row_fault s ms row = option_map (λ f. (s, row.0, f)) (fault_in row.1 (get_member row.0 ms))
+
+-- the values of a table that are not allowed, in the order of its keys
+unfoldable pub section_faults : Config → Members → Section → List Located
+section_faults c file s = filter_map (row_fault s (section_members s file)) (rows_in s c)
+
+-- the tables of a file in their order
+abbrev pub sections : List Section
+sections =
+    section.Root ∷ section.Global ∷ section.Service ∷ section.Node ∷ section.Defaults
+    ∷ section.PublishSubscribe ∷ section.Event ∷ section.RequestResponse ∷ section.Blackboard ∷ []
+
+-- all values that are not allowed, in the order of the table of settings
+unfoldable pub faults_in : Config → Members → List Located
+faults_in c file = flat_map (section_faults c file) sections

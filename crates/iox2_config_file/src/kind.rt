@@ -1,0 +1,113 @@
+//! What the value of a key may be, and what is wrong with one that may not.
+
+use iox2_texts::bounded::SemanticStringError;
+use std::fmt;
+use thiserror::Error;
+
+/// What the value of a key may be.
+#[derive(Clone, Copy, Debug, PartialEq, Eq)]
+pub enum Kind {
+    /// A table of settings.
+    Table,
+    /// An integer from 0 to 2^63 - 1.
+    Number,
+    /// A boolean.
+    Flag,
+    /// A text that is a path.
+    Path,
+    /// A text that is the name of a file.
+    FileName,
+    /// The name of a `BackpressureStrategy`.
+    Backpressure,
+    /// The name of an `AllocationStrategy`.
+    Allocation,
+    /// A table of `secs` and `nanos`, and nothing else.
+    Duration,
+}
+
+/// The types of TOML.
+#[derive(Clone, Copy, Debug, PartialEq, Eq)]
+pub enum TomlType {
+    /// A text.
+    String,
+    /// An integer.
+    Integer,
+    /// A number with a fraction.
+    Float,
+    /// `true` or `false`.
+    Boolean,
+    /// A date, a time or both.
+    Datetime,
+    /// A list of values.
+    Array,
+    /// Values under keys.
+    Table,
+}
+
+/// What is wrong with the value of a key.
+#[derive(Clone, Copy, Debug, PartialEq, Eq, Error)]
+pub enum Fault {
+    /// It is of another type than the one that is wanted.
+    #[error("is {found}, and {wanted} is wanted")]
+    WrongType {
+        /// What it is.
+        found: TomlType,
+        /// What is wanted.
+        wanted: Kind,
+    },
+    /// A number below 0.
+    #[error("is below 0")]
+    OutOfRange,
+    /// A text that is no path.
+    #[error("is no path: {}", why(.0))]
+    NoPath(SemanticStringError),
+    /// A text that is no name of a file.
+    #[error("is no name of a file: {}", why(.0))]
+    NoFileName(SemanticStringError),
+    /// A text that names no variant of the kind.
+    #[error("is not {0}")]
+    UnknownVariant(Kind),
+    /// A table that does not have just the integers `secs` and `nanos`, none of them below 0.
+    #[error("is not a table of the integers `secs` and `nanos` alone")]
+    NoDuration,
+    /// A duration whose `nanos` are a second or more.
+    #[error("has `nanos` of a second or more")]
+    NanosTooLarge,
+}
+
+/// Why a text is not allowed.
+fn why(error: &SemanticStringError) -> &'static str {
+    match error {
+        SemanticStringError::InvalidContent => "a byte or the whole text is not allowed",
+        SemanticStringError::ExceedsMaximumLength => "it has more than 255 bytes",
+    }
+}
+
+impl fmt::Display for Kind {
+    fn fmt<W: fmt::Write>(&self, f: &mut fmt::Formatter<W>) -> fmt::Result {
+        f.write_str(match self {
+            Kind::Table => "a table",
+            Kind::Number => "an integer",
+            Kind::Flag => "a boolean",
+            Kind::Path => "a string with a path",
+            Kind::FileName => "a string with the name of a file",
+            Kind::Backpressure => "\"RetryUntilDelivered\" or \"DiscardData\"",
+            Kind::Allocation => "\"BestFit\", \"PowerOfTwo\" or \"Static\"",
+            Kind::Duration => "a table of `secs` and `nanos`",
+        })
+    }
+}
+
+impl fmt::Display for TomlType {
+    fn fmt<W: fmt::Write>(&self, f: &mut fmt::Formatter<W>) -> fmt::Result {
+        f.write_str(match self {
+            TomlType::String => "a string",
+            TomlType::Integer => "an integer",
+            TomlType::Float => "a float",
+            TomlType::Boolean => "a boolean",
+            TomlType::Datetime => "a date-time",
+            TomlType::Array => "an array",
+            TomlType::Table => "a table",
+        })
+    }
+}

@@ -1,0 +1,95 @@
+//! How the text of a file is read.
+ghost use Rattle.std.specs.Prelude.{◌≡◌, Some, IfOk, IfErr};
+ghost use Rattle.toml.specs.Data.{no_members};
+ghost use Rattle.iox2_config_file.specs.Answers.{Reads, ReadsOverDefaults, Refuses, ReportsAll, IsUnparsed};
+ghost use Rattle.toml.specs.View.{table_view};
+ghost use Rattle.toml.specs.Parse.{parse_document};
+
+use crate::build::config;
+use crate::error::ConfigFileError;
+use crate::fault::{SettingFault, file_faults, first_fault};
+use crate::unknown::{UnknownKey, unknown_keys};
+use iox2_config::config::Config;
+use std::alloc::{AllocError, Global};
+use toml::Table;
+
+/// The settings of a file.
+#[derive(Debug, Drop)]
+pub struct FileSettings {
+    /// The settings, those among them that the file does not have being the defaults.
+    pub config: Config,
+    /// The keys that no setting has, in the order of the tables and of the keys in each.
+    pub unknown: Vec<UnknownKey>,
+}
+
+/// Reads the text of a file, whose absent keys have their defaults.
+///
+/// Refused are, in this order, a text that is no TOML, and the first key whose value is not
+/// allowed. A text for which memory is refused is refused at any point.
+pub fn read_config(alloc: Global, text: &str) -> Result<FileSettings, ConfigFileError>
+    ensures ok { IfOk result (ReadsOverDefaults text.now) }
+    ensures err { IfErr result (Refuses text.now) }
+{
+    read_config_over(alloc, text, &Config::default())
+}
+
+/// As `read_config`, with the settings of another configuration in place of the defaults: a user's
+/// file over the system's.
+pub fn read_config_over(
+    alloc: Global,
+    text: &str,
+    default: &Config,
+) -> Result<FileSettings, ConfigFileError>
+    ensures ok { IfOk result (Reads default.now text.now) }
+    ensures err { IfErr result (Refuses text.now) }
+{
+    let file = match parse(alloc, text) {
+        Ok(file) => file,
+        Err(e) => return Err(e),
+    };
+    let empty = Table::new(alloc);
+    match first_fault(alloc, &file, &empty) {
+        Ok(Some(fault)) => Err(ConfigFileError::Setting(fault)),
+        Ok(None) => match unknown_keys(alloc, &file, &empty) {
+            Ok(unknown) => Ok(FileSettings {
+                config: config(&file, &empty, default),
+                unknown,
+            }),
+            Err(e) => Err(ConfigFileError::NoMemory(e)),
+        },
+        Err(e) => Err(ConfigFileError::NoMemory(e)),
+    }
+}
+
+/// The table that a text is.
+fn parse(alloc: Global, text: &str) -> Result<Table, ConfigFileError>
+    ensures ok { IfOk result (λ file. parse_document text.now ≡ Some (table_view file)) }
+    ensures err { IfErr result (IsUnparsed text.now) }
+{
+    match toml::table_from_str(alloc, text) {
+        Ok(file) => Ok(file),
+        Err(e) => {
+            if e.is_memory() {
+                Err(ConfigFileError::NoMemory(AllocError))
+            } else {
+                Err(ConfigFileError::Syntax(e))
+            }
+        }
+    }
+}
+
+/// All keys of a file whose values are not allowed, in the order of the settings.
+pub fn report_all(alloc: Global, text: &str) -> Result<Vec<SettingFault>, ConfigFileError>
+    ensures ok { IfOk result (λ faults. ReportsAll text.now faults.items) }
+    ensures err { IfErr result (IsUnparsed text.now) }
+{
+    let file = match parse(alloc, text) {
+        Ok(file) => file,
+        Err(e) => return Err(e),
+    };
+    let empty = Table::new(alloc);
+    match file_faults(alloc, &file, &empty) {
+        Ok(faults) => Ok(faults),
+        Err(e) => Err(ConfigFileError::NoMemory(e)),
+    }
+}

@@ -1,0 +1,176 @@
+//! The keys of a file that no setting has.
+ghost use Rattle.std.specs.Prelude.{◌≡◌, ◌++◌, Some, map, flat_map, option_map, string_bytes, OnOk, IfOk};
+ghost use Rattle.iox2_config.specs.declared.config.Config.{Config};
+ghost use Rattle.iox2_config_file.specs.Read.{row_view};
+ghost use Rattle.iox2_config_file.specs.Unknown.{edit_distance, is_known, meant, unknown_view, unknown_at, unknown_among, section_unknown, unknown_in};
+ghost use Rattle.toml.specs.Data.{no_members};
+ghost use Rattle.toml.specs.View.{table_view};
+
+use crate::section::{Row, SECTIONS, Section, rows};
+use crate::tables::section_table;
+use std::alloc::{AllocError, Global};
+use strsim::levenshtein;
+use toml::Table;
+
+/// A key of a file that no setting has.
+#[derive(Debug, Drop)]
+pub struct UnknownKey {
+    /// The table in which it stands.
+    pub section: Section,
+    /// The key.
+    pub key: String,
+    /// The known key of the same table that was probably meant: the first of the nearest, where at
+    /// most two characters have to be put in, taken out or changed.
+    pub meant: Option<&'static str>,
+}
+
+/// How many characters have to be put in, taken out or changed.
+#[tactic(auto, unfolding(crate::specs::Unknown::edit_distance))]
+fn distance(alloc: Global, key: &str, known: &str) -> Result<usize, AllocError>
+    ensures { IfOk result (λ n. n ≡ edit_distance key.now known.now) }
+{
+    levenshtein(alloc, key, known)
+}
+
+/// Whether a key is known.
+fn is_known(key: &str, rows: &[Row]) -> bool
+    ensures { result ≡ is_known key.now (map row_view rows.now) }
+{
+    for row in rows {
+        if key == row.key {
+            return true;
+        }
+    }
+    false
+}
+
+/// The known key that was probably meant.
+#[tactic(auto, unfolding(crate::specs::Unknown::meant))]
+fn nearest(alloc: Global, key: &str, rows: &[Row]) -> Result<Option<&'static str>, AllocError>
+    ensures { IfOk result (λ found.
+        option_map (λ t. t.now) found ≡ meant key.now (map row_view rows.now)) }
+{
+    let mut found = None;
+    let mut limit = 3;
+    for row in rows {
+        match distance(alloc, key, row.key) {
+            Ok(n) => {
+                if n < limit {
+                    found = Some(row.key);
+                    limit = n;
+                }
+            }
+            Err(e) => return Err(e),
+        }
+    }
+    Ok(found)
+}
+
+/// A key of a table, where it is not known.
+#[tactic(auto, unfolding(crate::specs::Unknown::unknown_at))]
+fn unknown_of(
+    alloc: Global,
+    section: Section,
+    key: &str,
+    rows: &[Row],
+) -> Result<Option<UnknownKey>, AllocError>
+    ensures { IfOk result (λ unknown.
+        option_map unknown_view unknown ≡ unknown_at section (map row_view rows.now) key.now) }
+{
+    if is_known(key, rows) {
+        return Ok(None);
+    }
+    match nearest(alloc, key, rows) {
+        Ok(meant) => match String::from_str(alloc, key) {
+            Ok(key) => Ok(Some(UnknownKey {
+                section,
+                key,
+                meant,
+            })),
+            Err(e) => Err(e),
+        },
+        Err(e) => Err(e),
+    }
+}
+
+/// Adds the unknown keys of a table.
+fn add_unknown(
+    alloc: Global,
+    unknown: &mut Vec<UnknownKey>,
+    section: Section,
+    table: &Table,
+    rows: &[Row],
+) -> Result<(), AllocError>
+    ensures { OnOk result (map unknown_view unknown.new.items
+        ≡ map unknown_view unknown.old.items
+        ++ unknown_among section (map row_view rows.now) (table_view table.now)) }
+{
+    for (key, _) in table.iter() {
+        match unknown_of(alloc, section, key.as_str(), rows) {
+            Ok(Some(found)) => match unknown.push(found) {
+                Ok(()) => {}
+                Err(_) => return Err(AllocError),
+            },
+            Ok(None) => {}
+            Err(e) => return Err(e),
+        }
+    }
+    Ok(())
+}
+
+/// Adds the unknown keys of a table of the file.
+#[tactic(auto, unfolding(crate::specs::Unknown::section_unknown))]
+fn add_section(
+    alloc: Global,
+    unknown: &mut Vec<UnknownKey>,
+    section: Section,
+    file: &Table,
+    empty: &Table,
+) -> Result<(), AllocError>
+    requires { table_view empty.now ≡ no_members }
+    ensures { OnOk result ((c : Config) → map unknown_view unknown.new.items
+        ≡ map unknown_view unknown.old.items ++ section_unknown c (table_view file.now) section) }
+{
+    let table = section_table(file, section, empty);
+    add_unknown(alloc, unknown, section, table, rows(section))
+}
+
+/// Adds the unknown keys of some tables of the file.
+fn add_sections(
+    alloc: Global,
+    unknown: &mut Vec<UnknownKey>,
+    sections: &[Section],
+    file: &Table,
+    empty: &Table,
+) -> Result<(), AllocError>
+    requires { table_view empty.now ≡ no_members }
+    ensures { OnOk result ((c : Config) → map unknown_view unknown.new.items
+        ≡ map unknown_view unknown.old.items
+        ++ flat_map (section_unknown c (table_view file.now)) sections.now) }
+{
+    for section in sections {
+        match add_section(alloc, unknown, *section, file, empty) {
+            Ok(()) => {}
+            Err(e) => return Err(e),
+        }
+    }
+    Ok(())
+}
+
+/// The unknown keys of a file, in the order of its tables and of the keys in each.
+#[tactic(auto, unfolding(crate::specs::Unknown::unknown_in))]
+pub(crate) fn unknown_keys(
+    alloc: Global,
+    file: &Table,
+    empty: &Table,
+) -> Result<Vec<UnknownKey>, AllocError>
+    requires { table_view empty.now ≡ no_members }
+    ensures { IfOk result (λ unknown. (c : Config)
+        → map unknown_view unknown.items ≡ unknown_in c (table_view file.now)) }
+{
+    let mut unknown = Vec::new(alloc);
+    match add_sections(alloc, &mut unknown, &SECTIONS, file, empty) {
+        Ok(()) => Ok(unknown),
+        Err(e) => Err(e),
+    }
+}

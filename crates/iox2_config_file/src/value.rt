@@ -1,0 +1,265 @@
+//! How the value of a key is read.
+ghost use Rattle.std.specs.Prelude.{◌≡◌, pos, Some, length};
+ghost use Rattle.std.specs.Result.{result_map_both, result_err};
+ghost use Rattle.std.specs.Duration.{as_nanos};
+ghost use Rattle.toml.specs.Data.{get_member};
+ghost use Rattle.toml.specs.View.{view, table_view};
+ghost use Rattle.iox2_config_file.specs.Values.{type_in, value_in, value_or, duration_in, part_in, flag};
+ghost use Rattle.iox2_config_file.specs.Values as values;
+
+use crate::kind::{Fault, Kind, TomlType};
+use crate::tables::{get, member_count};
+use crate::texts::{file_name, path};
+use iox2_config::config::{AllocationStrategy, BackpressureStrategy};
+use iox2_texts::paths::{FileName, Path};
+use std::time::Duration;
+use toml::{Table, Value};
+
+/// Types of settings, as the value of a key gives them.
+pub(crate) trait FromToml {
+    ghost use Rattle.iox2_config_file.specs.declared.kind.Kind.{Kind};
+    ghost use Rattle.iox2_config_file.specs.Values.{SettingValue};
+
+    /// The value, as the definitions see it.
+    ghost value_of: { Self → SettingValue };
+
+    /// What is wanted of the key.
+    ghost wanted: { Kind };
+
+    /// The setting that a value means, or what is wrong with it.
+    fn from_toml(value: &Value) -> Result<Self, Fault>
+        ensures { result_map_both value_of (λ e. e) result ≡ value_in wanted (view value.now) };
+}
+
+impl FromToml for usize {
+    ghost use Rattle.iox2_config_file.specs.declared.kind.Kind.TheVariants.{Number};
+
+    ghost value_of = { values.number };
+
+    ghost wanted = { Number };
+
+    fn from_toml(value: &Value) -> Result<usize, Fault> {
+        match value {
+            Value::Integer(n) => usize::try_from(*n).map_err(|_| Fault::OutOfRange),
+            _ => Err(wrong_type(value, Kind::Number)),
+        }
+    }
+}
+
+impl FromToml for bool {
+    ghost use Rattle.iox2_config_file.specs.declared.kind.Kind.TheVariants.{Flag};
+
+    ghost value_of = { flag };
+
+    ghost wanted = { Flag };
+
+    fn from_toml(value: &Value) -> Result<bool, Fault> {
+        match value {
+            Value::Boolean(b) => Ok(*b),
+            _ => Err(wrong_type(value, Kind::Flag)),
+        }
+    }
+}
+
+impl FromToml for Path {
+    ghost use Rattle.iox2_config_file.specs.Values.{text};
+    ghost use Rattle.iox2_config_file.specs.declared.kind.Kind.TheVariants as kind;
+
+    ghost value_of = { text };
+
+    ghost wanted = { kind.Path };
+
+    fn from_toml(value: &Value) -> Result<Path, Fault> {
+        match value {
+            Value::String(text) => path(text.as_bytes()).map_err(Fault::NoPath),
+            _ => Err(wrong_type(value, Kind::Path)),
+        }
+    }
+}
+
+impl FromToml for FileName {
+    ghost use Rattle.iox2_config_file.specs.Values.{text};
+    ghost use Rattle.iox2_config_file.specs.declared.kind.Kind.TheVariants as kind;
+
+    ghost value_of = { text };
+
+    ghost wanted = { kind.FileName };
+
+    fn from_toml(value: &Value) -> Result<FileName, Fault> {
+        match value {
+            Value::String(text) => file_name(text.as_bytes()).map_err(Fault::NoFileName),
+            _ => Err(wrong_type(value, Kind::FileName)),
+        }
+    }
+}
+
+impl FromToml for BackpressureStrategy {
+    ghost use Rattle.iox2_config_file.specs.Values.{backpressure};
+    ghost use Rattle.iox2_config_file.specs.declared.kind.Kind.TheVariants as kind;
+
+    ghost value_of = { backpressure };
+
+    ghost wanted = { kind.Backpressure };
+
+    fn from_toml(value: &Value) -> Result<BackpressureStrategy, Fault> {
+        match value {
+            Value::String(name) => match name.as_str() {
+                "RetryUntilDelivered" => Ok(BackpressureStrategy::RetryUntilDelivered),
+                "DiscardData" => Ok(BackpressureStrategy::DiscardData),
+                _ => Err(Fault::UnknownVariant(Kind::Backpressure)),
+            },
+            _ => Err(wrong_type(value, Kind::Backpressure)),
+        }
+    }
+}
+
+impl FromToml for AllocationStrategy {
+    ghost use Rattle.iox2_config_file.specs.Values.{allocation};
+    ghost use Rattle.iox2_config_file.specs.declared.kind.Kind.TheVariants as kind;
+
+    ghost value_of = { allocation };
+
+    ghost wanted = { kind.Allocation };
+
+    fn from_toml(value: &Value) -> Result<AllocationStrategy, Fault> {
+        match value {
+            Value::String(name) => match name.as_str() {
+                "BestFit" => Ok(AllocationStrategy::BestFit),
+                "PowerOfTwo" => Ok(AllocationStrategy::PowerOfTwo),
+                "Static" => Ok(AllocationStrategy::Static),
+                _ => Err(Fault::UnknownVariant(Kind::Allocation)),
+            },
+            _ => Err(wrong_type(value, Kind::Allocation)),
+        }
+    }
+}
+
+impl FromToml for Duration {
+    ghost use Rattle.iox2_config_file.specs.Values.{duration};
+    ghost use Rattle.iox2_config_file.specs.declared.kind.Kind.TheVariants as kind;
+
+    ghost value_of = { λ d. duration (as_nanos d) };
+
+    ghost wanted = { kind.Duration };
+
+    fn from_toml(value: &Value) -> Result<Duration, Fault> {
+        match value {
+            Value::Table(parts) => duration(parts),
+            _ => Err(wrong_type(value, Kind::Duration)),
+        }
+    }
+}
+
+/// The duration of a table of `secs` and `nanos`.
+fn duration(parts: &Table) -> Result<Duration, Fault>
+    ensures { result_map_both (λ d. values.duration (as_nanos d)) (λ e. e) result
+        ≡ duration_in (table_view parts.now) }
+{
+    if member_count(parts) != 2 {
+        return Err(Fault::NoDuration);
+    }
+    let Some(secs) = part(parts, "secs") else {
+        return Err(Fault::NoDuration);
+    };
+    let Some(nanos) = part(parts, "nanos") else {
+        return Err(Fault::NoDuration);
+    };
+    if nanos >= 1_000_000_000 {
+        return Err(Fault::NanosTooLarge);
+    }
+    Ok(Duration::new(secs, nanos as u32))
+}
+
+/// An integer that is not below 0.
+fn number(value: &Value) -> Option<u64>
+    ensures { result ≡ part_in (Some (view value.now)) }
+{
+    match value {
+        Value::Integer(n) => u64::try_from(*n).ok(),
+        _ => None,
+    }
+}
+
+/// The number at a key.
+fn part(parts: &Table, key: &str) -> Option<u64>
+    ensures { result ≡ part_in (get_member key.now (table_view parts.now)) }
+{
+    match get(parts, key) {
+        Some(value) => number(value),
+        None => None,
+    }
+}
+
+/// A setting that may be absent.
+impl<T: FromToml> FromToml for Option<T> {
+    ghost use Rattle.iox2_config_file.specs.Values.{option_value};
+
+    ghost value_of = { option_value T.value_of };
+
+    ghost wanted = { T.wanted };
+
+    fn from_toml(value: &Value) -> Result<Option<T>, Fault> {
+        match T::from_toml(value) {
+            Ok(setting) => Ok(Some(setting)),
+            Err(fault) => Err(fault),
+        }
+    }
+}
+
+/// The setting at a key, or else the default.
+pub(crate) fn read<T: FromToml + Drop>(table: &Table, key: &str, default: T) -> T
+    ensures { T.value_of result
+        ≡ value_or T.wanted (T.value_of default) (get_member key.now (table_view table.now)) }
+{
+    match get(table, key) {
+        Some(value) => match T::from_toml(value) {
+            Ok(setting) => setting,
+            Err(_) => default,
+        },
+        None => default,
+    }
+}
+
+/// What is wrong with a value where one of this kind is wanted.
+pub(crate) fn fault(wanted: Kind, value: &Value) -> Option<Fault>
+    ensures { result ≡ result_err (value_in wanted (view value.now)) }
+{
+    match wanted {
+        Kind::Table => match value {
+            Value::Table(_) => None,
+            _ => Some(wrong_type(value, Kind::Table)),
+        },
+        Kind::Number => usize::from_toml(value).err(),
+        Kind::Flag => bool::from_toml(value).err(),
+        Kind::Path => Path::from_toml(value).err(),
+        Kind::FileName => FileName::from_toml(value).err(),
+        Kind::Backpressure => BackpressureStrategy::from_toml(value).err(),
+        Kind::Allocation => AllocationStrategy::from_toml(value).err(),
+        Kind::Duration => Duration::from_toml(value).err(),
+    }
+}
+
+/// The fault of a value of another type.
+fn wrong_type(value: &Value, wanted: Kind) -> Fault
+    ensures { result ≡ Fault.WrongType (type_in (view value.now)) wanted }
+{
+    Fault::WrongType {
+        found: type_of(value),
+        wanted,
+    }
+}
+
+/// The type of a value.
+fn type_of(value: &Value) -> TomlType
+    ensures { result ≡ type_in (view value.now) }
+{
+    match value {
+        Value::String(_) => TomlType::String,
+        Value::Integer(_) => TomlType::Integer,
+        Value::Float(_) => TomlType::Float,
+        Value::Boolean(_) => TomlType::Boolean,
+        Value::Datetime(_) => TomlType::Datetime,
+        Value::Array(_) => TomlType::Array,
+        Value::Table(_) => TomlType::Table,
+    }
+}

@@ -1,0 +1,145 @@
+use iox2_config_file::{ConfigFileError, Section, read_config, report_all};
+use std::process::Abort;
+
+/// A file, and what the error on it prints.
+const FAULTS: [(&str, &str); 14] = [
+    ("global = 1", "global: is an integer, and a table is wanted"),
+    (
+        "[global]\nprefix = 1.5",
+        "global.prefix: is a float, and a string with the name of a file is wanted",
+    ),
+    (
+        "[global]\nprefix = 'a/b'",
+        "global.prefix: is no name of a file: a byte or the whole text is not allowed",
+    ),
+    (
+        "[global]\nroot-path = 'ä'",
+        "global.root-path: is no path: a byte or the whole text is not allowed",
+    ),
+    (
+        "[global.creation-timeout]\nsecs = 1",
+        "global.creation-timeout: is not a table of the integers `secs` and `nanos` alone",
+    ),
+    (
+        "global.creation-timeout = { secs = 1, nanos = 2, millis = 3 }",
+        "global.creation-timeout: is not a table of the integers `secs` and `nanos` alone",
+    ),
+    (
+        "global.creation-timeout = { secs = 1, nanos = 1000000000 }",
+        "global.creation-timeout: has `nanos` of a second or more",
+    ),
+    (
+        "global.service.cleanup-dead-nodes-on-open = 'true'",
+        "global.service.cleanup-dead-nodes-on-open: is a string, and a boolean is wanted",
+    ),
+    (
+        "global.node.directory = [1]",
+        "global.node.directory: is an array, and a string with a path is wanted",
+    ),
+    (
+        "defaults.event = 1979-05-27",
+        "defaults.event: is a date-time, and a table is wanted",
+    ),
+    (
+        "[defaults.publish-subscribe]\nmax-nodes = -1",
+        "defaults.publish-subscribe.max-nodes: is below 0",
+    ),
+    (
+        "[defaults.publish-subscribe]\nbackpressure-strategy = 'discarddata'",
+        "defaults.publish-subscribe.backpressure-strategy: is not \"RetryUntilDelivered\" or \
+         \"DiscardData\"",
+    ),
+    (
+        "[defaults.request-response]\nclient-allocation-strategy = true",
+        "defaults.request-response.client-allocation-strategy: is a boolean, and \"BestFit\", \
+         \"PowerOfTwo\" or \"Static\" is wanted",
+    ),
+    (
+        "[defaults.blackboard]\nmax-nodes = {}\nmax-readers = ''",
+        "defaults.blackboard.max-readers: is a string, and an integer is wanted",
+    ),
+];
+
+/// Whether the error on a file prints so.
+fn prints(rt: &(impl Abort + AllocGlobal), text: &str, want: &str) -> bool {
+    match read_config(rt.alloc(), text) {
+        Ok(_) => false,
+        Err(error) => {
+            let printed = format!(in rt.alloc(); "{error}").expect(rt, "memory for a text");
+            printed.as_str() == want
+        }
+    }
+}
+
+#[test]
+fn faults_are_printed_with_their_keys(rt: HostRuntime) {
+    let mut differs = None;
+    for (text, want) in &FAULTS {
+        if !prints(&rt, text, want) {
+            differs = Some(*text);
+        }
+    }
+    assert_eq!(rt; differs, None);
+}
+
+#[test]
+fn a_path_is_long_enough_and_not_longer(rt: HostRuntime) {
+    let ten = "abcdefghij"
+        .repeat(rt.alloc(), 25)
+        .expect(&rt, "memory for a text");
+    let fits = format!(in rt.alloc(); "global.root-path = '{ten}12345'").expect(&rt, "memory");
+    let long = format!(in rt.alloc(); "global.root-path = '{ten}123456'").expect(&rt, "memory");
+    assert_eq!(rt;
+        (
+            read_config(rt.alloc(), fits.as_str()).is_ok(),
+            prints(
+                &rt,
+                long.as_str(),
+                "global.root-path: is no path: it has more than 255 bytes"
+            ),
+        ),
+        (true, true)
+    );
+}
+
+#[test]
+fn all_faults_are_reported_in_the_order_of_the_settings(rt: HostRuntime) {
+    let text = "defaults.event.max-nodes = ''\ndefaults.blackboard = 1\nglobal.prefix = 2";
+    let faults = report_all(rt.alloc(), text).expect(&rt, "a file");
+    let mut found = [(Section::Event, 0); 3];
+    for (place, fault) in found.iter_mut().zip(faults.iter()) {
+        *place = (fault.section, fault.key.len());
+    }
+    assert_eq!(rt;
+        (faults.len(), found),
+        (
+            3,
+            [
+                (Section::Global, "prefix".len()),
+                (Section::Defaults, "blackboard".len()),
+                (Section::Event, "max-nodes".len()),
+            ]
+        )
+    );
+}
+
+#[test]
+fn a_text_without_faults_reports_none(rt: HostRuntime) {
+    let none = report_all(rt.alloc(), "x = 1").expect(&rt, "a file");
+    assert_eq!(rt; none.len(), 0);
+}
+
+#[test]
+fn what_is_no_toml_is_refused_with_its_place(rt: HostRuntime) {
+    let refused = matches!(report_all(rt.alloc(), "x"), Err(ConfigFileError::Syntax(_)));
+    let place = match read_config(rt.alloc(), "a = 1\nmax = ") {
+        Err(ConfigFileError::Syntax(error)) => {
+            let printed = format!(in rt.alloc(); "{error}").expect(&rt, "memory for a text");
+            printed
+                .as_str()
+                .starts_with("TOML parse error at line 2, column 7")
+        }
+        _ => false,
+    };
+    assert_eq!(rt; (refused, place), (true, true));
+}

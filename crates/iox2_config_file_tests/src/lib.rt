@@ -1,0 +1,9 @@
+//! Files of settings with what they give: worked files, printed faults, and each public call once.
+#![tactic(auto)]
+
+#[cfg(test)]
+mod faults;
+#[cfg(test)]
+mod settings;
+#[cfg(test)]
+mod unknown;
