@@ -1,0 +1,146 @@
+-- The replies to attaching a port.
+use Rattle.std.proofs.Common.{◌≡◌, true, false, Option, Some, None, Result, Ok, Err, refl, sym, subst, arith}
+use Rattle.iox2_container.specs.declared.container.refusal.ContainerAddFailure.{ContainerAddFailure}
+use Rattle.iox2_container.specs.declared.container.refusal.ContainerAddFailure.TheVariants.{IsLocked, OutOfSpace}
+use Rattle.iox2_container.specs.Changes.{Adds}
+use Rattle.iox2_container.specs.ContainerState.{container}
+use Rattle.iox2_container.specs.Handle.{Handle}
+use Rattle.iox2_container.specs.Steps.{IsFull, TakesEntry}
+use Rattle.iox2_dynamic.specs.declared.dynamic_config.port_details.PortDetails.{PortDetails}
+use Rattle.iox2_dynamic.specs.Details.{role_of, node_of}
+use Rattle.iox2_dynamic.specs.PortsState.{Side}
+use Rattle.iox2_dynamic.specs.Service.{Service, IsService, HasRole, entries_of_node}
+use Rattle.iox2_dynamic.specs.Steps.{AddsPort, IsOpenFor}
+use Rattle.iox2_dynamic.proofs.Moving.{attach_kept}
+use Rattle.service_descriptions.specs.declared.replay.machine.reply.Reply.{Reply}
+use Rattle.service_descriptions.specs.declared.replay.machine.reply.Reply.TheVariants as reply
+use Rattle.service_descriptions.specs.Listings.{LacksRole}
+use Rattle.service_descriptions.specs.Steps.{ServesAdd}
+use Rattle.service_conformance.specs.declared.conformance.possible.Possible.TheVariants as possible
+use Rattle.service_conformance.specs.Entries.{Refuses}
+use Rattle.service_conformance.specs.Possible.{Allows, ArePossible, possible_add}
+use Rattle.service_conformance.specs.Sides.{role_at, ports_at, part_at, with_ports_at}
+use Rattle.service_conformance.proofs.Adds.{can_give, no_room, was_given}
+use Rattle.service_conformance.proofs.Possibles.{alone, not_both}
+use Rattle.service_conformance.proofs.Touching.{unread, untouching}
+use Rattle.service_conformance.proofs.Sides.{given_at, has_role, lacks, may_give_at, ports_are, step_at, steps_at}
+
+module _ (s : Service) (d : PortDetails) where
+  lacking_only : LacksRole s (role_of d) → (r : Reply) (new : Service) → ServesAdd s d r new
+      → reply.WrongPattern ≡ r
+  lacking_only n (reply.Handle h) new so = absurd (lacks s.pattern (role_of d) n so.0)
+  lacking_only n reply.Locked new so = absurd (lacks s.pattern (role_of d) n so.0)
+  lacking_only n reply.NotRegistered new so = absurd (lacks s.pattern (role_of d) n so.0)
+  lacking_only n reply.Full new so = absurd (lacks s.pattern (role_of d) n so.0)
+  lacking_only n reply.WrongPattern new so = refl
+  lacking_only n _ new so = absurd so
+
+  pub lacking : IsService s → LacksRole s (role_of d)
+      → ArePossible s (ServesAdd s d) (possible.One reply.WrongPattern)
+  lacking i n =
+      alone s (ServesAdd s d) reply.WrongPattern s (λ r e. e) (λ r e. e) (n, refl) i
+      (lacking_only n)
+
+  locked_only : HasRole s.pattern (role_of d) → s.nodes.registry.locked ≡ true → (r : Reply)
+      (new : Service) → ServesAdd s d r new → reply.Locked ≡ r
+  locked_only has l (reply.Handle h) new so = absurd (not_both s.nodes.registry.locked l so.1.0.0)
+  locked_only has l reply.Locked new so = refl
+  locked_only has l reply.NotRegistered new so = absurd (not_both s.nodes.registry.locked l so.1.0)
+  locked_only has l reply.Full new so = absurd (not_both s.nodes.registry.locked l so.1.0.0)
+  locked_only has l reply.WrongPattern new so = absurd (lacks s.pattern (role_of d) so.0 has)
+  locked_only has l _ new so = absurd so
+
+  pub locked : IsService s → HasRole s.pattern (role_of d) → s.nodes.registry.locked ≡ true
+      → ArePossible s (ServesAdd s d) (possible.One reply.Locked)
+  locked i has l =
+      alone s (ServesAdd s d) reply.Locked s (λ r e. e) (λ r e. e) (has, (l, refl)) i
+      (locked_only has l)
+
+  unregistered_only : HasRole s.pattern (role_of d) → s.nodes.registry.locked ≡ false
+      → entries_of_node (node_of d) s.nodes.registry ≡ 0 → (r : Reply) (new : Service)
+      → ServesAdd s d r new → reply.NotRegistered ≡ r
+  unregistered_only has l n (reply.Handle h) new so = absurd (omega (arith, n, so.1.0.1))
+  unregistered_only has l n reply.Locked new so =
+      absurd (not_both s.nodes.registry.locked so.1.0 l)
+  unregistered_only has l n reply.NotRegistered new so = refl
+  unregistered_only has l n reply.Full new so = absurd (omega (arith, n, so.1.0.1))
+  unregistered_only has l n reply.WrongPattern new so =
+      absurd (lacks s.pattern (role_of d) so.0 has)
+  unregistered_only has l n _ new so = absurd so
+
+  pub unregistered : IsService s → HasRole s.pattern (role_of d)
+      → s.nodes.registry.locked ≡ false → entries_of_node (node_of d) s.nodes.registry ≡ 0
+      → ArePossible s (ServesAdd s d) (possible.One reply.NotRegistered)
+  unregistered i has l n =
+      alone s (ServesAdd s d) reply.NotRegistered s (λ r e. e) (λ r e. e)
+      (has, (l, n, unread s.nodes, refl)) i (unregistered_only has l n)
+
+  module _ (side : Side) (role : role_of d ≡ role_at s.pattern side)
+      (opens : IsOpenFor s (node_of d)) where
+    -- the add to the registry of the side
+    adds_at : (answer : Result Handle ContainerAddFailure) (new : Service)
+        → AddsPort s d answer new → Adds (ports_at s side) d answer (ports_at new side)
+    adds_at answer new a =
+        step_at s.pattern side s.ports new.ports (role_of d) (λ o n. Adds o d answer n) role a.0
+
+    full_only : IsFull (ports_at s side).registry → (r : Reply) (new : Service)
+        → ServesAdd s d r new → reply.Full ≡ r
+    full_only full (reply.Handle h) new so =
+        absurd (no_room (ports_at s side).registry full (adds_at (Ok h) new so.1.1).step.1)
+    full_only full reply.Locked new so = absurd (not_both s.nodes.registry.locked so.1.0 opens.0)
+    full_only full reply.NotRegistered new so = absurd (omega (arith, opens.1, so.1.1))
+    full_only full reply.Full new so = refl
+    full_only full reply.WrongPattern new so =
+        absurd (lacks s.pattern (role_of d) so.0 (has_role s.pattern side (role_of d) role))
+    full_only full _ new so = absurd so
+
+    given_only : TakesEntry (ports_at s side).registry → (r : Reply) (new : Service)
+        → ServesAdd s d r new → IsService new → Allows s (possible.Given (part_at side)) r
+    given_only takes (reply.Handle h) new so k =
+        let a = adds_at (Ok h) new so.1.1 in (
+          h,
+          refl,
+          given_at s side h
+              (was_given (ports_at s side).registry (ports_at new side).registry d h a.step a.kept),
+        )
+    given_only takes reply.Locked new so k =
+        absurd (not_both s.nodes.registry.locked so.1.0 opens.0)
+    given_only takes reply.NotRegistered new so k = absurd (omega (arith, opens.1, so.1.1))
+    given_only takes reply.Full new so k =
+        absurd (no_room (ports_at s side).registry
+        (adds_at (Err OutOfSpace) new so.1.1).step.1 takes.1)
+    given_only takes reply.WrongPattern new so k =
+        absurd (lacks s.pattern (role_of d) so.0 (has_role s.pattern side (role_of d) role))
+    given_only takes _ new so k = absurd so
+
+    pub attaches : (why : Option ContainerAddFailure) → IsService s
+        → Refuses (ports_at s side).registry why
+        → ArePossible s (ServesAdd s d) (possible_add why (part_at side))
+    attaches None i takes = record {
+      can = λ r a.
+          let old = ports_at s side in
+          let given =
+          can_give old.registry d a.0 (ports_are s side i).is_registry takes
+          (may_give_at s side a.0 a.2) in
+          let ports = with_ports_at side s.ports (container given.0 old.touches) in
+          let adds =
+          steps_at s.pattern side s.ports (role_of d) (λ o n. Adds o d (Ok a.0) n)
+          (container given.0 old.touches) role (untouching _ old given.0 given.1 given.2) in (
+            record s { ports = ports },
+            subst (λ r. ServesAdd s d r (record s { ports = ports })) (sym a.1)
+                (has_role s.pattern side (role_of d) role, (opens, (adds, unread s.nodes, refl))),
+            attach_kept s s.pattern ports d (Ok a.0) refl opens.1 adds i,
+          );
+      only = given_only takes;
+    }
+    attaches (Some IsLocked) i l =
+        absurd (not_both (ports_at s side).registry.locked l (ports_are s side i).is_open)
+    attaches (Some OutOfSpace) i (l, full) =
+        let old = ports_at s side in
+        let ports = with_ports_at side s.ports old in
+        let adds =
+        steps_at s.pattern side s.ports (role_of d) (λ o n. Adds o d (Err OutOfSpace) n) old role
+        (untouching _ old old.registry (l, full, refl) (ports_are s side i).is_registry) in
+        alone s (ServesAdd s d) reply.Full (record s { ports = ports }) (λ r e. e) (λ r e. e)
+        (has_role s.pattern side (role_of d) role, (opens, (adds, unread s.nodes, refl)))
+        (attach_kept s s.pattern ports d (Err OutOfSpace) refl opens.1 adds i) (full_only full)

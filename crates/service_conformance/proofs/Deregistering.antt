@@ -1,0 +1,187 @@
+-- The replies to removing a node's entry.
+use Rattle.std.proofs.Common.{◌≡◌, ℕ, zero, suc, ◌+◌, Bool, true, false, Some, None, Ok, List, length, refl, sym, ◌∙◌, ap, arith}
+use Rattle.std.specs.Prelude.{IsTrue, nat_eq}
+use Rattle.std.proofs.lemmas.Bool.{eq-eqb, ne_eqb}
+use Rattle.iox2_container.specs.declared.container.release.ReleaseMode.TheVariants.{LockIfLastIndex}
+use Rattle.iox2_container.specs.declared.container.release.ReleaseState.{ReleaseState}
+use Rattle.iox2_container.specs.declared.container.release.ReleaseState.TheVariants as state
+use Rattle.iox2_container.specs.ContainerState.{container}
+use Rattle.iox2_container.specs.Handle.{Handle}
+use Rattle.iox2_container.specs.State.{Entry, RegistryState, IsRegistry}
+use Rattle.iox2_container.specs.Steps.{InsertsOne, IsUnknownHandle, HasEntry, RemoveStep, lock_after, release_state}
+use Rattle.iox2_container.proofs.Gaining.{length-InsertsOne}
+use Rattle.iox2_container.proofs.Members.{one_by_ticket}
+use Rattle.iox2_dynamic.specs.declared.dynamic_config.answers.DeregisterNodeState.{DeregisterNodeState}
+use Rattle.iox2_dynamic.specs.declared.dynamic_config.answers.DeregisterNodeState.TheVariants as nodes
+use Rattle.iox2_dynamic.specs.Answers.{state_of}
+use Rattle.iox2_dynamic.specs.Service.{Service, IsService}
+use Rattle.iox2_dynamic.specs.Steps.{is_last_of_ports}
+use Rattle.iox2_dynamic.proofs.Keeping.{leaving_kept}
+use Rattle.service_descriptions.specs.declared.replay.machine.reply.Reply.{Reply}
+use Rattle.service_descriptions.specs.declared.replay.machine.reply.Reply.TheVariants as reply
+use Rattle.service_descriptions.specs.Steps.{ServesDeregister}
+use Rattle.service_conformance.specs.declared.conformance.possible.Possible.TheVariants as possible
+use Rattle.service_conformance.specs.Entries.{with_left}
+use Rattle.service_conformance.specs.Possible.{ArePossible, reply_of_owners, reply_of_state}
+use Rattle.service_conformance.proofs.Possibles.{alone, not_both}
+use Rattle.service_conformance.proofs.Touching.{unread_ports, untouching}
+use Rattle.service_conformance.proofs.Removes.{can_remove, not_unknown}
+
+-- without a handle
+nothing_only : (s : Service) (r : Reply) (new : Service) → ServesDeregister s None r new
+    → reply.NoHandle ≡ r
+nothing_only s reply.NoHandle new so = refl
+nothing_only s _ new so = absurd so
+
+pub nothing : (s : Service) → IsService s
+    → ArePossible s (ServesDeregister s None) (possible.One reply.NoHandle)
+nothing s i =
+    alone s (ServesDeregister s None) reply.NoHandle s (λ r e. e) (λ r e. e) refl i (nothing_only s)
+
+-- the entry of a handle is one
+pub one_details : {T : Type 0} (r : RegistryState T) (h : Handle) (a b : T) → IsRegistry r
+    → HasEntry r h a → HasEntry r h b → a ≡ b
+one_details {T} r h a b k m n =
+    let x : Entry T = m.0 in
+    let y : Entry T = n.0 in
+    let tickets : x.ticket ≡ y.ticket = ap (λ (h : Handle). h.ticket) (sym m.1 ∙ n.1) in
+    let same : y ≡ x =
+    one_by_ticket r.entries m.3.0 n.3.0 x y k.tickets_differ m.3.1 n.3.1 tickets in
+    sym m.2 ∙ (ap (λ (e : Entry T). e.details) (sym same) ∙ n.2)
+
+-- what has an entry is not locked
+was_open : {T : Type 0} (r : RegistryState T) (n : ℕ) → IsRegistry r → length r.entries ≡ n + 1
+    → r.locked ≡ false
+was_open r n k e =
+    unlocked r.locked (λ t.
+    (let z : length r.entries ≡ 0 = ap length (k.locked_is_empty t) in absurd (omega arith)))
+  where
+    unlocked : (b : Bool) → (IsTrue b → ⊥) → b ≡ false
+    unlocked true n = absurd (n refl)
+    unlocked false n = refl
+
+last_locks : (before left : ℕ) (locked : Bool) → before ≡ left + 1 → locked ≡ false
+    → lock_after LockIfLastIndex before left locked ≡ nat_eq before 1
+last_locks zero left locked e l = absurd (omega arith)
+last_locks (suc before) zero locked e l = sym (eq-eqb (suc before) 1 (omega arith))
+last_locks (suc before) (suc left) locked e l =
+    l ∙ sym (ne_eqb (suc before) 1 (λ q. absurd (omega (arith, q))))
+
+-- a node's entry that goes locks where it is the last
+pub locks : {T : Type 0} (r : RegistryState T) (rest : List (Entry T)) (x : Entry T) → IsRegistry r
+    → InsertsOne rest r.entries x
+    → (with_left r LockIfLastIndex rest).locked ≡ nat_eq (length r.entries) 1
+locks r rest x k g =
+    let one = length-InsertsOne rest r.entries x g in
+    last_locks (length r.entries) (length rest) r.locked one (was_open r (length rest) k one)
+
+-- one reply says whether a service is locked
+pub owned : (b : Bool) (n : DeregisterNodeState) → state_of n ≡ release_state b
+    → reply_of_owners b ≡ reply_of_state n
+owned true nodes.HasOwners e =
+    absurd (let z : ◌≡◌ {A = ReleaseState} state.Unlocked state.Locked = e in cc)
+owned true nodes.NoMoreOwners e = refl
+owned false nodes.HasOwners e = refl
+owned false nodes.NoMoreOwners e =
+    absurd (let z : ◌≡◌ {A = ReleaseState} state.Locked state.Unlocked = e in cc)
+
+module _ (s : Service) (h : Handle) where
+  unknown_only : IsUnknownHandle s.nodes.registry h → (r : Reply) (new : Service)
+      → ServesDeregister s (Some h) r new → reply.NotOwned ≡ r
+  unknown_only u reply.HasOwners new so =
+      absurd (not_unknown s.nodes.registry h so.1.3.0 so.1.0 so.1.1 so.1.3.1 u)
+  unknown_only u reply.NoMoreOwners new so =
+      absurd (not_unknown s.nodes.registry h so.1.3.0 so.1.0 so.1.1 so.1.3.1 u)
+  unknown_only u reply.PortsAttached new so =
+      absurd (not_unknown s.nodes.registry h so.1.3.0 so.1.0 so.1.1 so.1.3.1 u)
+  unknown_only u reply.NotOwned new so = refl
+  unknown_only u _ new so = absurd so
+
+  pub unknown : IsService s → IsUnknownHandle s.nodes.registry h
+      → ArePossible s (ServesDeregister s (Some h)) (possible.One reply.NotOwned)
+  unknown i u =
+      alone s (ServesDeregister s (Some h)) reply.NotOwned s (λ r e. e) (λ r e. e) (u, refl) i
+      (unknown_only u)
+
+  module _ (i : IsService s) (id : ℕ) (has : HasEntry s.nodes.registry h id) where
+    -- whether it is the last of its node's ports, for whom it is named
+    last_is : (b : Bool) (other : ℕ) → HasEntry s.nodes.registry h other
+        → is_last_of_ports other s ≡ b
+        → is_last_of_ports id s ≡ b
+    last_is b other m e =
+        ap (λ k. is_last_of_ports k s) (one_details s.nodes.registry h id other i.nodes_are has m)
+        ∙ e
+
+    attached_only : is_last_of_ports id s ≡ true → (r : Reply) (new : Service)
+        → ServesDeregister s (Some h) r new → reply.PortsAttached ≡ r
+    attached_only l reply.HasOwners new so = absurd (not_both _ l (last_is false so.0 so.1 so.2))
+    attached_only l reply.NoMoreOwners new so = absurd (not_both _ l (last_is false so.0 so.1 so.2))
+    attached_only l reply.PortsAttached new so = refl
+    attached_only l reply.NotOwned new so =
+        absurd (not_unknown s.nodes.registry h has.3.0 has.0 has.1 has.3.1 so.0)
+    attached_only l _ new so = absurd so
+
+    pub attached : is_last_of_ports id s ≡ true
+        → ArePossible s (ServesDeregister s (Some h)) (possible.One reply.PortsAttached)
+    attached l =
+        alone s (ServesDeregister s (Some h)) reply.PortsAttached s (λ r e. e) (λ r e. e)
+        (id, has, l, unread_ports s.ports, refl) i (attached_only l)
+
+    -- the answer is by the lock
+    answered : (n : DeregisterNodeState) (new : RegistryState ℕ)
+        → RemoveStep s.nodes.registry h LockIfLastIndex (Ok (state_of n)) new
+        → state_of n ≡ release_state (nat_eq (length s.nodes.registry.entries) 1)
+    answered n new step =
+        step.1 ∙ ap release_state (ap (λ (r : RegistryState ℕ). r.locked) step.0.3
+        ∙ locks s.nodes.registry new.entries step.0.0 i.nodes_are step.0.2)
+
+    owners_only : (b : Bool) → b ≡ nat_eq (length s.nodes.registry.entries) 1
+        → is_last_of_ports id s ≡ false → (r : Reply) (new : Service)
+        → ServesDeregister s (Some h) r new → reply_of_owners b ≡ r
+    owners_only b e l reply.HasOwners new so =
+        owned b nodes.HasOwners
+        (answered nodes.HasOwners new.nodes.registry so.3.step ∙ ap release_state (sym e))
+    owners_only b e l reply.NoMoreOwners new so =
+        owned b nodes.NoMoreOwners
+        (answered nodes.NoMoreOwners new.nodes.registry so.3.step ∙ ap release_state (sym e))
+    owners_only b e l reply.PortsAttached new so =
+        absurd (not_both _ (last_is true so.0 so.1 so.2) l)
+    owners_only b e l reply.NotOwned new so =
+        absurd (not_unknown s.nodes.registry h has.3.0 has.0 has.1 has.3.1 so.0)
+    owners_only b e l _ new so = absurd so
+
+    pub leaves : (b : Bool) → b ≡ nat_eq (length s.nodes.registry.entries) 1
+        → is_last_of_ports id s ≡ false
+        → ArePossible s (ServesDeregister s (Some h)) (possible.One (reply_of_owners b))
+    leaves b e l =
+        let old = s.nodes in
+        let gone = can_remove old.registry h LockIfLastIndex id i.nodes_are has in
+        let left = with_left old.registry LockIfLastIndex has.3.0 in
+        let locked : left.locked ≡ b =
+        locks old.registry has.3.0 has.0 i.nodes_are has.3.1 ∙ sym e in
+        let new : Service = record s { nodes = container left old.touches } in
+        let kept = leaving_kept s (container left old.touches) h id has l gone.0.0 gone.1 i in
+        (elim b as
+        (λ b. left.locked ≡ b → b ≡ nat_eq (length s.nodes.registry.entries) 1
+        → ArePossible s (ServesDeregister s (Some h)) (possible.One (reply_of_owners b))) [
+          | true ↦ λ k e. alone s (ServesDeregister s (Some h)) reply.NoMoreOwners new (λ r e. e)
+              (λ r e. e) (
+                id,
+                has,
+                l,
+                untouching _ old left (gone.0.0, sym (ap release_state k)) gone.1,
+                unread_ports s.ports,
+                refl,
+              )
+              kept (owners_only true e l)
+          | false ↦ λ k e. alone s (ServesDeregister s (Some h)) reply.HasOwners new (λ r e. e)
+              (λ r e. e) (
+                id,
+                has,
+                l,
+                untouching _ old left (gone.0.0, sym (ap release_state k)) gone.1,
+                unread_ports s.ports,
+                refl,
+              )
+              kept (owners_only false e l)
+        ]) locked e

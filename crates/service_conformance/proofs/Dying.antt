@@ -1,0 +1,143 @@
+-- The one state that the recovery of a dead node leaves, where ports of some values stay.
+use Rattle.std.proofs.Common.{◌≡◌, ℕ, Bool, true, false, List, [], ◌∷◌, length, map, refl, sym, ◌∙◌, ap}
+use Rattle.std.specs.Prelude.{if◌then◌else◌, not, ◌&&◌, filter}
+use Rattle.std.specs.Global.{Vec}
+use Rattle.iox2_container.specs.declared.container.release.ReleaseMode.TheVariants.{Default, LockIfLastIndex}
+use Rattle.iox2_container.specs.declared.container.release.ReleaseState.{ReleaseState}
+use Rattle.iox2_container.specs.ContainerState.{ContainerState}
+use Rattle.iox2_container.specs.State.{Entry, RegistryState}
+use Rattle.iox2_container.specs.Steps.{Asked, RecoverStep, asked_about, is_of, lock_after, marks_of, staying}
+use Rattle.iox2_container.proofs.Leaving.{staying_by}
+use Rattle.iox2_dynamic.specs.declared.dynamic_config.answers.DeregisterNodeState.{DeregisterNodeState}
+use Rattle.iox2_dynamic.specs.declared.dynamic_config.answers.DeregisterNodeState.TheVariants as nodes
+use Rattle.iox2_dynamic.specs.declared.dynamic_config.cleanup.PortCleanupAction.{PortCleanupAction}
+use Rattle.iox2_dynamic.specs.declared.dynamic_config.cleanup.PortCleanupAction.TheVariants.{RemovePort, SkipPort}
+use Rattle.iox2_dynamic.specs.declared.dynamic_config.port_details.PortDetails.{PortDetails}
+use Rattle.iox2_dynamic.specs.Answers.{state_of}
+use Rattle.iox2_dynamic.specs.Details.{node_of, port_of}
+use Rattle.iox2_dynamic.specs.Ports.{has_ports_of}
+use Rattle.iox2_dynamic.specs.Recoveries.{AskedToGo, removes}
+use Rattle.iox2_dynamic.specs.Service.{Service}
+use Rattle.iox2_dynamic.specs.Steps.{NodesAfter}
+use Rattle.service_descriptions.specs.declared.replay.machine.command.Cleanup.TheVariants.{ByPort}
+use Rattle.service_descriptions.specs.declared.replay.machine.reply.Reply.{Reply}
+use Rattle.service_descriptions.specs.declared.replay.machine.reply.Reply.TheVariants as reply
+use Rattle.service_descriptions.specs.Cleanups.{CleanedUp, Cleans, ServesDead}
+use Rattle.service_conformance.specs.Dead.{after_dead, is_kept, nodes_if, without_node, without_ports}
+use Rattle.service_conformance.specs.Entries.{with_left}
+use Rattle.service_conformance.specs.Quiet.{LeadsTo, at_rest, ports_at_rest, quiet}
+
+pub removed : (b : Bool) → removes (if b then SkipPort else RemovePort) ≡ not b
+removed true = refl
+removed false = refl
+
+-- a cleanup that keeps ports of these values is asked about a port
+abbrev pub Asks : Vec ℕ → List PortCleanupAction → PortDetails → Bool → List PortCleanupAction
+    → Type 0
+Asks kept f d goes g = AskedToGo (Cleans (ByPort kept)) f (port_of d) goes g
+
+pub answered : (kept : Vec ℕ) (f g : List PortCleanupAction) (items : List PortDetails)
+    (marks : List Bool) → Asked (Asks kept) f items marks g
+    → marks ≡ map (λ d. not (is_kept kept.items d)) items
+answered kept f g [] [] s = refl
+answered kept f g [] (m ∷ ms) s = absurd s
+answered kept f g (d ∷ ds) [] s = absurd s
+answered kept f g (d ∷ ds) (m ∷ ms) s =
+    let one : m ≡ not (is_kept kept.items d) =
+    s.1.2 ∙ (ap removes s.1.1.0 ∙ removed (is_kept kept.items d)) in
+    ap (λ (b : Bool). b ∷ ms) one
+    ∙ ap (λ (l : List Bool). not (is_kept kept.items d) ∷ l) (answered kept s.0 g ds ms s.2)
+
+ports_left : (kept : Vec ℕ) (dead : ℕ) (old new : RegistryState PortDetails)
+    (f g : List PortCleanupAction) (state : ReleaseState)
+    → RecoverStep (Asks kept) (is_of node_of dead) old f Default state new g
+    → new ≡ without_ports dead kept.items old
+ports_left kept dead old new f g state s =
+    s.recovers.0
+    ∙ ap (λ (es : List (Entry PortDetails)). record old { entries = es })
+    (staying_by (is_of node_of dead) (λ d. not (is_kept kept.items d)) s.marked old.entries
+    (answered kept f g (asked_about (is_of node_of dead) old)
+    (marks_of (is_of node_of dead) s.marked old.entries) s.asked))
+
+all_go : (f g : Unit {0}) (items : List ℕ) (marks : List Bool)
+    → Asked {F = Unit {0}} (λ _ _ goes _. goes ≡ true) f items marks g
+    → marks ≡ map (λ d. true) items
+all_go f g [] [] s = refl
+all_go f g [] (m ∷ ms) s = absurd s
+all_go f g (d ∷ ds) [] s = absurd s
+all_go f g (d ∷ ds) (m ∷ ms) s =
+    ap (λ (b : Bool). b ∷ ms) s.1 ∙ ap (λ (l : List Bool). true ∷ l) (all_go s.0 g ds ms s.2)
+
+pub and_true : (b : Bool) → (b && true) ≡ b
+and_true true = refl
+and_true false = refl
+
+pub node_left : (dead : ℕ) (old new : RegistryState ℕ) (state : ReleaseState)
+    → RecoverStep {F = Unit {0}} (λ _ _ goes _. goes ≡ true) (is_of (λ i. i) dead) old tt
+    LockIfLastIndex state new tt
+    → new ≡ without_node dead old
+node_left dead old new state s =
+    let is_dead : ℕ → Bool = is_of (λ i. i) dead in
+    let left : List (Entry ℕ) = staying is_dead s.marked old.entries in
+    let lock : new ≡ with_left old LockIfLastIndex left =
+    s.recovers.0
+    ∙ ap (λ n. record old
+    { entries = left; locked = lock_after LockIfLastIndex (length old.entries) n old.locked })
+    (ap (λ (r : RegistryState ℕ). length r.entries) s.recovers.0) in
+    let same : ◌≡◌ {A = Entry ℕ → Bool} (λ e. not (is_dead e.details && true))
+    (λ e. not (is_dead e.details)) =
+    λ i e. not (and_true (is_dead e.details) i) in
+    let those : left ≡ filter (λ e. not (is_dead e.details)) old.entries =
+    staying_by is_dead (λ d. true) s.marked old.entries
+    (all_go tt tt (asked_about is_dead old) (marks_of is_dead s.marked old.entries) s.asked)
+    ∙ ap (λ (p : Entry ℕ → Bool). filter p old.entries) same in
+    lock ∙ ap (with_left old LockIfLastIndex) those
+
+nodes_left : (dead : ℕ) (left : Bool) (old new : ContainerState ℕ) (state : ReleaseState)
+    → NodesAfter dead left old state new → new.registry ≡ nodes_if left dead old.registry
+nodes_left dead true old new state s = ap (λ (c : ContainerState ℕ). c.registry) s.1
+nodes_left dead false old new state s = node_left dead old.registry new.registry state s.step
+
+pub dies : (s w : Service) (dead : ℕ) (kept : Vec ℕ) (answer : DeregisterNodeState)
+    → CleanedUp s dead (ByPort kept) answer w → quiet w ≡ after_dead s dead kept.items
+dies s w dead kept answer (rest, st) =
+    let p = st.ports in
+    let F = without_ports dead kept.items s.ports.first.registry in
+    let G = without_ports dead kept.items s.ports.second.registry in
+    let first : w.ports.first.registry ≡ F =
+    ports_left kept dead s.ports.first.registry w.ports.first.registry _ _ p.1.0 p.1.1.step in
+    let second : w.ports.second.registry ≡ G =
+    ports_left kept dead s.ports.second.registry w.ports.second.registry _ _ p.2.0 p.2.1.step in
+    let has : has_ports_of dead w.ports ≡ has_ports_of dead (ports_at_rest F G) =
+    ap (λ r. has_ports_of dead (ports_at_rest r w.ports.second.registry)) first
+    ∙ ap (λ r. has_ports_of dead (ports_at_rest F r)) second in
+    let N = nodes_if (has_ports_of dead (ports_at_rest F G)) dead s.nodes.registry in
+    let left : w.nodes.registry ≡ N =
+    nodes_left dead (has_ports_of dead w.ports) s.nodes w.nodes (state_of answer) st.nodes
+    ∙ ap (λ b. nodes_if b dead s.nodes.registry) has in
+    ap quiet st.others
+    ∙ (ap (λ r. at_rest s.pattern r w.ports.first.registry w.ports.second.registry) left
+    ∙ (ap (λ r. at_rest s.pattern N r w.ports.second.registry) first
+    ∙ ap (λ r. at_rest s.pattern N F r) second))
+
+pub dead_leads : (s : Service) (dead : ℕ) (kept : Vec ℕ) (r : Reply)
+    → LeadsTo (ServesDead s dead (ByPort kept)) r (after_dead s dead kept.items)
+dead_leads s dead kept reply.HasOwners = λ w so. dies s w dead kept nodes.HasOwners so
+dead_leads s dead kept reply.NoMoreOwners = λ w so. dies s w dead kept nodes.NoMoreOwners so
+dead_leads s dead kept _ = λ w so. absurd so
+
+-- what is left, by the fields
+pub after_left : (s : Service) (dead : ℕ) (kept : List ℕ) (F G : RegistryState PortDetails)
+    (b : Bool)
+    → F ≡ without_ports dead kept s.ports.first.registry
+    → G ≡ without_ports dead kept s.ports.second.registry
+    → has_ports_of dead (ports_at_rest F G) ≡ b
+    → at_rest s.pattern (nodes_if b dead s.nodes.registry) F G ≡ after_dead s dead kept
+after_left s dead kept F G b first second e =
+    let after : Bool → RegistryState PortDetails → RegistryState PortDetails → Service =
+    λ b f g. at_rest s.pattern (nodes_if b dead s.nodes.registry) f g in
+    ap (λ b. after b F G) (sym e)
+    ∙ (ap (λ f. after (has_ports_of dead (ports_at_rest f G)) f G) first
+    ∙ ap (λ g. after (has_ports_of dead
+    (ports_at_rest (without_ports dead kept s.ports.first.registry) g))
+    (without_ports dead kept s.ports.first.registry) g) second)

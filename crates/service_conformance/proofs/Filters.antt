@@ -1,0 +1,88 @@
+-- Registries of which some entries are left.
+use Rattle.std.proofs.Common.{◌≡◌, ◌≢◌, ℕ, ◌<◌, Bool, true, false, List, [], ◌∷◌, length, refl, sym, ◌∙◌, ap, arith}
+use Rattle.std.specs.Prelude.{filter, not, nat_lt, ◌&&◌, ◌||◌, if◌then◌else◌}
+use Rattle.std.specs.List.{list_any}
+use Rattle.std.proofs.lemmas.Bool.{lt-ltb}
+use Rattle.std.proofs.lemmas.List.Elements.{All-filter}
+use Rattle.std.proofs.lemmas.List.Filters.{length-filter_both}
+use Rattle.std.proofs.lemmas.List.Kept.{AllPairs-filter}
+use Rattle.iox2_container.proofs.Removing.{nothing_left, locks_empty}
+use Rattle.iox2_container.specs.declared.container.release.ReleaseMode.{ReleaseMode}
+use Rattle.iox2_container.specs.State.{Entry, RegistryState, IsRegistry}
+use Rattle.iox2_container.specs.Steps.{candidates, entries_of, is_of, lock_after}
+use Rattle.iox2_dynamic.specs.declared.dynamic_config.port_details.PortDetails.{PortDetails}
+use Rattle.iox2_dynamic.specs.Details.{node_of}
+use Rattle.iox2_dynamic.specs.Ports.{has_ports_of}
+use Rattle.iox2_dynamic.specs.Service.{Service}
+use Rattle.service_conformance.specs.Dead.{goes, is_kept, ports_after, stays, without_ports}
+use Rattle.service_conformance.specs.Entries.{with_left}
+
+pub kept_filter : {T : Type 0} (r : RegistryState T) (mode : ReleaseMode) (p : Entry T → Bool)
+    → IsRegistry r → IsRegistry (with_left r mode (filter p r.entries))
+kept_filter {T} r mode p k = record {
+  slots_rise = AllPairs-filter (λ (a b : Entry T). a.slot < b.slot) p r.entries k.slots_rise;
+  slots_below = All-filter p (λ (e : Entry T). e.slot < r.capacity) r.entries k.slots_below;
+  tickets_differ = AllPairs-filter
+      (λ (a b : Entry T). a.ticket ≢ b.ticket) p r.entries k.tickets_differ;
+  tickets_used = All-filter p (λ (e : Entry T). e.ticket < r.used) r.entries k.tickets_used;
+  budget_kept = k.budget_kept;
+  locked_is_empty = λ t. nothing_left (filter p r.entries)
+      (locks_empty mode (length r.entries) (length (filter p r.entries)) r.locked t
+      (λ l. ap length (k.locked_is_empty l))
+      (omega (arith, length-filter_both p (λ e. not (p e)) (λ e. refl) r.entries)));
+}
+
+-- the registry after some went, by the fields
+pub filtered_is : {T : Type 0} (s r : RegistryState T) (mode : ReleaseMode) (p : Entry T → Bool)
+    (l : List (Entry T)) (before left : ℕ) (locked : Bool) → s ≡ r → l ≡ filter p s.entries
+    → before ≡ length s.entries → left ≡ length l → locked ≡ lock_after mode before left s.locked
+    → record s { entries = l; locked = locked } ≡ with_left r mode (filter p r.entries)
+filtered_is {T} s r mode p l before left locked e i b n k =
+    ap (λ q. record s { entries = l; locked = q })
+    (k ∙ (ap (λ q. lock_after mode q left s.locked) b
+    ∙ ap (λ q. lock_after mode (length s.entries) q s.locked) n))
+    ∙ (ap (with_left s mode) i
+    ∙ ap (λ (q : RegistryState T). with_left q mode (filter p q.entries)) e)
+
+-- one port more, by whether it is one of the dead node and whether it is kept
+left_more : (b k : Bool) (e : Entry PortDetails) (left : List (Entry PortDetails)) (any : Bool)
+    (is_dead : Entry PortDetails → Bool) → is_dead e ≡ b
+    → any ≡ nat_lt 0 (length (filter is_dead left))
+    → ((b && k) || any)
+    ≡ nat_lt 0 (length (filter is_dead (if not (b && not k) then e ∷ left else left)))
+left_more true true e left any is_dead is rest =
+    sym (ap (λ b. nat_lt 0 (length (if b then e ∷ filter is_dead left else filter is_dead left)))
+    is ∙ lt-ltb 0 (length (e ∷ filter is_dead left)) (omega arith))
+left_more true false e left any is_dead is rest = rest
+left_more false k e left any is_dead is rest =
+    rest
+    ∙ sym (ap (λ b. nat_lt 0 (length (if b then e ∷ filter is_dead left else filter is_dead left)))
+    is)
+
+-- a port of the dead node is left where one of them stays
+stays_left : (dead : ℕ) (kept : List ℕ) (es : List (Entry PortDetails))
+    → list_any (λ e. stays dead kept e.details) es
+    ≡ nat_lt 0 (length (candidates (is_of node_of dead)
+    (filter (λ e. not (goes dead kept e.details)) es)))
+stays_left dead kept [] = refl
+stays_left dead kept (e ∷ es) =
+    left_more (is_of node_of dead e.details) (is_kept kept e.details) e
+    (filter (λ e. not (goes dead kept e.details)) es) (list_any (λ e. stays dead kept e.details) es)
+    (λ e. is_of node_of dead e.details) refl (stays_left dead kept es)
+
+-- the same of both kinds of ports
+pub some_left : (s : Service) (dead : ℕ) (kept : List ℕ) (first second : RegistryState PortDetails)
+    → first ≡ s.ports.first.registry → second ≡ s.ports.second.registry
+    → (list_any (λ e. stays dead kept e.details) first.entries
+    || list_any (λ e. stays dead kept e.details) second.entries)
+    ≡ has_ports_of dead (ports_after s dead kept)
+some_left s dead kept first second e f =
+    let any : RegistryState PortDetails → Bool =
+    λ r. list_any (λ e. stays dead kept e.details) r.entries in
+    let left : RegistryState PortDetails → Bool =
+    λ r. nat_lt 0 (entries_of node_of dead (without_ports dead kept r)) in
+    let one : any first ≡ left s.ports.first.registry =
+    stays_left dead kept first.entries ∙ ap left e in
+    let other : any second ≡ left s.ports.second.registry =
+    stays_left dead kept second.entries ∙ ap left f in
+    ap (λ b. b || any second) one ∙ ap (λ b. left s.ports.first.registry || b) other

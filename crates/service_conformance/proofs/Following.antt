@@ -1,0 +1,268 @@
+-- The one state that a reply leaves.
+use Rattle.std.proofs.Common.{◌≡◌, ℕ, true, false, Option, Some, None, Result, Ok, Err, refl, ◌∙◌, ap, subst, inl, inr}
+use Rattle.iox2_config.specs.declared.hash.input.PatternKind.{PatternKind}
+use Rattle.iox2_container.specs.declared.container.role.Role.{Role}
+use Rattle.iox2_container.specs.Changes.{Adds, Removes}
+use Rattle.iox2_container.specs.ContainerState.{ContainerState}
+use Rattle.iox2_dynamic.specs.Details.{role_of}
+use Rattle.iox2_dynamic.specs.Ports.{Ports, OnSide, IsNeither, ReadsPorts, RemovesFrom}
+use Rattle.iox2_dynamic.specs.PortsState.{Side, of_side, other_side}
+use Rattle.iox2_dynamic.specs.PortsState.Side.{First, Second}
+use Rattle.iox2_dynamic.specs.Steps.{AddsPort, RemovesPort}
+use Rattle.service_conformance.specs.declared.conformance.possible.Possible.{Possible}
+use Rattle.service_conformance.specs.Possible.{Allows, ArePossible}
+use Rattle.service_conformance.specs.Sides.{role_at, ports_at}
+use Rattle.service_conformance.proofs.Sides.{has_role, lacks, one_side, step_at}
+use Rattle.iox2_container.specs.declared.container.refusal.ContainerRemoveError.{ContainerRemoveError}
+use Rattle.iox2_container.specs.declared.container.refusal.ContainerRemoveError.TheVariants.{ContainerHandleNotOwnedByContainer}
+use Rattle.iox2_container.specs.declared.container.refusal.ContainerAddFailure.TheVariants.{OutOfSpace}
+use Rattle.iox2_container.specs.declared.container.release.ReleaseMode.TheVariants.{Default, LockIfLastIndex}
+use Rattle.iox2_container.specs.declared.container.release.ReleaseState.{ReleaseState}
+use Rattle.iox2_container.specs.Handle.{Handle}
+use Rattle.iox2_container.specs.State.{RegistryState, IsRegistry}
+use Rattle.iox2_container.specs.Steps.{AddStep, RemoveStep, TakesEntry}
+use Rattle.iox2_dynamic.specs.declared.dynamic_config.port_details.PortDetails.{PortDetails}
+use Rattle.iox2_dynamic.specs.Service.{Service, IsService, first_role, second_role}
+use Rattle.service_descriptions.specs.declared.replay.machine.reply.Reply.{Reply}
+use Rattle.service_descriptions.specs.declared.replay.machine.reply.Reply.TheVariants as reply
+use Rattle.service_descriptions.specs.Steps.{ServesAdd, ServesRegister, ServesDeregister, ServesRelease, handle_in}
+use Rattle.service_conformance.specs.Entries.{MayGive}
+use Rattle.service_conformance.specs.Quiet.{CanServe, LeadsTo, Reports, at_rest, quiet, is_removal}
+use Rattle.service_conformance.proofs.Adds.{add_once, was_given}
+use Rattle.service_conformance.proofs.Quiet.{service_quiet}
+
+-- the one state that can be led to is a service
+pub one_kept : (Step : Reply → Service → Type 0) (r : Reply) (new : Service) → CanServe Step r
+    → LeadsTo Step r new → IsService new
+one_kept Step r new can one = subst IsService (one can.0 can.1) (service_quiet can.0 can.2)
+
+-- what is seen of a service, by its registries
+seen_as : (s w : Service) (m : RegistryState ℕ) (first second : RegistryState PortDetails)
+    → w.pattern ≡ s.pattern → w.nodes.registry ≡ m → w.ports.first.registry ≡ first
+    → w.ports.second.registry ≡ second → quiet w ≡ at_rest s.pattern m first second
+seen_as s w m first second p n f g =
+    let ports = w.ports in
+    ap (λ k. at_rest k w.nodes.registry ports.first.registry ports.second.registry) p
+    ∙ (ap (λ r. at_rest s.pattern r ports.first.registry ports.second.registry) n
+    ∙ (ap (λ r. at_rest s.pattern m r ports.second.registry) f
+    ∙ ap (λ r. at_rest s.pattern m first r) g))
+
+-- the nodes have changed, and the ports were read
+by_search : (s w : Service) (m : RegistryState ℕ) → w.pattern ≡ s.pattern
+    → w.nodes.registry ≡ m → ReadsPorts s.ports w.ports
+    → quiet w ≡ at_rest s.pattern m s.ports.first.registry s.ports.second.registry
+by_search s w m p n reads =
+    seen_as s w m s.ports.first.registry s.ports.second.registry p n reads.0.0 reads.1.0
+
+-- the nodes alone have changed
+by_nodes : (s w : Service) (m : RegistryState ℕ) → w ≡ record s { nodes = w.nodes }
+    → w.nodes.registry ≡ m
+    → quiet w ≡ at_rest s.pattern m s.ports.first.registry s.ports.second.registry
+by_nodes s w m e n =
+    ap quiet e ∙ ap (λ r. at_rest s.pattern r s.ports.first.registry s.ports.second.registry) n
+
+no_handle : (h : Handle) → handle_in (reply.Handle h) ≡ None → ⊥
+no_handle h e = (let z : ◌≡◌ {A = Option Handle} (Some h) None = e in cc)
+
+module _ (s : Service) (rest : quiet s ≡ s) where
+  pub register_stays : (id : ℕ) (r : Reply) → handle_in r ≡ None → LeadsTo (ServesRegister s id) r s
+  register_stays id (reply.Handle h) e = absurd (no_handle h e)
+  register_stays id reply.Locked e = λ w so. by_nodes s w s.nodes.registry so.1 so.0.step.1 ∙ rest
+  register_stays id reply.Full e = λ w so. by_nodes s w s.nodes.registry so.1 so.0.step.2 ∙ rest
+  register_stays id _ e = λ w so. absurd so
+
+  pub deregister_none : (r : Reply) → LeadsTo (ServesDeregister s None) r s
+  deregister_none reply.NoHandle = λ w so. ap quiet so ∙ rest
+  deregister_none _ = λ w so. absurd so
+
+  pub deregister_stays : (h : Handle) (r : Reply) → is_removal r ≡ false
+      → LeadsTo (ServesDeregister s (Some h)) r s
+  deregister_stays h reply.HasOwners e = absurd (let z : true ≡ false = e in cc)
+  deregister_stays h reply.NoMoreOwners e = absurd (let z : true ≡ false = e in cc)
+  deregister_stays h reply.PortsAttached e = λ w so.
+      by_search s w s.nodes.registry (ap (λ (n : Service). n.pattern) so.4)
+      (ap (λ (n : Service). n.nodes.registry) so.4) so.3 ∙ rest
+  deregister_stays h reply.NotOwned e = λ w so. ap quiet so.1 ∙ rest
+  deregister_stays h _ e = λ w so. absurd so
+
+pub register_enters : (s : Service) (id : ℕ) (h : Handle) (m : RegistryState ℕ)
+    → AddStep s.nodes.registry id (Ok h) m → IsRegistry m
+    → LeadsTo (ServesRegister s id) (reply.Handle h)
+    (at_rest s.pattern m s.ports.first.registry s.ports.second.registry)
+register_enters s id h m step k = λ w so.
+    by_nodes s w m so.1 (add_once s.nodes.registry w.nodes.registry m id
+    (Ok h) so.0.step step so.0.kept k)
+
+pub register_may : (s : Service) (id : ℕ) (h : Handle)
+    → CanServe (ServesRegister s id) (reply.Handle h)
+    → TakesEntry s.nodes.registry × MayGive s.nodes.registry h
+register_may s id h can =
+    let step = can.1.0.step in
+    ((step.0, step.1), was_given s.nodes.registry can.0.nodes.registry id h step can.1.0.kept)
+
+pub deregister_goes : (s : Service) (h : Handle) (r : Reply) (m : RegistryState ℕ)
+    → is_removal r ≡ true
+    → ((state : ReleaseState) (new : RegistryState ℕ)
+    → RemoveStep s.nodes.registry h LockIfLastIndex (Ok state) new → new ≡ m)
+    → LeadsTo (ServesDeregister s (Some h)) r
+    (at_rest s.pattern m s.ports.first.registry s.ports.second.registry)
+deregister_goes s h reply.HasOwners m e gone =
+    λ w so. by_search s w m (ap (λ (n : Service). n.pattern) so.5)
+    (gone _ w.nodes.registry so.3.step) so.4
+deregister_goes s h reply.NoMoreOwners m e gone =
+    λ w so. by_search s w m (ap (λ (n : Service). n.pattern) so.5)
+    (gone _ w.nodes.registry so.3.step) so.4
+deregister_goes s h reply.PortsAttached m e gone = absurd (let z : false ≡ true = e in cc)
+deregister_goes s h reply.NotOwned m e gone = absurd (let z : false ≡ true = e in cc)
+deregister_goes s h _ m e gone = λ w so. absurd so
+
+-- a service with another registry of one kind of ports
+abbrev pub at_side : Side → Service → RegistryState PortDetails → Service
+at_side First s m = at_rest s.pattern s.nodes.registry m s.ports.second.registry
+at_side Second s m = at_rest s.pattern s.nodes.registry s.ports.first.registry m
+
+-- the ports of one kind have changed, and no node came or went
+by_ports : (side : Side) (s w : Service) (m : RegistryState PortDetails)
+    → w.pattern ≡ s.pattern → w.nodes.registry ≡ s.nodes.registry
+    → (ports_at w side).registry ≡ m
+    → of_side (other_side side) w.ports.first w.ports.second
+    ≡ of_side (other_side side) s.ports.first s.ports.second → quiet w ≡ at_side side s m
+by_ports First s w m p k n o =
+    seen_as s w s.nodes.registry m s.ports.second.registry p k n
+    (ap (λ (c : ContainerState PortDetails). c.registry) o)
+by_ports Second s w m p k n o =
+    seen_as s w s.nodes.registry s.ports.first.registry m p k
+    (ap (λ (c : ContainerState PortDetails). c.registry) o) n
+
+same_side : (side : Side) (s : Service) → at_side side s (ports_at s side).registry ≡ quiet s
+same_side First s = refl
+same_side Second s = refl
+
+-- what a change of the other kind leaves
+others_at : (p : PatternKind) (side : Side) (old new : Ports) (role : Role)
+    (Step : ContainerState PortDetails → ContainerState PortDetails → Type 0)
+    → role ≡ role_at p side → OnSide (first_role p) (second_role p) old role Step new
+    → of_side (other_side side) new.first new.second ≡ of_side
+    (other_side side) old.first old.second
+others_at p side old new role Step e s =
+    subst (λ z. of_side (other_side z) new.first new.second ≡ of_side
+    (other_side z) old.first old.second)
+    (one_side p side s.side role e s.role_is) s.others
+
+module _ (s : Service) (d : PortDetails) where
+  refused_add : quiet s ≡ s → (w : Service) → AddsPort s d (Err OutOfSpace) w → quiet w ≡ s
+  refused_add rest w (a, reads, e) =
+      by_ports a.side s w (ports_at s a.side).registry (ap (λ (n : Service). n.pattern) e)
+      reads.0 a.step.step.2 a.others
+      ∙ (same_side a.side s ∙ rest)
+
+  pub attach_stays : quiet s ≡ s → (r : Reply) → handle_in r ≡ None → LeadsTo (ServesAdd s d) r s
+  attach_stays rest (reply.Handle h) e = absurd (no_handle h e)
+  attach_stays rest reply.Locked e = λ w so. ap quiet so.1.1 ∙ rest
+  attach_stays rest reply.NotRegistered e = λ w so.
+      by_nodes s w s.nodes.registry so.1.3 so.1.2.0 ∙ rest
+  attach_stays rest reply.Full e = λ w so. refused_add rest w so.1.1
+  attach_stays rest reply.WrongPattern e = λ w so. ap quiet so.1 ∙ rest
+  attach_stays rest _ e = λ w so. absurd so
+
+  pub attach_nowhere : (h : Handle) (seen : Service)
+      → IsNeither (first_role s.pattern) (second_role s.pattern) (role_of d)
+      → LeadsTo (ServesAdd s d) (reply.Handle h) seen
+  attach_nowhere h seen n = λ w so. absurd (lacks s.pattern (role_of d) n so.0)
+
+  module _ (side : Side) (h : Handle) (role : role_of d ≡ role_at s.pattern side) where
+    pub attach_enters : (m : RegistryState PortDetails)
+        → AddStep (ports_at s side).registry d (Ok h) m → IsRegistry m
+        → LeadsTo (ServesAdd s d) (reply.Handle h) (at_side side s m)
+    attach_enters m step k = λ w so.
+        let a = so.1.1.0 in
+        let c = step_at s.pattern side s.ports w.ports (role_of d)
+        (λ o n. Adds o d (Ok h) n) role a in
+        by_ports side s w m (ap (λ (n : Service). n.pattern) so.1.1.2) so.1.1.1.0
+        (add_once (ports_at s side).registry (ports_at w side).registry m d
+        (Ok h) c.step step c.kept k)
+        (others_at s.pattern side s.ports w.ports (role_of d) (λ o n. Adds o d (Ok h) n) role a)
+
+    pub attach_may : CanServe (ServesAdd s d) (reply.Handle h)
+        → TakesEntry (ports_at s side).registry × MayGive (ports_at s side).registry h
+    attach_may can =
+        let a = can.1.1.1.0 in
+        let c = step_at s.pattern side s.ports can.0.ports (role_of d)
+        (λ o n. Adds o d (Ok h) n) role a in (
+          (c.step.0, c.step.1),
+          was_given (ports_at s side).registry (ports_at can.0 side).registry d h c.step c.kept,
+        )
+
+pub release_none : (s : Service) → quiet s ≡ s → (r : Reply) → LeadsTo (ServesRelease s None) r s
+release_none s rest reply.NoHandle = λ w so. ap quiet so ∙ rest
+release_none s rest _ = λ w so. absurd so
+
+module _ (s : Service) (h : Handle) where
+  refused_removal : quiet s ≡ s → (w : Service)
+      → RemovesPort s h (Err ContainerHandleNotOwnedByContainer) w → quiet w ≡ s
+  refused_removal rest w (inl a, e) =
+      by_ports a.side s w (ports_at s a.side).registry (ap (λ (n : Service). n.pattern) e)
+      (ap (λ (n : Service). n.nodes.registry) e) a.step.step.1 a.others
+      ∙ (same_side a.side s ∙ rest)
+  refused_removal rest w (inr a, e) =
+      ap quiet e
+      ∙ (ap (λ (p : Ports). at_rest s.pattern s.nodes.registry p.first.registry p.second.registry)
+      a.2 ∙ rest)
+
+  pub release_stays : quiet s ≡ s → (r : Reply) → is_removal r ≡ false
+      → LeadsTo (ServesRelease s (Some h)) r s
+  release_stays rest reply.Released e = absurd (let z : true ≡ false = e in cc)
+  release_stays rest reply.NotOwned e = λ w so. refused_removal rest w so
+  release_stays rest _ e = λ w so. absurd so
+
+  no_side : (state : ReleaseState) (new : Ports)
+      → IsNeither (first_role s.pattern) (second_role s.pattern) h.role
+      → RemovesFrom (first_role s.pattern) (second_role s.pattern) s.ports h (Ok state) new → ⊥
+  no_side state new n (inl a) =
+      lacks s.pattern h.role n (has_role s.pattern a.side h.role a.role_is)
+  no_side state new n (inr a) =
+      (let z : ◌≡◌ {A = Result ReleaseState ContainerRemoveError} (Ok state)
+      (Err ContainerHandleNotOwnedByContainer) = a.1 in cc)
+
+  pub release_nowhere : (r : Reply) (seen : Service) → is_removal r ≡ true
+      → IsNeither (first_role s.pattern) (second_role s.pattern) h.role
+      → LeadsTo (ServesRelease s (Some h)) r seen
+  release_nowhere reply.Released seen e n = λ w so. absurd (no_side so.0 w.ports n so.1.0)
+  release_nowhere reply.NotOwned seen e n = absurd (let z : false ≡ true = e in cc)
+  release_nowhere _ seen e n = λ w so. absurd so
+
+  module _ (side : Side) (role : h.role ≡ role_at s.pattern side) (m : RegistryState PortDetails)
+      (gone : (state : ReleaseState) (new : RegistryState PortDetails)
+      → RemoveStep (ports_at s side).registry h Default (Ok state) new → new ≡ m) where
+    gone_at : (state : ReleaseState) (w : Service) → RemovesPort s h (Ok state) w
+        → quiet w ≡ at_side side s m
+    gone_at state w (inl a, e) =
+        by_ports side s w m (ap (λ (n : Service). n.pattern) e)
+        (ap (λ (n : Service). n.nodes.registry) e)
+        (gone state (ports_at w side).registry
+        (step_at s.pattern side s.ports w.ports h.role
+        (λ o n. Removes o h Default (Ok state) n) role a).step)
+        (others_at s.pattern side s.ports w.ports h.role
+        (λ o n. Removes o h Default (Ok state) n) role a)
+    gone_at state w (inr a, e) =
+        absurd (lacks s.pattern h.role a.0 (has_role s.pattern side h.role role))
+
+    pub release_goes : (r : Reply) → is_removal r ≡ true
+        → LeadsTo (ServesRelease s (Some h)) r (at_side side s m)
+    release_goes reply.Released e = λ w so. gone_at so.0 w so.1
+    release_goes reply.NotOwned e = absurd (let z : false ≡ true = e in cc)
+    release_goes _ e = λ w so. absurd so
+
+-- a report changes nothing
+pub reported : (s : Service) (Reported : Reply → Type 0) (r : Reply) → quiet s ≡ s
+    → LeadsTo (Reports s Reported) r s
+reported s Reported r rest = λ w so. ap quiet so.1 ∙ rest
+
+-- the possible replies are those that can be given
+pub can_be : (s : Service) (Step : Reply → Service → Type 0) (p : Possible) (r : Reply)
+    → ArePossible s Step p → Allows s p r → CanServe Step r
+can_be s Step p r all a = all.can r a
+
+pub cannot_be : (s : Service) (Step : Reply → Service → Type 0) (p : Possible) (r : Reply)
+    → ArePossible s Step p → (Allows s p r → ⊥) → CanServe Step r → ⊥
+cannot_be s Step p r all n can = n (all.only r can.0 can.1 can.2)

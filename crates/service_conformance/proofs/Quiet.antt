@@ -1,0 +1,208 @@
+-- Steps do not depend on how often slots were touched.
+use Rattle.std.proofs.Common.{◌≡◌, ℕ, Bool, true, false, Option, Some, None, Result, Ok, Err, List, [], ◌∷◌, inl, inr, ap}
+use Rattle.iox2_ids.specs.declared.identifiers.port_id.UniquePortId.{UniquePortId}
+use Rattle.iox2_container.specs.declared.container.refusal.ContainerAddFailure.{ContainerAddFailure}
+use Rattle.iox2_container.specs.declared.container.refusal.ContainerAddFailure.TheVariants as container
+use Rattle.iox2_container.specs.declared.container.refusal.ContainerRemoveError.{ContainerRemoveError}
+use Rattle.iox2_container.specs.declared.container.refusal.ContainerRemoveError.TheVariants as remove
+use Rattle.iox2_container.specs.declared.container.release.ReleaseMode.TheVariants.{Default}
+use Rattle.iox2_container.specs.declared.container.release.ReleaseState.{ReleaseState}
+use Rattle.iox2_container.specs.declared.container.role.Role.{Role}
+use Rattle.iox2_container.specs.Changes.{Changes}
+use Rattle.iox2_container.specs.ContainerState.{ContainerState}
+use Rattle.iox2_container.specs.Handle.{Handle}
+use Rattle.iox2_container.specs.State.{RegistryState}
+use Rattle.iox2_container.specs.Steps.{AddStep, RemoveStep}
+use Rattle.iox2_dynamic.specs.declared.dynamic_config.answers.DeregisterNodeState.{DeregisterNodeState}
+use Rattle.iox2_dynamic.specs.declared.dynamic_config.answers.DeregisterNodeState.TheVariants as nodes
+use Rattle.iox2_dynamic.specs.declared.dynamic_config.cleanup.PortCleanupAction.{PortCleanupAction}
+use Rattle.iox2_dynamic.specs.declared.dynamic_config.port_details.PortDetails.{PortDetails}
+use Rattle.iox2_dynamic.specs.Answers.{state_of}
+use Rattle.iox2_dynamic.specs.Details.{role_of}
+use Rattle.iox2_dynamic.specs.Ports.{Ports, OnSide, has_ports_of}
+use Rattle.iox2_dynamic.specs.PortsState.{Side, of_side, other_side}
+use Rattle.iox2_dynamic.specs.PortsState.Side.{First, Second}
+use Rattle.iox2_dynamic.specs.Service.{Service, IsService, first_role, second_role}
+use Rattle.iox2_dynamic.specs.Steps.{AddsPort, RemovesPort, NodesAfter, DeadStep}
+use Rattle.iox2_static.specs.Description.{Description}
+use Rattle.service_descriptions.specs.declared.replay.machine.command.Cleanup.{Cleanup}
+use Rattle.service_descriptions.specs.declared.replay.machine.command.Command.{Command}
+use Rattle.service_descriptions.specs.declared.replay.machine.command.Command.TheVariants as command
+use Rattle.service_descriptions.specs.declared.replay.machine.reply.Reply.{Reply}
+use Rattle.service_descriptions.specs.declared.replay.machine.reply.Reply.TheVariants as reply
+use Rattle.service_descriptions.specs.Cleanups.{Cleans, ServesDead}
+use Rattle.service_descriptions.specs.Handles.{named}
+use Rattle.service_descriptions.specs.Steps.{State, Serves, ServesRegister, ServesDeregister, ServesAdd, ServesRelease, ServiceStep, Run}
+use Rattle.service_conformance.specs.Quiet.{untouched, ports_at_rest, quiet, quiet_state}
+use Rattle.service_conformance.proofs.Touching.{changes, searches, searches_ports}
+
+abbrev quiet_ports : Ports → Ports
+quiet_ports p = ports_at_rest p.first.registry p.second.registry
+
+-- a change of one kind of ports
+module _ (Step : RegistryState PortDetails → RegistryState PortDetails → Type 0) (a b : Role) where
+  at_side : (side : Side) (old new : Ports) (role : Role) → role ≡ of_side side a b
+      → Changes Step (of_side side old.first old.second) (of_side side new.first new.second)
+      → of_side (other_side side) new.first new.second ≡ of_side
+      (other_side side) old.first old.second
+      → OnSide a b (quiet_ports old) role (λ o n. Changes Step o n) (quiet_ports new)
+  at_side First old new role e c o = record {
+    side = First;
+    role_is = e;
+    step = changes Step old.first new.first c;
+    others = ap (λ (c : ContainerState PortDetails). untouched c.registry) o;
+  }
+  at_side Second old new role e c o = record {
+    side = Second;
+    role_is = e;
+    step = changes Step old.second new.second c;
+    others = ap (λ (c : ContainerState PortDetails). untouched c.registry) o;
+  }
+
+  on_side : (old new : Ports) (role : Role) → OnSide a b old role (λ o n. Changes Step o n) new
+      → OnSide a b (quiet_ports old) role (λ o n. Changes Step o n) (quiet_ports new)
+  on_side old new role s = at_side s.side old new role s.role_is s.step s.others
+
+module _ (old new : Service) where
+  registers : (id : ℕ) (r : Reply) → ServesRegister old id r new
+      → ServesRegister (quiet old) id r (quiet new)
+  registers id (reply.Handle h) s = (changes _ old.nodes new.nodes s.0, ap quiet s.1)
+  registers id reply.Locked s = (changes _ old.nodes new.nodes s.0, ap quiet s.1)
+  registers id reply.Full s = (changes _ old.nodes new.nodes s.0, ap quiet s.1)
+  registers id _ s = absurd s
+
+  deregisters : (handle : Option Handle) (r : Reply) → ServesDeregister old handle r new
+      → ServesDeregister (quiet old) handle r (quiet new)
+  deregisters None reply.NoHandle s = ap quiet s
+  deregisters (Some h) reply.HasOwners s = (
+    s.0,
+    s.1,
+    s.2,
+    changes _ old.nodes new.nodes s.3,
+    searches_ports old.ports new.ports s.4,
+    ap quiet s.5,
+  )
+  deregisters (Some h) reply.NoMoreOwners s = (
+    s.0,
+    s.1,
+    s.2,
+    changes _ old.nodes new.nodes s.3,
+    searches_ports old.ports new.ports s.4,
+    ap quiet s.5,
+  )
+  deregisters (Some h) reply.PortsAttached s =
+      (s.0, s.1, s.2, searches_ports old.ports new.ports s.3, ap quiet s.4)
+  deregisters (Some h) reply.NotOwned s = (s.0, ap quiet s.1)
+  deregisters _ _ s = absurd s
+
+  adds_port : (d : PortDetails) (answer : Result Handle ContainerAddFailure)
+      → AddsPort old d answer new → AddsPort (quiet old) d answer (quiet new)
+  adds_port d answer s = (
+    on_side (λ r s. AddStep r d answer s) (first_role old.pattern)
+        (second_role old.pattern) old.ports
+        new.ports (role_of d) s.0,
+    searches old.nodes new.nodes s.1,
+    ap quiet s.2,
+  )
+
+  adds : (d : PortDetails) (r : Reply) → ServesAdd old d r new
+      → ServesAdd (quiet old) d r (quiet new)
+  adds d (reply.Handle h) s = (s.0, (s.1.0, adds_port d (Ok h) s.1.1))
+  adds d reply.Locked s = (s.0, (s.1.0, ap quiet s.1.1))
+  adds d reply.NotRegistered s =
+      (s.0, (s.1.0, s.1.1, searches old.nodes new.nodes s.1.2, ap quiet s.1.3))
+  adds d reply.Full s = (s.0, (s.1.0, adds_port d (Err container.OutOfSpace) s.1.1))
+  adds d reply.WrongPattern s = (s.0, ap quiet s.1)
+  adds d _ s = absurd s
+
+  removes_port : (h : Handle) (answer : Result ReleaseState ContainerRemoveError)
+      → RemovesPort old h answer new → RemovesPort (quiet old) h answer (quiet new)
+  removes_port h answer (inl a, e) = (
+    inl (on_side (λ r s. RemoveStep r h Default answer s) (first_role old.pattern)
+        (second_role old.pattern) old.ports new.ports h.role a),
+    ap quiet e,
+  )
+  removes_port h answer (inr a, e) = (inr (a.0, a.1, ap quiet_ports a.2), ap quiet e)
+
+  releases : (handle : Option Handle) (r : Reply) → ServesRelease old handle r new
+      → ServesRelease (quiet old) handle r (quiet new)
+  releases None reply.NoHandle s = ap quiet s
+  releases (Some h) reply.Released s = (s.0, removes_port h (Ok s.0) s.1)
+  releases (Some h) reply.NotOwned s =
+      removes_port h (Err remove.ContainerHandleNotOwnedByContainer) s
+  releases _ _ s = absurd s
+
+  nodes_after : (dead : ℕ) (left : Bool) (state : ReleaseState)
+      → NodesAfter dead left old.nodes state new.nodes
+      → NodesAfter dead left (untouched old.nodes.registry) state (untouched new.nodes.registry)
+  nodes_after dead true state s = (s.0, ap (λ (c : ContainerState ℕ). untouched c.registry) s.1)
+  nodes_after dead false state s = changes _ old.nodes new.nodes s
+
+  dies : {F : Type 0} (calls : F → UniquePortId → PortCleanupAction → F → Type 0) (f : F) (dead : ℕ)
+      (answer : DeregisterNodeState) (h : F) → DeadStep calls old f dead answer new h
+      → DeadStep calls (quiet old) f dead answer (quiet new) h
+  dies calls f dead answer h s =
+      let p = s.ports in
+      record {
+        ports = (
+          p.0,
+          (p.1.0, changes _ old.ports.first new.ports.first p.1.1),
+          (p.2.0, changes _ old.ports.second new.ports.second p.2.1),
+        );
+        nodes = nodes_after dead (has_ports_of dead new.ports) (state_of answer) s.nodes;
+        others = ap quiet s.others;
+      }
+
+  cleans : (dead : ℕ) (cleanup : Cleanup) (r : Reply) → ServesDead old dead cleanup r new
+      → ServesDead (quiet old) dead cleanup r (quiet new)
+  cleans dead cleanup reply.HasOwners s =
+      (s.0, dies (Cleans cleanup) _ dead nodes.HasOwners s.0 s.1)
+  cleans dead cleanup reply.NoMoreOwners s =
+      (s.0, dies (Cleans cleanup) _ dead nodes.NoMoreOwners s.0 s.1)
+  cleans dead cleanup _ s = absurd s
+
+pub serves_quiet : (old : Service) (about : Option Description) (handles : List (Option Handle))
+    (c : Command) (r : Reply) (new : Service) → Serves old about handles c r new
+    → Serves (quiet old) about handles c r (quiet new)
+serves_quiet old about handles (command.Register id) r new s = registers old new id r s
+serves_quiet old about handles (command.Deregister k) r new s =
+    deregisters old new (named handles k) r s
+serves_quiet old about handles command.Nodes (reply.Nodes ids) new s = (s.0, ap quiet s.1)
+serves_quiet old about handles command.Nodes _ new s = absurd s.0
+serves_quiet old about handles (command.Add d) r new s = adds old new d r s
+serves_quiet old about handles (command.Release k) r new s = releases old new (named handles k) r s
+serves_quiet old about handles (command.List role) (reply.Ports ports) new s = (s.0, ap quiet s.1)
+serves_quiet old about handles (command.List role) reply.WrongPattern new s = (s.0, ap quiet s.1)
+serves_quiet old about handles (command.List role) _ new s = absurd s.0
+serves_quiet old about handles (command.Count role) (reply.Count n) new s = (s.0, ap quiet s.1)
+serves_quiet old about handles (command.Count role) reply.WrongPattern new s = (s.0, ap quiet s.1)
+serves_quiet old about handles (command.Count role) _ new s = absurd s.0
+serves_quiet old about handles (command.Dead dead cleanup) r new s = cleans old new dead cleanup r s
+serves_quiet old about handles (command.Verify required) r new s = (s.0, ap quiet s.1)
+serves_quiet old about handles (command.Layout part n) r new s = (s.0, ap quiet s.1)
+serves_quiet old about handles (command.Places part header) r new s = (s.0, ap quiet s.1)
+serves_quiet old about handles (command.Compatible part opener) r new s = (s.0, ap quiet s.1)
+
+pub service_quiet : (s : Service) → IsService s → IsService (quiet s)
+service_quiet s i = record {
+  nodes_are = i.nodes_are;
+  role_is = i.role_is;
+  ports_are = record { first = i.ports_are.first; second = i.ports_are.second };
+}
+
+pub step_quiet : (old new : State) (c : Command) (r : Reply) → ServiceStep old c r new
+    → ServiceStep (quiet_state old) c r (quiet_state new)
+step_quiet old new c r s = (
+  serves_quiet old.service old.description old.handles c r new.service s.0,
+  ap quiet_state s.1,
+  record { is_service = service_quiet new.service s.2.is_service; differ = s.2.differ },
+)
+
+-- a run of quiet states goes along with each run
+pub run_quiet : (old new : State) (commands : List Command) (replies : List Reply)
+    → Run old commands replies new → Run (quiet_state old) commands replies (quiet_state new)
+run_quiet old new [] [] e = ap quiet_state e
+run_quiet old new (c ∷ cs) (r ∷ rs) s =
+    (quiet_state s.0, step_quiet old s.0 c r s.1, run_quiet s.0 new cs rs s.2)
+run_quiet old new [] (r ∷ rs) s = absurd s
+run_quiet old new (c ∷ cs) [] s = absurd s

@@ -1,0 +1,122 @@
+-- The replies to releasing a port.
+use Rattle.std.proofs.Common.{◌≡◌, Some, None, Result, Ok, Err, refl, inl, inr}
+use Rattle.iox2_container.specs.declared.container.refusal.ContainerRemoveError.{ContainerRemoveError}
+use Rattle.iox2_container.specs.declared.container.refusal.ContainerRemoveError.TheVariants.{ContainerHandleNotOwnedByContainer}
+use Rattle.iox2_container.specs.declared.container.release.ReleaseMode.TheVariants.{Default}
+use Rattle.iox2_container.specs.declared.container.release.ReleaseState.{ReleaseState}
+use Rattle.iox2_container.specs.Changes.{Removes}
+use Rattle.iox2_container.specs.ContainerState.{container}
+use Rattle.iox2_container.specs.Handle.{Handle}
+use Rattle.iox2_container.specs.Steps.{IsUnknownHandle, HasEntry, release_state}
+use Rattle.iox2_dynamic.specs.declared.dynamic_config.port_details.PortDetails.{PortDetails}
+use Rattle.iox2_dynamic.specs.Ports.{Ports, IsNeither, RemovesFrom}
+use Rattle.iox2_dynamic.specs.PortsState.{Side, of_side}
+use Rattle.iox2_dynamic.specs.Service.{Service, IsService, first_role, second_role}
+use Rattle.iox2_dynamic.specs.Steps.{RemovesPort}
+use Rattle.iox2_dynamic.proofs.Moving.{release_kept}
+use Rattle.service_descriptions.specs.declared.replay.machine.reply.Reply.{Reply}
+use Rattle.service_descriptions.specs.declared.replay.machine.reply.Reply.TheVariants as reply
+use Rattle.service_descriptions.specs.Steps.{ServesRelease}
+use Rattle.service_conformance.specs.declared.conformance.possible.Possible.TheVariants as possible
+use Rattle.service_conformance.specs.Entries.{with_left}
+use Rattle.service_conformance.specs.Possible.{ArePossible}
+use Rattle.service_conformance.specs.Sides.{role_at, ports_at, with_ports_at}
+use Rattle.service_conformance.proofs.Possibles.{alone}
+use Rattle.service_conformance.proofs.Touching.{untouching}
+use Rattle.service_conformance.proofs.Removes.{can_remove, not_unknown}
+use Rattle.service_conformance.proofs.Sides.{has_role, lacks, ports_are, step_at, steps_at}
+
+nothing_only : (s : Service) (r : Reply) (new : Service) → ServesRelease s None r new
+    → reply.NoHandle ≡ r
+nothing_only s reply.NoHandle new so = refl
+nothing_only s _ new so = absurd so
+
+pub nothing : (s : Service) → IsService s
+    → ArePossible s (ServesRelease s None) (possible.One reply.NoHandle)
+nothing s i =
+    alone s (ServesRelease s None) reply.NoHandle s (λ r e. e) (λ r e. e) refl i (nothing_only s)
+
+module _ (s : Service) (h : Handle) where
+  never : (state : ReleaseState) (new : Ports)
+      → IsNeither (first_role s.pattern) (second_role s.pattern) h.role
+      → RemovesFrom (first_role s.pattern) (second_role s.pattern) s.ports h (Ok state) new → ⊥
+  never state new n (inl a) = lacks s.pattern h.role n (has_role s.pattern a.side h.role a.role_is)
+  never state new n (inr a) =
+      (let z : ◌≡◌ {A = Result ReleaseState ContainerRemoveError} (Ok state)
+      (Err ContainerHandleNotOwnedByContainer) = a.1 in cc)
+
+  elsewhere_only : IsNeither (first_role s.pattern) (second_role s.pattern) h.role → (r : Reply)
+      (new : Service) → ServesRelease s (Some h) r new → reply.NotOwned ≡ r
+  elsewhere_only n reply.Released new so = absurd (never so.0 new.ports n so.1.0)
+  elsewhere_only n reply.NotOwned new so = refl
+  elsewhere_only n _ new so = absurd so
+
+  pub elsewhere : IsService s → IsNeither (first_role s.pattern) (second_role s.pattern) h.role
+      → ArePossible s (ServesRelease s (Some h)) (possible.One reply.NotOwned)
+  elsewhere i n =
+      alone s (ServesRelease s (Some h)) reply.NotOwned s (λ r e. e) (λ r e. e)
+      (inr (n, refl, refl), refl) i (elsewhere_only n)
+
+  module _ (side : Side) (role : h.role ≡ role_at s.pattern side) where
+    from_at : (answer : Result ReleaseState ContainerRemoveError) (new : Ports)
+        → RemovesFrom (first_role s.pattern) (second_role s.pattern) s.ports h answer new
+        → Removes (of_side side s.ports.first s.ports.second) h Default answer
+        (of_side side new.first new.second)
+    from_at answer new (inl a) =
+        step_at s.pattern side s.ports new h.role (λ o n. Removes o h Default answer n) role a
+    from_at answer new (inr a) =
+        absurd (lacks s.pattern h.role a.0 (has_role s.pattern side h.role role))
+
+    -- the removal from the registry of the side
+    pub removes_at : (answer : Result ReleaseState ContainerRemoveError) (new : Service)
+        → RemovesPort s h answer new
+        → Removes (ports_at s side) h Default answer (ports_at new side)
+    removes_at answer new a = from_at answer new.ports a.0
+
+    unknown_only : IsUnknownHandle (ports_at s side).registry h → (r : Reply) (new : Service)
+        → ServesRelease s (Some h) r new → reply.NotOwned ≡ r
+    unknown_only u reply.Released new so =
+        let gone = (removes_at (Ok so.0) new so.1).step.0 in
+        absurd (not_unknown (ports_at s side).registry h _ gone.0 gone.1 gone.2 u)
+    unknown_only u reply.NotOwned new so = refl
+    unknown_only u _ new so = absurd so
+
+    pub unknown : IsService s → IsUnknownHandle (ports_at s side).registry h
+        → ArePossible s (ServesRelease s (Some h)) (possible.One reply.NotOwned)
+    unknown i u =
+        let old = ports_at s side in
+        let ports = with_ports_at side s.ports old in
+        let answer : Result ReleaseState ContainerRemoveError =
+        Err ContainerHandleNotOwnedByContainer in
+        let removes : RemovesFrom (first_role s.pattern)
+        (second_role s.pattern) s.ports h answer ports =
+        inl (steps_at s.pattern side s.ports h.role (λ o n. Removes o h Default answer n) old role
+        (untouching _ old old.registry (u, refl) (ports_are s side i).is_registry)) in
+        alone s (ServesRelease s (Some h)) reply.NotOwned (record s { ports = ports }) (λ r e. e)
+        (λ r e. e) (removes, refl) (release_kept s s.pattern ports h answer refl removes i)
+        (unknown_only u)
+
+    module _ (d : PortDetails) (has : HasEntry (ports_at s side).registry h d) where
+      released_only : (r : Reply) (new : Service) → ServesRelease s (Some h) r new
+          → reply.Released ≡ r
+      released_only reply.Released new so = refl
+      released_only reply.NotOwned new so =
+          absurd (not_unknown (ports_at s side).registry h has.3.0 has.0 has.1 has.3.1
+          (removes_at (Err ContainerHandleNotOwnedByContainer) new so).step.0)
+      released_only _ new so = absurd so
+
+      pub released : IsService s
+          → ArePossible s (ServesRelease s (Some h)) (possible.One reply.Released)
+      released i =
+          let old = ports_at s side in
+          let gone = can_remove old.registry h Default d (ports_are s side i).is_registry has in
+          let left = with_left old.registry Default has.3.0 in
+          let ports = with_ports_at side s.ports (container left old.touches) in
+          let answer : Result ReleaseState ContainerRemoveError = Ok (release_state left.locked) in
+          let removes : RemovesFrom (first_role s.pattern)
+          (second_role s.pattern) s.ports h answer ports =
+          inl (steps_at s.pattern side s.ports h.role (λ o n. Removes o h Default answer n)
+          (container left old.touches) role (untouching _ old left gone.0 gone.1)) in
+          alone s (ServesRelease s (Some h)) reply.Released (record s { ports = ports }) (λ r e. e)
+          (λ r e. e) (release_state left.locked, (removes, refl))
+          (release_kept s s.pattern ports h answer refl removes i) released_only

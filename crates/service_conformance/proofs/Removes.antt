@@ -1,0 +1,162 @@
+-- Removals of a given entry.
+use Rattle.std.proofs.Common.{◌≡◌, ◌≢◌, ℕ, suc, ◌+◌, ◌<◌, Bool, Ok, Some, List, ◌∷◌, ◌++◌, length, take, drop, get_or, refl, sym, ◌∙◌, ap, subst, arith}
+use Rattle.std.specs.Prelude.{All, slice_get}
+use Rattle.std.specs.List.{remove}
+use Rattle.std.proofs.Math.Seq.{split_at}
+use Rattle.std.proofs.lemmas.Option.{get_or_from_slice_get, slice_get_within}
+use Rattle.std.proofs.lemmas.List.Elements.{All-head, All-weaker}
+use Rattle.iox2_container.proofs.Gaining.{All-back, length-InsertsOne}
+use Rattle.iox2_container.proofs.Keeping.{kept_remove, All-loss}
+use Rattle.iox2_container.proofs.Removing.{nothing_left, locks_empty}
+use Rattle.iox2_container.specs.declared.container.release.ReleaseMode.{ReleaseMode}
+use Rattle.iox2_container.specs.declared.container.release.ReleaseState.{ReleaseState}
+use Rattle.iox2_container.specs.declared.container.role.Role.{Role}
+use Rattle.iox2_container.specs.Handle.{Handle}
+use Rattle.iox2_container.specs.State.{Entry, RegistryState, IsRegistry, handle_of}
+use Rattle.iox2_container.specs.Steps.{InsertsOne, IsUnknownHandle, HasEntry, RemoveStep, lock_after, release_state}
+use Rattle.service_conformance.specs.Entries.{HasAt, IsAt, StandsAt, with_left}
+use Rattle.service_conformance.proofs.Rising.{Rise, one_gone}
+
+-- who has another service or role than the registry has no entry of it
+pub foreign_service : {T : Type 0} (r : RegistryState T) (handle : Handle)
+    → handle.service ≢ r.service → IsUnknownHandle r handle
+foreign_service r handle n k d h e = n (ap (λ (q : Handle). q.service) e)
+
+pub foreign_role : {T : Type 0} (r : RegistryState T) (handle : Handle) → handle.role ≢ r.role
+    → IsUnknownHandle r handle
+foreign_role r handle n k d h e = n (ap (λ (q : Handle). q.role) e)
+
+pub foreign_all : {T : Type 0} (r : RegistryState T) (handle : Handle)
+    → All (λ e. ¬ (IsAt handle.slot handle.ticket e)) r.entries → IsUnknownHandle r handle
+foreign_all {T} r handle n =
+    All-weaker (λ (e : Entry T). ¬ (IsAt handle.slot handle.ticket e))
+    (λ (e : Entry T). handle ≢ handle_of r e)
+    (λ e h q. h (sym (ap (λ (k : Handle). k.slot) q), sym (ap (λ (k : Handle). k.ticket) q)))
+    r.entries n
+
+pub has_handle : {T : Type 0} (r : RegistryState T) (handle : Handle) (x : Entry T)
+    → handle.service ≡ r.service → handle.role ≡ r.role → IsAt handle.slot handle.ticket x
+    → handle ≡ handle_of r x
+has_handle {T} r handle x s o a =
+    let f : ℕ → Role → ℕ → ℕ → Handle =
+    λ i j k l. record { service = i; role = j; slot = k; ticket = l } in
+    ap (λ i. f i handle.role handle.slot handle.ticket) s
+    ∙ (ap (λ j. f r.service j handle.slot handle.ticket) o
+    ∙ (ap (λ k. f r.service r.role k handle.ticket) (sym a.0)
+    ∙ ap (λ l. f r.service r.role x.slot l) (sym a.1)))
+
+-- what went stood in its position
+abbrev pub gone : {T : Type 0} (es : List (Entry T)) (position : ℕ) (x : Entry T)
+    → slice_get es position ≡ Some x → InsertsOne (remove es position) es x
+gone {T} es position x e = record {
+  before = take position es;
+  after = drop (suc position) es;
+  old_is = refl;
+  new_is = split_at es position x (slice_get_within es position x e)
+      ∙ ap (λ y. take position es ++ y ∷ drop (suc position) es)
+      (get_or_from_slice_get es position x x e);
+}
+
+-- what stands in a position has its handle
+pub stands : {T : Type 0} (r : RegistryState T) (handle : Handle) (position : ℕ)
+    (s : StandsAt r handle position) → HasEntry r handle s.0.details
+stands r handle position s =
+    (s.0, s.2, refl, (remove r.entries position, gone r.entries position s.0 s.1))
+
+-- what has an entry is not unknown
+pub not_unknown : {T : Type 0} (r : RegistryState T) (handle : Handle) (rest : List (Entry T))
+    (x : Entry T)
+    → handle ≡ handle_of r x → InsertsOne rest r.entries x → IsUnknownHandle r handle → ⊥
+not_unknown {T} r handle rest x e g f =
+    let P : Entry T → Type 0 = λ y. handle ≢ handle_of r y in
+    All-head P x g.after
+    (All-back P g.before (x ∷ g.after) (subst (λ (l : List (Entry T)). All P l) g.new_is f)) e
+
+-- one removal leaves one registry, whatever it answers
+pub remove_once : {T : Type 0} (r n m : RegistryState T) (handle : Handle) (mode : ReleaseMode)
+    (one two : ReleaseState) → IsRegistry r → RemoveStep r handle mode (Ok one) n
+    → RemoveStep r handle mode (Ok two) m → n ≡ m
+remove_once {T} r n m handle mode one two k s t =
+    let x = s.0.0 in
+    let y = t.0.0 in
+    let g : InsertsOne n.entries r.entries x = s.0.2 in
+    let j : InsertsOne m.entries r.entries y = t.0.2 in
+    let slots : x.slot ≡ y.slot = ap (λ (q : Handle). q.slot) (sym s.0.1 ∙ t.0.1) in
+    let rises : Rise (g.before ++ x ∷ g.after) =
+    subst (λ (es : List (Entry T)). Rise es) g.new_is k.slots_rise in
+    let entries : n.entries ≡ m.entries = g.old_is
+    ∙ (one_gone g.before g.after j.before j.after x y (sym g.new_is ∙ j.new_is) slots rises
+    ∙ sym j.old_is) in
+    s.0.3 ∙ (ap (with_left r mode) entries ∙ sym t.0.3)
+
+-- without one entry it is a registry still
+pub kept_without : {T : Type 0} (r : RegistryState T) (mode : ReleaseMode) (rest : List (Entry T))
+    (x : Entry T)
+    → IsRegistry r → InsertsOne rest r.entries x → IsRegistry (with_left r mode rest)
+kept_without {T} r mode rest x k g =
+    let one : length r.entries ≡ length rest + 1 = length-InsertsOne rest r.entries x g in
+    kept_remove r r.capacity rest x (lock_after mode (length r.entries) (length rest) r.locked) k g
+    (All-loss (λ (q : Entry T). q.slot < r.capacity) rest r.entries x g k.slots_below)
+    (λ t. nothing_left rest
+    (locks_empty mode (length r.entries) (length rest) r.locked t
+    (λ l. ap length (k.locked_is_empty l)) (omega arith)))
+
+-- the entry of a handle can be removed
+pub can_remove : {T : Type 0} (r : RegistryState T) (handle : Handle) (mode : ReleaseMode)
+    (details : T)
+    → IsRegistry r → (has : HasEntry r handle details)
+    → RemoveStep r handle mode (Ok (release_state (with_left r mode has.3.0).locked))
+    (with_left r mode has.3.0)
+    × IsRegistry (with_left r mode has.3.0)
+can_remove r handle mode details k has =
+    (((has.0, has.1, has.3.1, refl), refl), kept_without r mode has.3.0 has.0 k has.3.1)
+
+-- the entry in a position goes, and nothing else does
+pub only_gone : {T : Type 0} (r new : RegistryState T) (handle : Handle) (position : ℕ)
+    (mode : ReleaseMode)
+    (state : ReleaseState) → IsRegistry r → StandsAt r handle position
+    → RemoveStep r handle mode (Ok state) new
+    → new ≡ with_left r mode (remove r.entries position)
+only_gone {T} r new handle position mode state k s step =
+    let left = with_left r mode (remove r.entries position) in
+    remove_once r new left handle mode state (release_state left.locked) k step
+    ((s.0, s.2, gone r.entries position s.0 s.1, refl), refl)
+
+-- the registry after an entry went, by the fields
+pub with_left_is : {T : Type 0} (s r : RegistryState T) (position : ℕ) (mode : ReleaseMode)
+    (l : List (Entry T))
+    (before left : ℕ) (locked : Bool) → s ≡ r → l ≡ remove s.entries position
+    → before ≡ length s.entries
+    → left ≡ length l → locked ≡ lock_after mode before left s.locked
+    → record s { entries = l; locked = locked } ≡ with_left r mode (remove r.entries position)
+with_left_is {T} s r position mode l before left locked e i b n k =
+    ap (λ q. record s { entries = l; locked = q })
+    (k ∙ (ap (λ q. lock_after mode q left s.locked) b
+    ∙ ap (λ q. lock_after mode (length s.entries) q s.locked) n))
+    ∙ (ap (with_left s mode) i
+    ∙ ap (λ (q : RegistryState T). with_left q mode (remove q.entries position)) e)
+
+pub stands_at : {T : Type 0} (r : RegistryState T) (handle : Handle) (es : List (Entry T))
+    (slot ticket position : ℕ) → handle.service ≡ r.service → handle.role ≡ r.role → es ≡ r.entries
+    → slot ≡ handle.slot → ticket ≡ handle.ticket → HasAt es slot ticket position
+    → StandsAt r handle position
+stands_at {T} r handle es slot ticket position s o e a b h = (
+  h.0,
+  subst (λ (l : List (Entry T)). slice_get l position ≡ Some h.0) e h.1,
+  has_handle r handle
+      h.0 s o (h.2.0 ∙ a, h.2.1 ∙ b),
+)
+
+-- its details, as they are read
+pub has_read : {T : Type 0} (r : RegistryState T) (handle : Handle) (position : ℕ) (x : Entry T)
+    (d : T) → StandsAt r handle position → x ≡ get_or r.entries position x → d ≡ x.details
+    → HasEntry r handle d
+has_read r handle position x d s e is =
+    let same : s.0 ≡ x = sym (get_or_from_slice_get r.entries position s.0 x s.1) ∙ sym e in
+    subst (HasEntry r handle) (ap (λ y. y.details) same ∙ sym is) (stands r handle position s)
+
+pub stands_within : {T : Type 0} (r : RegistryState T) (handle : Handle) (position n : ℕ)
+    (es : List (Entry T))
+    → StandsAt r handle position → es ≡ r.entries → n ≡ length es → position < n
+stands_within {T} r handle position n es s e is =
+    omega (arith, slice_get_within r.entries position s.0 s.1, ap length e)

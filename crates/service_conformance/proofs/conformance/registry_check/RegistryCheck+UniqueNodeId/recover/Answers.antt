@@ -1,0 +1,26 @@
+use Rattle.std.proofs.Common.{◌≡◌, ℕ, sym, subst, rules}
+use Rattle.std.specs.Prelude.{filter, not}
+use Rattle.std.proofs.lemmas.Fn.{filter_same}
+use Rattle.iox2_container.specs.declared.container.release.ReleaseMode.TheVariants.{LockIfLastIndex}
+use Rattle.iox2_container.specs.State.{Entry, IsRegistry}
+use Rattle.iox2_container.specs.Steps.{is_of}
+use Rattle.service_conformance.proofs.Filters.{filtered_is, kept_filter}
+use Rattle.service_conformance.proofs.conformance.registry_check.RegistryCheck+UniqueNodeId.recover.Goals as goal
+
+pub returns-clause-left : goal.returns-clause-left
+returns-clause-left c =
+    let p = λ (e : Entry ℕ). not (is_of (λ i. i) c.args.dead.now e.details) in
+    let left : c.retain.new.self.items ≡ filter p c.self.inside.entries.items =
+    filter_same _ _ _ (λ x b f' k. search rules) _ _ c.retain.ensures.filtered in
+    filtered_is _ c.args.self.now LockIfLastIndex p _ _ _ _ c.self.view_is left (search rules)
+    (search rules)
+    c.lock_after-self-inside.ensures
+
+pub invariant_of-self : goal.invariant_of-self
+invariant_of-self c =
+    subst IsRegistry (sym (returns-clause-left c))
+    (kept_filter c.args.self.now LockIfLastIndex _
+    (subst IsRegistry c.self.view_is c.self.invariant))
+
+pub returns-clause-kept : goal.returns-clause-kept
+returns-clause-kept c = invariant_of-self c

@@ -1,0 +1,55 @@
+-- Entries by rising slot, and handles.
+use Rattle.std.specs.Prelude.{◌≡◌, ◌≢◌, ℕ, ◌<◌, ◌≤◌, List, length, take, drop, All, Some, slice_get, Option, None, false, true}
+use Rattle.iox2_container.specs.declared.container.refusal.ContainerAddFailure.{ContainerAddFailure}
+use Rattle.iox2_container.specs.declared.container.refusal.ContainerAddFailure.TheVariants.{IsLocked, OutOfSpace}
+use Rattle.iox2_container.specs.declared.container.release.ReleaseMode.{ReleaseMode}
+use Rattle.iox2_container.specs.Handle.{Handle}
+use Rattle.iox2_container.specs.State.{Entry, RegistryState, handle_of}
+use Rattle.iox2_container.specs.Steps.{IsFull, TakesEntry, lock_after}
+
+-- an entry of this slot may be put in the position
+pub record IsFreePosition {T : Type 0} (es : List (Entry T)) (slot position : ℕ) : Type 0 where
+  pub within : position ≤ length es
+  pub below : All (λ e. e.slot < slot) (take position es)
+  pub above : All (λ e. slot < e.slot) (drop position es)
+
+-- an entry with the slot and the ticket of a handle
+abbrev pub entry_at : {T : Type 0} → Handle → T → Entry T
+entry_at handle details =
+    record { slot = handle.slot; ticket = handle.ticket; details = details }
+
+-- the entry has this slot and this ticket
+abbrev pub IsAt : {T : Type 0} → ℕ → ℕ → Entry T → Type 0
+IsAt slot ticket e = (e.slot ≡ slot) × (e.ticket ≡ ticket)
+
+-- the entry in the position has this slot and this ticket
+abbrev pub HasAt : {T : Type 0} → List (Entry T) → ℕ → ℕ → ℕ → Type 0
+HasAt {T} es slot ticket position =
+    (x : Entry T) × (slice_get es position ≡ Some x) × IsAt slot ticket x
+
+-- the entry in the position has the handle
+abbrev pub StandsAt : {T : Type 0} → RegistryState T → Handle → ℕ → Type 0
+StandsAt {T} r handle position =
+    (x : Entry T) × (slice_get r.entries position ≡ Some x) × (handle ≡ handle_of r x)
+
+-- a handle with the next ticket, of a slot that is free
+pub record MayGive {T : Type 0} (r : RegistryState T) (h : Handle) : Type 0 where
+  pub service : h.service ≡ r.service
+  pub role : h.role ≡ r.role
+  pub ticket : h.ticket ≡ r.used
+  pub fits : h.slot < r.capacity
+  pub free : All (λ e. e.slot ≢ h.slot) r.entries
+
+-- why an add is refused, or that it is not
+abbrev pub Refuses : {T : Type 0} → RegistryState T → Option ContainerAddFailure → Type 0
+Refuses r None = TakesEntry r
+Refuses r (Some IsLocked) = r.locked ≡ true
+Refuses r (Some OutOfSpace) = (r.locked ≡ false) × IsFull r
+
+-- the registry, with these entries left of it
+abbrev pub with_left : {T : Type 0} → RegistryState T → ReleaseMode → List (Entry T)
+    → RegistryState T
+with_left r mode left = record r {
+  entries = left;
+  locked = lock_after mode (length r.entries) (length left) r.locked;
+}

@@ -1,0 +1,74 @@
+-- The replies that a run could give.
+use Rattle.std.specs.Prelude.{◌≡◌, ◌<◌, ◌^◌, Bool, true, false, Option, Some, None}
+use Rattle.iox2_container.specs.declared.container.refusal.ContainerAddFailure.{ContainerAddFailure}
+use Rattle.iox2_container.specs.declared.container.refusal.ContainerAddFailure.TheVariants.{IsLocked, OutOfSpace}
+use Rattle.iox2_container.specs.Handle.{Handle}
+use Rattle.iox2_dynamic.specs.declared.dynamic_config.answers.DeregisterNodeState.{DeregisterNodeState}
+use Rattle.iox2_dynamic.specs.declared.dynamic_config.answers.DeregisterNodeState.TheVariants as nodes
+use Rattle.iox2_dynamic.specs.Service.{Service, IsService}
+use Rattle.service_descriptions.specs.declared.replay.machine.command.Cleanup.TheVariants.{ByPort}
+use Rattle.service_descriptions.specs.declared.replay.machine.command.Command.{Command}
+use Rattle.service_descriptions.specs.declared.replay.machine.command.Command.TheVariants as command
+use Rattle.service_descriptions.specs.declared.replay.machine.reply.Reply.{Reply}
+use Rattle.service_descriptions.specs.declared.replay.machine.reply.Reply.TheVariants as reply
+use Rattle.service_descriptions.specs.Replies.{IsSameReply, text_of}
+use Rattle.service_conformance.specs.declared.conformance.possible.Part.{Part}
+use Rattle.service_conformance.specs.declared.conformance.possible.Part.TheVariants as part
+use Rattle.service_conformance.specs.declared.conformance.possible.Possible.{Possible}
+use Rattle.service_conformance.specs.declared.conformance.possible.Possible.TheVariants as possible
+use Rattle.service_conformance.specs.Entries.{MayGive}
+
+-- the registry of this part may give the handle next
+abbrev pub MayGiveIn : Service → Part → Handle → Type 0
+MayGiveIn s part.Nodes handle = MayGive s.nodes.registry handle
+MayGiveIn s part.First handle = MayGive s.ports.first.registry handle
+MayGiveIn s part.Second handle = MayGive s.ports.second.registry handle
+
+-- the reply is one of these
+abbrev pub Allows : Service → Possible → Reply → Type 0
+Allows s (possible.One one) r = IsSameReply one r
+Allows s (possible.Given in_part) r =
+    (handle : Handle) × (r ≡ reply.Handle handle) × MayGiveIn s in_part handle
+
+-- these are the replies with which a command, whose steps these are, leads to a service
+pub record ArePossible (s : Service) (Step : Reply → Service → Type 0) (p : Possible) : Type 0 where
+  pub can : (r : Reply) → Allows s p r → (new : Service) × Step r new × IsService new
+  pub only : (r : Reply) (new : Service) → Step r new → IsService new → Allows s p r
+
+-- the replies to an add in this part, by why it is refused
+abbrev pub possible_add : Option ContainerAddFailure → Part → Possible
+possible_add None in_part = possible.Given in_part
+possible_add (Some IsLocked) in_part = possible.One reply.Locked
+possible_add (Some OutOfSpace) in_part = possible.One reply.Full
+
+-- how a service answers whether it is locked, when entries were removed
+abbrev pub reply_of_owners : Bool → Reply
+reply_of_owners true = reply.NoMoreOwners
+reply_of_owners false = reply.HasOwners
+
+-- the reply that says so
+abbrev pub reply_of_state : DeregisterNodeState → Reply
+reply_of_state nodes.NoMoreOwners = reply.NoMoreOwners
+reply_of_state nodes.HasOwners = reply.HasOwners
+
+-- a command whose possible replies are known
+abbrev pub IsCovered : Command → Type 0
+IsCovered (command.Register id) = Unit {0}
+IsCovered (command.Deregister k) = Unit {0}
+IsCovered command.Nodes = Unit {0}
+IsCovered (command.Add details) = Unit {0}
+IsCovered (command.Release k) = Unit {0}
+IsCovered (command.List role) = Unit {0}
+IsCovered (command.Count role) = Unit {0}
+IsCovered (command.Dead dead (ByPort kept)) = Unit {0}
+IsCovered _ = ⊥
+
+-- the slot of the handle that is given, if one is, is a number of 64 bits
+abbrev pub IsInWords : Reply → Type 0
+IsInWords (reply.Handle handle) = handle.slot < 2 ^ 64
+IsInWords _ = Unit {0}
+
+-- of the replies with which these steps lead to a service, those with one line are the same
+abbrev pub OneLine : (Reply → Service → Type 0) → Type 0
+OneLine Step = (r q : Reply) (new other : Service) → Step r new → IsService new → Step q other
+    → IsService other → IsInWords r → IsInWords q → text_of r ≡ text_of q → IsSameReply r q

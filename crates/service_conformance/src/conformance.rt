@@ -1,0 +1,12 @@
+//! Checks of commands and replies that were seen, against the steps of
+//! registries and services.
+
+mod placed;
+mod possible;
+mod registry_check;
+mod replies;
+mod run_check;
+mod service_check;
+mod sides;
+
+pub use run_check::{RunCheck, conforms};

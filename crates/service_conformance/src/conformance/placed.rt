@@ -1,0 +1,177 @@
+//! Entries by rising slot.
+ghost use Rattle.std.specs.Prelude.{◌≡◌, ◌≢◌, ◌<◌, ◌≤◌, All, AllPairs, IfNone, IfSome, OnOk, OnErr};
+ghost use Rattle.std.specs.Prelude.{◌↔◌, IfOk, IsTrue, length, map, take, drop};
+ghost use Rattle.std.specs.List.{insert};
+ghost use Rattle.iox2_container.specs.Steps.{is_of};
+ghost use Rattle.iox2_dynamic.specs.Details.{node_of};
+ghost use Rattle.service_conformance.specs.Dead.{goes, is_kept, stays};
+ghost use Rattle.service_conformance.specs.Entries.{HasAt, IsAt, IsFreePosition, entry_at};
+
+use iox2_container::container::ContainerHandle;
+use iox2_dynamic::dynamic_config::PortDetails;
+use iox2_ids::identifiers::UniqueNodeId;
+use std::alloc::{AllocError, Global};
+use std::marker::Model;
+
+/// Details in a slot, and the ticket that they were given.
+#[derive(Debug, Drop)]
+pub(super) struct Placed<T: Copy> {
+    pub(super) slot: usize,
+    pub(super) ticket: u64,
+    pub(super) details: T,
+}
+
+impl<T: Copy> Model for Placed<T> {
+    ghost use Rattle.iox2_container.specs.State.{Entry};
+
+    ghost Value = { Entry T };
+
+    ghost view = { λ p. record { slot = p.slot; ticket = p.ticket; details = p.details } };
+
+    ghost inverse = { λ e. record { slot = e.slot; ticket = e.ticket; details = e.details } };
+}
+
+impl<T: Copy> Placed<T> {
+    /// The slot.
+    pub(super) fn slot(&self) -> usize
+        ensures { result ≡ self.now.slot }
+    {
+        self.slot
+    }
+
+    /// The details.
+    pub(super) fn details(&self) -> T
+        ensures { result ≡ self.now.details }
+    {
+        self.details
+    }
+
+    /// Whether these are its slot and its ticket.
+    fn is_at(&self, slot: usize, ticket: u64) -> bool
+        ensures { IsTrue result ↔ IsAt slot ticket self.now }
+    {
+        self.slot == slot && self.ticket == ticket
+    }
+}
+
+/// The position of the first entry whose slot is not below this one.
+pub(super) fn position_of<T: Copy>(entries: &[Placed<T>], slot: usize) -> usize
+    requires { AllPairs (λ a b. a.slot < b.slot) entries.now }
+    ensures within { result ≤ length entries.now }
+    ensures below { All (λ e. e.slot < slot) (take result entries.now) }
+    ensures from { All (λ e. slot ≤ e.slot) (drop result entries.now) }
+{
+    let mut position = 0;
+    while position < entries.len() && entries[position].slot() < slot {
+        position += 1;
+    }
+    position
+}
+
+/// The position that an entry of this slot would have, or `None` where the slot is taken.
+pub(super) fn free_position<T: Copy>(entries: &[Placed<T>], slot: usize) -> Option<usize>
+    requires { AllPairs (λ a b. a.slot < b.slot) entries.now }
+    ensures none { IfNone result (¬ (All (λ e. e.slot ≢ slot) entries.now)) }
+    ensures some { IfSome result (IsFreePosition entries.now slot) }
+{
+    let position = position_of(entries, slot);
+    if position < entries.len() && entries[position].slot() == slot {
+        return None;
+    }
+    Some(position)
+}
+
+/// Puts an entry with the slot and the ticket of the handle in the position.
+pub(super) fn put<T: Copy>(
+    entries: &mut Vec<Placed<T>>,
+    position: usize,
+    handle: ContainerHandle,
+    details: T,
+) -> Result<(), AllocError>
+    requires { position ≤ length entries.old.items }
+    ensures ok { OnOk result (entries.new.items ≡
+        insert entries.old.items position (entry_at handle details)) }
+    ensures err { OnErr result (entries.new.items ≡ entries.old.items) }
+{
+    let slot = handle.slot();
+    let ticket = handle.ticket();
+    entries.insert(
+        position,
+        Placed {
+            slot,
+            ticket,
+            details,
+        },
+    )?;
+    Ok(())
+}
+
+/// The position of the entry with this slot and this ticket, or `None` where there is none.
+pub(super) fn position_with<T: Copy>(
+    entries: &[Placed<T>],
+    slot: usize,
+    ticket: u64,
+) -> Option<usize>
+    requires { AllPairs (λ a b. a.slot < b.slot) entries.now }
+    ensures none { IfNone result (All (λ e. ¬ (IsAt slot ticket e)) entries.now) }
+    ensures some { IfSome result (HasAt entries.now slot ticket) }
+{
+    let position = position_of(entries, slot);
+    if position < entries.len() && entries[position].is_at(slot, ticket) {
+        return Some(position);
+    }
+    None
+}
+
+/// The details of the entries.
+pub(super) fn details_of<T: Copy>(
+    alloc: Global,
+    entries: &[Placed<T>],
+) -> Result<Vec<T>, AllocError>
+    ensures { IfOk result (λ list. list.items ≡ map (λ e. e.details) entries.now) }
+{
+    let mut list = Vec::new(alloc);
+    for entry in entries {
+        list.push(entry.details())?;
+    }
+    Ok(list)
+}
+
+impl Placed<UniqueNodeId> {
+    /// Whether it is an entry of the node.
+    pub(super) fn is_of(&self, node: &UniqueNodeId) -> bool
+        ensures { result ≡ is_of (λ i. i) node.now self.now.details }
+    {
+        self.details == *node
+    }
+}
+
+impl Placed<PortDetails> {
+    /// Whether it is a port of the node.
+    pub(super) fn is_of(&self, node: &UniqueNodeId) -> bool
+        ensures { result ≡ is_of node_of node.now self.now.details }
+    {
+        self.details.node_id() == *node
+    }
+
+    /// Whether its port has one of these values.
+    fn is_kept(&self, kept: &[u128]) -> bool
+        ensures { result ≡ is_kept kept.now self.now.details }
+    {
+        kept.contains(&self.details.port_id().value())
+    }
+
+    /// Whether it is a port of the dead node that stays.
+    pub(super) fn stays(&self, dead: &UniqueNodeId, kept: &[u128]) -> bool
+        ensures { result ≡ stays dead.now kept.now self.now.details }
+    {
+        self.is_of(dead) && self.is_kept(kept)
+    }
+
+    /// Whether it is a port of the dead node that goes.
+    pub(super) fn goes(&self, dead: &UniqueNodeId, kept: &[u128]) -> bool
+        ensures { result ≡ goes dead.now kept.now self.now.details }
+    {
+        self.is_of(dead) && !self.is_kept(kept)
+    }
+}

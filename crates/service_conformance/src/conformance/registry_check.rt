@@ -1,0 +1,272 @@
+//! What a registry must hold, by the calls on it that were seen.
+ghost use Rattle.std.specs.Prelude.{◌≡◌, ◌↔◌, IsTrue, Ok, IfOk, IfNone, IfSome, OnOk, OnErr, filter, length, not};
+ghost use Rattle.std.specs.List.{list_any};
+ghost use Rattle.iox2_container.specs.ContainerState.{fresh};
+ghost use Rattle.iox2_container.specs.State.{IsRegistry, RegistryState};
+ghost use Rattle.iox2_container.specs.Handle.{Handle};
+ghost use Rattle.iox2_container.specs.Steps.{AddStep, HasEntry, IsUnknownHandle, RemoveStep, TakesEntry};
+ghost use Rattle.iox2_container.specs.Steps.{entries_of, is_of, listed, lock_after};
+ghost use Rattle.iox2_container.specs.declared.container.release.ReleaseState.{ReleaseState};
+ghost use Rattle.iox2_dynamic.specs.Details.{node_of};
+ghost use Rattle.iox2_dynamic.specs.Service.{entries_of_node};
+ghost use Rattle.service_conformance.specs.Dead.{stays, without_node, without_ports};
+ghost use Rattle.service_conformance.specs.Entries.{MayGive, Refuses, StandsAt};
+
+use super::placed::{Placed, details_of, free_position, position_with, put};
+use iox2_container::container::{ContainerAddFailure, ContainerHandle, ReleaseMode, Role};
+use iox2_dynamic::dynamic_config::PortDetails;
+use iox2_ids::identifiers::UniqueNodeId;
+use std::alloc::{AllocError, Global};
+use std::marker::Model;
+
+/// The lock after a call, where there were so many entries before, and so many are left.
+fn lock_after(mode: ReleaseMode, before: usize, left: usize, locked: bool) -> bool
+    ensures { result ≡ lock_after mode before left locked }
+{
+    match mode {
+        ReleaseMode::LockIfLastIndex => before > 0 && left == 0 || locked,
+        ReleaseMode::Default => locked,
+    }
+}
+
+/// What a registry must hold, by what was seen of it.
+#[derive(Debug, Drop)]
+pub(super) struct RegistryCheck<T: Copy> {
+    service: u64,
+    role: Role,
+    capacity: usize,
+    tickets: u64,
+    used: u64,
+    locked: bool,
+    entries: Vec<Placed<T>>,
+}
+
+impl<T: Copy> Model for RegistryCheck<T> {
+    ghost use Rattle.iox2_container.specs.State.{RegistryState};
+    ghost use Rattle.service_conformance.specs.Fields.{registry_of, IsSound};
+
+    ghost Value = { RegistryState T };
+
+    ghost view = { registry_of };
+
+    ghost invariant = { IsSound };
+}
+
+impl<T: Copy> RegistryCheck<T> {
+    /// An empty registry.
+    pub(super) fn new(
+        alloc: Global,
+        service: u64,
+        role: Role,
+        capacity: usize,
+        tickets: u64,
+    ) -> Self
+        ensures { result ≡ (fresh service role capacity tickets).registry }
+    {
+        RegistryCheck {
+            service,
+            role,
+            capacity,
+            tickets,
+            used: 0,
+            locked: false,
+            entries: Vec::new(alloc),
+        }
+    }
+
+    /// Whether it is locked.
+    pub(super) fn is_locked(&self) -> bool
+        ensures locked { result ≡ self.now.locked }
+        ensures kept { IsRegistry self.now }
+    {
+        self.locked
+    }
+
+    /// How many entries there are.
+    pub(super) fn len(&self) -> usize
+        ensures len { result ≡ length self.now.entries }
+        ensures kept { IsRegistry self.now }
+    {
+        self.entries.len()
+    }
+
+    /// Why an add is refused now, or `None` where it is not.
+    pub(super) fn refusal(&self) -> Option<ContainerAddFailure>
+        ensures refuses { Refuses self.now result }
+        ensures kept { IsRegistry self.now }
+    {
+        if self.locked {
+            return Some(ContainerAddFailure::IsLocked);
+        }
+        if self.entries.len() >= self.capacity || self.used >= self.tickets {
+            return Some(ContainerAddFailure::OutOfSpace);
+        }
+        None
+    }
+
+    /// The handle that the next add may give where it takes this slot, or `None` where the slot is
+    /// not free.
+    pub(super) fn next(&self, slot: usize) -> Option<ContainerHandle>
+        ensures some { IfSome result (λ h. (h.slot ≡ slot) × MayGive self.now h) }
+        ensures none { IfNone result ((h : Handle) → h.slot ≡ slot → ¬ (MayGive self.now h)) }
+        ensures kept { IsRegistry self.now }
+    {
+        if slot >= self.capacity {
+            return None;
+        }
+        let Some(_position) = free_position(&self.entries, slot) else {
+            return None;
+        };
+        Some(ContainerHandle::from_parts(self.service, self.role, slot, self.used))
+    }
+
+    /// Whether the next add may give the handle.
+    pub(super) fn may_give(&self, handle: ContainerHandle) -> bool
+        ensures may { IsTrue result ↔ MayGive self.now handle }
+        ensures kept { IsRegistry self.now }
+    {
+        let Some(next) = self.next(handle.slot()) else {
+            return false;
+        };
+        next == handle
+    }
+
+    /// Adds an entry with this handle.
+    pub(super) fn enter(&mut self, handle: ContainerHandle, details: T) -> Result<(), AllocError>
+        requires takes { TakesEntry self.old }
+        requires may { MayGive self.old handle }
+        ensures ok { OnOk result (AddStep self.old details (Ok handle) self.new) }
+        ensures err { OnErr result (self.new ≡ self.old) }
+        ensures kept { IsRegistry self.new }
+    {
+        let Some(position) = free_position(&self.entries, handle.slot()) else {
+            return Ok(());
+        };
+        put(&mut self.entries, position, handle, details)?;
+        self.used += 1;
+        Ok(())
+    }
+
+    /// The position of the entry with the handle, or `None` where no entry has it.
+    fn position(&self, handle: ContainerHandle) -> Option<usize>
+        ensures none { IfNone result (IsUnknownHandle self.now handle) }
+        ensures some { IfSome result (StandsAt self.now handle) }
+        ensures kept { IsRegistry self.now }
+    {
+        if handle.service() != self.service {
+            return None;
+        }
+        if handle.role() != self.role {
+            return None;
+        }
+        let Some(position) = position_with(&self.entries, handle.slot(), handle.ticket()) else {
+            return None;
+        };
+        Some(position)
+    }
+
+    /// The details of the entry with the handle, or `None` where no entry has it.
+    pub(super) fn get(&self, handle: ContainerHandle) -> Option<T>
+        ensures none { IfNone result (IsUnknownHandle self.now handle) }
+        ensures some { IfSome result (HasEntry self.now handle) }
+        ensures kept { IsRegistry self.now }
+    {
+        let Some(position) = self.position(handle) else {
+            return None;
+        };
+        Some(self.entries[position].details())
+    }
+
+    /// Removes the entry with the handle, if there is one.
+    pub(super) fn remove(&mut self, handle: ContainerHandle, mode: ReleaseMode)
+        ensures gone { (state : ReleaseState) (new : RegistryState T)
+            → RemoveStep self.old handle mode (Ok state) new → new ≡ self.new }
+        ensures kept { IsRegistry self.new }
+    {
+        let Some(position) = self.position(handle) else {
+            return;
+        };
+        let before = self.entries.len();
+        self.entries.remove(position);
+        self.locked = lock_after(mode, before, before - 1, self.locked);
+    }
+
+    /// The details by rising slot.
+    pub(super) fn listed(&self, alloc: Global) -> Result<Vec<T>, AllocError>
+        ensures listed { IfOk result (λ list. list.items ≡ listed self.now) }
+        ensures kept { IsRegistry self.now }
+    {
+        details_of(alloc, &self.entries)
+    }
+}
+
+impl RegistryCheck<UniqueNodeId> {
+    /// How many entries the node has.
+    pub(super) fn count(&self, node: &UniqueNodeId) -> usize
+        ensures count { result ≡ entries_of_node node.now self.now }
+        ensures kept { IsRegistry self.now }
+    {
+        self.entries.iter().filter(|e| e.is_of(node)).count()
+    }
+
+    /// How many entries other nodes have.
+    fn others(&self, node: &UniqueNodeId) -> usize
+        ensures count { result ≡ length
+            (filter (λ e. not (is_of (λ i. i) node.now e.details)) self.now.entries) }
+        ensures kept { IsRegistry self.now }
+    {
+        self.entries.iter().filter(|e| !e.is_of(node)).count()
+    }
+
+    /// Whether it is locked once all entries of the node are removed.
+    pub(super) fn locks_without(&self, dead: &UniqueNodeId) -> bool
+        ensures locks { result ≡ (without_node dead.now self.now).locked }
+        ensures kept { IsRegistry self.now }
+    {
+        let left = self.others(dead);
+        lock_after(
+            ReleaseMode::LockIfLastIndex,
+            self.len(),
+            left,
+            self.is_locked(),
+        )
+    }
+
+    /// Removes all entries of the dead node.
+    pub(super) fn recover(&mut self, dead: &UniqueNodeId)
+        ensures left { self.new ≡ without_node dead.now self.old }
+        ensures kept { IsRegistry self.new }
+    {
+        let before = self.entries.len();
+        self.entries.retain(|e| !e.is_of(dead));
+        let mode = ReleaseMode::LockIfLastIndex;
+        self.locked = lock_after(mode, before, self.entries.len(), self.locked);
+    }
+}
+
+impl RegistryCheck<PortDetails> {
+    /// How many ports the node has.
+    pub(super) fn count(&self, node: &UniqueNodeId) -> usize
+        ensures count { result ≡ entries_of node_of node.now self.now }
+        ensures kept { IsRegistry self.now }
+    {
+        self.entries.iter().filter(|e| e.is_of(node)).count()
+    }
+
+    /// Whether a port of the dead node is left, where those of these values stay.
+    pub(super) fn has_left(&self, dead: &UniqueNodeId, kept: &[u128]) -> bool
+        ensures stays { result ≡ list_any (λ e. stays dead.now kept.now e.details)
+            self.now.entries }
+        ensures kept { IsRegistry self.now }
+    {
+        self.entries.iter().any(|e| e.stays(dead, kept))
+    }
+
+    /// Removes the ports of the dead node, except those of these values.
+    pub(super) fn recover(&mut self, dead: &UniqueNodeId, kept: &[u128])
+        ensures left { self.new ≡ without_ports dead.now kept.now self.old }
+        ensures kept { IsRegistry self.new }
+    {
+        self.entries.retain(|e| !e.goes(dead, kept));
+    }
+}

@@ -1,0 +1,66 @@
+//! What replies say.
+ghost use Rattle.std.specs.Prelude.{◌≡◌, IfNone, IfSome, None};
+ghost use Rattle.service_conformance.specs.Possible.{possible_add, reply_of_owners};
+ghost use Rattle.service_conformance.specs.Quiet.{is_removal};
+ghost use Rattle.service_descriptions.specs.Handles.{named};
+ghost use Rattle.service_descriptions.specs.Steps.{handle_in};
+
+use super::possible::{Part, Possible};
+use iox2_container::container::{ContainerAddFailure, ContainerHandle};
+use service_descriptions::replay::Reply;
+
+/// How a service answers whether it is locked, when entries were removed.
+pub(super) fn reply_of_owners(locked: bool) -> Reply
+    ensures { result ≡ reply_of_owners locked }
+{
+    if locked {
+        Reply::NoMoreOwners
+    } else {
+        Reply::HasOwners
+    }
+}
+
+/// The possible replies to an add, by why it is refused.
+pub(super) fn possible_add(why: Option<ContainerAddFailure>, part: Part) -> Possible
+    ensures { result ≡ possible_add why part }
+{
+    match why {
+        None => Possible::Given(part),
+        Some(ContainerAddFailure::IsLocked) => Possible::One(Reply::Locked),
+        Some(ContainerAddFailure::OutOfSpace) => Possible::One(Reply::Full),
+    }
+}
+
+/// The handle that the earlier command of this number was answered with.
+pub(super) fn named(earlier: &[Option<ContainerHandle>], k: usize) -> Option<ContainerHandle>
+    ensures { result ≡ named earlier.now k }
+{
+    match earlier.get(k) {
+        Some(handle) => *handle,
+        None => None,
+    }
+}
+
+/// The handle that a reply gives.
+pub(super) fn given(reply: &Reply) -> Option<ContainerHandle>
+    ensures handle { result ≡ handle_in reply.now }
+    ensures none { IfNone result (handle_in reply.now ≡ None) }
+    ensures some { IfSome result (λ handle. reply.now ≡ Reply.Handle handle) }
+{
+    match reply {
+        Reply::Handle(handle) => Some(*handle),
+        _ => None,
+    }
+}
+
+/// Whether a reply says that an entry was removed.
+pub(super) fn is_removal(reply: &Reply) -> bool
+    ensures { result ≡ is_removal reply.now }
+{
+    match reply {
+        Reply::HasOwners => true,
+        Reply::NoMoreOwners => true,
+        Reply::Released => true,
+        _ => false,
+    }
+}

@@ -1,0 +1,95 @@
+//! Checks of whole runs.
+ghost use Rattle.std.specs.Prelude.{◌≡◌, IfOk, OnErr, All, length};
+ghost use Rattle.iox2_dynamic.specs.Service.{capacities_in};
+ghost use Rattle.service_conformance.specs.Possible.{IsCovered};
+ghost use Rattle.service_conformance.specs.Quiet.{quiet_state};
+ghost use Rattle.service_conformance.specs.Runs.{Follows, Conforms};
+ghost use Rattle.service_descriptions.specs.Steps.{new_state};
+
+use super::replies::given;
+use super::service_check::ServiceCheck;
+use iox2_container::container::ContainerHandle;
+use iox2_dynamic::dynamic_config::MessagingPatternSettings;
+use service_descriptions::replay::{Command, Reply};
+use std::alloc::{AllocError, Global};
+use std::marker::Model;
+
+/// What a service must hold, and the handles that it gave, by the commands and replies that were
+/// seen.
+#[derive(Drop)]
+pub struct RunCheck {
+    service: ServiceCheck,
+    earlier: Vec<Option<ContainerHandle>>,
+}
+
+impl Model for RunCheck {
+    ghost use Rattle.service_conformance.specs.RunFields.{state_of, IsSound};
+    ghost use Rattle.service_descriptions.specs.Steps.{State};
+
+    ghost Value = { State };
+
+    ghost view = { state_of };
+
+    ghost invariant = { IsSound };
+}
+
+impl RunCheck {
+    /// Begins with a new service, before any command.
+    pub fn new(
+        alloc: Global,
+        settings: &MessagingPatternSettings,
+        max_nodes: usize,
+        service_number: u64,
+    ) -> Self
+        ensures { result ≡ new_state (capacities_in settings.now) max_nodes service_number }
+    {
+        RunCheck {
+            service: ServiceCheck::new(alloc, settings, max_nodes, service_number),
+            earlier: Vec::new(alloc),
+        }
+    }
+
+    /// Whether the command could be answered with this reply. If so, the check goes on from the one
+    /// state that the reply leaves, else it stays as it was.
+    pub fn check(
+        &mut self,
+        alloc: Global,
+        command: &Command,
+        reply: &Reply,
+    ) -> Result<bool, AllocError>
+        requires { IsCovered command.now }
+        ensures ok { IfOk result (λ yes. Follows self.old command.now reply.now yes self.new) }
+        ensures err { OnErr result (self.new ≡ self.old) }
+        ensures rest { quiet_state self.old ≡ self.old }
+    {
+        self.earlier.reserve(1)?;
+        let possible = self.service.check(alloc, &self.earlier, command, reply)?;
+        if !possible {
+            return Ok(false);
+        }
+        self.earlier.push_reserved(given(reply));
+        Ok(true)
+    }
+}
+
+/// Returns `None` where some run of the commands gives these replies, and otherwise the number of
+/// the first command with whose reply no run goes on, counted from 0.
+pub fn conforms(
+    alloc: Global,
+    check: &mut RunCheck,
+    commands: &[Command],
+    replies: &[Reply],
+) -> Result<Option<usize>, AllocError>
+    requires alike { length commands.now ≡ length replies.now }
+    requires covered { All IsCovered commands.now }
+    ensures { IfOk result (Conforms check.old commands.now replies.now) }
+{
+    let mut at = 0;
+    while at < commands.len() {
+        if !check.check(alloc, &commands[at], &replies[at])? {
+            return Ok(Some(at));
+        }
+        at += 1;
+    }
+    Ok(None)
+}

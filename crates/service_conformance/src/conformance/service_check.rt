@@ -1,0 +1,237 @@
+//! What a service must hold, by the commands and replies that were seen.
+ghost use Rattle.std.specs.Prelude.{◌≡◌, ◌-◌, ◌^◌, ◌||◌, IfOk, None, OnErr};
+ghost use Rattle.std.specs.List.{list_any};
+ghost use Rattle.iox2_dynamic.specs.Ports.{has_ports_of};
+ghost use Rattle.iox2_dynamic.specs.Service.{IsService, capacities_in, fresh_service};
+ghost use Rattle.iox2_dynamic.specs.Steps.{is_last_of_ports};
+ghost use Rattle.service_conformance.specs.Dead.{after_dead, ports_after, stays};
+ghost use Rattle.service_conformance.specs.Possible.{IsCovered};
+ghost use Rattle.service_conformance.specs.Quiet.{Checked, ports_at_rest, quiet};
+ghost use Rattle.service_conformance.specs.Sides.{ports_at, side_of};
+ghost use Rattle.service_descriptions.specs.Steps.{Serves};
+
+mod following;
+mod replies_possible;
+
+use super::registry_check::RegistryCheck;
+use iox2_config::hash::PatternKind;
+use iox2_container::container::{ContainerHandle, Role};
+use iox2_dynamic::dynamic_config::{MessagingPatternSettings, PortDetails, PortRoles};
+use iox2_ids::identifiers::UniqueNodeId;
+use service_descriptions::replay::{Command, Reply};
+use std::alloc::{AllocError, Global};
+use std::marker::Model;
+
+/// What a service must hold, by what was seen of it.
+#[derive(Drop)]
+pub(super) struct ServiceCheck {
+    pattern: PatternKind,
+    nodes: RegistryCheck<UniqueNodeId>,
+    first: RegistryCheck<PortDetails>,
+    second: RegistryCheck<PortDetails>,
+}
+
+impl Model for ServiceCheck {
+    ghost use Rattle.iox2_dynamic.specs.Service.{Service};
+    ghost use Rattle.service_conformance.specs.ServiceFields.{service_of, IsSoundService};
+
+    ghost Value = { Service };
+
+    ghost view = { service_of };
+
+    ghost invariant = { IsSoundService };
+}
+
+/// Whether one of these ports has the node.
+fn has_ports_in(
+    first: &RegistryCheck<PortDetails>,
+    second: &RegistryCheck<PortDetails>,
+    node: &UniqueNodeId,
+) -> bool
+    ensures { result ≡ has_ports_of node.now (ports_at_rest first.now second.now) }
+{
+    first.count(node) > 0 || second.count(node) > 0
+}
+
+/// Whether one of these ports is one of the dead node that stays.
+fn has_left_in(
+    first: &RegistryCheck<PortDetails>,
+    second: &RegistryCheck<PortDetails>,
+    dead: &UniqueNodeId,
+    kept: &[u128],
+) -> bool
+    ensures { result ≡ (list_any (λ e. stays dead.now kept.now e.details) first.now.entries
+        || list_any (λ e. stays dead.now kept.now e.details) second.now.entries) }
+{
+    first.has_left(dead, kept) || second.has_left(dead, kept)
+}
+
+impl ServiceCheck {
+    /// A new service.
+    pub(super) fn new(
+        alloc: Global,
+        settings: &MessagingPatternSettings,
+        max_nodes: usize,
+        number: u64,
+    ) -> Self
+        ensures new { result ≡ fresh_service (capacities_in settings.now) max_nodes number
+            (2 ^ 64 - 1) }
+        ensures kept { IsService result }
+        ensures rest { quiet result ≡ result }
+    {
+        match settings {
+            MessagingPatternSettings::PublishSubscribe(s) => {
+                let (first, second) = (s.number_of_publishers, s.number_of_subscribers);
+                Self::of(
+                    alloc,
+                    PatternKind::PublishSubscribe,
+                    first,
+                    second,
+                    max_nodes,
+                    number,
+                )
+            }
+            MessagingPatternSettings::Event(s) => {
+                let (first, second) = (s.number_of_listeners, s.number_of_notifiers);
+                Self::of(alloc, PatternKind::Event, first, second, max_nodes, number)
+            }
+            MessagingPatternSettings::RequestResponse(s) => {
+                let (first, second) = (s.number_of_servers, s.number_of_clients);
+                Self::of(
+                    alloc,
+                    PatternKind::RequestResponse,
+                    first,
+                    second,
+                    max_nodes,
+                    number,
+                )
+            }
+            MessagingPatternSettings::Blackboard(s) => {
+                let (first, second) = (s.number_of_readers, s.number_of_writers);
+                Self::of(
+                    alloc,
+                    PatternKind::Blackboard,
+                    first,
+                    second,
+                    max_nodes,
+                    number,
+                )
+            }
+        }
+    }
+
+    /// A new service of a pattern with so many first and second ports.
+    #[tactic(auto, using(iox2_dynamic::proofs::Making::fresh_is_service))]
+    fn of(
+        alloc: Global,
+        pattern: PatternKind,
+        first: usize,
+        second: usize,
+        max_nodes: usize,
+        number: u64,
+    ) -> Self
+        ensures new { result ≡ fresh_service
+            (record { pattern = pattern; first = first; second = second }) max_nodes number
+            (2 ^ 64 - 1) }
+        ensures kept { IsService result }
+        ensures rest { quiet result ≡ result }
+    {
+        let roles = pattern.port_roles();
+        ServiceCheck {
+            pattern,
+            nodes: RegistryCheck::new(alloc, number, Role::Node, max_nodes, u64::MAX),
+            first: RegistryCheck::new(alloc, number, roles.0, first, u64::MAX),
+            second: RegistryCheck::new(alloc, number, roles.1, second, u64::MAX),
+        }
+    }
+
+    /// The ports of one kind.
+    fn ports(&self, first: bool) -> &RegistryCheck<PortDetails>
+        ensures ports { result.now ≡ (ports_at self.now (side_of first)).registry }
+        ensures kept { IsService self.now }
+    {
+        if first { &self.first } else { &self.second }
+    }
+
+    /// Whether some port has the node.
+    fn has_ports(&self, node: &UniqueNodeId) -> bool
+        ensures ports { result ≡ has_ports_of node.now self.now.ports }
+        ensures kept { IsService self.now }
+    {
+        has_ports_in(&self.first, &self.second, node)
+    }
+
+    /// Whether the node has one entry, and some port has the node.
+    fn is_last_of_ports(&self, node: &UniqueNodeId) -> bool
+        ensures last { result ≡ is_last_of_ports node.now self.now }
+        ensures kept { IsService self.now }
+    {
+        self.nodes.count(node) == 1 && self.has_ports(node)
+    }
+
+    /// The pattern.
+    fn kind(&self) -> PatternKind
+        ensures pattern { result ≡ self.now.pattern }
+        ensures kept { IsService self.now }
+    {
+        self.pattern
+    }
+
+    /// The nodes.
+    fn nodes(&self) -> &RegistryCheck<UniqueNodeId>
+        ensures nodes { result.now ≡ self.now.nodes.registry }
+        ensures kept { IsService self.now }
+    {
+        &self.nodes
+    }
+
+    /// Whether a port of the dead node is left, where those of these values stay.
+    fn has_left(&self, dead: &UniqueNodeId, kept: &[u128]) -> bool
+        ensures left { result ≡ has_ports_of dead.now (ports_after self.now dead.now kept.now) }
+        ensures kept { IsService self.now }
+    {
+        let first = self.ports(true);
+        let second = self.ports(false);
+        has_left_in(first, second, dead, kept)
+    }
+
+    /// Whether the service is locked once a dead node was removed, where the ports of these values
+    /// stay.
+    fn locks_without(&self, dead: &UniqueNodeId, kept: &[u128]) -> bool
+        ensures locks { result ≡ (after_dead self.now dead.now kept.now).nodes.registry.locked }
+        ensures kept { IsService self.now }
+    {
+        let nodes = self.nodes();
+        if self.has_left(dead, kept) {
+            return nodes.is_locked();
+        }
+        nodes.locks_without(dead)
+    }
+
+    /// Whether a command may have been replied to so, where earlier ones gave these handles. Where
+    /// it may, the check goes on from the one state that the reply leaves.
+    #[tactic(auto, using(crate::proofs::Following::can_be, crate::proofs::Following::cannot_be))]
+    pub(super) fn check(
+        &mut self,
+        alloc: Global,
+        earlier: &[Option<ContainerHandle>],
+        command: &Command,
+        reply: &Reply,
+    ) -> Result<bool, AllocError>
+        requires { IsCovered command.now }
+        ensures ok { IfOk result (λ yes. Checked (Serves self.old None earlier.now command.now)
+            reply.now self.old yes self.new) }
+        ensures err { OnErr result (self.new ≡ self.old) }
+        ensures kept { IsService self.new }
+        ensures rest { quiet self.new ≡ self.new }
+    {
+        // For the proof: what is true of every check.
+        let _pattern = &self.pattern;
+        let possible = self.possible(alloc, earlier, command)?;
+        if !self.allows(&possible, reply) {
+            return Ok(false);
+        }
+        self.follow(earlier, command, reply)?;
+        Ok(true)
+    }
+}

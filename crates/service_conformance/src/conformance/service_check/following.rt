@@ -1,0 +1,154 @@
+//! The state that a reply leaves.
+ghost use Rattle.std.specs.Prelude.{◌≡◌, None, OnOk, OnErr};
+ghost use Rattle.iox2_dynamic.specs.Service.{IsService};
+ghost use Rattle.service_conformance.specs.Possible.{IsCovered};
+ghost use Rattle.service_conformance.specs.Quiet.{CanServe, LeadsTo};
+ghost use Rattle.service_descriptions.specs.Cleanups.{ServesDead};
+ghost use Rattle.service_descriptions.specs.Steps.{Serves, ServesAdd, ServesDeregister, ServesRegister, ServesRelease};
+ghost use Rattle.service_descriptions.specs.declared.replay.machine.command.Cleanup.TheVariants as cleanup;
+
+use super::super::replies::{given, is_removal, named};
+use super::super::sides::side;
+use super::{ServiceCheck, has_ports_in};
+use iox2_container::container::{ContainerHandle, ReleaseMode};
+use iox2_dynamic::dynamic_config::PortDetails;
+use iox2_ids::identifiers::UniqueNodeId;
+use service_descriptions::replay::{Cleanup, Command, Reply};
+use std::alloc::AllocError;
+
+impl ServiceCheck {
+    /// The service after a node was registered and this was replied.
+    fn follow_register(&mut self, id: UniqueNodeId, reply: &Reply) -> Result<(), AllocError>
+        requires { CanServe (ServesRegister self.old id) reply.now }
+        ensures ok { OnOk result (LeadsTo (ServesRegister self.old id) reply.now self.new) }
+        ensures err { OnErr result (self.new ≡ self.old) }
+        ensures kept { IsService self.new }
+    {
+        // For the proof: what is true of every check.
+        let _pattern = &self.pattern;
+        let Some(handle) = given(reply) else {
+            return Ok(());
+        };
+        self.nodes.enter(handle, id)?;
+        Ok(())
+    }
+
+    /// The service after a node's entry was to be removed and this was replied.
+    fn follow_deregister(&mut self, handle: Option<ContainerHandle>, reply: &Reply)
+        requires { CanServe (ServesDeregister self.old handle) reply.now }
+        ensures one { LeadsTo (ServesDeregister self.old handle) reply.now self.new }
+        ensures kept { IsService self.new }
+    {
+        // For the proof: what is true of every check.
+        let _pattern = &self.pattern;
+        let Some(handle) = handle else {
+            return;
+        };
+        if !is_removal(reply) {
+            return;
+        }
+        self.nodes.remove(handle, ReleaseMode::LockIfLastIndex);
+    }
+
+    /// The service after a port was to be attached and this was replied.
+    fn follow_attach(&mut self, details: PortDetails, reply: &Reply) -> Result<(), AllocError>
+        requires { CanServe (ServesAdd self.old details) reply.now }
+        ensures ok { OnOk result (LeadsTo (ServesAdd self.old details) reply.now self.new) }
+        ensures err { OnErr result (self.new ≡ self.old) }
+        ensures kept { IsService self.new }
+    {
+        // For the proof: what is true of every check.
+        let _pattern = &self.pattern;
+        let Some(handle) = given(reply) else {
+            return Ok(());
+        };
+        let Some(first) = side(self.pattern, details.role()) else {
+            return Ok(());
+        };
+        if first {
+            self.first.enter(handle, details)?;
+            return Ok(());
+        }
+        self.second.enter(handle, details)?;
+        Ok(())
+    }
+
+    /// The service after a port was to be released and this was replied.
+    fn follow_release(&mut self, handle: Option<ContainerHandle>, reply: &Reply)
+        requires { CanServe (ServesRelease self.old handle) reply.now }
+        ensures one { LeadsTo (ServesRelease self.old handle) reply.now self.new }
+        ensures kept { IsService self.new }
+    {
+        // For the proof: what is true of every check.
+        let _pattern = &self.pattern;
+        let Some(handle) = handle else {
+            return;
+        };
+        if !is_removal(reply) {
+            return;
+        }
+        let Some(first) = side(self.pattern, handle.role()) else {
+            return;
+        };
+        if first {
+            self.first.remove(handle, ReleaseMode::Default);
+            return;
+        }
+        self.second.remove(handle, ReleaseMode::Default);
+    }
+
+    /// The service after a dead node was removed, where the ports of these values stay.
+    fn follow_dead(&mut self, dead: &UniqueNodeId, kept: &Vec<u128>, _reply: &Reply)
+        requires { CanServe (ServesDead self.old dead.now (cleanup.ByPort kept.now)) _reply.now }
+        ensures one { LeadsTo (ServesDead self.old dead.now (cleanup.ByPort kept.now))
+            _reply.now self.new }
+        ensures kept { IsService self.new }
+    {
+        let kept = kept.as_slice();
+        self.first.recover(dead, kept);
+        self.second.recover(dead, kept);
+        if has_ports_in(&self.first, &self.second, dead) {
+            return;
+        }
+        self.nodes.recover(dead);
+    }
+
+    /// The service after a command and its reply.
+    #[tactic(auto, using(crate::proofs::Following::reported))]
+    pub(super) fn follow(
+        &mut self,
+        earlier: &[Option<ContainerHandle>],
+        command: &Command,
+        reply: &Reply,
+    ) -> Result<(), AllocError>
+        requires covered { IsCovered command.now }
+        requires can { CanServe (Serves self.old None earlier.now command.now) reply.now }
+        ensures ok { OnOk result
+            (LeadsTo (Serves self.old None earlier.now command.now) reply.now self.new) }
+        ensures err { OnErr result (self.new ≡ self.old) }
+        ensures kept { IsService self.new }
+    {
+        // For the proof: what is true of every check.
+        let _pattern = &self.pattern;
+        match command {
+            Command::Register(id) => self.follow_register(*id, reply),
+            Command::Deregister(k) => {
+                self.follow_deregister(named(earlier, *k), reply);
+                Ok(())
+            }
+            Command::Add(details) => self.follow_attach(*details, reply),
+            Command::Release(k) => {
+                self.follow_release(named(earlier, *k), reply);
+                Ok(())
+            }
+            Command::Nodes => Ok(()),
+            Command::List(_) => Ok(()),
+            Command::Count(_) => Ok(()),
+            Command::Dead(dead, Cleanup::ByPort(kept)) => {
+                self.follow_dead(dead, kept, reply);
+                Ok(())
+            }
+            _ => unreachable!(),
+        }
+    }
+}

@@ -1,0 +1,176 @@
+//! The replies that a command may have.
+ghost use Rattle.std.specs.Prelude.{◌≡◌, ◌↔◌, IsTrue, IfOk, None};
+ghost use Rattle.service_conformance.specs.Possible.{Allows, ArePossible, IsCovered, MayGiveIn, OneLine};
+ghost use Rattle.service_conformance.specs.Quiet.{Reports};
+ghost use Rattle.service_descriptions.specs.Cleanups.{ServesDead};
+ghost use Rattle.service_descriptions.specs.Listings.{ServesCount, ServesList, ServesNodes};
+ghost use Rattle.service_descriptions.specs.Steps.{Serves, ServesAdd, ServesDeregister, ServesRegister, ServesRelease};
+ghost use Rattle.service_descriptions.specs.declared.replay.machine.command.Cleanup.TheVariants as cleanup;
+
+use super::super::possible::{Part, Possible};
+use super::super::replies::{given, named, possible_add, reply_of_owners};
+use super::super::sides::{part, side};
+use super::ServiceCheck;
+use iox2_container::container::{ContainerHandle, Role};
+use iox2_dynamic::dynamic_config::PortDetails;
+use iox2_ids::identifiers::UniqueNodeId;
+use service_descriptions::laws::replies_go_by_fields;
+use service_descriptions::replay::{Cleanup, Command, Reply};
+use std::alloc::{AllocError, Global};
+
+impl ServiceCheck {
+    /// The replies that registering a node may have.
+    fn possible_register(&self, _id: UniqueNodeId) -> Possible
+        ensures { ArePossible self.now (ServesRegister self.now _id) result }
+    {
+        // For the proof: what is true of every check.
+        let _pattern = &self.pattern;
+        let why = self.nodes.refusal();
+        possible_add(why, Part::Nodes)
+    }
+
+    /// The replies that attaching a port may have.
+    fn possible_attach(&self, details: PortDetails) -> Possible
+        ensures { ArePossible self.now (ServesAdd self.now details) result }
+    {
+        let Some(first) = side(self.pattern, details.role()) else {
+            return Possible::One(Reply::WrongPattern);
+        };
+        if self.nodes.is_locked() {
+            return Possible::One(Reply::Locked);
+        }
+        if self.nodes.count(&details.node_id()) == 0 {
+            return Possible::One(Reply::NotRegistered);
+        }
+        let why = self.ports(first).refusal();
+        possible_add(why, part(first))
+    }
+
+    /// The replies that removing a node's entry may have.
+    fn possible_deregister(&self, handle: Option<ContainerHandle>) -> Possible
+        ensures { ArePossible self.now (ServesDeregister self.now handle) result }
+    {
+        let nodes = self.nodes();
+        let Some(handle) = handle else {
+            return Possible::One(Reply::NoHandle);
+        };
+        let Some(id) = nodes.get(handle) else {
+            return Possible::One(Reply::NotOwned);
+        };
+        if self.is_last_of_ports(&id) {
+            return Possible::One(Reply::PortsAttached);
+        }
+        let locks = nodes.len() == 1;
+        Possible::One(reply_of_owners(locks))
+    }
+
+    /// The replies that releasing a port may have.
+    fn possible_release(&self, handle: Option<ContainerHandle>) -> Possible
+        ensures { ArePossible self.now (ServesRelease self.now handle) result }
+    {
+        let kind = self.kind();
+        let Some(handle) = handle else {
+            return Possible::One(Reply::NoHandle);
+        };
+        let Some(first) = side(kind, handle.role()) else {
+            return Possible::One(Reply::NotOwned);
+        };
+        let Some(_details) = self.ports(first).get(handle) else {
+            return Possible::One(Reply::NotOwned);
+        };
+        Possible::One(Reply::Released)
+    }
+
+    /// The replies that removing a dead node may have, where the ports of these values stay.
+    fn possible_dead(&self, dead: &UniqueNodeId, kept: &Vec<u128>) -> Possible
+        ensures { ArePossible self.now (ServesDead self.now dead.now (cleanup.ByPort kept.now))
+            result }
+    {
+        let locked = self.locks_without(dead, kept);
+        Possible::One(reply_of_owners(locked))
+    }
+
+    /// The replies that a list of the nodes may be.
+    fn possible_nodes(&self, alloc: Global) -> Result<Possible, AllocError>
+        ensures { IfOk result (ArePossible self.now (Reports self.now (ServesNodes self.now))) }
+    {
+        let nodes = self.nodes().listed(alloc)?;
+        Ok(Possible::One(Reply::Nodes(nodes)))
+    }
+
+    /// The replies that a list of the ports of a role may be.
+    fn possible_list(&self, alloc: Global, role: Role) -> Result<Possible, AllocError>
+        ensures { IfOk result (ArePossible self.now (Reports self.now (ServesList self.now role))) }
+    {
+        let kind = self.kind();
+        let Some(first) = side(kind, role) else {
+            return Ok(Possible::One(Reply::WrongPattern));
+        };
+        let ports = self.ports(first).listed(alloc)?;
+        Ok(Possible::One(Reply::Ports(ports)))
+    }
+
+    /// The replies that a count of the ports of a role may be.
+    fn possible_count(&self, role: Role) -> Possible
+        ensures { ArePossible self.now (Reports self.now (ServesCount self.now role)) result }
+    {
+        let kind = self.kind();
+        let Some(first) = side(kind, role) else {
+            return Possible::One(Reply::WrongPattern);
+        };
+        let n = self.ports(first).len();
+        Possible::One(Reply::Count(n))
+    }
+
+    /// The replies that a command may have, where earlier ones gave these handles.
+    #[tactic(auto, using(crate::proofs::OneLine::one_line))]
+    pub(super) fn possible(
+        &self,
+        alloc: Global,
+        earlier: &[Option<ContainerHandle>],
+        command: &Command,
+    ) -> Result<Possible, AllocError>
+        requires { IsCovered command.now }
+        ensures all { IfOk result (ArePossible self.now
+            (Serves self.now None earlier.now command.now)) }
+        // Of those, the ones with one line are the same.
+        ensures line { IfOk result
+            (λ p. OneLine (Serves self.now None earlier.now command.now)) }
+    {
+        match command {
+            Command::Register(id) => Ok(self.possible_register(*id)),
+            Command::Deregister(k) => Ok(self.possible_deregister(named(earlier, *k))),
+            Command::Nodes => self.possible_nodes(alloc),
+            Command::Add(details) => Ok(self.possible_attach(*details)),
+            Command::Release(k) => Ok(self.possible_release(named(earlier, *k))),
+            Command::List(role) => self.possible_list(alloc, *role),
+            Command::Count(role) => Ok(self.possible_count(*role)),
+            Command::Dead(dead, Cleanup::ByPort(kept)) => Ok(self.possible_dead(dead, kept)),
+            _ => unreachable!(),
+        }
+    }
+
+    /// Whether the registry of the part may give the handle next.
+    fn may_give(&self, part: Part, handle: ContainerHandle) -> bool
+        ensures { IsTrue result ↔ MayGiveIn self.now part handle }
+    {
+        match part {
+            Part::Nodes => self.nodes.may_give(handle),
+            Part::First => self.first.may_give(handle),
+            Part::Second => self.second.may_give(handle),
+        }
+    }
+
+    /// Whether the reply is one of these.
+    pub(super) fn allows(&self, possible: &Possible, reply: &Reply) -> bool
+        ensures { IsTrue result ↔ Allows self.now possible.now reply.now }
+    {
+        match possible {
+            Possible::One(one) => replies_go_by_fields(one, reply),
+            Possible::Given(part) => match given(reply) {
+                Some(handle) => self.may_give(*part, handle),
+                None => false,
+            },
+        }
+    }
+}

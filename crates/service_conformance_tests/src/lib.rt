@@ -1,0 +1,8 @@
+//! Tests of the check of commands and replies. They are tests of what no
+//! contract says: runs, and replies that fit no run, worked out by hand.
+#![tactic(auto)]
+
+#[cfg(test)]
+mod rows;
+#[cfg(test)]
+mod runs;
