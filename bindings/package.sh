@@ -1,0 +1,161 @@
+#!/usr/bin/env bash
+# Makes dist/: packages that need no toolchain, of what bindings/build.sh and the gate have built.
+#
+#     bindings/package.sh
+#
+# - iox2sd-VERSION-x86_64-linux-gnu.tar.gz: a prefix with headers, libraries, the two programs, pages
+#   and examples, to be unpacked anywhere;
+# - iox2sd-VERSION-rust.tar.gz: the crate for cargo, with the static library beside it;
+# - a wheel for pip with the shared library in it, and the wrapper's sources;
+# - Debian packages: libiox2sd0, libiox2sd-dev, python3-iox2sd, iox2sd-tools;
+# - PROVENANCE and SHA256SUMS.
+#
+# All times are those of the last commit (SOURCE_DATE_EPOCH), and names are sorted, so that two runs
+# on one commit make the same bytes; bindings/test_packages.sh compares them.
+set -euo pipefail
+cd "$(dirname "$0")"
+top=$(cd .. && pwd)
+dist=${1:-$top/dist}
+SOURCE_DATE_EPOCH=${SOURCE_DATE_EPOCH:-$(git -C "$top" log -1 --format=%ct)}
+export SOURCE_DATE_EPOCH LC_ALL=C TZ=UTC
+umask 022
+version=$(./version)
+programs=(iox2-replay iox2-describe)
+work=$(mktemp -d)
+trap 'rm -rf "$work"' EXIT
+rm -rf "$dist"
+mkdir -p "$dist"
+
+program() { echo "$top/crates/${1//-/_}/out/${1//-/_}"; }
+
+# Packs a folder of the work folder, the same way each time.
+pack() {
+    tar --sort=name --owner=0 --group=0 --numeric-owner --mtime="@$SOURCE_DATE_EPOCH" \
+        --format=ustar -C "$work" -cf - "$1" | gzip -9n > "$dist/$2"
+}
+
+# What each package has beside its files: licences and notice.
+legal() { install -D -m 644 -t "$1" "$top"/LICENSE-APACHE "$top"/LICENSE-MIT "$top"/NOTICE; }
+
+# The manual page of a program.
+manual() {
+    install -d "$2"
+    package/manual "$1" "$version" | gzip -9n > "$2/$1.1.gz"
+}
+
+# ---- The prefix ----
+
+name=iox2sd-$version-x86_64-linux-gnu
+prefix=$work/$name
+./install.sh "$prefix" > "$work/log"
+mv "$prefix"/share/iox2sd "$work/wrappers"
+install -d "$prefix/bin" "$prefix/share/doc/iox2sd/examples"
+for each in "${programs[@]}"; do
+    install -m 755 "$(program "$each")" "$prefix/bin/$each"
+    manual "$each" "$prefix/share/man/man1"
+done
+install -m 644 "$top"/docs/{C,CPP,CALLS,GLOSSARY,SCRIPT,DESCRIBE}.md "$prefix/share/doc/iox2sd"
+install -m 644 "$top"/examples/*.c "$top"/examples/*.cpp package/Makefile package/CMakeLists.txt \
+    "$prefix/share/doc/iox2sd/examples"
+legal "$prefix/share/doc/iox2sd"
+pack "$name" "$name.tar.gz"
+
+# ---- The crate ----
+
+crate=$work/iox2sd-$version
+mv "$work/wrappers/rust" "$crate"
+install -m 644 out/libiox2sd.a "$crate"
+pack "iox2sd-$version" "iox2sd-$version-rust.tar.gz"
+
+# ---- The wheel, and its sources ----
+
+cp "$work"/wrappers/python/*.whl "$dist"
+sources=$work/iox2sd-$version-python
+mkdir -p "$sources/bindings" "$sources/include"
+cp -r python "$sources/bindings"
+find "$sources" -name __pycache__ -prune -exec rm -rf {} +
+legal "$sources"
+cp "$top"/include/*.h "$sources/include"
+pack "iox2sd-$version-python" "iox2sd-$version-python.tar.gz"
+
+# ---- Debian packages ----
+
+# The folder of a package is $work/deb/NAME; its control file comes last.
+deb() {
+    local root=$work/deb/$1
+    install -d "$root/usr/share/doc/$1"
+    sed -e "s/@VERSION@/$version/g" -e "s/@DATE@/$(date -u -R -d "@$SOURCE_DATE_EPOCH")/" \
+        "$top/debian/changelog" | gzip -9n > "$root/usr/share/doc/$1/changelog.Debian.gz"
+    install -m 644 "$top/debian/copyright" "$root/usr/share/doc/$1/copyright"
+    (cd "$root" && find usr -type f -print0 | sort -z | xargs -0 md5sum) > "$work/md5sums"
+    install -d "$root/DEBIAN"
+    install -m 644 "$work/md5sums" "$root/DEBIAN/md5sums"
+    sed -e "s/@VERSION@/$version/g" "$top/debian/$1.control" > "$root/DEBIAN/control"
+    echo "Installed-Size: $(du -k -s --apparent-size "$root/usr" | cut -f 1)" >> "$root/DEBIAN/control"
+    for script in triggers shlibs; do
+        if [ -f "$top/debian/$1.$script" ]; then
+            install -m 644 "$top/debian/$1.$script" "$root/DEBIAN/$script"
+        fi
+    done
+    dpkg-deb --root-owner-group -Zxz --build "$root" \
+        "$dist/${1}_$version-1_$(sed -n 's/^Architecture: //p' "$root/DEBIAN/control").deb" \
+        > "$work/log"
+}
+
+triplet=x86_64-linux-gnu
+lib=$work/deb/libiox2sd0/usr/lib/$triplet
+install -d "$lib"
+install -m 644 out/libiox2sd.so.0 "$lib"
+strip --strip-unneeded "$lib/libiox2sd.so.0"
+deb libiox2sd0
+
+dev=$work/deb/libiox2sd-dev/usr
+install -d "$dev/include" "$dev/lib/$triplet/pkgconfig" "$dev/lib/$triplet/cmake/iox2sd"
+install -m 644 "$prefix"/include/* "$dev/include"
+install -m 644 out/libiox2sd.a "$dev/lib/$triplet"
+strip --strip-debug "$dev/lib/$triplet/libiox2sd.a"
+ln -s libiox2sd.so.0 "$dev/lib/$triplet/libiox2sd.so"
+sed -e 's|^prefix=.*|prefix=/usr|' -e "s|^libdir=.*|libdir=\${prefix}/lib/$triplet|" \
+    "$prefix/lib/pkgconfig/iox2sd.pc" > "$dev/lib/$triplet/pkgconfig/iox2sd.pc"
+sed -e 's|/../../.."|/../../../.."|' -e "s|/lib/libiox2sd|/lib/$triplet/libiox2sd|" \
+    "$prefix/lib/cmake/iox2sd/iox2sdConfig.cmake" > "$dev/lib/$triplet/cmake/iox2sd/iox2sdConfig.cmake"
+install -m 644 "$prefix/lib/cmake/iox2sd/iox2sdConfigVersion.cmake" "$dev/lib/$triplet/cmake/iox2sd"
+deb libiox2sd-dev
+
+python=$work/deb/python3-iox2sd/usr/lib/python3/dist-packages
+install -d "$python"
+python3 - "$dist"/iox2sd-*.whl "$python" << 'END'
+import sys, zipfile
+with zipfile.ZipFile(sys.argv[1]) as wheel:
+    wheel.extractall(sys.argv[2], [n for n in wheel.namelist() if not n.endswith(".so.0")])
+END
+rm -f "$python"/*.dist-info/RECORD
+find "$python" -type d -exec chmod 755 {} + -o -type f -exec chmod 644 {} +
+ln -s "../../../$triplet/libiox2sd.so.0" "$python/iox2sd/libiox2sd.so.0"
+deb python3-iox2sd
+
+tools=$work/deb/iox2sd-tools/usr
+install -d "$tools/bin"
+for each in "${programs[@]}"; do
+    install -m 755 "$(program "$each")" "$tools/bin/$each"
+    strip "$tools/bin/$each"
+    manual "$each" "$tools/share/man/man1"
+done
+deb iox2sd-tools
+
+# ---- What the bytes stand on ----
+
+{
+    echo "version: $version"
+    echo "commit: $(git -C "$top" rev-parse HEAD)"
+    echo "toolchain: $(rt version)"
+    # What the gate printed of each crate, and its last line.
+    if [ -f "$top/out/gate" ]; then
+        awk '/^== / { crate = $2 } /^logic=/ && !seen[crate]++ { print crate ": " $0 }' "$top/out/gate" | sort
+        echo "gate: $(grep -E '^[0-9]+ passed, [0-9]+ failed$' "$top/out/gate" | head -n 1)"
+    else
+        echo "gate: not run in this tree"
+    fi
+} > "$dist/PROVENANCE"
+(cd "$dist" && sha256sum -- * > SHA256SUMS)
+ls -l "$dist"

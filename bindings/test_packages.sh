@@ -1,0 +1,137 @@
+#!/usr/bin/env bash
+# Tests what bindings/package.sh makes: two runs make the same bytes; each package is unpacked or
+# installed where neither this repository nor the toolchain can be seen, and the first program of
+# each language is built and run there as the pages say; Debian packages are upgraded and removed.
+# The last line is 'N passed, N failed'.
+set -uo pipefail
+cd "$(dirname "$0")"
+top=$(cd .. && pwd)
+
+if [ "${1:-}" != inside ]; then
+    work=$(mktemp -d)
+    trap 'rm -rf "$work"' EXIT
+    ./package.sh "$work/dist" > "$work/log" 2>&1 || { cat "$work/log"; exit 1; }
+    ./package.sh "$work/again" > "$work/log" 2>&1 || { cat "$work/log"; exit 1; }
+    cp -r ../examples ../crates/iox2_replay/std* ../crates/iox2_describe/std* test_packages.sh "$work"
+    mkdir "$work/describe" && cp ../crates/iox2_describe/std* "$work/describe"
+    cp ../crates/iox2_replay/std* "$work"
+    mkdir -p ../dist && cp -r "$work"/dist/. ../dist
+    # In a mount namespace of its own, an empty folder stands over the repository and the toolchain.
+    kit=$(dirname "$(rt doc)")
+    unshare --map-root-user --mount bash -c '
+        mount -t tmpfs none "$1" && mount -t tmpfs none "$2" && cd "$3" &&
+            exec bash test_packages.sh inside "$3" "$1" "$2"' - "$top" "$kit" "$work"
+    exit
+fi
+
+work=$2
+passed=0 failed=0
+has() { command -v "$1" > /dev/null || { echo "not found: $1"; return 1; }; }
+run() {
+    if "${@:2}" > "$work/log" 2>&1; then
+        echo "passed: $1"
+        passed=$((passed + 1))
+    else
+        echo "FAILED: $1"
+        cat "$work/log"
+        failed=$((failed + 1))
+    fi
+}
+prints() { diff <("${@:2}") "$1"; }
+printf 'slot 0 of service 7\nit is locked\n' > "$work/short"
+
+run "the repository and the toolchain cannot be seen" \
+    bash -c '[ -z "$(ls -A "$1")" ] && [ -z "$(ls -A "$2")" ]' - "$3" "$4"
+run "two runs make the same bytes" diff -r "$work/dist" "$work/again"
+run "the sums are right" bash -c 'cd "$1/dist" && sha256sum --quiet -c SHA256SUMS' - "$work"
+
+# ---- The archive, unpacked anywhere ----
+
+mkdir "$work/any where"
+tar xzf "$work"/dist/iox2sd-*-linux-gnu.tar.gz -C "$work/any where"
+mv "$work/any where"/iox2sd-* "$work/prefix"
+prefix=$work/prefix
+mkdir "$work/c" && cd "$work/c" && cp "$work"/examples/short.* .
+c_static() { gcc -std=c99 "-I$prefix/include" short.c "$prefix/lib/libiox2sd.a" -o c && prints "$work/short" ./c; }
+cpp_static() {
+    g++ -std=c++17 "-I$prefix/include" short.cpp "$prefix/lib/libiox2sd.a" -o cpp &&
+        prints "$work/short" ./cpp
+}
+by_pkg_config() {
+    PKG_CONFIG_PATH=$prefix/lib/pkgconfig
+    export PKG_CONFIG_PATH
+    gcc short.c $(pkg-config --cflags --libs iox2sd) -o c &&
+        LD_LIBRARY_PATH=$prefix/lib prints "$work/short" ./c
+}
+examples=$prefix/share/doc/iox2sd/examples
+by_make() { make -C "$examples" && prints "$work/short" "$examples/short_c" && make -C "$examples" clean; }
+by_cmake() {
+    cmake -S "$examples" -B "$work/build" && cmake --build "$work/build" &&
+        prints "$work/short" "$work/build/short_cpp" && prints "$work/short" "$work/build/short_c"
+}
+replays() { "$prefix/bin/iox2-replay" < "$work/stdin" | diff - "$work/stdout"; }
+describes() { "$prefix/bin/iox2-describe" < "$work/describe/stdin" | diff - "$work/describe/stdout"; }
+has_manual() { zcat "$prefix/share/man/man1/$1.1.gz" | man -l - | grep -q "$2"; }
+if has gcc; then run "archive: C" c_static; fi
+if has g++; then run "archive: C++" cpp_static; fi
+if has gcc && has pkg-config; then run "archive: pkg-config" by_pkg_config; fi
+if has make && has g++; then run "archive: make" by_make; fi
+if has cmake && has g++; then run "archive: CMake" by_cmake; fi
+run "archive: iox2-replay" replays
+run "archive: iox2-describe" describes
+if has man; then
+    run "archive: man iox2-replay" has_manual iox2-replay 'one service'
+    run "archive: man iox2-describe" has_manual iox2-describe 'usage: iox2-describe'
+fi
+
+# ---- The crate and the wheel ----
+
+by_cargo() {
+    mkdir -p "$work/rust/src" && tar xzf "$work"/dist/iox2sd-*-rust.tar.gz -C "$work/rust" &&
+        cp "$work/examples/short.rs" "$work/rust/src/main.rs" &&
+        printf '[package]\nname = "mine"\nedition = "2021"\n[dependencies]\niox2sd = { path = "%s" }\n' \
+            "$(basename "$work"/rust/iox2sd-*)" > "$work/rust/Cargo.toml" &&
+        (cd "$work/rust" && env -u IOX2SD_LIB_DIR cargo run --quiet --offline) > "$work/printed" &&
+        diff "$work/printed" "$work/short"
+}
+by_pip() {
+    python3 -m venv "$work/venv" &&
+        "$work/venv/bin/pip" install --quiet --no-index "$work"/dist/*.whl &&
+        prints "$work/short" "$work/venv/bin/python" -I "$work/examples/short.py"
+}
+if has cargo; then run "crate: cargo run" by_cargo; fi
+if has python3; then run "wheel: pip install" by_pip; fi
+
+# ---- Debian packages, in a root of their own ----
+
+root=$work/root
+debs() {
+    mkdir -p "$root/var/lib/dpkg/info" "$root/var/lib/dpkg/updates" "$root/var/lib/dpkg/triggers" &&
+        touch "$root/var/lib/dpkg/status" &&
+        dpkg --root="$root" --force-depends --force-not-root "$@"
+}
+installed() { debs -i "$work"/dist/*.deb && (cd "$root" && find . -path ./var -prune -o -print); }
+used() {
+    local lib=$root/usr/lib/x86_64-linux-gnu
+    gcc "-I$root/usr/include" short.c "$lib/libiox2sd.a" -o c && prints "$work/short" ./c &&
+        gcc "-I$root/usr/include" short.c "-L$lib" -liox2sd -o c &&
+        LD_LIBRARY_PATH=$lib prints "$work/short" ./c &&
+        "$root/usr/bin/iox2-replay" < "$work/stdin" | diff - "$work/stdout" &&
+        PYTHONPATH=$root/usr/lib/python3/dist-packages prints "$work/short" \
+            python3 "$work/examples/short.py"
+}
+removed() {
+    debs --purge libiox2sd0 libiox2sd-dev python3-iox2sd iox2sd-tools &&
+        left=$(find "$root" -path "$root/var/lib/dpkg" -prune -o ! -type d -print) && echo "$left" &&
+        [ -z "$left" ]
+}
+if has dpkg; then
+    run "Debian: installed" installed
+    if has gcc && has python3; then run "Debian: used" used; fi
+    run "Debian: installed over itself" installed
+    run "Debian: removed, and nothing is left" removed
+fi
+if has lintian; then run "lintian" lintian --allow-root --fail-on error "$work"/dist/*.deb; fi
+
+echo "$passed passed, $failed failed"
+[ "$failed" -eq 0 ]
