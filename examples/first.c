@@ -73,7 +73,7 @@ static void verify(const iox2sd_attribute *attributes, size_t number_of_attribut
     const iox2sd_message_details service = {
         type_of("Header", 8, 8), type_of("UserHeader", 4, 4), type_of("Payload", 8, 8)};
     iox2sd_message_details opener = service;
-    const iox2sd_layout_answer room = iox2sd_message_layout(&service, 2);
+    const iox2sd_layout_answer room = iox2sd_message_sample_layout(&service, 2);
     iox2sd_place_answer verified =
         iox2sd_attributes_verify(attributes, number_of_attributes, &required, 1, keys, 1);
     print_answer("an opener of color = red, unit", verified.status == IOX2SD_DONE);
@@ -82,34 +82,34 @@ static void verify(const iox2sd_attribute *attributes, size_t number_of_attribut
     printf("an opener of color = red, unit, rate: there is no %.*s\n",
            (int)keys[verified.at].length, (const char *)keys[verified.at].text);
     print_answer("an opener with these types",
-                 iox2sd_message_compatible(&opener, &service).status == IOX2SD_DONE);
+                 iox2sd_message_is_compatible_to(&opener, &service).status == IOX2SD_DONE);
     opener.payload.alignment = 16;
     print_answer("an opener with a wider payload",
-                 iox2sd_message_compatible(&opener, &service).status == IOX2SD_DONE);
+                 iox2sd_message_is_compatible_to(&opener, &service).status == IOX2SD_DONE);
     printf("a message: %zu bytes at a multiple of %zu\n", room.size, room.alignment);
 }
 
 /* A node joins with a publisher, is listed, and dies. */
 static void live(iox2sd_service *service) {
     const iox2sd_id node = {1, 0, 0, 2};
-    iox2sd_port publisher = {.role = IOX2SD_PUBLISHER, .port = {1, 0, 0, 3}, .node = {1, 0, 0, 2}};
+    iox2sd_port_details publisher = {.role = IOX2SD_PUBLISHER, .port = {1, 0, 0, 3}, .node = {1, 0, 0, 2}};
     iox2sd_id nodes[20];
-    iox2sd_port ports[2];
+    iox2sd_port_details ports[2];
     iox2sd_count_answer found;
-    iox2sd_death_answer death;
+    iox2sd_dead_node_removal death;
     publisher.number_of_samples = 34;
     publisher.data_segment = IOX2SD_STATIC_SEGMENT;
     publisher.max_number_of_segments = 1;
-    print_handle("node", iox2sd_register(service, node));
+    print_handle("node", iox2sd_register_node_id(service, node));
     print_handle("publisher", iox2sd_attach(service, &publisher));
     found = iox2sd_nodes(service, nodes, 20);
     for (size_t i = 0; i < found.count; i++) print_id("there is the node", nodes[i]);
     found = iox2sd_ports(service, IOX2SD_PUBLISHER, ports, 2);
     for (size_t i = 0; i < found.count; i++) print_id("there is the publisher", ports[i].port);
-    death = iox2sd_dead(service, node, NULL, 0);
+    death = iox2sd_remove_dead_node_id(service, node, NULL, 0);
     printf("died with %zu publishers, %zu subscribers\n", death.first, death.second);
     printf("the service is %s\n", death.status == IOX2SD_DONE_LOCKED ? "locked" : "open");
-    print_answer("a late node", iox2sd_register(service, node).status == IOX2SD_DONE);
+    print_answer("a late node", iox2sd_register_node_id(service, node).status == IOX2SD_DONE);
 }
 
 int main(void) {
@@ -121,7 +121,7 @@ int main(void) {
     if (iox2sd_attributes_sort(attributes, 2).status != IOX2SD_DONE) return EXIT_FAILURE;
     describe("My/Service", &settings, attributes, 2);
     verify(attributes, 2);
-    if (iox2sd_service_make(&service, IOX2SD_PUBLISH_SUBSCRIBE, 7, room, UINT64_MAX) !=
+    if (iox2sd_service_create(&service, IOX2SD_PUBLISH_SUBSCRIBE, 7, room, UINT64_MAX) !=
         IOX2SD_DONE) {
         return EXIT_FAILURE;
     }

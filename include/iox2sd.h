@@ -19,7 +19,7 @@
  *   service any number of questions may run at once, or one change alone. A service may be moved to
  *   another thread; a move and a change are ordered with other calls by a lock or by a thread's start
  *   or join.
- * - iox2sd_service_make alone takes memory, by malloc; iox2sd_service_free alone gives it back. Nothing is kept for a call.
+ * - iox2sd_service_create alone takes memory, by malloc; iox2sd_service_free alone gives it back. Nothing is kept for a call.
  *
  * What is proved, and what not
  *
@@ -168,7 +168,7 @@ typedef struct iox2sd_handle {
 #define IOX2SD_HANDLE_NONE {0, IOX2SD_NO_ROLE, 0, 0}
 
 /* The details of a port. A field that its kind does not have is ignored, and is 0 in an answer. */
-typedef struct iox2sd_port {
+typedef struct iox2sd_port_details {
     uint64_t role; /* Of enum iox2sd_role, but not IOX2SD_NODE. */
     iox2sd_id port;
     iox2sd_id node;
@@ -181,7 +181,7 @@ typedef struct iox2sd_port {
     size_t max_slice_len;           /* Of publishers, servers and clients. */
     uint32_t data_segment;          /* Of publishers, servers and clients: enum iox2sd_segment. */
     uint8_t max_number_of_segments; /* Of publishers, servers and clients. */
-} iox2sd_port;
+} iox2sd_port_details;
 
 /* For how many nodes and ports at a time a service has room. */
 typedef struct iox2sd_capacities {
@@ -246,18 +246,18 @@ typedef struct iox2sd_id_answer {
 /* A port; all 0 where the status is not IOX2SD_DONE. */
 typedef struct iox2sd_port_answer {
     uint32_t status;
-    iox2sd_port port;
+    iox2sd_port_details port;
 } iox2sd_port_answer;
 
 /* How many ports went with a dead node, also with IOX2SD_DONE_LOCKED. */
-typedef struct iox2sd_death_answer {
+typedef struct iox2sd_dead_node_removal {
     uint32_t status;
     size_t first;  /* Publishers, listeners, servers or readers. */
     size_t second; /* Subscribers, notifiers, clients or writers. */
-} iox2sd_death_answer;
+} iox2sd_dead_node_removal;
 
 /* A number that rises when a struct or a function changes. */
-#define IOX2SD_ABI 1
+#define IOX2SD_ABI 2
 uint32_t iox2sd_abi(void);
 
 /* Writes what a status says to the front of `out`, without a zero byte, where all of it fits.
@@ -354,7 +354,7 @@ static inline const char *iox2sd_pattern_str(uint64_t pattern) {
 bool iox2sd_id_is_node(iox2sd_id id);
 
 /* process * 2^32 + counter, which is 0 for an id of no node alone. Nodes of one process with one counter share it. */
-uint64_t iox2sd_id_owner(iox2sd_id id);
+uint64_t iox2sd_id_owner_id(iox2sd_id id);
 
 /* Whether the number process * 2^96 + seconds * 2^64 + nanoseconds * 2^32 + counter of the first is below that of the
  * other. */
@@ -366,18 +366,18 @@ iox2sd_text_answer iox2sd_id_text(iox2sd_id id, uint8_t *out, size_t capacity);
 
 /* The library's own functions on a service take, in place of one pointer, an array of 0 or 1 elements: 0 where the pointer is
  * NULL. Callers use the functions below, which give the number. */
-uint32_t iox2sd_service_make_at(iox2sd_service *places, size_t count, uint32_t pattern, uint64_t number,
+uint32_t iox2sd_service_create_at(iox2sd_service *places, size_t count, uint32_t pattern, uint64_t number,
                                 iox2sd_capacities capacities, uint64_t tickets);
 uint32_t iox2sd_service_free_at(iox2sd_service *places, size_t count);
-iox2sd_handle_answer iox2sd_register_at(iox2sd_service *places, size_t count, iox2sd_id node);
-uint32_t iox2sd_deregister_at(iox2sd_service *places, size_t count, iox2sd_handle handle);
-iox2sd_handle_answer iox2sd_attach_at(iox2sd_service *places, size_t count, const iox2sd_port *ports, size_t port_count);
-uint32_t iox2sd_release_at(iox2sd_service *places, size_t count, iox2sd_handle handle);
-iox2sd_death_answer iox2sd_dead_at(iox2sd_service *places, size_t count, iox2sd_id dead, const iox2sd_id *kept,
+iox2sd_handle_answer iox2sd_register_node_id_at(iox2sd_service *places, size_t count, iox2sd_id node);
+uint32_t iox2sd_deregister_node_id_at(iox2sd_service *places, size_t count, iox2sd_handle handle);
+iox2sd_handle_answer iox2sd_attach_at(iox2sd_service *places, size_t count, const iox2sd_port_details *ports, size_t port_count);
+uint32_t iox2sd_release_port_at(iox2sd_service *places, size_t count, iox2sd_handle handle);
+iox2sd_dead_node_removal iox2sd_remove_dead_node_id_at(iox2sd_service *places, size_t count, iox2sd_id dead, const iox2sd_id *kept,
                                    size_t kept_count);
-iox2sd_number_answer iox2sd_pattern_at(const iox2sd_service *places, size_t count);
+iox2sd_number_answer iox2sd_messaging_pattern_at(const iox2sd_service *places, size_t count);
 iox2sd_number_answer iox2sd_service_number_at(const iox2sd_service *places, size_t count);
-iox2sd_roles_answer iox2sd_roles_at(const iox2sd_service *places, size_t count);
+iox2sd_roles_answer iox2sd_port_roles_at(const iox2sd_service *places, size_t count);
 iox2sd_flag_answer iox2sd_has_role_at(const iox2sd_service *places, size_t count, uint64_t role);
 iox2sd_flag_answer iox2sd_is_locked_at(const iox2sd_service *places, size_t count);
 iox2sd_count_answer iox2sd_number_of_nodes_at(const iox2sd_service *places, size_t count);
@@ -386,20 +386,20 @@ iox2sd_flag_answer iox2sd_has_room_for_node_at(const iox2sd_service *places, siz
 iox2sd_count_answer iox2sd_count_ports_at(const iox2sd_service *places, size_t count, uint64_t role);
 iox2sd_count_answer iox2sd_max_ports_at(const iox2sd_service *places, size_t count, uint64_t role);
 iox2sd_flag_answer iox2sd_has_room_at(const iox2sd_service *places, size_t count, uint64_t role);
-iox2sd_id_answer iox2sd_find_node_at(const iox2sd_service *places, size_t count, iox2sd_handle handle);
-iox2sd_port_answer iox2sd_find_port_at(const iox2sd_service *places, size_t count, iox2sd_handle handle);
+iox2sd_id_answer iox2sd_node_at(const iox2sd_service *places, size_t count, iox2sd_handle handle);
+iox2sd_port_answer iox2sd_port_at(const iox2sd_service *places, size_t count, iox2sd_handle handle);
 iox2sd_count_answer iox2sd_nodes_at(const iox2sd_service *places, size_t count, iox2sd_id *out, size_t capacity);
-iox2sd_count_answer iox2sd_ports_at(const iox2sd_service *places, size_t count, uint64_t role, iox2sd_port *out,
+iox2sd_count_answer iox2sd_ports_at(const iox2sd_service *places, size_t count, uint64_t role, iox2sd_port_details *out,
                                     size_t capacity);
 iox2sd_count_answer iox2sd_ports_of_at(const iox2sd_service *places, size_t count, iox2sd_id node,
-                                       iox2sd_port *out, size_t capacity);
+                                       iox2sd_port_details *out, size_t capacity);
 
 /* Makes a service with nothing attached. `number` stands in its handles. `tickets` tickets are given out for nodes and
  * for each kind of ports: each registering and each attaching takes one, and none comes back. UINT64_MAX is for all.
  * Errors: IOX2SD_NULL; IOX2SD_HAS_SERVICE, and the place keeps what it holds; IOX2SD_UNKNOWN_PATTERN; IOX2SD_NO_MEMORY. */
-static inline uint32_t iox2sd_service_make(iox2sd_service *service, uint32_t pattern, uint64_t number,
+static inline uint32_t iox2sd_service_create(iox2sd_service *service, uint32_t pattern, uint64_t number,
                                            iox2sd_capacities capacities, uint64_t tickets) {
-    return iox2sd_service_make_at(service, service != NULL, pattern, number, capacities, tickets);
+    return iox2sd_service_create_at(service, service != NULL, pattern, number, capacities, tickets);
 }
 
 /* Frees a service. Its place holds none afterwards, and may be used for another.
@@ -410,45 +410,45 @@ static inline uint32_t iox2sd_service_free(iox2sd_service *service) {
 
 /* Registers a node, which may have several handles.
  * Errors: IOX2SD_NULL; IOX2SD_NO_SERVICE; IOX2SD_NO_NODE; IOX2SD_IS_LOCKED; IOX2SD_OUT_OF_SPACE. */
-static inline iox2sd_handle_answer iox2sd_register(iox2sd_service *service, iox2sd_id node) {
-    return iox2sd_register_at(service, service != NULL, node);
+static inline iox2sd_handle_answer iox2sd_register_node_id(iox2sd_service *service, iox2sd_id node) {
+    return iox2sd_register_node_id_at(service, service != NULL, node);
 }
 
 /* Deregisters the node with this handle. IOX2SD_DONE_LOCKED where it was the last one: the service is locked for good.
  * Errors: IOX2SD_NULL; IOX2SD_NO_SERVICE; IOX2SD_UNKNOWN_ROLE; IOX2SD_FOREIGN_HANDLE, also for a port's handle;
  * IOX2SD_PORTS_STILL_ATTACHED where it is the only handle of its node and some port has that node. */
-static inline uint32_t iox2sd_deregister(iox2sd_service *service, iox2sd_handle handle) {
-    return iox2sd_deregister_at(service, service != NULL, handle);
+static inline uint32_t iox2sd_deregister_node_id(iox2sd_service *service, iox2sd_handle handle) {
+    return iox2sd_deregister_node_id_at(service, service != NULL, handle);
 }
 
 /* Attaches a port.
  * Errors: IOX2SD_NULL; IOX2SD_NO_SERVICE; IOX2SD_NO_NODE for the port's node; IOX2SD_UNKNOWN_ROLE, also for IOX2SD_NODE;
  * IOX2SD_UNKNOWN_SEGMENT; IOX2SD_ROLE_NOT_IN_PATTERN; IOX2SD_IS_LOCKED; IOX2SD_NODE_NOT_REGISTERED, by the whole id;
  * IOX2SD_OUT_OF_SPACE. */
-static inline iox2sd_handle_answer iox2sd_attach(iox2sd_service *service, const iox2sd_port *port) {
+static inline iox2sd_handle_answer iox2sd_attach(iox2sd_service *service, const iox2sd_port_details *port) {
     return iox2sd_attach_at(service, service != NULL, port, port != NULL);
 }
 
 /* Releases the port with this handle.
  * Errors: IOX2SD_NULL; IOX2SD_NO_SERVICE; IOX2SD_UNKNOWN_ROLE; IOX2SD_FOREIGN_HANDLE, also for a node's handle. */
-static inline uint32_t iox2sd_release(iox2sd_service *service, iox2sd_handle handle) {
-    return iox2sd_release_at(service, service != NULL, handle);
+static inline uint32_t iox2sd_release_port(iox2sd_service *service, iox2sd_handle handle) {
+    return iox2sd_release_port_at(service, service != NULL, handle);
 }
 
 /* Removes those ports of a dead node whose ids are not among `kept`, and returns how many went. Where none of its ports is
  * left, the node goes too, with all its handles. IOX2SD_DONE_LOCKED where the service is locked: it has no node any more.
  * Errors: IOX2SD_NULL; IOX2SD_NO_SERVICE; IOX2SD_NO_NODE. */
-static inline iox2sd_death_answer iox2sd_dead(iox2sd_service *service, iox2sd_id dead, const iox2sd_id *kept,
+static inline iox2sd_dead_node_removal iox2sd_remove_dead_node_id(iox2sd_service *service, iox2sd_id dead, const iox2sd_id *kept,
                                               size_t kept_count) {
-    iox2sd_death_answer refused = {IOX2SD_NULL, 0, 0};
+    iox2sd_dead_node_removal refused = {IOX2SD_NULL, 0, 0};
     if (kept == NULL && kept_count != 0) return refused;
-    return iox2sd_dead_at(service, service != NULL, dead, kept, kept_count);
+    return iox2sd_remove_dead_node_id_at(service, service != NULL, dead, kept, kept_count);
 }
 
 /* Lists the ports of a role by rising slot at the front of `out`, whose other places stay as they were.
  * Errors: IOX2SD_NULL; IOX2SD_NO_SERVICE; IOX2SD_UNKNOWN_ROLE; IOX2SD_ROLE_NOT_IN_PATTERN, also for IOX2SD_NODE;
  * IOX2SD_BUFFER_TOO_SHORT with the number of ports that there are. Then `out` is as it was. */
-static inline iox2sd_count_answer iox2sd_ports(const iox2sd_service *service, uint64_t role, iox2sd_port *out,
+static inline iox2sd_count_answer iox2sd_ports(const iox2sd_service *service, uint64_t role, iox2sd_port_details *out,
                                                size_t capacity) {
     iox2sd_count_answer refused = {IOX2SD_NULL, 0};
     if (out == NULL && capacity != 0) return refused;
@@ -457,20 +457,20 @@ static inline iox2sd_count_answer iox2sd_ports(const iox2sd_service *service, ui
 
 /* Lists the ports of a node, by its whole id, at the front of `out`, whose other places stay as they
  * were: those of the pattern's first kind before those of its second, each kind by rising slot. These
- * are the ports that iox2sd_dead removes or keeps.
+ * are the ports that iox2sd_remove_dead_node_id removes or keeps.
  * Errors: IOX2SD_NULL; IOX2SD_NO_SERVICE; IOX2SD_NO_NODE; IOX2SD_BUFFER_TOO_SHORT with the number of
  * ports that there are, or IOX2SD_TOO_LARGE where that number passes SIZE_MAX. Then `out` is as it
  * was. */
 static inline iox2sd_count_answer iox2sd_ports_of(const iox2sd_service *service, iox2sd_id node,
-                                                  iox2sd_port *out, size_t capacity) {
+                                                  iox2sd_port_details *out, size_t capacity) {
     iox2sd_count_answer refused = {IOX2SD_NULL, 0};
     if (out == NULL && capacity != 0) return refused;
     return iox2sd_ports_of_at(service, service != NULL, node, out, capacity);
 }
 
 /* The messaging pattern, of enum iox2sd_pattern_number. Errors: IOX2SD_NULL; IOX2SD_NO_SERVICE. */
-static inline iox2sd_number_answer iox2sd_pattern(const iox2sd_service *service) {
-    return iox2sd_pattern_at(service, service != NULL);
+static inline iox2sd_number_answer iox2sd_messaging_pattern(const iox2sd_service *service) {
+    return iox2sd_messaging_pattern_at(service, service != NULL);
 }
 
 /* The service's number, which each of its handles has. Errors: IOX2SD_NULL; IOX2SD_NO_SERVICE. */
@@ -479,8 +479,8 @@ static inline iox2sd_number_answer iox2sd_service_number(const iox2sd_service *s
 }
 
 /* The roles of the pattern's two kinds of ports, that first which is recovered first. Errors: IOX2SD_NULL; IOX2SD_NO_SERVICE. */
-static inline iox2sd_roles_answer iox2sd_roles(const iox2sd_service *service) {
-    return iox2sd_roles_at(service, service != NULL);
+static inline iox2sd_roles_answer iox2sd_port_roles(const iox2sd_service *service) {
+    return iox2sd_port_roles_at(service, service != NULL);
 }
 
 /* Whether the pattern has ports of the role; no for IOX2SD_NODE.
@@ -504,7 +504,7 @@ static inline iox2sd_count_answer iox2sd_max_nodes(const iox2sd_service *service
     return iox2sd_max_nodes_at(service, service != NULL);
 }
 
-/* Whether iox2sd_register would register a node: the service is not locked, and a place and a ticket are left.
+/* Whether iox2sd_register_node_id would register a node: the service is not locked, and a place and a ticket are left.
  * Errors: IOX2SD_NULL; IOX2SD_NO_SERVICE. */
 static inline iox2sd_flag_answer iox2sd_has_room_for_node(const iox2sd_service *service) {
     return iox2sd_has_room_for_node_at(service, service != NULL);
@@ -533,14 +533,14 @@ static inline iox2sd_flag_answer iox2sd_has_room(const iox2sd_service *service, 
 
 /* The node that was registered with this handle and is still there.
  * Errors: IOX2SD_NULL; IOX2SD_NO_SERVICE; IOX2SD_UNKNOWN_ROLE; IOX2SD_FOREIGN_HANDLE, also for a port's handle. */
-static inline iox2sd_id_answer iox2sd_find_node(const iox2sd_service *service, iox2sd_handle handle) {
-    return iox2sd_find_node_at(service, service != NULL, handle);
+static inline iox2sd_id_answer iox2sd_node(const iox2sd_service *service, iox2sd_handle handle) {
+    return iox2sd_node_at(service, service != NULL, handle);
 }
 
 /* The port that was attached with this handle and is still there.
  * Errors: IOX2SD_NULL; IOX2SD_NO_SERVICE; IOX2SD_UNKNOWN_ROLE; IOX2SD_FOREIGN_HANDLE, also for a node's handle. */
-static inline iox2sd_port_answer iox2sd_find_port(const iox2sd_service *service, iox2sd_handle handle) {
-    return iox2sd_find_port_at(service, service != NULL, handle);
+static inline iox2sd_port_answer iox2sd_port(const iox2sd_service *service, iox2sd_handle handle) {
+    return iox2sd_port_at(service, service != NULL, handle);
 }
 
 /* Lists the ids of the nodes by rising slot, one for each handle, at the front of `out`, whose other places stay as they

@@ -599,7 +599,7 @@ using FileName = SemanticString<255, iox2sd_file_name_check>;
 
 /// A restricted name of a file, as hash texts are: 1 to 64 letters A to Z and a to z, digits, `-`,
 /// `.`, `:` and `_`, and neither "." nor "..". Refusals as of the name of a file.
-using RestrictedFileName = SemanticString<64, iox2sd_restricted_name_check>;
+using RestrictedFileName = SemanticString<64, iox2sd_restricted_file_name_check>;
 
 /// A path: at most 255 bytes, each from 1 to 127. Refusals: `TooLong`, with `at` 255;
 /// `IllegalByte`, with the place of the first one.
@@ -621,7 +621,7 @@ public:
     /// `/`. Refusal: `TooLong`, past 255 bytes; then the path is as it was.
     Result<void> add_path_entry(const Path& entry) noexcept {
         const auto joined = written_by([&](std::uint8_t* out, std::size_t capacity) {
-            return iox2sd_path_join(detail::bytes(*this), size(), detail::bytes(entry),
+            return iox2sd_path_add_path_entry(detail::bytes(*this), size(), detail::bytes(entry),
                                     entry.size(), out, capacity);
         });
         if (!joined) return joined.status();
@@ -648,7 +648,7 @@ public:
     /// Refusal: `TooLong`, past 255 bytes.
     static Result<FilePath> from_path_and_file(const Path& path, const FileName& file) noexcept {
         const auto joined = written_by([&](std::uint8_t* out, std::size_t capacity) {
-            return iox2sd_file_path_join(detail::bytes(path), path.size(), detail::bytes(file),
+            return iox2sd_file_path_from_path_and_file(detail::bytes(path), path.size(), detail::bytes(file),
                                          file.size(), out, capacity);
         });
         if (!joined) return joined.status();
@@ -690,7 +690,7 @@ public:
 
     /// Whether a text begins with "iox2://".
     static bool has_iox2_prefix(std::string_view text) noexcept {
-        return iox2sd_has_internal_prefix(detail::bytes(text), text.size());
+        return iox2sd_has_iox2_prefix(detail::bytes(text), text.size());
     }
 
 private:
@@ -821,7 +821,7 @@ public:
     UniqueNodeId(const iox2sd_id& parts, detail::FromLibrary) noexcept : UniqueId(parts) {}
 
     /// process * 2^32 + counter, which is never 0. Nodes of one process with one counter share it.
-    std::uint64_t owner_id() const noexcept { return iox2sd_id_owner(parts()); }
+    std::uint64_t owner_id() const noexcept { return iox2sd_id_owner_id(parts()); }
 };
 
 /// The id of a port of any kind, with its role.
@@ -918,7 +918,7 @@ public:
     /// How many values a key has. Nothing is refused: the key and the pairs are legal.
     std::size_t number_of_key_values(const AttributeKey& key) const noexcept {
         const detail::Pairs pairs = as_pairs();
-        return iox2sd_attribute_values(pairs.items, pairs.size, detail::bytes(key), key.size())
+        return iox2sd_attributes_number_of_key_values(pairs.items, pairs.size, detail::bytes(key), key.size())
             .count;
     }
 
@@ -927,7 +927,7 @@ public:
     Result<AttributeValue> key_value(const AttributeKey& key, std::size_t index) const noexcept {
         const detail::Pairs pairs = as_pairs();
         const auto found = Text<256>::written_by([&](std::uint8_t* out, std::size_t capacity) {
-            return iox2sd_attribute_value(pairs.items, pairs.size, detail::bytes(key), key.size(),
+            return iox2sd_attributes_key_value(pairs.items, pairs.size, detail::bytes(key), key.size(),
                                           index, out, capacity);
         });
         if (!found) return found.status();
@@ -1096,7 +1096,7 @@ public:
         const iox2sd_type_detail detail{detail::bytes(type_name), type_name.size(),
                                         static_cast<std::uint32_t>(variant), size, alignment};
         const iox2sd_message_details each{detail, detail, detail};
-        const iox2sd_part_answer answer = iox2sd_message_compatible(&each, &each);
+        const iox2sd_part_answer answer = iox2sd_message_is_compatible_to(&each, &each);
         if (answer.status != IOX2SD_DONE) return Status{answer.status};
         return TypeDetail(variant, TypeName(type_name), size, alignment);
     }
@@ -1174,7 +1174,7 @@ struct MessageTypeDetails {
     /// Refusal: `TooLarge` past 2^63 - 1 bytes.
     Result<Layout> sample_layout(std::size_t number_of_elements) const noexcept {
         const iox2sd_message_details details = as_c();
-        const iox2sd_layout_answer answer = iox2sd_message_layout(&details, number_of_elements);
+        const iox2sd_layout_answer answer = iox2sd_message_sample_layout(&details, number_of_elements);
         return detail::result(answer.status, Layout{answer.size, answer.alignment});
     }
 
@@ -1192,7 +1192,7 @@ struct MessageTypeDetails {
     Result<void, IncompatibleTypes> is_compatible_to(
         const MessageTypeDetails& service) const noexcept {
         const iox2sd_message_details opener = as_c(), other = service.as_c();
-        const iox2sd_part_answer answer = iox2sd_message_compatible(&opener, &other);
+        const iox2sd_part_answer answer = iox2sd_message_is_compatible_to(&opener, &other);
         if (answer.status == IOX2SD_DONE) return {};
         return IncompatibleTypes{Status{answer.status}, MessagePart{answer.part}};
     }
@@ -1555,12 +1555,12 @@ Result<Path> directory(const Path& root, Write write) noexcept {
 
 /// The directory of services below a root path. Refusal: `TooLong`, past 255 bytes.
 inline Result<Path> service_dir(const Path& root) noexcept {
-    return detail::directory(root, iox2sd_service_directory);
+    return detail::directory(root, iox2sd_service_dir);
 }
 
 /// The directory of nodes below a root path. Refusal: `TooLong`, past 255 bytes.
 inline Result<Path> node_dir(const Path& root) noexcept {
-    return detail::directory(root, iox2sd_node_directory);
+    return detail::directory(root, iox2sd_node_dir);
 }
 
 // ---- Descriptions ----
@@ -1597,7 +1597,7 @@ struct PublishSubscribeStaticConfig {
     /// so many loaned. Refusal: `TooLarge` past 2^64 - 1.
     Result<std::size_t> required_amount_of_samples_per_data_segment(
         std::size_t publisher_max_loaned_data) const noexcept {
-        const iox2sd_count_answer answer = iox2sd_publisher_chunks(
+        const iox2sd_count_answer answer = iox2sd_required_amount_of_samples_per_data_segment(
             max_subscribers, subscriber_max_buffer_size, subscriber_max_borrowed_samples,
             history_size, publisher_max_loaned_data);
         return detail::result(answer.status, answer.count);
@@ -1651,7 +1651,7 @@ struct RequestResponseStaticConfig {
     /// so many loaned. Refusal: `TooLarge` past 2^64 - 1.
     Result<std::size_t> required_amount_of_chunks_per_client_data_segment(
         std::size_t client_max_loaned_data) const noexcept {
-        const iox2sd_count_answer answer = iox2sd_client_chunks(
+        const iox2sd_count_answer answer = iox2sd_required_amount_of_chunks_per_client_data_segment(
             max_servers, max_active_requests_per_client, client_max_loaned_data);
         return detail::result(answer.status, answer.count);
     }
@@ -1660,7 +1660,7 @@ struct RequestResponseStaticConfig {
     /// so many loaned for each request. Refusal: `TooLarge` past 2^64 - 1.
     Result<std::size_t> required_amount_of_chunks_per_server_data_segment(
         std::size_t server_max_loaned_responses_per_request) const noexcept {
-        const iox2sd_count_answer answer = iox2sd_server_chunks(
+        const iox2sd_count_answer answer = iox2sd_required_amount_of_chunks_per_server_data_segment(
             max_clients, max_active_requests_per_client, max_response_buffer_size,
             max_borrowed_responses_per_pending_response, server_max_loaned_responses_per_request);
         return detail::result(answer.status, answer.count);
@@ -1757,15 +1757,15 @@ enum class DataSegmentType : std::uint32_t {
 namespace detail {
 
 /// What all ports have, as the C header takes it.
-inline iox2sd_port port(Role role, const iox2sd_id& id, const UniqueNodeId& node) noexcept {
-    iox2sd_port made{};
+inline iox2sd_port_details port(Role role, const iox2sd_id& id, const UniqueNodeId& node) noexcept {
+    iox2sd_port_details made{};
     made.role = static_cast<std::uint64_t>(role);
     made.port = id;
     made.node = node.parts();
     return made;
 }
 
-inline UniqueNodeId node_of(const iox2sd_port& port) noexcept { return {port.node, FromLibrary{}}; }
+inline UniqueNodeId node_of(const iox2sd_port_details& port) noexcept { return {port.node, FromLibrary{}}; }
 
 }  // namespace detail
 
@@ -1785,7 +1785,7 @@ struct PublisherDetails {
     }
     UniquePortId port_id() const noexcept { return publisher_id; }
 
-    static PublisherDetails from_c(const iox2sd_port& c) noexcept {
+    static PublisherDetails from_c(const iox2sd_port_details& c) noexcept {
         return {UniquePublisherId(c.port),
                 detail::node_of(c),
                 c.number_of_samples,
@@ -1793,8 +1793,8 @@ struct PublisherDetails {
                 DataSegmentType{c.data_segment},
                 c.max_number_of_segments};
     }
-    iox2sd_port as_c() const noexcept {
-        iox2sd_port c = detail::port(role, publisher_id.parts(), node_id);
+    iox2sd_port_details as_c() const noexcept {
+        iox2sd_port_details c = detail::port(role, publisher_id.parts(), node_id);
         c.number_of_samples = number_of_samples;
         c.max_slice_len = max_slice_len;
         c.data_segment = static_cast<std::uint32_t>(data_segment_type);
@@ -1813,11 +1813,11 @@ struct SubscriberDetails {
     auto fields() const noexcept { return std::tie(subscriber_id, node_id, buffer_size); }
     UniquePortId port_id() const noexcept { return subscriber_id; }
 
-    static SubscriberDetails from_c(const iox2sd_port& c) noexcept {
+    static SubscriberDetails from_c(const iox2sd_port_details& c) noexcept {
         return {UniqueSubscriberId(c.port), detail::node_of(c), c.buffer_size};
     }
-    iox2sd_port as_c() const noexcept {
-        iox2sd_port c = detail::port(role, subscriber_id.parts(), node_id);
+    iox2sd_port_details as_c() const noexcept {
+        iox2sd_port_details c = detail::port(role, subscriber_id.parts(), node_id);
         c.buffer_size = buffer_size;
         return c;
     }
@@ -1832,10 +1832,10 @@ struct NotifierDetails {
     auto fields() const noexcept { return std::tie(notifier_id, node_id); }
     UniquePortId port_id() const noexcept { return notifier_id; }
 
-    static NotifierDetails from_c(const iox2sd_port& c) noexcept {
+    static NotifierDetails from_c(const iox2sd_port_details& c) noexcept {
         return {UniqueNotifierId(c.port), detail::node_of(c)};
     }
-    iox2sd_port as_c() const noexcept { return detail::port(role, notifier_id.parts(), node_id); }
+    iox2sd_port_details as_c() const noexcept { return detail::port(role, notifier_id.parts(), node_id); }
 };
 
 /// What a listener reports of itself.
@@ -1847,10 +1847,10 @@ struct ListenerDetails {
     auto fields() const noexcept { return std::tie(listener_id, node_id); }
     UniquePortId port_id() const noexcept { return listener_id; }
 
-    static ListenerDetails from_c(const iox2sd_port& c) noexcept {
+    static ListenerDetails from_c(const iox2sd_port_details& c) noexcept {
         return {UniqueListenerId(c.port), detail::node_of(c)};
     }
-    iox2sd_port as_c() const noexcept { return detail::port(role, listener_id.parts(), node_id); }
+    iox2sd_port_details as_c() const noexcept { return detail::port(role, listener_id.parts(), node_id); }
 };
 
 /// What a client reports of itself.
@@ -1870,13 +1870,13 @@ struct ClientDetails {
     }
     UniquePortId port_id() const noexcept { return client_id; }
 
-    static ClientDetails from_c(const iox2sd_port& c) noexcept {
+    static ClientDetails from_c(const iox2sd_port_details& c) noexcept {
         return {UniqueClientId(c.port),  detail::node_of(c), c.number_of_requests,
                 c.response_buffer_size,  c.max_slice_len,    DataSegmentType{c.data_segment},
                 c.max_number_of_segments};
     }
-    iox2sd_port as_c() const noexcept {
-        iox2sd_port c = detail::port(role, client_id.parts(), node_id);
+    iox2sd_port_details as_c() const noexcept {
+        iox2sd_port_details c = detail::port(role, client_id.parts(), node_id);
         c.number_of_requests = number_of_requests;
         c.response_buffer_size = response_buffer_size;
         c.max_slice_len = max_slice_len;
@@ -1903,13 +1903,13 @@ struct ServerDetails {
     }
     UniquePortId port_id() const noexcept { return server_id; }
 
-    static ServerDetails from_c(const iox2sd_port& c) noexcept {
+    static ServerDetails from_c(const iox2sd_port_details& c) noexcept {
         return {UniqueServerId(c.port),  detail::node_of(c), c.request_buffer_size,
                 c.number_of_responses,   c.max_slice_len,    DataSegmentType{c.data_segment},
                 c.max_number_of_segments};
     }
-    iox2sd_port as_c() const noexcept {
-        iox2sd_port c = detail::port(role, server_id.parts(), node_id);
+    iox2sd_port_details as_c() const noexcept {
+        iox2sd_port_details c = detail::port(role, server_id.parts(), node_id);
         c.request_buffer_size = request_buffer_size;
         c.number_of_responses = number_of_responses;
         c.max_slice_len = max_slice_len;
@@ -1928,10 +1928,10 @@ struct ReaderDetails {
     auto fields() const noexcept { return std::tie(reader_id, node_id); }
     UniquePortId port_id() const noexcept { return reader_id; }
 
-    static ReaderDetails from_c(const iox2sd_port& c) noexcept {
+    static ReaderDetails from_c(const iox2sd_port_details& c) noexcept {
         return {UniqueReaderId(c.port), detail::node_of(c)};
     }
-    iox2sd_port as_c() const noexcept { return detail::port(role, reader_id.parts(), node_id); }
+    iox2sd_port_details as_c() const noexcept { return detail::port(role, reader_id.parts(), node_id); }
 };
 
 /// What a writer reports of itself.
@@ -1943,10 +1943,10 @@ struct WriterDetails {
     auto fields() const noexcept { return std::tie(writer_id, node_id); }
     UniquePortId port_id() const noexcept { return writer_id; }
 
-    static WriterDetails from_c(const iox2sd_port& c) noexcept {
+    static WriterDetails from_c(const iox2sd_port_details& c) noexcept {
         return {UniqueWriterId(c.port), detail::node_of(c)};
     }
-    iox2sd_port as_c() const noexcept { return detail::port(role, writer_id.parts(), node_id); }
+    iox2sd_port_details as_c() const noexcept { return detail::port(role, writer_id.parts(), node_id); }
 };
 
 /// A port of any kind.
@@ -1963,7 +1963,7 @@ auto visit(Visitor visitor, const PortDetails& details) noexcept {
 }
 
 template <std::size_t Index = 0>
-PortDetails port_details(const iox2sd_port& c) noexcept {
+PortDetails port_details(const iox2sd_port_details& c) noexcept {
     if constexpr (Index == std::variant_size_v<PortDetails>) {
         std::abort();  // The library lists ports of the eight kinds alone.
     } else {
@@ -1973,7 +1973,7 @@ PortDetails port_details(const iox2sd_port& c) noexcept {
     }
 }
 
-inline iox2sd_port as_c(const PortDetails& details) noexcept {
+inline iox2sd_port_details as_c(const PortDetails& details) noexcept {
     return visit([](const auto& port) { return port.as_c(); }, details);
 }
 
@@ -2039,7 +2039,7 @@ enum class DeregisterNodeState {
 };
 
 /// What a death took from a service.
-struct Removal {
+struct DeadNodeRemoval {
     DeregisterNodeState state;
     std::size_t first;   ///< How many publishers, listeners, servers or readers went.
     std::size_t second;  ///< How many subscribers, notifiers, clients or writers went.
@@ -2066,7 +2066,7 @@ public:
                                   std::uint64_t tickets = all_tickets) noexcept {
         Service made;
         const std::uint32_t status =
-            iox2sd_service_make(&made.place_, static_cast<std::uint32_t>(pattern), number,
+            iox2sd_service_create(&made.place_, static_cast<std::uint32_t>(pattern), number,
                                 {capacities.nodes, capacities.first, capacities.second}, tickets);
         if (status != IOX2SD_DONE) return Status{status};
         return made;
@@ -2085,7 +2085,7 @@ public:
 
     /// Registers a node, which may have several handles. Refusals: `IsLocked`; `OutOfSpace`.
     Result<ContainerHandle> register_node_id(const UniqueNodeId& node) noexcept {
-        const iox2sd_handle_answer answer = iox2sd_register(&place_, node.parts());
+        const iox2sd_handle_answer answer = iox2sd_register_node_id(&place_, node.parts());
         return detail::result(answer.status, ContainerHandle::from_c(answer.handle));
     }
 
@@ -2093,7 +2093,7 @@ public:
     /// Refusals: `UnknownRole`; `ForeignHandle`, also for a port's handle; `PortsStillAttached`,
     /// where it is the only handle of its node and some port has that node.
     Result<DeregisterNodeState> deregister_node_id(const ContainerHandle& handle) noexcept {
-        const std::uint32_t status = iox2sd_deregister(&place_, handle.as_c());
+        const std::uint32_t status = iox2sd_deregister_node_id(&place_, handle.as_c());
         if (!is_state(status)) return Status{status};
         return state(status);
     }
@@ -2102,7 +2102,7 @@ public:
     /// Refusals: `UnknownSegment`; `RoleNotInPattern`; `IsLocked`; `NodeNotRegistered`, by the
     /// whole id; `OutOfSpace`.
     Result<ContainerHandle> attach(const PortDetails& details) noexcept {
-        const iox2sd_port port = detail::as_c(details);
+        const iox2sd_port_details port = detail::as_c(details);
         const iox2sd_handle_answer answer = iox2sd_attach(&place_, &port);
         return detail::result(answer.status, ContainerHandle::from_c(answer.handle));
     }
@@ -2110,7 +2110,7 @@ public:
     /// Releases the port with this handle.
     /// Refusals: `UnknownRole`; `ForeignHandle`, also for a node's handle.
     Result<void> release_port(const ContainerHandle& handle) noexcept {
-        return detail::result(iox2sd_release(&place_, handle.as_c()));
+        return detail::result(iox2sd_release_port(&place_, handle.as_c()));
     }
 
     /// Removes those ports of a dead node whose ids are not among `kept`: any range of ids of ports,
@@ -2120,24 +2120,24 @@ public:
     /// Where none of its ports is left, the node goes too, with all its handles.
     /// Refusal: `NoMemory`, before `NoService`; never where nothing is to be kept.
     template <class Range>
-    Result<Removal> remove_dead_node_id(const UniqueNodeId& dead, Range&& kept) noexcept {
+    Result<DeadNodeRemoval> remove_dead_node_id(const UniqueNodeId& dead, Range&& kept) noexcept {
         using std::begin, std::end;
         const auto ids = List<iox2sd_id>::of_range(
             begin(kept), end(kept), [](const UniquePortId& port) { return port.parts(); });
         if (!ids) return ids.error();
-        const iox2sd_death_answer answer =
-            iox2sd_dead(&place_, dead.parts(), ids->data(), ids->size());
+        const iox2sd_dead_node_removal answer =
+            iox2sd_remove_dead_node_id(&place_, dead.parts(), ids->data(), ids->size());
         if (!is_state(answer.status)) return Status{answer.status};
-        return Removal{state(answer.status), answer.first, answer.second};
+        return DeadNodeRemoval{state(answer.status), answer.first, answer.second};
     }
-    Result<Removal> remove_dead_node_id(const UniqueNodeId& dead,
+    Result<DeadNodeRemoval> remove_dead_node_id(const UniqueNodeId& dead,
                                         std::initializer_list<UniquePortId> kept = {}) noexcept {
         return remove_dead_node_id<const std::initializer_list<UniquePortId>&>(dead, kept);
     }
 
     /// The messaging pattern.
     Result<PatternKind> kind() const noexcept {
-        const iox2sd_number_answer answer = iox2sd_pattern(&place_);
+        const iox2sd_number_answer answer = iox2sd_messaging_pattern(&place_);
         return detail::result(answer.status,
                               PatternKind{static_cast<std::uint32_t>(answer.number)});
     }
@@ -2150,7 +2150,7 @@ public:
 
     /// The roles of the pattern's two kinds of ports.
     Result<PortRoles> port_roles() const noexcept {
-        const iox2sd_roles_answer answer = iox2sd_roles(&place_);
+        const iox2sd_roles_answer answer = iox2sd_port_roles(&place_);
         return detail::result(answer.status, PortRoles{Role{answer.first}, Role{answer.second}});
     }
 
@@ -2196,14 +2196,14 @@ public:
     /// The node that was registered with this handle and is still there.
     /// Refusals: `UnknownRole`; `ForeignHandle`, also for a port's handle.
     Result<UniqueNodeId> node(const ContainerHandle& handle) const noexcept {
-        const iox2sd_id_answer answer = iox2sd_find_node(&place_, handle.as_c());
+        const iox2sd_id_answer answer = iox2sd_node(&place_, handle.as_c());
         return detail::result(answer.status, UniqueNodeId(answer.id, detail::FromLibrary{}));
     }
 
     /// The port that was attached with this handle and is still there.
     /// Refusals: `UnknownRole`; `ForeignHandle`, also for a node's handle.
     Result<PortDetails> port(const ContainerHandle& handle) const noexcept {
-        const iox2sd_port_answer answer = iox2sd_find_port(&place_, handle.as_c());
+        const iox2sd_port_answer answer = iox2sd_port(&place_, handle.as_c());
         if (answer.status != IOX2SD_DONE) return Status{answer.status};
         return detail::port_details(answer.port);
     }
@@ -2220,8 +2220,8 @@ public:
     /// The ports of a role by rising slot.
     /// Refusals: `UnknownRole`; `RoleNotInPattern`, also for `Role::Node`; `NoMemory`.
     Result<List<PortDetails>> ports(Role role) const noexcept {
-        return listed<iox2sd_port>(
-            [this, role](iox2sd_port* out, std::size_t capacity) {
+        return listed<iox2sd_port_details>(
+            [this, role](iox2sd_port_details* out, std::size_t capacity) {
                 return iox2sd_ports(&place_, number(role), out, capacity);
             },
             detail::port_details<>);
@@ -2230,8 +2230,8 @@ public:
     /// The ports of a node, with exactly this id, those of the first role first, by rising slot.
     /// Refusals: `TooLarge` for more than 2^64 - 1 ports; `NoMemory`.
     Result<List<PortDetails>> ports_of(const UniqueNodeId& node) const noexcept {
-        return listed<iox2sd_port>(
-            [this, &node](iox2sd_port* out, std::size_t capacity) {
+        return listed<iox2sd_port_details>(
+            [this, &node](iox2sd_port_details* out, std::size_t capacity) {
                 return iox2sd_ports_of(&place_, node.parts(), out, capacity);
             },
             detail::port_details<>);
@@ -2292,8 +2292,8 @@ private:
 
     template <class Details>
     Result<List<Details>> ports_as() const noexcept {
-        return listed<iox2sd_port>(
-            [this](iox2sd_port* out, std::size_t capacity) {
+        return listed<iox2sd_port_details>(
+            [this](iox2sd_port_details* out, std::size_t capacity) {
                 return iox2sd_ports(&place_, number(Details::role), out, capacity);
             },
             Details::from_c);

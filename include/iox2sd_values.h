@@ -45,7 +45,7 @@ iox2sd_place_answer iox2sd_service_name_check(const uint8_t *text, size_t length
 iox2sd_place_answer iox2sd_internal_service_name_check(const uint8_t *text, size_t length);
 
 /* Whether a text begins with "iox2://", as the names of the system's own services do. */
-bool iox2sd_has_internal_prefix(const uint8_t *text, size_t length);
+bool iox2sd_has_iox2_prefix(const uint8_t *text, size_t length);
 
 /* Writes the name of one of the system's own services: "iox2://" and the text.
  * Errors: IOX2SD_NOT_UTF8; IOX2SD_TOO_LONG, for more than 248 bytes; IOX2SD_ILLEGAL_BYTE; IOX2SD_BUFFER_TOO_SHORT. */
@@ -73,16 +73,16 @@ iox2sd_place_answer iox2sd_file_path_check(const uint8_t *text, size_t length);
 
 /* Whether a text is a restricted name of a file, as hash texts are: 1 to 64 letters A to Z and a to z, digits, `-`, `.`, `:`
  * and `_`, and neither "." nor "..". Errors as of the name of a file, with `at` 64 for IOX2SD_TOO_LONG. */
-iox2sd_place_answer iox2sd_restricted_name_check(const uint8_t *text, size_t length);
+iox2sd_place_answer iox2sd_restricted_file_name_check(const uint8_t *text, size_t length);
 
 /* Writes an entry, which is a path too, joined to a path, with one `/` between them unless the path is empty or ends in
  * `/`.
  * Errors: IOX2SD_BAD_PATH; IOX2SD_BAD_ENTRY; IOX2SD_TOO_LONG, past 255 bytes; IOX2SD_BUFFER_TOO_SHORT. */
-iox2sd_text_answer iox2sd_path_join(const uint8_t *path, size_t path_length, const uint8_t *entry, size_t entry_length,
+iox2sd_text_answer iox2sd_path_add_path_entry(const uint8_t *path, size_t path_length, const uint8_t *entry, size_t entry_length,
                                     uint8_t *out, size_t capacity);
 
 /* Writes the path of a file in a directory, joined in the same way. Errors as above. */
-iox2sd_text_answer iox2sd_file_path_join(const uint8_t *path, size_t path_length, const uint8_t *file, size_t file_length,
+iox2sd_text_answer iox2sd_file_path_from_path_and_file(const uint8_t *path, size_t path_length, const uint8_t *file, size_t file_length,
                                          uint8_t *out, size_t capacity);
 
 /* Writes the hash text of a service's pattern and name, under which its files are found: 27 bytes.
@@ -114,9 +114,9 @@ typedef struct iox2sd_key {
  * report IOX2SD_NULL. */
 iox2sd_place_answer iox2sd_attributes_check_at(const iox2sd_attribute *pairs, size_t length);
 iox2sd_place_answer iox2sd_attributes_sort_at(iox2sd_attribute *pairs, size_t length);
-iox2sd_count_answer iox2sd_attribute_values_at(const iox2sd_attribute *pairs, size_t length, const uint8_t *key,
+iox2sd_count_answer iox2sd_attributes_number_of_key_values_at(const iox2sd_attribute *pairs, size_t length, const uint8_t *key,
                                                size_t key_length);
-iox2sd_text_answer iox2sd_attribute_value_at(const iox2sd_attribute *pairs, size_t length, const uint8_t *key,
+iox2sd_text_answer iox2sd_attributes_key_value_at(const iox2sd_attribute *pairs, size_t length, const uint8_t *key,
                                              size_t key_length, size_t index, uint8_t *out, size_t capacity);
 iox2sd_place_answer iox2sd_attributes_verify_at(const iox2sd_attribute *pairs, size_t length,
                                                 const iox2sd_attribute *required, size_t required_length,
@@ -140,22 +140,22 @@ static inline iox2sd_place_answer iox2sd_attributes_sort(iox2sd_attribute *pairs
 }
 
 /* How many values a key has in a set. Errors: those of iox2sd_attributes_check, without a place; IOX2SD_BAD_ASKED_KEY. */
-static inline iox2sd_count_answer iox2sd_attribute_values(const iox2sd_attribute *pairs, size_t length,
+static inline iox2sd_count_answer iox2sd_attributes_number_of_key_values(const iox2sd_attribute *pairs, size_t length,
                                                           const uint8_t *key, size_t key_length) {
     iox2sd_count_answer refused = {IOX2SD_NULL, 0};
     if (pairs == NULL && length != 0) return refused;
-    return iox2sd_attribute_values_at(pairs, length, key, key_length);
+    return iox2sd_attributes_number_of_key_values_at(pairs, length, key, key_length);
 }
 
 /* Writes the value at `index`, counted from 0, of the values that a key has in a set, by their bytes from the least.
  * Errors: those of iox2sd_attributes_check, without a place; IOX2SD_BAD_ASKED_KEY; IOX2SD_NO_SUCH_VALUE;
  * IOX2SD_BUFFER_TOO_SHORT. */
-static inline iox2sd_text_answer iox2sd_attribute_value(const iox2sd_attribute *pairs, size_t length,
+static inline iox2sd_text_answer iox2sd_attributes_key_value(const iox2sd_attribute *pairs, size_t length,
                                                         const uint8_t *key, size_t key_length, size_t index,
                                                         uint8_t *out, size_t capacity) {
     iox2sd_text_answer refused = {IOX2SD_NULL, 0};
     if (pairs == NULL && length != 0) return refused;
-    return iox2sd_attribute_value_at(pairs, length, key, key_length, index, out, capacity);
+    return iox2sd_attributes_key_value_at(pairs, length, key, key_length, index, out, capacity);
 }
 
 /* Whether a set has each required pair, and for each required key some pair with it.
@@ -233,16 +233,16 @@ typedef struct iox2sd_part_answer {
 } iox2sd_part_answer;
 
 /* The functions that end in `_at` take a pointer and a count of 0 for NULL or 1; call those below them. */
-iox2sd_layout_answer iox2sd_message_layout_at(const iox2sd_message_details *details, size_t count, size_t elements);
+iox2sd_layout_answer iox2sd_message_sample_layout_at(const iox2sd_message_details *details, size_t count, size_t elements);
 iox2sd_places_answer iox2sd_message_places_at(const iox2sd_message_details *details, size_t count, size_t header);
-iox2sd_part_answer iox2sd_message_compatible_at(const iox2sd_message_details *opener, size_t opener_count,
+iox2sd_part_answer iox2sd_message_is_compatible_to_at(const iox2sd_message_details *opener, size_t opener_count,
                                                 const iox2sd_message_details *service, size_t service_count);
 
 /* The layout of a message whose payload has so many elements. All parts lie in it, apart and aligned, for the service and
  * for every compatible opener. Names and variants are ignored.
  * Errors: IOX2SD_NULL; IOX2SD_BAD_ALIGNMENT; IOX2SD_TOO_LARGE past 2^63 - 1 bytes. */
-static inline iox2sd_layout_answer iox2sd_message_layout(const iox2sd_message_details *details, size_t elements) {
-    return iox2sd_message_layout_at(details, details != NULL, elements);
+static inline iox2sd_layout_answer iox2sd_message_sample_layout(const iox2sd_message_details *details, size_t elements) {
+    return iox2sd_message_sample_layout_at(details, details != NULL, elements);
 }
 
 /* The places of user header and payload in a message whose header is at the place `header`. They are numbers: nothing
@@ -258,22 +258,22 @@ static inline iox2sd_places_answer iox2sd_message_places(const iox2sd_message_de
  * type, the opener's before the service's: IOX2SD_UNKNOWN_VARIANT; IOX2SD_NOT_UTF8, IOX2SD_TOO_LONG, IOX2SD_ILLEGAL_BYTE of
  * its name; IOX2SD_BAD_ALIGNMENT; and of the first part that keeps the opener out: IOX2SD_OTHER_NAME; IOX2SD_OTHER_VARIANT;
  * IOX2SD_OTHER_SIZE; IOX2SD_OTHER_ALIGNMENT of the header; IOX2SD_GREATER_ALIGNMENT of another part. */
-static inline iox2sd_part_answer iox2sd_message_compatible(const iox2sd_message_details *opener,
+static inline iox2sd_part_answer iox2sd_message_is_compatible_to(const iox2sd_message_details *opener,
                                                            const iox2sd_message_details *service) {
-    return iox2sd_message_compatible_at(opener, opener != NULL, service, service != NULL);
+    return iox2sd_message_is_compatible_to_at(opener, opener != NULL, service, service != NULL);
 }
 
 /* The greatest number of one publisher's samples that can be in use at once. Error: IOX2SD_TOO_LARGE past 2^64 - 1. */
-iox2sd_count_answer iox2sd_publisher_chunks(size_t max_subscribers, size_t subscriber_max_buffer_size,
+iox2sd_count_answer iox2sd_required_amount_of_samples_per_data_segment(size_t max_subscribers, size_t subscriber_max_buffer_size,
                                             size_t subscriber_max_borrowed_samples, size_t history_size,
                                             size_t loaned_samples);
 
 /* The greatest number of one client's requests that can be in use at once. Error: IOX2SD_TOO_LARGE past 2^64 - 1. */
-iox2sd_count_answer iox2sd_client_chunks(size_t max_servers, size_t max_active_requests_per_client,
+iox2sd_count_answer iox2sd_required_amount_of_chunks_per_client_data_segment(size_t max_servers, size_t max_active_requests_per_client,
                                          size_t loaned_requests);
 
 /* The greatest number of one server's responses that can be in use at once. Error: IOX2SD_TOO_LARGE past 2^64 - 1. */
-iox2sd_count_answer iox2sd_server_chunks(size_t max_clients, size_t max_active_requests_per_client,
+iox2sd_count_answer iox2sd_required_amount_of_chunks_per_server_data_segment(size_t max_clients, size_t max_active_requests_per_client,
                                          size_t max_response_buffer_size,
                                          size_t max_borrowed_responses_per_pending_response, size_t loaned_responses);
 
@@ -482,10 +482,10 @@ iox2sd_text_answer iox2sd_default_text(uint32_t which, uint8_t *out, size_t capa
 
 /* Writes the directory of services below a root path.
  * Errors: IOX2SD_BAD_PATH; IOX2SD_TOO_LONG, past 255 bytes; IOX2SD_BUFFER_TOO_SHORT. */
-iox2sd_text_answer iox2sd_service_directory(const uint8_t *root, size_t length, uint8_t *out, size_t capacity);
+iox2sd_text_answer iox2sd_service_dir(const uint8_t *root, size_t length, uint8_t *out, size_t capacity);
 
 /* Writes the directory of nodes below a root path. Errors as above. */
-iox2sd_text_answer iox2sd_node_directory(const uint8_t *root, size_t length, uint8_t *out, size_t capacity);
+iox2sd_text_answer iox2sd_node_dir(const uint8_t *root, size_t length, uint8_t *out, size_t capacity);
 
 /* ---- Descriptions ---- */
 

@@ -22,8 +22,8 @@ static void want(const char *name, size_t size, uint32_t status) {
 static void make(size_t size, iox2sd_capacities most) {
     for (uint32_t pattern = IOX2SD_PUBLISH_SUBSCRIBE; pattern <= IOX2SD_BLACKBOARD; pattern++) {
         iox2sd_service service = IOX2SD_SERVICE_NONE;
-        want("iox2sd_service_make", size,
-             iox2sd_service_make(&service, pattern, 7, most, UINT64_MAX));
+        want("iox2sd_service_create", size,
+             iox2sd_service_create(&service, pattern, 7, most, UINT64_MAX));
         want("iox2sd_service_free", size, iox2sd_service_free(&service));
     }
 }
@@ -33,10 +33,10 @@ static void nodes(size_t size, iox2sd_id *out) {
     iox2sd_service service = IOX2SD_SERVICE_NONE;
     iox2sd_capacities most = {size, 1, 1};
     iox2sd_id node = {1, 0, 0, 1};
-    want("iox2sd_service_make", size,
-         iox2sd_service_make(&service, IOX2SD_EVENT, 7, most, UINT64_MAX));
+    want("iox2sd_service_create", size,
+         iox2sd_service_create(&service, IOX2SD_EVENT, 7, most, UINT64_MAX));
     for (size_t times = 0; times < size; times++)
-        want("iox2sd_register", times, iox2sd_register(&service, node).status);
+        want("iox2sd_register_node_id", times, iox2sd_register_node_id(&service, node).status);
     want("iox2sd_nodes", size, iox2sd_nodes(&service, out, size).status);
     want("iox2sd_service_free", size, iox2sd_service_free(&service));
 }

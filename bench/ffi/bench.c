@@ -46,8 +46,8 @@ static iox2sd_id id(uint32_t counter) {
     return made;
 }
 
-static iox2sd_port port(uint64_t role, uint32_t counter, iox2sd_id node) {
-    iox2sd_port made = {0};
+static iox2sd_port_details port(uint64_t role, uint32_t counter, iox2sd_id node) {
+    iox2sd_port_details made = {0};
     made.role = role;
     made.port = id(counter);
     made.node = node;
@@ -64,29 +64,29 @@ static iox2sd_handle given(iox2sd_handle_answer answer) {
 static void fill(iox2sd_service *service, size_t nodes, size_t subscribers) {
     iox2sd_publish_subscribe_settings room = iox2sd_publish_subscribe_defaults();
     iox2sd_capacities most = {room.max_nodes, room.max_publishers, room.max_subscribers};
-    done(iox2sd_service_make(service, IOX2SD_PUBLISH_SUBSCRIBE, 7, most, UINT64_MAX));
-    for (uint32_t i = 0; i < nodes; i++) given(iox2sd_register(service, id(1 + i)));
+    done(iox2sd_service_create(service, IOX2SD_PUBLISH_SUBSCRIBE, 7, most, UINT64_MAX));
+    for (uint32_t i = 0; i < nodes; i++) given(iox2sd_register_node_id(service, id(1 + i)));
     for (uint32_t i = 0; i < subscribers; i++) {
-        iox2sd_port its = port(IOX2SD_SUBSCRIBER, i, id(1));
+        iox2sd_port_details its = port(IOX2SD_SUBSCRIBER, i, id(1));
         given(iox2sd_attach(service, &its));
     }
 }
 
 static void services(void) {
     iox2sd_service service = IOX2SD_SERVICE_NONE;
-    iox2sd_port out[8], its = port(IOX2SD_PUBLISHER, 50, id(1));
+    iox2sd_port_details out[8], its = port(IOX2SD_PUBLISHER, 50, id(1));
     TIME("make and free", "", FEWER_CALLS, 2,
          fill(&service, 0, 0);
          sink += done(iox2sd_service_free(&service)));
     fill(&service, 1, 0);
     TIME("register, deregister; 1 node stands", "20", CALLS, 2,
-         sink += done(iox2sd_deregister(&service, given(iox2sd_register(&service, id(99))))));
+         sink += done(iox2sd_deregister_node_id(&service, given(iox2sd_register_node_id(&service, id(99))))));
     done(iox2sd_service_free(&service));
     fill(&service, 19, 8);
     TIME("register, deregister; 19 nodes and 8 ports", "20", CALLS, 2,
-         sink += done(iox2sd_deregister(&service, given(iox2sd_register(&service, id(99))))));
+         sink += done(iox2sd_deregister_node_id(&service, given(iox2sd_register_node_id(&service, id(99))))));
     TIME("attach, release; 19 nodes and 8 ports", "", CALLS, 2,
-         sink += done(iox2sd_release(&service, given(iox2sd_attach(&service, &its)))));
+         sink += done(iox2sd_release_port(&service, given(iox2sd_attach(&service, &its)))));
     TIME("list of 8 ports of a role", "60", CALLS, 1,
          sink += done(iox2sd_ports(&service, IOX2SD_SUBSCRIBER, out, 8).status));
     TIME("list of 8 ports of a node", "", CALLS, 1,
@@ -121,11 +121,11 @@ static void values(void) {
         asked[i].length = pairs[i].key_length;
     }
     TIME("layout of a message", "20", CALLS, 1,
-         sink += iox2sd_message_layout(&details, i & 1023).size);
+         sink += iox2sd_message_sample_layout(&details, i & 1023).size);
     TIME("places in a message", "20", CALLS, 1,
          sink += iox2sd_message_places(&details, i * 8).payload);
     TIME("compatible messages", "", FEWER_CALLS, 1,
-         sink += done(iox2sd_message_compatible(&details, &details).status));
+         sink += done(iox2sd_message_is_compatible_to(&details, &details).status));
     TIME("hash text", "", FEWER_CALLS, 1,
          sink += done(iox2sd_hash_text(IOX2SD_EVENT, (const uint8_t *)"My/Service", 10, out,
                                        sizeof out).status));

@@ -14,10 +14,10 @@ static bool at(iox2sd_place_answer answer, uint32_t status, size_t place) {
 /* Whether each call that takes a handle refuses this one, and leaves the service as it is. */
 static bool stands_for_nothing(iox2sd_service *service, iox2sd_handle handle) {
     size_t nodes = iox2sd_number_of_nodes(service).count;
-    return iox2sd_deregister(service, handle) == IOX2SD_UNKNOWN_ROLE &&
-           iox2sd_release(service, handle) == IOX2SD_UNKNOWN_ROLE &&
-           iox2sd_find_node(service, handle).status == IOX2SD_UNKNOWN_ROLE &&
-           iox2sd_find_port(service, handle).status == IOX2SD_UNKNOWN_ROLE &&
+    return iox2sd_deregister_node_id(service, handle) == IOX2SD_UNKNOWN_ROLE &&
+           iox2sd_release_port(service, handle) == IOX2SD_UNKNOWN_ROLE &&
+           iox2sd_node(service, handle).status == IOX2SD_UNKNOWN_ROLE &&
+           iox2sd_port(service, handle).status == IOX2SD_UNKNOWN_ROLE &&
            iox2sd_number_of_nodes(service).count == nodes;
 }
 
@@ -31,16 +31,16 @@ static bool refuses(iox2sd_service *service, iox2sd_handle_answer answer, uint32
 static void refused_handles(void) {
     iox2sd_service service = IOX2SD_SERVICE_NONE, none = IOX2SD_SERVICE_NONE;
     const iox2sd_id node = id(1, 2, 3, 4);
-    iox2sd_port port;
+    iox2sd_port_details port;
     memset(&port, 0, sizeof port);
-    CHECK(iox2sd_service_make(&service, IOX2SD_EVENT, 0, capacities(1, 1, 0), 99) == IOX2SD_DONE);
-    iox2sd_handle first = iox2sd_register(&service, node).handle;
+    CHECK(iox2sd_service_create(&service, IOX2SD_EVENT, 0, capacities(1, 1, 0), 99) == IOX2SD_DONE);
+    iox2sd_handle first = iox2sd_register_node_id(&service, node).handle;
     CHECK(first.service == 0 && first.role == 0 && first.slot == 0 && first.ticket == 0);
 
-    CHECK(refuses(&service, iox2sd_register(NULL, node), IOX2SD_NULL));
-    CHECK(refuses(&service, iox2sd_register(&none, node), IOX2SD_NO_SERVICE));
-    CHECK(refuses(&service, iox2sd_register(&service, id(0, 1, 1, 0)), IOX2SD_NO_NODE));
-    CHECK(refuses(&service, iox2sd_register(&service, node), IOX2SD_OUT_OF_SPACE));
+    CHECK(refuses(&service, iox2sd_register_node_id(NULL, node), IOX2SD_NULL));
+    CHECK(refuses(&service, iox2sd_register_node_id(&none, node), IOX2SD_NO_SERVICE));
+    CHECK(refuses(&service, iox2sd_register_node_id(&service, id(0, 1, 1, 0)), IOX2SD_NO_NODE));
+    CHECK(refuses(&service, iox2sd_register_node_id(&service, node), IOX2SD_OUT_OF_SPACE));
 
     CHECK(refuses(&service, iox2sd_attach(&service, NULL), IOX2SD_NULL));
     CHECK(refuses(&service, iox2sd_attach(NULL, &port), IOX2SD_NULL));
@@ -65,8 +65,8 @@ static void refused_handles(void) {
     CHECK(iox2sd_has_room(&service, IOX2SD_NO_ROLE).status == IOX2SD_UNKNOWN_ROLE);
     CHECK(iox2sd_ports(&service, IOX2SD_NO_ROLE, NULL, 0).status == IOX2SD_UNKNOWN_ROLE);
 
-    CHECK(iox2sd_deregister(&service, first) == IOX2SD_DONE_LOCKED);
-    CHECK(refuses(&service, iox2sd_register(&service, node), IOX2SD_IS_LOCKED));
+    CHECK(iox2sd_deregister_node_id(&service, first) == IOX2SD_DONE_LOCKED);
+    CHECK(refuses(&service, iox2sd_register_node_id(&service, node), IOX2SD_IS_LOCKED));
     CHECK(refuses(&service, iox2sd_attach(&service, &port), IOX2SD_IS_LOCKED));
     CHECK(iox2sd_service_free(&service) == IOX2SD_DONE);
 }
@@ -113,21 +113,21 @@ static void arrays_of_null(void) {
     iox2sd_id node = id(1, 2, 3, 4);
     iox2sd_service none = IOX2SD_SERVICE_NONE;
     uint8_t out[4] = {9, 9, 9, 9};
-    iox2sd_text_answer text = iox2sd_attribute_value(NULL, 3, &a, 1, 0, out, sizeof out);
+    iox2sd_text_answer text = iox2sd_attributes_key_value(NULL, 3, &a, 1, 0, out, sizeof out);
     CHECK(at(iox2sd_attributes_check(NULL, 3), IOX2SD_NULL, 0));
     CHECK(at(iox2sd_attributes_check(NULL, SIZE_MAX), IOX2SD_NULL, 0));
     CHECK(at(iox2sd_attributes_check(NULL, 0), IOX2SD_DONE, 0));
     CHECK(at(iox2sd_attributes_sort(NULL, 3), IOX2SD_NULL, 0));
     CHECK(at(iox2sd_attributes_sort(NULL, 0), IOX2SD_DONE, 0));
-    CHECK(iox2sd_attribute_values(NULL, 3, &a, 1).status == IOX2SD_NULL);
-    CHECK(iox2sd_attribute_values(NULL, 0, &a, 1).status == IOX2SD_DONE);
+    CHECK(iox2sd_attributes_number_of_key_values(NULL, 3, &a, 1).status == IOX2SD_NULL);
+    CHECK(iox2sd_attributes_number_of_key_values(NULL, 0, &a, 1).status == IOX2SD_DONE);
     CHECK(text.status == IOX2SD_NULL && text.length == 0 && out[0] == 9);
-    CHECK(iox2sd_attribute_value(NULL, 0, &a, 1, 0, out, 4).status == IOX2SD_NO_SUCH_VALUE);
+    CHECK(iox2sd_attributes_key_value(NULL, 0, &a, 1, 0, out, 4).status == IOX2SD_NO_SUCH_VALUE);
     CHECK(at(iox2sd_attributes_verify(NULL, 3, &pair, 1, &key, 1), IOX2SD_NULL, 0));
     CHECK(at(iox2sd_attributes_verify(&pair, 1, NULL, 3, &key, 1), IOX2SD_NULL, 0));
     CHECK(at(iox2sd_attributes_verify(&pair, 1, &pair, 1, NULL, 3), IOX2SD_NULL, 0));
     CHECK(at(iox2sd_attributes_verify(&pair, 1, NULL, 0, NULL, 0), IOX2SD_DONE, 0));
-    CHECK(iox2sd_dead(&none, node, NULL, 1).status == IOX2SD_NULL);
+    CHECK(iox2sd_remove_dead_node_id(&none, node, NULL, 1).status == IOX2SD_NULL);
     CHECK(iox2sd_nodes(&none, NULL, 1).status == IOX2SD_NULL);
     CHECK(iox2sd_ports(&none, IOX2SD_READER, NULL, 1).status == IOX2SD_NULL);
     CHECK(iox2sd_ports_of(&none, node, NULL, 1).status == IOX2SD_NULL);

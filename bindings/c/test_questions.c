@@ -88,10 +88,10 @@ static iox2sd_handle handle_of(iox2sd_handle_answer answer) {
 static void fill(iox2sd_service *service, uint32_t pattern) {
     size_t made = 0;
     for (size_t i = 0; i < NODES; i++) {
-        handles[made++] = handle_of(iox2sd_register(service, node_id(i)));
+        handles[made++] = handle_of(iox2sd_register_node_id(service, node_id(i)));
     }
     for (size_t i = 0; i < FIRST + SECOND; i++) {
-        iox2sd_port port;
+        iox2sd_port_details port;
         memset(&port, 0, sizeof port);
         port.role = i < FIRST ? first_role[pattern] : second_role[pattern];
         port.port = id(7, 7, 7, (uint32_t)i);
@@ -117,13 +117,13 @@ static iox2sd_service *made(uint32_t pattern, enum state state) {
     }
     handles[HANDLES - 1].role = IOX2SD_NODE;
     if (state == NONE) return service;
-    CHECK(iox2sd_service_make(service, pattern, 5, capacities(NODES, FIRST, SECOND), 99) ==
+    CHECK(iox2sd_service_create(service, pattern, 5, capacities(NODES, FIRST, SECOND), 99) ==
           IOX2SD_DONE);
     CHECK(used > STEP);
     if (state == FULL) fill(service, pattern);
     if (state == LOCKED) {
-        iox2sd_handle handle = handle_of(iox2sd_register(service, node_id(0)));
-        CHECK(iox2sd_deregister(service, handle) == IOX2SD_DONE_LOCKED);
+        iox2sd_handle handle = handle_of(iox2sd_register_node_id(service, node_id(0)));
+        CHECK(iox2sd_deregister_node_id(service, handle) == IOX2SD_DONE_LOCKED);
     }
     return service;
 }
@@ -139,7 +139,7 @@ static uint64_t with_id(uint64_t sum, iox2sd_id id) {
     return with(with(sum, id.nanoseconds), id.counter);
 }
 
-static uint64_t with_port(uint64_t sum, const iox2sd_port *port) {
+static uint64_t with_port(uint64_t sum, const iox2sd_port_details *port) {
     sum = with_id(with_id(with(sum, port->role), port->port), port->node);
     sum = with(with(sum, port->number_of_samples), port->buffer_size);
     sum = with(with(sum, port->request_buffer_size), port->number_of_responses);
@@ -160,7 +160,7 @@ static uint64_t with_number(uint64_t sum, iox2sd_number_answer answer) {
     return with(with(sum, answer.status), answer.number);
 }
 
-static uint64_t with_ports(uint64_t sum, iox2sd_count_answer answer, const iox2sd_port *ports) {
+static uint64_t with_ports(uint64_t sum, iox2sd_count_answer answer, const iox2sd_port_details *ports) {
     sum = with_count(sum, answer);
     for (size_t i = 0; answer.status == IOX2SD_DONE && i < answer.count; i++) {
         sum = with_port(sum, &ports[i]);
@@ -169,7 +169,7 @@ static uint64_t with_ports(uint64_t sum, iox2sd_count_answer answer, const iox2s
 }
 
 static uint64_t with_role(uint64_t sum, const iox2sd_service *service, uint64_t role) {
-    iox2sd_port out[FIRST];
+    iox2sd_port_details out[FIRST];
     sum = with_flag(sum, iox2sd_has_role(service, role));
     sum = with_count(sum, iox2sd_count_ports(service, role));
     sum = with_count(sum, iox2sd_max_ports(service, role));
@@ -179,18 +179,18 @@ static uint64_t with_role(uint64_t sum, const iox2sd_service *service, uint64_t 
 }
 
 static uint64_t with_handle(uint64_t sum, const iox2sd_service *service, iox2sd_handle handle) {
-    iox2sd_id_answer node = iox2sd_find_node(service, handle);
-    iox2sd_port_answer port = iox2sd_find_port(service, handle);
+    iox2sd_id_answer node = iox2sd_node(service, handle);
+    iox2sd_port_answer port = iox2sd_port(service, handle);
     sum = with_id(with(sum, node.status), node.id);
     return with_port(with(sum, port.status), &port.port);
 }
 
 static uint64_t asked(const iox2sd_service *service) {
     iox2sd_id ids[NODES];
-    iox2sd_port ports[FIRST + SECOND];
-    iox2sd_roles_answer roles = iox2sd_roles(service);
+    iox2sd_port_details ports[FIRST + SECOND];
+    iox2sd_roles_answer roles = iox2sd_port_roles(service);
     uint64_t sum = with(with(with(0, roles.status), roles.first), roles.second);
-    sum = with_number(sum, iox2sd_pattern(service));
+    sum = with_number(sum, iox2sd_messaging_pattern(service));
     sum = with_number(sum, iox2sd_service_number(service));
     sum = with_flag(sum, iox2sd_is_locked(service));
     sum = with_count(sum, iox2sd_number_of_nodes(service));
@@ -218,7 +218,7 @@ static void answers_are_right(const iox2sd_service *service, uint32_t pattern, e
     uint32_t status = state == NONE ? IOX2SD_NO_SERVICE : IOX2SD_DONE;
     bool is_full = state == FULL;
     uint64_t first = first_role[pattern], second = second_role[pattern];
-    iox2sd_number_answer kind = iox2sd_pattern(service);
+    iox2sd_number_answer kind = iox2sd_messaging_pattern(service);
     CHECK(kind.status == status && kind.number == (state == NONE ? 0 : pattern));
     CHECK(iox2sd_service_number(service).number == (state == NONE ? 0 : 5));
     CHECK(iox2sd_is_locked(service).yes == (state == LOCKED));
@@ -228,9 +228,9 @@ static void answers_are_right(const iox2sd_service *service, uint32_t pattern, e
     CHECK(iox2sd_count_ports(service, second).count == (is_full ? SECOND : 0));
     CHECK(iox2sd_ports_of(service, node_id(0), NULL, 0).count == (is_full ? 3 : 0));
     for (size_t i = 0; i < HANDLES; i++) {
-        CHECK((iox2sd_find_node(service, handles[i]).status == IOX2SD_DONE) ==
+        CHECK((iox2sd_node(service, handles[i]).status == IOX2SD_DONE) ==
               (is_full && i < NODES));
-        CHECK((iox2sd_find_port(service, handles[i]).status == IOX2SD_DONE) ==
+        CHECK((iox2sd_port(service, handles[i]).status == IOX2SD_DONE) ==
               (is_full && NODES <= i && i < NODES + FIRST + SECOND));
     }
 }
@@ -241,7 +241,7 @@ static bool change_is_stopped(iox2sd_service *service) {
     pid_t child = fork();
     if (child == 0) {
         signal(SIGSEGV, SIG_DFL);
-        _exit(iox2sd_register(service, node_id(0)).status == IOX2SD_DONE ? 0 : 1);
+        _exit(iox2sd_register_node_id(service, node_id(0)).status == IOX2SD_DONE ? 0 : 1);
     }
     return child > 0 && waitpid(child, &status, 0) == child && WIFSIGNALED(status) &&
            WTERMSIG(status) == SIGSEGV;

@@ -45,12 +45,12 @@ static bool finds(iox2sd_id_answer answer, uint32_t status, iox2sd_id wanted) {
     return answer.status == status && memcmp(&answer.id, &wanted, sizeof wanted) == 0;
 }
 
-static bool went(iox2sd_death_answer answer, uint32_t status, size_t first, size_t second) {
+static bool went(iox2sd_dead_node_removal answer, uint32_t status, size_t first, size_t second) {
     return answer.status == status && answer.first == first && answer.second == second;
 }
 
-static iox2sd_port port(uint64_t role, iox2sd_id its, iox2sd_id node) {
-    iox2sd_port made;
+static iox2sd_port_details port(uint64_t role, iox2sd_id its, iox2sd_id node) {
+    iox2sd_port_details made;
     memset(&made, 0, sizeof made);
     made.role = role;
     made.port = its;
@@ -58,7 +58,7 @@ static iox2sd_port port(uint64_t role, iox2sd_id its, iox2sd_id node) {
     return made;
 }
 
-static bool same_port(const iox2sd_port *a, const iox2sd_port *b) {
+static bool same_port(const iox2sd_port_details *a, const iox2sd_port_details *b) {
     return a->role == b->role && same_id(a->port, b->port) && same_id(a->node, b->node) &&
            a->number_of_samples == b->number_of_samples && a->buffer_size == b->buffer_size &&
            a->request_buffer_size == b->request_buffer_size && a->number_of_responses == b->number_of_responses &&
@@ -114,8 +114,8 @@ static void ids(void) {
     uint8_t out[33];
     CHECK(iox2sd_id_is_node(a) && iox2sd_id_is_node(id(1, 0, 0, 0)) && iox2sd_id_is_node(id(0, 0, 0, 1)));
     CHECK(!iox2sd_id_is_node(id(0, 5, 6, 0)));
-    CHECK(iox2sd_id_owner(a) == 0x100000004u && iox2sd_id_owner(id(0, 5, 6, 0)) == 0);
-    CHECK(iox2sd_id_owner(most) == UINT64_MAX);
+    CHECK(iox2sd_id_owner_id(a) == 0x100000004u && iox2sd_id_owner_id(id(0, 5, 6, 0)) == 0);
+    CHECK(iox2sd_id_owner_id(most) == UINT64_MAX);
     CHECK(iox2sd_id_is_before(a, id(2, 0, 0, 0)) && !iox2sd_id_is_before(id(2, 0, 0, 0), a));
     CHECK(iox2sd_id_is_before(a, id(1, 3, 0, 0)) && iox2sd_id_is_before(a, id(1, 2, 4, 0)));
     CHECK(iox2sd_id_is_before(a, id(1, 2, 3, 5)) && !iox2sd_id_is_before(a, a));
@@ -131,17 +131,17 @@ static void null_and_empty_places(void) {
     iox2sd_service none = IOX2SD_SERVICE_NONE;
     iox2sd_id node = id(1, 2, 3, 4);
     iox2sd_handle some = handle(5, 0, 6, 7);
-    iox2sd_port its = port(IOX2SD_PUBLISHER, id(9, 9, 9, 9), node);
-    CHECK(iox2sd_service_make(NULL, IOX2SD_EVENT, 5, capacities(2, 3, 4), 9) == IOX2SD_NULL);
+    iox2sd_port_details its = port(IOX2SD_PUBLISHER, id(9, 9, 9, 9), node);
+    CHECK(iox2sd_service_create(NULL, IOX2SD_EVENT, 5, capacities(2, 3, 4), 9) == IOX2SD_NULL);
     CHECK(iox2sd_service_free(NULL) == IOX2SD_NULL);
-    CHECK(refuses(iox2sd_register(NULL, node), IOX2SD_NULL));
-    CHECK(iox2sd_deregister(NULL, some) == IOX2SD_NULL);
+    CHECK(refuses(iox2sd_register_node_id(NULL, node), IOX2SD_NULL));
+    CHECK(iox2sd_deregister_node_id(NULL, some) == IOX2SD_NULL);
     CHECK(refuses(iox2sd_attach(NULL, &its), IOX2SD_NULL));
     CHECK(refuses(iox2sd_attach(&none, NULL), IOX2SD_NULL));
     CHECK(refuses(iox2sd_attach(NULL, NULL), IOX2SD_NULL));
-    CHECK(iox2sd_release(NULL, some) == IOX2SD_NULL);
-    CHECK(went(iox2sd_dead(NULL, node, NULL, 0), IOX2SD_NULL, 0, 0));
-    CHECK(went(iox2sd_dead(&none, node, NULL, 1), IOX2SD_NULL, 0, 0));
+    CHECK(iox2sd_release_port(NULL, some) == IOX2SD_NULL);
+    CHECK(went(iox2sd_remove_dead_node_id(NULL, node, NULL, 0), IOX2SD_NULL, 0, 0));
+    CHECK(went(iox2sd_remove_dead_node_id(&none, node, NULL, 1), IOX2SD_NULL, 0, 0));
     CHECK(counts(iox2sd_ports(NULL, IOX2SD_PUBLISHER, NULL, 0), IOX2SD_NULL, 0));
     CHECK(counts(iox2sd_ports(&none, IOX2SD_PUBLISHER, NULL, 1), IOX2SD_NULL, 0));
     CHECK(counts(iox2sd_ports_of(NULL, id(0, 1, 1, 0), NULL, 0), IOX2SD_NULL, 0));
@@ -149,9 +149,9 @@ static void null_and_empty_places(void) {
     iox2sd_service *places[] = {NULL, &none};
     uint32_t wanted[] = {IOX2SD_NULL, IOX2SD_NO_SERVICE};
     for (size_t i = 0; i < 2; i++) {
-        CHECK(tells(iox2sd_pattern(places[i]), wanted[i], 0));
+        CHECK(tells(iox2sd_messaging_pattern(places[i]), wanted[i], 0));
         CHECK(tells(iox2sd_service_number(places[i]), wanted[i], 0));
-        iox2sd_roles_answer roles = iox2sd_roles(places[i]);
+        iox2sd_roles_answer roles = iox2sd_port_roles(places[i]);
         CHECK(roles.status == wanted[i] && roles.first == 0 && roles.second == 0);
         CHECK(says(iox2sd_has_role(places[i], 99), wanted[i], false));
         CHECK(says(iox2sd_is_locked(places[i]), wanted[i], false));
@@ -161,33 +161,33 @@ static void null_and_empty_places(void) {
         CHECK(counts(iox2sd_count_ports(places[i], 99), wanted[i], 0));
         CHECK(counts(iox2sd_max_ports(places[i], 99), wanted[i], 0));
         CHECK(says(iox2sd_has_room(places[i], 99), wanted[i], false));
-        CHECK(finds(iox2sd_find_node(places[i], handle(5, 99, 6, 7)), wanted[i], id(0, 0, 0, 0)));
-        iox2sd_port_answer found = iox2sd_find_port(places[i], handle(5, 99, 6, 7));
-        iox2sd_port zero = port(0, id(0, 0, 0, 0), id(0, 0, 0, 0));
+        CHECK(finds(iox2sd_node(places[i], handle(5, 99, 6, 7)), wanted[i], id(0, 0, 0, 0)));
+        iox2sd_port_answer found = iox2sd_port(places[i], handle(5, 99, 6, 7));
+        iox2sd_port_details zero = port(0, id(0, 0, 0, 0), id(0, 0, 0, 0));
         CHECK(found.status == wanted[i] && same_port(&found.port, &zero));
         CHECK(counts(iox2sd_nodes(places[i], NULL, 0), wanted[i], 0));
     }
     CHECK(counts(iox2sd_nodes(&none, NULL, 1), IOX2SD_NULL, 0));
     CHECK(iox2sd_service_free(&none) == IOX2SD_NO_SERVICE);
-    CHECK(refuses(iox2sd_register(&none, id(0, 1, 1, 0)), IOX2SD_NO_SERVICE));
-    CHECK(iox2sd_deregister(&none, handle(5, 99, 6, 7)) == IOX2SD_NO_SERVICE);
+    CHECK(refuses(iox2sd_register_node_id(&none, id(0, 1, 1, 0)), IOX2SD_NO_SERVICE));
+    CHECK(iox2sd_deregister_node_id(&none, handle(5, 99, 6, 7)) == IOX2SD_NO_SERVICE);
     CHECK(refuses(iox2sd_attach(&none, &its), IOX2SD_NO_SERVICE));
-    CHECK(iox2sd_release(&none, some) == IOX2SD_NO_SERVICE);
-    CHECK(went(iox2sd_dead(&none, id(0, 1, 1, 0), NULL, 0), IOX2SD_NO_SERVICE, 0, 0));
+    CHECK(iox2sd_release_port(&none, some) == IOX2SD_NO_SERVICE);
+    CHECK(went(iox2sd_remove_dead_node_id(&none, id(0, 1, 1, 0), NULL, 0), IOX2SD_NO_SERVICE, 0, 0));
     CHECK(counts(iox2sd_ports(&none, 99, &its, 1), IOX2SD_NO_SERVICE, 0));
     CHECK(counts(iox2sd_ports_of(&none, id(0, 1, 1, 0), &its, 1), IOX2SD_NO_SERVICE, 0));
 }
 
 static void making(void) {
     iox2sd_service service = IOX2SD_SERVICE_NONE;
-    CHECK(iox2sd_service_make(&service, 4, 5, capacities(SIZE_MAX, 3, 4), 9) == IOX2SD_UNKNOWN_PATTERN);
-    CHECK(iox2sd_service_make(&service, IOX2SD_EVENT, 5, capacities(SIZE_MAX, 3, 4), 9) == IOX2SD_NO_MEMORY);
-    CHECK(iox2sd_service_make(&service, IOX2SD_EVENT, 5, capacities(2, SIZE_MAX, 4), 9) == IOX2SD_NO_MEMORY);
-    CHECK(iox2sd_service_make(&service, IOX2SD_EVENT, 5, capacities(2, 3, SIZE_MAX), 9) == IOX2SD_NO_MEMORY);
+    CHECK(iox2sd_service_create(&service, 4, 5, capacities(SIZE_MAX, 3, 4), 9) == IOX2SD_UNKNOWN_PATTERN);
+    CHECK(iox2sd_service_create(&service, IOX2SD_EVENT, 5, capacities(SIZE_MAX, 3, 4), 9) == IOX2SD_NO_MEMORY);
+    CHECK(iox2sd_service_create(&service, IOX2SD_EVENT, 5, capacities(2, SIZE_MAX, 4), 9) == IOX2SD_NO_MEMORY);
+    CHECK(iox2sd_service_create(&service, IOX2SD_EVENT, 5, capacities(2, 3, SIZE_MAX), 9) == IOX2SD_NO_MEMORY);
     CHECK(iox2sd_service_free(&service) == IOX2SD_NO_SERVICE);
-    CHECK(iox2sd_service_make(&service, IOX2SD_EVENT, 5, capacities(2, 3, 4), 9) == IOX2SD_DONE);
-    CHECK(iox2sd_service_make(&service, 4, 6, capacities(1, 1, 1), 1) == IOX2SD_HAS_SERVICE);
-    CHECK(gives(iox2sd_register(&service, id(1, 2, 3, 4)), handle(5, IOX2SD_NODE, 0, 0)));
+    CHECK(iox2sd_service_create(&service, IOX2SD_EVENT, 5, capacities(2, 3, 4), 9) == IOX2SD_DONE);
+    CHECK(iox2sd_service_create(&service, 4, 6, capacities(1, 1, 1), 1) == IOX2SD_HAS_SERVICE);
+    CHECK(gives(iox2sd_register_node_id(&service, id(1, 2, 3, 4)), handle(5, IOX2SD_NODE, 0, 0)));
     CHECK(iox2sd_service_free(&service) == IOX2SD_DONE);
     CHECK(iox2sd_service_free(&service) == IOX2SD_NO_SERVICE);
 }
@@ -195,30 +195,30 @@ static void making(void) {
 static void nodes(void) {
     iox2sd_service service = IOX2SD_SERVICE_NONE;
     iox2sd_id a = id(1, 2, 3, 4), b = id(5, 6, 7, 8);
-    iox2sd_service_make(&service, IOX2SD_BLACKBOARD, 77, capacities(2, 3, 4), 3);
-    CHECK(refuses(iox2sd_register(&service, id(0, 6, 7, 0)), IOX2SD_NO_NODE));
-    CHECK(gives(iox2sd_register(&service, a), handle(77, IOX2SD_NODE, 0, 0)));
-    CHECK(gives(iox2sd_register(&service, b), handle(77, IOX2SD_NODE, 1, 1)));
-    CHECK(refuses(iox2sd_register(&service, b), IOX2SD_OUT_OF_SPACE));
-    CHECK(iox2sd_deregister(&service, handle(77, 9, 0, 0)) == IOX2SD_UNKNOWN_ROLE);
-    CHECK(iox2sd_deregister(&service, handle(77, UINT64_C(1) << 32, 0, 0)) == IOX2SD_UNKNOWN_ROLE);
-    CHECK(iox2sd_deregister(&service, handle(78, IOX2SD_NODE, 0, 0)) == IOX2SD_FOREIGN_HANDLE);
-    CHECK(iox2sd_deregister(&service, handle(77, IOX2SD_READER, 0, 0)) == IOX2SD_FOREIGN_HANDLE);
-    CHECK(iox2sd_deregister(&service, handle(77, IOX2SD_NODE, 1, 0)) == IOX2SD_FOREIGN_HANDLE);
-    CHECK(iox2sd_deregister(&service, handle(77, IOX2SD_NODE, 0, 1)) == IOX2SD_FOREIGN_HANDLE);
-    CHECK(iox2sd_deregister(&service, handle(77, IOX2SD_NODE, 0, 0)) == IOX2SD_DONE);
-    CHECK(gives(iox2sd_register(&service, a), handle(77, IOX2SD_NODE, 0, 2)));
-    CHECK(iox2sd_deregister(&service, handle(77, IOX2SD_NODE, 1, 1)) == IOX2SD_DONE);
-    CHECK(refuses(iox2sd_register(&service, b), IOX2SD_OUT_OF_SPACE)); /* no ticket is left */
-    CHECK(iox2sd_deregister(&service, handle(77, IOX2SD_NODE, 0, 2)) == IOX2SD_DONE_LOCKED);
-    CHECK(refuses(iox2sd_register(&service, id(0, 6, 7, 0)), IOX2SD_NO_NODE));
-    CHECK(refuses(iox2sd_register(&service, b), IOX2SD_IS_LOCKED));
+    iox2sd_service_create(&service, IOX2SD_BLACKBOARD, 77, capacities(2, 3, 4), 3);
+    CHECK(refuses(iox2sd_register_node_id(&service, id(0, 6, 7, 0)), IOX2SD_NO_NODE));
+    CHECK(gives(iox2sd_register_node_id(&service, a), handle(77, IOX2SD_NODE, 0, 0)));
+    CHECK(gives(iox2sd_register_node_id(&service, b), handle(77, IOX2SD_NODE, 1, 1)));
+    CHECK(refuses(iox2sd_register_node_id(&service, b), IOX2SD_OUT_OF_SPACE));
+    CHECK(iox2sd_deregister_node_id(&service, handle(77, 9, 0, 0)) == IOX2SD_UNKNOWN_ROLE);
+    CHECK(iox2sd_deregister_node_id(&service, handle(77, UINT64_C(1) << 32, 0, 0)) == IOX2SD_UNKNOWN_ROLE);
+    CHECK(iox2sd_deregister_node_id(&service, handle(78, IOX2SD_NODE, 0, 0)) == IOX2SD_FOREIGN_HANDLE);
+    CHECK(iox2sd_deregister_node_id(&service, handle(77, IOX2SD_READER, 0, 0)) == IOX2SD_FOREIGN_HANDLE);
+    CHECK(iox2sd_deregister_node_id(&service, handle(77, IOX2SD_NODE, 1, 0)) == IOX2SD_FOREIGN_HANDLE);
+    CHECK(iox2sd_deregister_node_id(&service, handle(77, IOX2SD_NODE, 0, 1)) == IOX2SD_FOREIGN_HANDLE);
+    CHECK(iox2sd_deregister_node_id(&service, handle(77, IOX2SD_NODE, 0, 0)) == IOX2SD_DONE);
+    CHECK(gives(iox2sd_register_node_id(&service, a), handle(77, IOX2SD_NODE, 0, 2)));
+    CHECK(iox2sd_deregister_node_id(&service, handle(77, IOX2SD_NODE, 1, 1)) == IOX2SD_DONE);
+    CHECK(refuses(iox2sd_register_node_id(&service, b), IOX2SD_OUT_OF_SPACE)); /* no ticket is left */
+    CHECK(iox2sd_deregister_node_id(&service, handle(77, IOX2SD_NODE, 0, 2)) == IOX2SD_DONE_LOCKED);
+    CHECK(refuses(iox2sd_register_node_id(&service, id(0, 6, 7, 0)), IOX2SD_NO_NODE));
+    CHECK(refuses(iox2sd_register_node_id(&service, b), IOX2SD_IS_LOCKED));
     iox2sd_service_free(&service);
 }
 
 /* A port of each kind, with a value of its own in each field, those that its kind does not have too. */
-static iox2sd_port full(uint64_t role, uint32_t counter, iox2sd_id node) {
-    iox2sd_port made = port(role, id(11, 12, 13, counter), node);
+static iox2sd_port_details full(uint64_t role, uint32_t counter, iox2sd_id node) {
+    iox2sd_port_details made = port(role, id(11, 12, 13, counter), node);
     made.number_of_samples = 101;
     made.buffer_size = 102;
     made.request_buffer_size = 103;
@@ -232,8 +232,8 @@ static iox2sd_port full(uint64_t role, uint32_t counter, iox2sd_id node) {
 }
 
 /* What is told of it. */
-static iox2sd_port told(uint64_t role, uint32_t counter, iox2sd_id node) {
-    iox2sd_port made = port(role, id(11, 12, 13, counter), node);
+static iox2sd_port_details told(uint64_t role, uint32_t counter, iox2sd_id node) {
+    iox2sd_port_details made = port(role, id(11, 12, 13, counter), node);
     bool sends = role == IOX2SD_PUBLISHER || role == IOX2SD_SERVER || role == IOX2SD_CLIENT;
     if (role == IOX2SD_PUBLISHER) made.number_of_samples = 101;
     if (role == IOX2SD_SUBSCRIBER) made.buffer_size = 102;
@@ -254,19 +254,19 @@ static void ports_of_pattern(uint32_t pattern) {
     uint64_t first = first_roles[pattern], second = second_roles[pattern];
     iox2sd_service service = IOX2SD_SERVICE_NONE;
     iox2sd_id node = id(1, 2, 3, 4), other = id(5, 6, 7, 8);
-    iox2sd_port out[5], before[5], wanted;
-    CHECK(iox2sd_service_make(&service, pattern, 77, capacities(2, 2, 3), 9) == IOX2SD_DONE);
-    CHECK(gives(iox2sd_register(&service, node), handle(77, IOX2SD_NODE, 0, 0)));
-    CHECK(gives(iox2sd_register(&service, other), handle(77, IOX2SD_NODE, 1, 1)));
+    iox2sd_port_details out[5], before[5], wanted;
+    CHECK(iox2sd_service_create(&service, pattern, 77, capacities(2, 2, 3), 9) == IOX2SD_DONE);
+    CHECK(gives(iox2sd_register_node_id(&service, node), handle(77, IOX2SD_NODE, 0, 0)));
+    CHECK(gives(iox2sd_register_node_id(&service, other), handle(77, IOX2SD_NODE, 1, 1)));
     for (uint32_t i = 0; i < 2; i++) {
-        iox2sd_port its = full(first, 20 + i, i == 0 ? node : other);
+        iox2sd_port_details its = full(first, 20 + i, i == 0 ? node : other);
         CHECK(gives(iox2sd_attach(&service, &its), handle(77, first, i, i)));
     }
     for (uint32_t i = 0; i < 3; i++) {
-        iox2sd_port its = full(second, 30 + i, i == 1 ? node : other);
+        iox2sd_port_details its = full(second, 30 + i, i == 1 ? node : other);
         CHECK(gives(iox2sd_attach(&service, &its), handle(77, second, i, i)));
     }
-    iox2sd_port its = full(first, 40, node);
+    iox2sd_port_details its = full(first, 40, node);
     CHECK(refuses(iox2sd_attach(&service, &its), IOX2SD_OUT_OF_SPACE));
     for (size_t i = 0; i < 5; i++) out[i] = full(IOX2SD_NODE, 50, other);
     memcpy(before, out, sizeof out);
@@ -285,21 +285,21 @@ static void ports_of_pattern(uint32_t pattern) {
     CHECK(counts(iox2sd_ports(&service, first, out, 5), IOX2SD_DONE, 2));
     wanted = told(first, 21, other);
     CHECK(same_port(&out[1], &wanted) && same_port(&out[4], &before[4]));
-    CHECK(iox2sd_release(&service, handle(77, 10, 0, 0)) == IOX2SD_UNKNOWN_ROLE);
-    CHECK(iox2sd_release(&service, handle(77, IOX2SD_NODE, 0, 0)) == IOX2SD_FOREIGN_HANDLE);
-    CHECK(iox2sd_release(&service, handle(77, first, 2, 2)) == IOX2SD_FOREIGN_HANDLE);
-    CHECK(iox2sd_release(&service, handle(77, second, 2, 2)) == IOX2SD_DONE);
-    CHECK(iox2sd_release(&service, handle(77, second, 2, 2)) == IOX2SD_FOREIGN_HANDLE);
-    CHECK(iox2sd_deregister(&service, handle(77, IOX2SD_NODE, 0, 0)) == IOX2SD_PORTS_STILL_ATTACHED);
+    CHECK(iox2sd_release_port(&service, handle(77, 10, 0, 0)) == IOX2SD_UNKNOWN_ROLE);
+    CHECK(iox2sd_release_port(&service, handle(77, IOX2SD_NODE, 0, 0)) == IOX2SD_FOREIGN_HANDLE);
+    CHECK(iox2sd_release_port(&service, handle(77, first, 2, 2)) == IOX2SD_FOREIGN_HANDLE);
+    CHECK(iox2sd_release_port(&service, handle(77, second, 2, 2)) == IOX2SD_DONE);
+    CHECK(iox2sd_release_port(&service, handle(77, second, 2, 2)) == IOX2SD_FOREIGN_HANDLE);
+    CHECK(iox2sd_deregister_node_id(&service, handle(77, IOX2SD_NODE, 0, 0)) == IOX2SD_PORTS_STILL_ATTACHED);
     /* a death of which one port is kept, then of which none is */
     iox2sd_id kept[2] = {id(99, 99, 99, 99), id(11, 12, 13, 31)};
-    CHECK(went(iox2sd_dead(&service, id(0, 2, 3, 0), kept, 2), IOX2SD_NO_NODE, 0, 0));
-    CHECK(went(iox2sd_dead(&service, node, kept, 2), IOX2SD_DONE, 1, 0));
-    CHECK(iox2sd_deregister(&service, handle(77, IOX2SD_NODE, 0, 0)) == IOX2SD_PORTS_STILL_ATTACHED);
-    CHECK(went(iox2sd_dead(&service, node, kept, 1), IOX2SD_DONE, 0, 1));
-    CHECK(iox2sd_deregister(&service, handle(77, IOX2SD_NODE, 0, 0)) == IOX2SD_FOREIGN_HANDLE);
-    CHECK(went(iox2sd_dead(&service, other, NULL, 0), IOX2SD_DONE_LOCKED, 1, 1));
-    CHECK(went(iox2sd_dead(&service, other, NULL, 0), IOX2SD_DONE_LOCKED, 0, 0));
+    CHECK(went(iox2sd_remove_dead_node_id(&service, id(0, 2, 3, 0), kept, 2), IOX2SD_NO_NODE, 0, 0));
+    CHECK(went(iox2sd_remove_dead_node_id(&service, node, kept, 2), IOX2SD_DONE, 1, 0));
+    CHECK(iox2sd_deregister_node_id(&service, handle(77, IOX2SD_NODE, 0, 0)) == IOX2SD_PORTS_STILL_ATTACHED);
+    CHECK(went(iox2sd_remove_dead_node_id(&service, node, kept, 1), IOX2SD_DONE, 0, 1));
+    CHECK(iox2sd_deregister_node_id(&service, handle(77, IOX2SD_NODE, 0, 0)) == IOX2SD_FOREIGN_HANDLE);
+    CHECK(went(iox2sd_remove_dead_node_id(&service, other, NULL, 0), IOX2SD_DONE_LOCKED, 1, 1));
+    CHECK(went(iox2sd_remove_dead_node_id(&service, other, NULL, 0), IOX2SD_DONE_LOCKED, 0, 0));
     CHECK(counts(iox2sd_ports(&service, first, NULL, 0), IOX2SD_DONE, 0));
     iox2sd_service_free(&service);
 }
@@ -309,12 +309,12 @@ static void ports_of_nodes(uint32_t pattern) {
     uint64_t first = first_roles[pattern], second = second_roles[pattern];
     iox2sd_service service = IOX2SD_SERVICE_NONE;
     iox2sd_id node = id(1, 2, 3, 4), twin = id(1, 6, 7, 4), absent = id(1, 2, 4, 4);
-    iox2sd_port out[5], before[5], wanted;
+    iox2sd_port_details out[5], before[5], wanted;
     iox2sd_handle_answer second_slot;
-    iox2sd_service_make(&service, pattern, 77, capacities(2, 3, 4), 9);
-    iox2sd_register(&service, node);
-    iox2sd_register(&service, twin);
-    iox2sd_port its[] = {full(second, 30, node), full(second, 31, twin), full(second, 32, node), full(first, 20, node),
+    iox2sd_service_create(&service, pattern, 77, capacities(2, 3, 4), 9);
+    iox2sd_register_node_id(&service, node);
+    iox2sd_register_node_id(&service, twin);
+    iox2sd_port_details its[] = {full(second, 30, node), full(second, 31, twin), full(second, 32, node), full(first, 20, node),
                          full(first, 21, twin), full(first, 22, node)};
     for (size_t i = 0; i < 6; i++) {
         iox2sd_handle_answer made = iox2sd_attach(&service, &its[i]);
@@ -337,8 +337,8 @@ static void ports_of_nodes(uint32_t pattern) {
     }
     CHECK(same_port(&out[4], &before[4]));
     /* a port that came later stands where its slot is */
-    iox2sd_release(&service, second_slot.handle);
-    iox2sd_port late = full(second, 33, node);
+    iox2sd_release_port(&service, second_slot.handle);
+    iox2sd_port_details late = full(second, 33, node);
     CHECK(gives(iox2sd_attach(&service, &late), handle(77, second, 0, 3)));
     CHECK(counts(iox2sd_ports_of(&service, node, out, 5), IOX2SD_DONE, 4));
     wanted = told(second, 33, node);
@@ -346,7 +346,7 @@ static void ports_of_nodes(uint32_t pattern) {
     CHECK(counts(iox2sd_ports_of(&service, twin, out, 2), IOX2SD_DONE, 2));
     wanted = told(second, 31, twin);
     CHECK(same_port(&out[1], &wanted));
-    CHECK(went(iox2sd_dead(&service, node, NULL, 0), IOX2SD_DONE, 2, 2));
+    CHECK(went(iox2sd_remove_dead_node_id(&service, node, NULL, 0), IOX2SD_DONE, 2, 2));
     CHECK(counts(iox2sd_ports_of(&service, node, NULL, 0), IOX2SD_DONE, 0));
     CHECK(counts(iox2sd_ports_of(&service, twin, NULL, 0), IOX2SD_BUFFER_TOO_SHORT, 2));
     iox2sd_service_free(&service);
@@ -357,15 +357,15 @@ static void questions_of_pattern(uint32_t pattern) {
     uint64_t first = first_roles[pattern], second = second_roles[pattern], foreign = first_roles[(pattern + 1) % 4];
     iox2sd_service service = IOX2SD_SERVICE_NONE;
     iox2sd_id a = id(1, 2, 3, 4), b = id(5, 6, 7, 8), out[4], before[4];
-    iox2sd_service_make(&service, pattern, 77, capacities(3, 1, 2), 9);
-    iox2sd_register(&service, a);
-    iox2sd_register(&service, b);
-    iox2sd_port one = full(first, 20, a), other = full(second, 30, b);
+    iox2sd_service_create(&service, pattern, 77, capacities(3, 1, 2), 9);
+    iox2sd_register_node_id(&service, a);
+    iox2sd_register_node_id(&service, b);
+    iox2sd_port_details one = full(first, 20, a), other = full(second, 30, b);
     iox2sd_attach(&service, &one);
     iox2sd_attach(&service, &other);
-    CHECK(tells(iox2sd_pattern(&service), IOX2SD_DONE, pattern));
+    CHECK(tells(iox2sd_messaging_pattern(&service), IOX2SD_DONE, pattern));
     CHECK(tells(iox2sd_service_number(&service), IOX2SD_DONE, 77));
-    iox2sd_roles_answer roles = iox2sd_roles(&service);
+    iox2sd_roles_answer roles = iox2sd_port_roles(&service);
     CHECK(roles.status == IOX2SD_DONE && roles.first == first && roles.second == second);
     CHECK(says(iox2sd_has_role(&service, first), IOX2SD_DONE, true));
     CHECK(says(iox2sd_has_role(&service, second), IOX2SD_DONE, true));
@@ -388,17 +388,17 @@ static void questions_of_pattern(uint32_t pattern) {
     CHECK(says(iox2sd_has_room(&service, second), IOX2SD_DONE, true));
     CHECK(says(iox2sd_has_room(&service, foreign), IOX2SD_ROLE_NOT_IN_PATTERN, false));
     CHECK(says(iox2sd_has_room(&service, 9), IOX2SD_UNKNOWN_ROLE, false));
-    CHECK(finds(iox2sd_find_node(&service, handle(77, IOX2SD_NODE, 1, 1)), IOX2SD_DONE, b));
-    CHECK(finds(iox2sd_find_node(&service, handle(77, IOX2SD_NODE, 1, 2)), IOX2SD_FOREIGN_HANDLE, id(0, 0, 0, 0)));
-    CHECK(finds(iox2sd_find_node(&service, handle(77, first, 0, 0)), IOX2SD_FOREIGN_HANDLE, id(0, 0, 0, 0)));
-    CHECK(finds(iox2sd_find_node(&service, handle(77, 9, 0, 0)), IOX2SD_UNKNOWN_ROLE, id(0, 0, 0, 0)));
-    iox2sd_port_answer found = iox2sd_find_port(&service, handle(77, second, 0, 0));
-    iox2sd_port wanted = told(second, 30, b), zero = port(0, id(0, 0, 0, 0), id(0, 0, 0, 0));
+    CHECK(finds(iox2sd_node(&service, handle(77, IOX2SD_NODE, 1, 1)), IOX2SD_DONE, b));
+    CHECK(finds(iox2sd_node(&service, handle(77, IOX2SD_NODE, 1, 2)), IOX2SD_FOREIGN_HANDLE, id(0, 0, 0, 0)));
+    CHECK(finds(iox2sd_node(&service, handle(77, first, 0, 0)), IOX2SD_FOREIGN_HANDLE, id(0, 0, 0, 0)));
+    CHECK(finds(iox2sd_node(&service, handle(77, 9, 0, 0)), IOX2SD_UNKNOWN_ROLE, id(0, 0, 0, 0)));
+    iox2sd_port_answer found = iox2sd_port(&service, handle(77, second, 0, 0));
+    iox2sd_port_details wanted = told(second, 30, b), zero = port(0, id(0, 0, 0, 0), id(0, 0, 0, 0));
     CHECK(found.status == IOX2SD_DONE && same_port(&found.port, &wanted));
-    found = iox2sd_find_port(&service, handle(77, second, 0, 1));
+    found = iox2sd_port(&service, handle(77, second, 0, 1));
     CHECK(found.status == IOX2SD_FOREIGN_HANDLE && same_port(&found.port, &zero));
-    CHECK(iox2sd_find_port(&service, handle(77, IOX2SD_NODE, 0, 0)).status == IOX2SD_FOREIGN_HANDLE);
-    CHECK(iox2sd_find_port(&service, handle(77, 9, 0, 0)).status == IOX2SD_UNKNOWN_ROLE);
+    CHECK(iox2sd_port(&service, handle(77, IOX2SD_NODE, 0, 0)).status == IOX2SD_FOREIGN_HANDLE);
+    CHECK(iox2sd_port(&service, handle(77, 9, 0, 0)).status == IOX2SD_UNKNOWN_ROLE);
     memset(out, 7, sizeof out);
     memcpy(before, out, sizeof out);
     CHECK(counts(iox2sd_nodes(&service, NULL, 0), IOX2SD_BUFFER_TOO_SHORT, 2));
@@ -406,10 +406,10 @@ static void questions_of_pattern(uint32_t pattern) {
     CHECK(memcmp(out, before, sizeof out) == 0);
     CHECK(counts(iox2sd_nodes(&service, out, 2), IOX2SD_DONE, 2));
     CHECK(same_id(out[0], a) && same_id(out[1], b) && same_id(out[2], before[2]));
-    iox2sd_dead(&service, a, NULL, 0);
+    iox2sd_remove_dead_node_id(&service, a, NULL, 0);
     CHECK(counts(iox2sd_nodes(&service, out, 4), IOX2SD_DONE, 1));
     CHECK(same_id(out[0], b) && same_id(out[1], b) && same_id(out[3], before[3]));
-    iox2sd_dead(&service, b, NULL, 0);
+    iox2sd_remove_dead_node_id(&service, b, NULL, 0);
     CHECK(says(iox2sd_is_locked(&service), IOX2SD_DONE, true));
     CHECK(says(iox2sd_has_room_for_node(&service), IOX2SD_DONE, false));
     CHECK(says(iox2sd_has_room(&service, first), IOX2SD_DONE, false));
@@ -421,8 +421,8 @@ static void questions_of_pattern(uint32_t pattern) {
 static void attaching(void) {
     iox2sd_service service = IOX2SD_SERVICE_NONE;
     iox2sd_id node = id(1, 2, 3, 4);
-    iox2sd_port its = full(9, 20, id(0, 2, 3, 0));
-    iox2sd_service_make(&service, IOX2SD_EVENT, 77, capacities(1, 0, 1), 1);
+    iox2sd_port_details its = full(9, 20, id(0, 2, 3, 0));
+    iox2sd_service_create(&service, IOX2SD_EVENT, 77, capacities(1, 0, 1), 1);
     its.data_segment = 2;
     CHECK(refuses(iox2sd_attach(&service, &its), IOX2SD_NO_NODE));
     its.node = id(1, 2, 3, 5);
@@ -434,15 +434,15 @@ static void attaching(void) {
     its.role = IOX2SD_READER; /* its kind has no segment, so the number is not looked at */
     CHECK(refuses(iox2sd_attach(&service, &its), IOX2SD_ROLE_NOT_IN_PATTERN));
     its.role = IOX2SD_LISTENER;
-    iox2sd_register(&service, node);
+    iox2sd_register_node_id(&service, node);
     CHECK(refuses(iox2sd_attach(&service, &its), IOX2SD_NODE_NOT_REGISTERED));
     its.node = node;
     CHECK(refuses(iox2sd_attach(&service, &its), IOX2SD_OUT_OF_SPACE));
     its.role = IOX2SD_NOTIFIER;
     CHECK(gives(iox2sd_attach(&service, &its), handle(77, IOX2SD_NOTIFIER, 0, 0)));
-    CHECK(iox2sd_release(&service, handle(77, IOX2SD_NOTIFIER, 0, 0)) == IOX2SD_DONE);
+    CHECK(iox2sd_release_port(&service, handle(77, IOX2SD_NOTIFIER, 0, 0)) == IOX2SD_DONE);
     CHECK(refuses(iox2sd_attach(&service, &its), IOX2SD_OUT_OF_SPACE)); /* no ticket is left */
-    CHECK(iox2sd_deregister(&service, handle(77, IOX2SD_NODE, 0, 0)) == IOX2SD_DONE_LOCKED);
+    CHECK(iox2sd_deregister_node_id(&service, handle(77, IOX2SD_NODE, 0, 0)) == IOX2SD_DONE_LOCKED);
     its.node = id(1, 2, 3, 5);
     CHECK(refuses(iox2sd_attach(&service, &its), IOX2SD_IS_LOCKED));
     iox2sd_service_free(&service);

@@ -5,8 +5,8 @@
 
 #include <pthread.h>
 
-static iox2sd_port subscriber(iox2sd_id node) {
-    iox2sd_port made = {0};
+static iox2sd_port_details subscriber(iox2sd_id node) {
+    iox2sd_port_details made = {0};
     made.role = IOX2SD_SUBSCRIBER;
     made.port = id(11, 12, 13, 14);
     made.node = node;
@@ -17,18 +17,18 @@ static iox2sd_port subscriber(iox2sd_id node) {
 static long work(iox2sd_service *service, long rounds) {
     long bad = 0;
     iox2sd_id stays = id(9, 9, 9, 9), node = id(1, 2, 3, 4);
-    iox2sd_port its = subscriber(stays), out[2];
-    bad += iox2sd_register(service, stays).status != IOX2SD_DONE;
+    iox2sd_port_details its = subscriber(stays), out[2];
+    bad += iox2sd_register_node_id(service, stays).status != IOX2SD_DONE;
     for (long i = 0; i < rounds; i++) {
         node.counter = (uint32_t)i;
-        iox2sd_handle_answer made = iox2sd_register(service, node);
+        iox2sd_handle_answer made = iox2sd_register_node_id(service, node);
         bad += made.status != IOX2SD_DONE || made.handle.ticket != (uint64_t)i + 1;
         iox2sd_handle_answer attached = iox2sd_attach(service, &its);
         bad += attached.status != IOX2SD_DONE || attached.handle.ticket != (uint64_t)i;
         iox2sd_count_answer listed = iox2sd_ports(service, IOX2SD_SUBSCRIBER, out, 2);
         bad += listed.status != IOX2SD_DONE || listed.count != 1;
-        bad += iox2sd_release(service, attached.handle) != IOX2SD_DONE;
-        bad += iox2sd_deregister(service, made.handle) != IOX2SD_DONE;
+        bad += iox2sd_release_port(service, attached.handle) != IOX2SD_DONE;
+        bad += iox2sd_deregister_node_id(service, made.handle) != IOX2SD_DONE;
     }
     return bad;
 }
@@ -41,10 +41,10 @@ typedef struct own {
 static void *own_service(void *argument) {
     own *mine = (own *)argument;
     iox2sd_service service = IOX2SD_SERVICE_NONE;
-    mine->bad = iox2sd_service_make(&service, IOX2SD_PUBLISH_SUBSCRIBE, mine->number,
+    mine->bad = iox2sd_service_create(&service, IOX2SD_PUBLISH_SUBSCRIBE, mine->number,
                                     capacities(20, 2, 8), UINT64_MAX) != IOX2SD_DONE;
     mine->bad += work(&service, 10000);
-    mine->bad += iox2sd_register(&service, id(1, 2, 3, 4)).handle.service != mine->number;
+    mine->bad += iox2sd_register_node_id(&service, id(1, 2, 3, 4)).handle.service != mine->number;
     mine->bad += iox2sd_service_free(&service) != IOX2SD_DONE;
     return NULL;
 }
@@ -80,7 +80,7 @@ static void *run(void *argument) {
         int turn = shared->turn++;
         if (turn < TURNS) {
             iox2sd_id node = id(1, 2, 3, (uint32_t)turn);
-            iox2sd_handle_answer made = iox2sd_register(&shared->service, node);
+            iox2sd_handle_answer made = iox2sd_register_node_id(&shared->service, node);
             shared->bad += made.status != IOX2SD_DONE || made.handle.ticket != (uint64_t)turn;
         }
         pthread_mutex_unlock(&shared->mutex);
@@ -99,7 +99,7 @@ static void *free_it(void *argument) {
 static void a_service_handed_on(void) {
     relay shared = {PTHREAD_MUTEX_INITIALIZER, 0, IOX2SD_SERVICE_NONE, 0};
     pthread_t runners[RUNNERS], last;
-    CHECK(iox2sd_service_make(&shared.service, IOX2SD_EVENT, 5, capacities(TURNS, 0, 0),
+    CHECK(iox2sd_service_create(&shared.service, IOX2SD_EVENT, 5, capacities(TURNS, 0, 0),
                               UINT64_MAX) == IOX2SD_DONE);
     for (size_t i = 0; i < RUNNERS; i++) {
         CHECK(pthread_create(&runners[i], NULL, run, &shared) == 0);

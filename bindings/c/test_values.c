@@ -69,7 +69,7 @@ static void checks(void) {
     name_check(iox2sd_attribute_value_check, 256);
     name_check(iox2sd_file_name_check, 255);
     name_check(iox2sd_file_path_check, 255);
-    name_check(iox2sd_restricted_name_check, 64);
+    name_check(iox2sd_restricted_file_name_check, 64);
 
     CHECK(is_place(iox2sd_path_check(NULL, 0), IOX2SD_DONE, 0));
     CHECK(is_place(iox2sd_path_check(with_byte(0, '/'), 255), IOX2SD_DONE, 0));
@@ -88,15 +88,15 @@ static void checks(void) {
     CHECK(is_place(iox2sd_file_path_check(bytes("a/b"), 3), IOX2SD_DONE, 0));
     CHECK(is_place(iox2sd_file_path_check(bytes("a/"), 2), IOX2SD_NO_FILE_NAME, 0));
     CHECK(is_place(iox2sd_file_path_check(bytes("a/.."), 4), IOX2SD_NO_FILE_NAME, 0));
-    CHECK(is_place(iox2sd_restricted_name_check(bytes("aZ9-.:_"), 7), IOX2SD_DONE, 0));
-    CHECK(is_place(iox2sd_restricted_name_check(bytes("a b"), 3), IOX2SD_ILLEGAL_BYTE, 1));
-    CHECK(is_place(iox2sd_restricted_name_check(bytes(".."), 2), IOX2SD_NO_FILE_NAME, 0));
+    CHECK(is_place(iox2sd_restricted_file_name_check(bytes("aZ9-.:_"), 7), IOX2SD_DONE, 0));
+    CHECK(is_place(iox2sd_restricted_file_name_check(bytes("a b"), 3), IOX2SD_ILLEGAL_BYTE, 1));
+    CHECK(is_place(iox2sd_restricted_file_name_check(bytes(".."), 2), IOX2SD_NO_FILE_NAME, 0));
 }
 
 static void names(void) {
     uint8_t out[300];
-    CHECK(iox2sd_has_internal_prefix(bytes("iox2://"), 7) && !iox2sd_has_internal_prefix(bytes("iox2://"), 6));
-    CHECK(!iox2sd_has_internal_prefix(NULL, 0));
+    CHECK(iox2sd_has_iox2_prefix(bytes("iox2://"), 7) && !iox2sd_has_iox2_prefix(bytes("iox2://"), 6));
+    CHECK(!iox2sd_has_iox2_prefix(NULL, 0));
 
     memset(out, 0xAA, sizeof out);
     CHECK(is_text(iox2sd_internal_service_name(bytes("ab"), 2, out, 8), IOX2SD_BUFFER_TOO_SHORT, 9));
@@ -136,28 +136,28 @@ static void names(void) {
 static void paths(void) {
     uint8_t out[300];
     memset(out, 0xAA, sizeof out);
-    CHECK(is_text(iox2sd_path_join(bytes("a"), 1, bytes("bc"), 2, out, 3), IOX2SD_BUFFER_TOO_SHORT, 4));
+    CHECK(is_text(iox2sd_path_add_path_entry(bytes("a"), 1, bytes("bc"), 2, out, 3), IOX2SD_BUFFER_TOO_SHORT, 4));
     CHECK(untouched(out, 0, sizeof out));
-    CHECK(is_text(iox2sd_path_join(bytes("a"), 1, bytes("bc"), 2, out, 4), IOX2SD_DONE, 4));
+    CHECK(is_text(iox2sd_path_add_path_entry(bytes("a"), 1, bytes("bc"), 2, out, 4), IOX2SD_DONE, 4));
     CHECK(memcmp(out, "a/bc", 4) == 0 && untouched(out, 4, sizeof out));
-    CHECK(is_text(iox2sd_path_join(bytes("a/"), 2, bytes("bc"), 2, out, 4), IOX2SD_DONE, 4));
-    CHECK(is_text(iox2sd_path_join(NULL, 0, bytes("bc"), 2, out, 4), IOX2SD_DONE, 2) && memcmp(out, "bc", 2) == 0);
-    CHECK(is_text(iox2sd_path_join(NULL, 0, NULL, 0, NULL, 0), IOX2SD_DONE, 0));
-    CHECK(is_text(iox2sd_path_join(with_byte(0, 'y'), 127, with_byte(0, 'y'), 127, out, sizeof out), IOX2SD_DONE, 255));
+    CHECK(is_text(iox2sd_path_add_path_entry(bytes("a/"), 2, bytes("bc"), 2, out, 4), IOX2SD_DONE, 4));
+    CHECK(is_text(iox2sd_path_add_path_entry(NULL, 0, bytes("bc"), 2, out, 4), IOX2SD_DONE, 2) && memcmp(out, "bc", 2) == 0);
+    CHECK(is_text(iox2sd_path_add_path_entry(NULL, 0, NULL, 0, NULL, 0), IOX2SD_DONE, 0));
+    CHECK(is_text(iox2sd_path_add_path_entry(with_byte(0, 'y'), 127, with_byte(0, 'y'), 127, out, sizeof out), IOX2SD_DONE, 255));
     memset(out, 0xAA, sizeof out);
-    CHECK(is_text(iox2sd_path_join(with_byte(0, 'y'), 127, with_byte(0, 'y'), 128, out, sizeof out), IOX2SD_TOO_LONG, 0));
-    CHECK(is_text(iox2sd_path_join(bytes("\xff"), 1, bytes("\xff"), 1, out, sizeof out), IOX2SD_BAD_PATH, 0));
-    CHECK(is_text(iox2sd_path_join(bytes("a"), 1, bytes("\xff"), 1, out, sizeof out), IOX2SD_BAD_ENTRY, 0));
+    CHECK(is_text(iox2sd_path_add_path_entry(with_byte(0, 'y'), 127, with_byte(0, 'y'), 128, out, sizeof out), IOX2SD_TOO_LONG, 0));
+    CHECK(is_text(iox2sd_path_add_path_entry(bytes("\xff"), 1, bytes("\xff"), 1, out, sizeof out), IOX2SD_BAD_PATH, 0));
+    CHECK(is_text(iox2sd_path_add_path_entry(bytes("a"), 1, bytes("\xff"), 1, out, sizeof out), IOX2SD_BAD_ENTRY, 0));
     CHECK(untouched(out, 0, sizeof out));
 
-    CHECK(is_text(iox2sd_file_path_join(bytes("a"), 1, bytes("bc"), 2, out, 3), IOX2SD_BUFFER_TOO_SHORT, 4));
+    CHECK(is_text(iox2sd_file_path_from_path_and_file(bytes("a"), 1, bytes("bc"), 2, out, 3), IOX2SD_BUFFER_TOO_SHORT, 4));
     CHECK(untouched(out, 0, sizeof out));
-    CHECK(is_text(iox2sd_file_path_join(bytes("a"), 1, bytes("bc"), 2, out, 4), IOX2SD_DONE, 4));
+    CHECK(is_text(iox2sd_file_path_from_path_and_file(bytes("a"), 1, bytes("bc"), 2, out, 4), IOX2SD_DONE, 4));
     CHECK(memcmp(out, "a/bc", 4) == 0 && untouched(out, 4, sizeof out));
     memset(out, 0xAA, sizeof out);
-    CHECK(is_text(iox2sd_file_path_join(bytes("a"), 1, bytes("b/c"), 3, out, sizeof out), IOX2SD_BAD_ENTRY, 0));
-    CHECK(is_text(iox2sd_file_path_join(bytes("\xff"), 1, NULL, 0, out, sizeof out), IOX2SD_BAD_PATH, 0));
-    CHECK(is_text(iox2sd_file_path_join(bytes("a"), 1, with_byte(0, 'y'), 254, out, sizeof out), IOX2SD_TOO_LONG, 0));
+    CHECK(is_text(iox2sd_file_path_from_path_and_file(bytes("a"), 1, bytes("b/c"), 3, out, sizeof out), IOX2SD_BAD_ENTRY, 0));
+    CHECK(is_text(iox2sd_file_path_from_path_and_file(bytes("\xff"), 1, NULL, 0, out, sizeof out), IOX2SD_BAD_PATH, 0));
+    CHECK(is_text(iox2sd_file_path_from_path_and_file(bytes("a"), 1, with_byte(0, 'y'), 254, out, sizeof out), IOX2SD_TOO_LONG, 0));
     CHECK(untouched(out, 0, sizeof out));
 }
 
@@ -206,22 +206,22 @@ static void sets(void) {
     CHECK(memcmp(&pairs[4], &before[4], 13 * sizeof pairs[0]) == 0);
     CHECK(is_place(iox2sd_attributes_sort(NULL, 0), IOX2SD_DONE, 0));
 
-    CHECK(is_count(iox2sd_attribute_values(before, 4, bytes("b"), 1), IOX2SD_DONE, 2));
-    CHECK(is_count(iox2sd_attribute_values(before, 4, bytes("c"), 1), IOX2SD_DONE, 0));
-    CHECK(is_count(iox2sd_attribute_values(NULL, 0, bytes("b"), 1), IOX2SD_DONE, 0));
-    CHECK(is_count(iox2sd_attribute_values(before, 4, NULL, 0), IOX2SD_BAD_ASKED_KEY, 0));
-    CHECK(is_count(iox2sd_attribute_values(before, 6, NULL, 0), IOX2SD_BAD_KEY, 0));
+    CHECK(is_count(iox2sd_attributes_number_of_key_values(before, 4, bytes("b"), 1), IOX2SD_DONE, 2));
+    CHECK(is_count(iox2sd_attributes_number_of_key_values(before, 4, bytes("c"), 1), IOX2SD_DONE, 0));
+    CHECK(is_count(iox2sd_attributes_number_of_key_values(NULL, 0, bytes("b"), 1), IOX2SD_DONE, 0));
+    CHECK(is_count(iox2sd_attributes_number_of_key_values(before, 4, NULL, 0), IOX2SD_BAD_ASKED_KEY, 0));
+    CHECK(is_count(iox2sd_attributes_number_of_key_values(before, 6, NULL, 0), IOX2SD_BAD_KEY, 0));
 
     memset(out, 0xAA, sizeof out);
-    CHECK(is_text(iox2sd_attribute_value(before, 4, bytes("a"), 1, 0, out, 1), IOX2SD_BUFFER_TOO_SHORT, 2));
+    CHECK(is_text(iox2sd_attributes_key_value(before, 4, bytes("a"), 1, 0, out, 1), IOX2SD_BUFFER_TOO_SHORT, 2));
     CHECK(untouched(out, 0, sizeof out));
-    CHECK(is_text(iox2sd_attribute_value(before, 4, bytes("a"), 1, 0, out, 2), IOX2SD_DONE, 2));
+    CHECK(is_text(iox2sd_attributes_key_value(before, 4, bytes("a"), 1, 0, out, 2), IOX2SD_DONE, 2));
     CHECK(memcmp(out, "10", 2) == 0 && untouched(out, 2, sizeof out));
-    CHECK(is_text(iox2sd_attribute_value(before, 4, bytes("a"), 1, 1, out, 8), IOX2SD_DONE, 1) && out[0] == '2');
+    CHECK(is_text(iox2sd_attributes_key_value(before, 4, bytes("a"), 1, 1, out, 8), IOX2SD_DONE, 1) && out[0] == '2');
     memset(out, 0xAA, sizeof out);
-    CHECK(is_text(iox2sd_attribute_value(before, 4, bytes("a"), 1, 2, out, 8), IOX2SD_NO_SUCH_VALUE, 0));
-    CHECK(is_text(iox2sd_attribute_value(before, 4, NULL, 0, 2, out, 8), IOX2SD_BAD_ASKED_KEY, 0));
-    CHECK(is_text(iox2sd_attribute_value(before, 6, NULL, 0, 2, out, 8), IOX2SD_BAD_KEY, 0));
+    CHECK(is_text(iox2sd_attributes_key_value(before, 4, bytes("a"), 1, 2, out, 8), IOX2SD_NO_SUCH_VALUE, 0));
+    CHECK(is_text(iox2sd_attributes_key_value(before, 4, NULL, 0, 2, out, 8), IOX2SD_BAD_ASKED_KEY, 0));
+    CHECK(is_text(iox2sd_attributes_key_value(before, 6, NULL, 0, 2, out, 8), IOX2SD_BAD_KEY, 0));
     CHECK(untouched(out, 0, sizeof out));
 }
 
@@ -287,23 +287,23 @@ static bool is_part(iox2sd_part_answer answer, uint32_t status, uint32_t side, u
 
 static void layouts(void) {
     iox2sd_message_details details = details_of(8, 8);
-    iox2sd_layout_answer room = iox2sd_message_layout(&details, 2);
+    iox2sd_layout_answer room = iox2sd_message_sample_layout(&details, 2);
     iox2sd_places_answer places = iox2sd_message_places(&details, 64);
     /* 8 + 4 and at most 3 before it, 2 * 8 and at most 7 before it: 38, in eights */
     CHECK(room.status == IOX2SD_DONE && room.size == 40 && room.alignment == 8);
     CHECK(places.status == IOX2SD_DONE && places.user_header == 72 && places.payload == 80);
 
-    room = iox2sd_message_layout(NULL, 2);
+    room = iox2sd_message_sample_layout(NULL, 2);
     places = iox2sd_message_places(NULL, 64);
     CHECK(room.status == IOX2SD_NULL && room.size == 0 && room.alignment == 0);
     CHECK(places.status == IOX2SD_NULL && places.user_header == 0 && places.payload == 0);
     details = details_of(SIZE_MAX, 3);
-    room = iox2sd_message_layout(&details, SIZE_MAX);
+    room = iox2sd_message_sample_layout(&details, SIZE_MAX);
     places = iox2sd_message_places(&details, SIZE_MAX);
     CHECK(room.status == IOX2SD_BAD_ALIGNMENT && room.size == 0 && room.alignment == 0);
     CHECK(places.status == IOX2SD_BAD_ALIGNMENT && places.user_header == 0 && places.payload == 0);
     details = details_of(SIZE_MAX, 8);
-    room = iox2sd_message_layout(&details, 1);
+    room = iox2sd_message_sample_layout(&details, 1);
     places = iox2sd_message_places(&details, SIZE_MAX);
     CHECK(room.status == IOX2SD_TOO_LARGE && room.size == 0 && room.alignment == 0);
     CHECK(places.status == IOX2SD_TOO_LARGE && places.user_header == 0 && places.payload == 0);
@@ -315,46 +315,46 @@ static void compatible(void) {
     char long_name[258];
     memset(long_name, 'x', sizeof long_name);
     long_name[257] = 0;
-    CHECK(is_part(iox2sd_message_compatible(&opener, &service), IOX2SD_DONE, 0, 0));
-    CHECK(is_part(iox2sd_message_compatible(&service, &opener), IOX2SD_GREATER_ALIGNMENT, 0, IOX2SD_PAYLOAD));
-    CHECK(is_part(iox2sd_message_compatible(NULL, NULL), IOX2SD_NULL, 0, 0));
-    CHECK(is_part(iox2sd_message_compatible(&opener, NULL), IOX2SD_NULL, 1, 0));
+    CHECK(is_part(iox2sd_message_is_compatible_to(&opener, &service), IOX2SD_DONE, 0, 0));
+    CHECK(is_part(iox2sd_message_is_compatible_to(&service, &opener), IOX2SD_GREATER_ALIGNMENT, 0, IOX2SD_PAYLOAD));
+    CHECK(is_part(iox2sd_message_is_compatible_to(NULL, NULL), IOX2SD_NULL, 0, 0));
+    CHECK(is_part(iox2sd_message_is_compatible_to(&opener, NULL), IOX2SD_NULL, 1, 0));
 
     opener.payload.size = 9;
-    CHECK(is_part(iox2sd_message_compatible(&opener, &service), IOX2SD_OTHER_SIZE, 0, IOX2SD_PAYLOAD));
+    CHECK(is_part(iox2sd_message_is_compatible_to(&opener, &service), IOX2SD_OTHER_SIZE, 0, IOX2SD_PAYLOAD));
     opener.payload.variant = IOX2SD_DYNAMIC;
-    CHECK(is_part(iox2sd_message_compatible(&opener, &service), IOX2SD_OTHER_VARIANT, 0, IOX2SD_PAYLOAD));
+    CHECK(is_part(iox2sd_message_is_compatible_to(&opener, &service), IOX2SD_OTHER_VARIANT, 0, IOX2SD_PAYLOAD));
     opener.user_header.name = bytes("Userheader");
-    CHECK(is_part(iox2sd_message_compatible(&opener, &service), IOX2SD_OTHER_NAME, 0, IOX2SD_USER_HEADER));
+    CHECK(is_part(iox2sd_message_is_compatible_to(&opener, &service), IOX2SD_OTHER_NAME, 0, IOX2SD_USER_HEADER));
     opener.header.alignment = 4;
-    CHECK(is_part(iox2sd_message_compatible(&opener, &service), IOX2SD_OTHER_ALIGNMENT, 0, IOX2SD_HEADER));
+    CHECK(is_part(iox2sd_message_is_compatible_to(&opener, &service), IOX2SD_OTHER_ALIGNMENT, 0, IOX2SD_HEADER));
     opener.header.size = 4;
-    CHECK(is_part(iox2sd_message_compatible(&opener, &service), IOX2SD_OTHER_SIZE, 0, IOX2SD_HEADER));
+    CHECK(is_part(iox2sd_message_is_compatible_to(&opener, &service), IOX2SD_OTHER_SIZE, 0, IOX2SD_HEADER));
 
     service.payload.alignment = 12;
-    CHECK(is_part(iox2sd_message_compatible(&opener, &service), IOX2SD_BAD_ALIGNMENT, 1, IOX2SD_PAYLOAD));
+    CHECK(is_part(iox2sd_message_is_compatible_to(&opener, &service), IOX2SD_BAD_ALIGNMENT, 1, IOX2SD_PAYLOAD));
     service.user_header.name = bytes("\xc3\xa4");
     service.user_header.name_length = 2;
-    CHECK(is_part(iox2sd_message_compatible(&opener, &service), IOX2SD_ILLEGAL_BYTE, 1, IOX2SD_USER_HEADER));
+    CHECK(is_part(iox2sd_message_is_compatible_to(&opener, &service), IOX2SD_ILLEGAL_BYTE, 1, IOX2SD_USER_HEADER));
     service.header = type_of(long_name, 8, 8);
-    CHECK(is_part(iox2sd_message_compatible(&opener, &service), IOX2SD_TOO_LONG, 1, IOX2SD_HEADER));
+    CHECK(is_part(iox2sd_message_is_compatible_to(&opener, &service), IOX2SD_TOO_LONG, 1, IOX2SD_HEADER));
     opener.payload = type_of("\xff", 8, 3);
-    CHECK(is_part(iox2sd_message_compatible(&opener, &service), IOX2SD_NOT_UTF8, 0, IOX2SD_PAYLOAD));
+    CHECK(is_part(iox2sd_message_is_compatible_to(&opener, &service), IOX2SD_NOT_UTF8, 0, IOX2SD_PAYLOAD));
     opener.user_header.variant = 2;
-    CHECK(is_part(iox2sd_message_compatible(&opener, &service), IOX2SD_UNKNOWN_VARIANT, 0, IOX2SD_USER_HEADER));
+    CHECK(is_part(iox2sd_message_is_compatible_to(&opener, &service), IOX2SD_UNKNOWN_VARIANT, 0, IOX2SD_USER_HEADER));
 }
 
 static void chunks(void) {
     const size_t most = SIZE_MAX;
-    CHECK(is_count(iox2sd_publisher_chunks(3, 5, 7, 11, 13), IOX2SD_DONE, 3 * (5 + 7) + 11 + 13));
-    CHECK(is_count(iox2sd_client_chunks(3, 5, 7), IOX2SD_DONE, 3 * 2 * 5 + 7));
-    CHECK(is_count(iox2sd_client_chunks(5, 3, 0), IOX2SD_DONE, 5 * 2 * 3));
-    CHECK(is_count(iox2sd_server_chunks(3, 5, 7, 11, 13), IOX2SD_DONE, 3 * 2 * 5 * (7 + 11 + 13)));
-    CHECK(is_count(iox2sd_publisher_chunks(1, most, 0, 0, 0), IOX2SD_DONE, most));
-    CHECK(is_count(iox2sd_publisher_chunks(1, most, 0, 0, 1), IOX2SD_TOO_LARGE, 0));
-    CHECK(is_count(iox2sd_client_chunks(0, most, most), IOX2SD_DONE, most));
-    CHECK(is_count(iox2sd_client_chunks(most, most, most), IOX2SD_TOO_LARGE, 0));
-    CHECK(is_count(iox2sd_server_chunks(most, most, most, most, most), IOX2SD_TOO_LARGE, 0));
+    CHECK(is_count(iox2sd_required_amount_of_samples_per_data_segment(3, 5, 7, 11, 13), IOX2SD_DONE, 3 * (5 + 7) + 11 + 13));
+    CHECK(is_count(iox2sd_required_amount_of_chunks_per_client_data_segment(3, 5, 7), IOX2SD_DONE, 3 * 2 * 5 + 7));
+    CHECK(is_count(iox2sd_required_amount_of_chunks_per_client_data_segment(5, 3, 0), IOX2SD_DONE, 5 * 2 * 3));
+    CHECK(is_count(iox2sd_required_amount_of_chunks_per_server_data_segment(3, 5, 7, 11, 13), IOX2SD_DONE, 3 * 2 * 5 * (7 + 11 + 13)));
+    CHECK(is_count(iox2sd_required_amount_of_samples_per_data_segment(1, most, 0, 0, 0), IOX2SD_DONE, most));
+    CHECK(is_count(iox2sd_required_amount_of_samples_per_data_segment(1, most, 0, 0, 1), IOX2SD_TOO_LARGE, 0));
+    CHECK(is_count(iox2sd_required_amount_of_chunks_per_client_data_segment(0, most, most), IOX2SD_DONE, most));
+    CHECK(is_count(iox2sd_required_amount_of_chunks_per_client_data_segment(most, most, most), IOX2SD_TOO_LARGE, 0));
+    CHECK(is_count(iox2sd_required_amount_of_chunks_per_server_data_segment(most, most, most, most, most), IOX2SD_TOO_LARGE, 0));
 }
 
 static void settings(void) {
@@ -496,17 +496,17 @@ static void files(void) {
     for (asked = 0; asked < 20; asked++) CHECK(tells(tell_asked, expected[asked]));
     memset(out, 0xAA, sizeof out);
     CHECK(is_text(iox2sd_default_text(20, out, sizeof out), IOX2SD_UNKNOWN_TEXT, 0));
-    CHECK(is_text(iox2sd_service_directory(bytes("/a"), 2, out, 10), IOX2SD_BUFFER_TOO_SHORT, 11));
-    CHECK(is_text(iox2sd_node_directory(bytes("/a"), 2, out, 7), IOX2SD_BUFFER_TOO_SHORT, 8));
-    CHECK(is_text(iox2sd_service_directory(bytes("\xff"), 1, out, sizeof out), IOX2SD_BAD_PATH, 0));
-    CHECK(is_text(iox2sd_node_directory(bytes("\xff"), 1, out, sizeof out), IOX2SD_BAD_PATH, 0));
-    CHECK(is_text(iox2sd_service_directory(with_byte(0, 'y'), 247, out, sizeof out), IOX2SD_TOO_LONG, 0));
-    CHECK(is_text(iox2sd_node_directory(with_byte(0, 'y'), 250, out, sizeof out), IOX2SD_TOO_LONG, 0));
+    CHECK(is_text(iox2sd_service_dir(bytes("/a"), 2, out, 10), IOX2SD_BUFFER_TOO_SHORT, 11));
+    CHECK(is_text(iox2sd_node_dir(bytes("/a"), 2, out, 7), IOX2SD_BUFFER_TOO_SHORT, 8));
+    CHECK(is_text(iox2sd_service_dir(bytes("\xff"), 1, out, sizeof out), IOX2SD_BAD_PATH, 0));
+    CHECK(is_text(iox2sd_node_dir(bytes("\xff"), 1, out, sizeof out), IOX2SD_BAD_PATH, 0));
+    CHECK(is_text(iox2sd_service_dir(with_byte(0, 'y'), 247, out, sizeof out), IOX2SD_TOO_LONG, 0));
+    CHECK(is_text(iox2sd_node_dir(with_byte(0, 'y'), 250, out, sizeof out), IOX2SD_TOO_LONG, 0));
     CHECK(untouched(out, 0, sizeof out));
-    CHECK(is_text(iox2sd_service_directory(bytes("/a"), 2, out, 11), IOX2SD_DONE, 11));
+    CHECK(is_text(iox2sd_service_dir(bytes("/a"), 2, out, 11), IOX2SD_DONE, 11));
     CHECK(memcmp(out, "/a/services", 11) == 0 && untouched(out, 11, sizeof out));
-    CHECK(is_text(iox2sd_node_directory(bytes("/a/"), 3, out, 8), IOX2SD_DONE, 8) && memcmp(out, "/a/nodes", 8) == 0);
-    CHECK(is_text(iox2sd_node_directory(NULL, 0, out, 5), IOX2SD_DONE, 5) && memcmp(out, "nodes", 5) == 0);
+    CHECK(is_text(iox2sd_node_dir(bytes("/a/"), 3, out, 8), IOX2SD_DONE, 8) && memcmp(out, "/a/nodes", 8) == 0);
+    CHECK(is_text(iox2sd_node_dir(NULL, 0, out, 5), IOX2SD_DONE, 5) && memcmp(out, "nodes", 5) == 0);
     CHECK(tells(iox2sd_version, "0.1.0") && tells(iox2sd_layer_version, "0.9.3"));
 }
 

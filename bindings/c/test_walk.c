@@ -84,7 +84,7 @@ static iox2sd_id some_port(void) {
 
 /* Mostly a role of the pattern. */
 static uint64_t some_role(walk *w) {
-    iox2sd_roles_answer of = iox2sd_roles(&w->service);
+    iox2sd_roles_answer of = iox2sd_port_roles(&w->service);
     uint32_t which = below(20);
     return which == 0 ? 1 + below(8) : which % 2 == 0 ? of.first : of.second;
 }
@@ -125,12 +125,12 @@ static void register_node(walk *w) {
     char out[48];
     iox2sd_id node = some_node();
     add(&w->script, "register %s\n", spelled(node, out));
-    reply_handle(w, iox2sd_register(&w->service, node));
+    reply_handle(w, iox2sd_register_node_id(&w->service, node));
 }
 
 static void attach(walk *w) {
     char its[48], of[48];
-    iox2sd_port port = {0};
+    iox2sd_port_details port = {0};
     port.role = some_role(w);
     port.port = some_port();
     port.node = some_node();
@@ -151,9 +151,9 @@ static void give_back(walk *w, bool of_node) {
     if (call >= w->calls || !w->has_handle[call]) {
         add(&w->replies, "no-handle\n");
     } else if (of_node) {
-        reply_state(w, iox2sd_deregister(&w->service, w->handles[call]));
+        reply_state(w, iox2sd_deregister_node_id(&w->service, w->handles[call]));
     } else {
-        uint32_t status = iox2sd_release(&w->service, w->handles[call]);
+        uint32_t status = iox2sd_release_port(&w->service, w->handles[call]);
         if (status != IOX2SD_DONE && status != IOX2SD_FOREIGN_HANDLE)
             give_up("a status that releasing cannot have");
         add(&w->replies, status == IOX2SD_DONE ? "released\n" : "not-owned\n");
@@ -161,7 +161,7 @@ static void give_back(walk *w, bool of_node) {
 }
 
 static void list_ports(walk *w) {
-    iox2sd_port out[MOST_LISTED];
+    iox2sd_port_details out[MOST_LISTED];
     uint64_t role = some_role(w);
     iox2sd_count_answer listed = iox2sd_ports(&w->service, role, out, MOST_LISTED);
     add(&w->script, "list %s\n", roles[role]);
@@ -202,8 +202,8 @@ static void die(walk *w) {
     char out[48];
     iox2sd_id dead = some_node(), kept[2];
     size_t number = below(3), its = 0;
-    iox2sd_port ports[MOST_LISTED], of_node[2 * MOST_LISTED];
-    iox2sd_roles_answer of = iox2sd_roles(&w->service);
+    iox2sd_port_details ports[MOST_LISTED], of_node[2 * MOST_LISTED];
+    iox2sd_roles_answer of = iox2sd_port_roles(&w->service);
     iox2sd_count_answer asked = iox2sd_ports_of(&w->service, dead, of_node, 2 * MOST_LISTED);
     for (int kind = 0; kind < 2; kind++) {
         iox2sd_count_answer listed =
@@ -222,7 +222,7 @@ static void die(walk *w) {
         add(&w->script, " %s", spelled(kept[i], out));
     }
     add(&w->script, "\n");
-    reply_state(w, iox2sd_dead(&w->service, dead, kept, number).status);
+    reply_state(w, iox2sd_remove_dead_node_id(&w->service, dead, kept, number).status);
 }
 
 static void step(walk *w) {
@@ -252,7 +252,7 @@ static size_t take(size_t most) {
     uint64_t number = next();
     iox2sd_capacities room = {1 + below(6), below(6), below(6)};
     w.pattern = below(4);
-    if (iox2sd_service_make(&w.service, w.pattern, number, room, UINT64_MAX) != IOX2SD_DONE)
+    if (iox2sd_service_create(&w.service, w.pattern, number, room, UINT64_MAX) != IOX2SD_DONE)
         give_up("no service");
     add(&w.script, "service %s %" PRIu64 " %zu %zu %zu\n", patterns[w.pattern], number, room.nodes,
         room.first, room.second);

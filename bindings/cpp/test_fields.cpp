@@ -134,7 +134,7 @@ void plain_values() {
     PortRoles roles{Role::Listener, Role::Notifier};
     auto& [first_role, second_role] = roles;
     each_counts(roles, first_role, second_role);
-    Removal removal{DeregisterNodeState::HasOwners, 1, 2};
+    DeadNodeRemoval removal{DeregisterNodeState::HasOwners, 1, 2};
     auto& [state, gone_first, gone_second] = removal;
     each_counts(removal, state, gone_first, gone_second);
     MessageTypeDetails details = message("p");
@@ -267,7 +267,7 @@ void descriptions() {
 // ---- What crosses to C and back ----
 
 /// A struct of C with a value of its own in each field.
-iox2sd_port c_port(Role role) {
+iox2sd_port_details c_port(Role role) {
     return {static_cast<std::uint64_t>(role), {11, 12, 13, 14}, {21, 22, 23, 24}, 31, 32, 33, 34,
             35, 36, 37, IOX2SD_DYNAMIC_SEGMENT, 38};
 }
@@ -278,17 +278,17 @@ bool is_same(const iox2sd_id& a, const iox2sd_id& b) {
 
 /// What is read of a port is what is written of it, and fields that its kind lacks are 0.
 template <class Details, class... Fields>
-void port(Details& expected, Fields iox2sd_port::*... own) {
-    const iox2sd_port c = c_port(Details::role);
+void port(Details& expected, Fields iox2sd_port_details::*... own) {
+    const iox2sd_port_details c = c_port(Details::role);
     const Details read = Details::from_c(c);
     CHECK(read == expected && is_same(read.port_id().parts(), c.port));
     CHECK(is_same(read.node_id.parts(), c.node));
-    iox2sd_port wanted{};
+    iox2sd_port_details wanted{};
     wanted.role = c.role;
     wanted.port = c.port;
     wanted.node = c.node;
     ((wanted.*own = c.*own), ...);
-    const iox2sd_port written = read.as_c();
+    const iox2sd_port_details written = read.as_c();
     CHECK(written.role == wanted.role && is_same(written.port, wanted.port));
     CHECK(is_same(written.node, wanted.node));
     CHECK(written.number_of_samples == wanted.number_of_samples);
@@ -304,7 +304,7 @@ void port(Details& expected, Fields iox2sd_port::*... own) {
 
 /// The fields of each kind of ports, by their numbers in `c_port`, and each of them counts.
 void ports() {
-    using Port = iox2sd_port;
+    using Port = iox2sd_port_details;
     const UniqueNodeId node = UniqueNodeId::create(21, 22, 23, 24).value();
     const DataSegmentType grows = DataSegmentType::Dynamic;
     {

@@ -202,14 +202,14 @@ void ports(std::size_t i) {
 
     // A death of which one port is kept, then one of which none is.
     const std::vector<UniquePortId> kept = {port_id(sb), port_id(sa)};
-    CHECK(*service.remove_dead_node_id(a, kept) == Removal{DeregisterNodeState::HasOwners, 1, 0});
+    CHECK(*service.remove_dead_node_id(a, kept) == DeadNodeRemoval{DeregisterNodeState::HasOwners, 1, 0});
     CHECK(lists(service.ports_of(a), sa) && lists(service.nodes(), a, b));
-    CHECK(*service.remove_dead_node_id(a) == Removal{DeregisterNodeState::HasOwners, 0, 1});
+    CHECK(*service.remove_dead_node_id(a) == DeadNodeRemoval{DeregisterNodeState::HasOwners, 0, 1});
     CHECK(lists(service.nodes(), b));
     CHECK(*service.remove_dead_node_id(b, {port_id(sb)}) ==
-          Removal{DeregisterNodeState::HasOwners, 0, 0});
+          DeadNodeRemoval{DeregisterNodeState::HasOwners, 0, 0});
     CHECK(*service.remove_dead_node_id(b, {port_id(fa)}) ==
-          Removal{DeregisterNodeState::NoMoreOwners, 0, 1});
+          DeadNodeRemoval{DeregisterNodeState::NoMoreOwners, 0, 1});
     CHECK(*service.is_locked() && !*service.has_room(first) && !*service.has_room_for_node());
     CHECK(service.attach(fa).status() == Status::IsLocked);
     CHECK(lists(service.ports(second)) && lists(service.ports_of(b)));
@@ -246,8 +246,8 @@ void kept_numbers() {
     CHECK(service.register_node_id(a) && service.attach(ListenerDetails{listener, a}));
     CHECK(service.attach(NotifierDetails{notifier, a}));
     CHECK(*service.remove_dead_node_id(a, {listener}) ==
-          Removal{DeregisterNodeState::HasOwners, 0, 0});
-    CHECK(*service.remove_dead_node_id(a) == Removal{DeregisterNodeState::NoMoreOwners, 1, 1});
+          DeadNodeRemoval{DeregisterNodeState::HasOwners, 0, 0});
+    CHECK(*service.remove_dead_node_id(a) == DeadNodeRemoval{DeregisterNodeState::NoMoreOwners, 1, 1});
 }
 
 /// A range that is read once alone, as a stream is: the ids of listeners by counters from 1 on.
@@ -349,7 +349,7 @@ bool works(Service& service, std::uint64_t rounds) {
                back->service == *service.service_number();
         good = good && service.register_node_id(a) && service.deregister_node_id(*back);
         good = good && *service.remove_dead_node_id(stranger) ==
-                           Removal{DeregisterNodeState::HasOwners, 0, 0};
+                           DeadNodeRemoval{DeregisterNodeState::HasOwners, 0, 0};
         const auto rest = service.nodes();
         good = good && rest->size() == 1 && (*rest)[0] == a;
         good = good && service.register_node_id(b);

@@ -136,7 +136,7 @@ static void say_id(iox2sd_id id) {
     write_id(id);
 }
 
-static void say_port(const iox2sd_port *port) {
+static void say_port(const iox2sd_port_details *port) {
     printf("\t%" PRIu64 ":", port->role);
     write_id(port->port);
     printf(":");
@@ -217,19 +217,19 @@ static void value(void) { checked(iox2sd_attribute_value_check); }
 static void path(void) { checked(iox2sd_path_check); }
 static void file_name(void) { checked(iox2sd_file_name_check); }
 static void file_path(void) { checked(iox2sd_file_path_check); }
-static void restricted_name(void) { checked(iox2sd_restricted_name_check); }
+static void restricted_name(void) { checked(iox2sd_restricted_file_name_check); }
 static void prefixed(void) { written(iox2sd_internal_service_name); }
-static void service_directory(void) { written(iox2sd_service_directory); }
-static void node_directory(void) { written(iox2sd_node_directory); }
-static void join(void) { joined(iox2sd_path_join); }
-static void file_join(void) { joined(iox2sd_file_path_join); }
+static void service_directory(void) { written(iox2sd_service_dir); }
+static void node_directory(void) { written(iox2sd_node_dir); }
+static void join(void) { joined(iox2sd_path_add_path_entry); }
+static void file_join(void) { joined(iox2sd_file_path_from_path_and_file); }
 static void hash(void) { hashed(iox2sd_hash_text); }
 static void internal_hash(void) { hashed(iox2sd_internal_hash_text); }
 
 static void prefix(void) {
     text given = bytes();
     say(IOX2SD_DONE);
-    say_number(iox2sd_has_internal_prefix(given.at, given.length));
+    say_number(iox2sd_has_iox2_prefix(given.at, given.length));
 }
 
 static void default_text(void) {
@@ -285,11 +285,11 @@ static void values(void) {
         refuse_set(checked, set);
         return;
     }
-    iox2sd_count_answer count = iox2sd_attribute_values(set, size, asked.at, asked.length);
+    iox2sd_count_answer count = iox2sd_attributes_number_of_key_values(set, size, asked.at, asked.length);
     answer_count(count);
     if (count.status != IOX2SD_DONE) return;
     printf("\t");
-    answer_text(iox2sd_attribute_value(set, size, asked.at, asked.length, index, out, sizeof out),
+    answer_text(iox2sd_attributes_key_value(set, size, asked.at, asked.length, index, out, sizeof out),
                 out);
 }
 
@@ -328,7 +328,7 @@ static void verify(void) {
 
 /* Whether all parts are types; what is wrong with the first that is none is said. */
 static bool are_types(const iox2sd_message_details *details) {
-    iox2sd_part_answer answer = iox2sd_message_compatible(details, details);
+    iox2sd_part_answer answer = iox2sd_message_is_compatible_to(details, details);
     if (answer.status == IOX2SD_DONE) return true;
     say(answer.status);
     say_number(answer.part);
@@ -339,7 +339,7 @@ static void layout(void) {
     size_t elements = number();
     iox2sd_message_details given = details();
     if (!are_types(&given)) return;
-    iox2sd_layout_answer answer = iox2sd_message_layout(&given, elements);
+    iox2sd_layout_answer answer = iox2sd_message_sample_layout(&given, elements);
     say(answer.status);
     if (answer.status != IOX2SD_DONE) return;
     say_number(answer.size);
@@ -359,7 +359,7 @@ static void places(void) {
 
 static void compatible(void) {
     iox2sd_message_details opener = details(), service = details();
-    iox2sd_part_answer answer = iox2sd_message_compatible(&opener, &service);
+    iox2sd_part_answer answer = iox2sd_message_is_compatible_to(&opener, &service);
     say(answer.status);
     if (answer.status == IOX2SD_DONE) return;
     say_number(answer.side);
@@ -369,19 +369,19 @@ static void compatible(void) {
 static void samples(void) {
     size_t n[5];
     for (size_t i = 0; i < 5; i++) n[i] = number();
-    answer_count(iox2sd_publisher_chunks(n[0], n[1], n[2], n[3], n[4]));
+    answer_count(iox2sd_required_amount_of_samples_per_data_segment(n[0], n[1], n[2], n[3], n[4]));
 }
 
 static void requests(void) {
     size_t n[3];
     for (size_t i = 0; i < 3; i++) n[i] = number();
-    answer_count(iox2sd_client_chunks(n[0], n[1], n[2]));
+    answer_count(iox2sd_required_amount_of_chunks_per_client_data_segment(n[0], n[1], n[2]));
 }
 
 static void responses(void) {
     size_t n[5];
     for (size_t i = 0; i < 5; i++) n[i] = number();
-    answer_count(iox2sd_server_chunks(n[0], n[1], n[2], n[3], n[4]));
+    answer_count(iox2sd_required_amount_of_chunks_per_server_data_segment(n[0], n[1], n[2], n[3], n[4]));
 }
 
 /* ---- Settings ---- */
@@ -494,7 +494,7 @@ static void ids(void) {
         return;
     }
     say_also(IOX2SD_DONE);
-    say_number(iox2sd_id_owner(one));
+    say_number(iox2sd_id_owner_id(one));
 }
 
 /* ---- One service, kept from line to line ---- */
@@ -509,15 +509,15 @@ static void make(void) {
     room.first = number();
     room.second = number();
     iox2sd_service_free(&service);
-    say(iox2sd_service_make(&service, pattern, service_number, room, number()));
+    say(iox2sd_service_create(&service, pattern, service_number, room, number()));
 }
 
-static void register_node(void) { answer_handle(iox2sd_register(&service, id())); }
-static void deregister(void) { say(iox2sd_deregister(&service, handle())); }
-static void release(void) { say(iox2sd_release(&service, handle())); }
+static void register_node(void) { answer_handle(iox2sd_register_node_id(&service, id())); }
+static void deregister(void) { say(iox2sd_deregister_node_id(&service, handle())); }
+static void release(void) { say(iox2sd_release_port(&service, handle())); }
 
 static void attach(void) {
-    iox2sd_port port;
+    iox2sd_port_details port;
     memset(&port, 0, sizeof port);
     port.role = number();
     port.port = id();
@@ -540,7 +540,7 @@ static void dead(void) {
     size_t count = number();
     if (count > MOST_PAIRS) give_up("a line has too many ids");
     for (size_t i = 0; i < count; i++) kept[i] = id();
-    iox2sd_death_answer answer = iox2sd_dead(&service, node, kept, count);
+    iox2sd_dead_node_removal answer = iox2sd_remove_dead_node_id(&service, node, kept, count);
     say(answer.status);
     if (answer.status != IOX2SD_DONE && answer.status != IOX2SD_DONE_LOCKED) return;
     say_number(answer.first);
@@ -555,11 +555,11 @@ static void room_for_node(void) { answer_flag(iox2sd_has_room_for_node(&service)
 static void locked(void) { answer_flag(iox2sd_is_locked(&service)); }
 static void number_of_nodes(void) { answer_count(iox2sd_number_of_nodes(&service)); }
 static void max_nodes(void) { answer_count(iox2sd_max_nodes(&service)); }
-static void pattern(void) { answer_number(iox2sd_pattern(&service)); }
+static void pattern(void) { answer_number(iox2sd_messaging_pattern(&service)); }
 static void service_number(void) { answer_number(iox2sd_service_number(&service)); }
 
 static void roles(void) {
-    iox2sd_roles_answer answer = iox2sd_roles(&service);
+    iox2sd_roles_answer answer = iox2sd_port_roles(&service);
     say(answer.status);
     if (answer.status != IOX2SD_DONE) return;
     say_number(answer.first);
@@ -567,13 +567,13 @@ static void roles(void) {
 }
 
 static void find_node(void) {
-    iox2sd_id_answer answer = iox2sd_find_node(&service, handle());
+    iox2sd_id_answer answer = iox2sd_node(&service, handle());
     say(answer.status);
     if (answer.status == IOX2SD_DONE) say_id(answer.id);
 }
 
 static void find_port(void) {
-    iox2sd_port_answer answer = iox2sd_find_port(&service, handle());
+    iox2sd_port_answer answer = iox2sd_port(&service, handle());
     say(answer.status);
     if (answer.status == IOX2SD_DONE) say_port(&answer.port);
 }
@@ -585,18 +585,18 @@ static void nodes(void) {
     for (size_t i = 0; i < answer.count; i++) say_id(out[i]);
 }
 
-static void say_ports(iox2sd_count_answer answer, const iox2sd_port *ports) {
+static void say_ports(iox2sd_count_answer answer, const iox2sd_port_details *ports) {
     say(answer.status);
     for (size_t i = 0; i < answer.count; i++) say_port(&ports[i]);
 }
 
 static void ports(void) {
-    iox2sd_port out[MOST_PAIRS];
+    iox2sd_port_details out[MOST_PAIRS];
     say_ports(iox2sd_ports(&service, number(), out, MOST_PAIRS), out);
 }
 
 static void ports_of(void) {
-    iox2sd_port out[MOST_PAIRS];
+    iox2sd_port_details out[MOST_PAIRS];
     say_ports(iox2sd_ports_of(&service, id(), out, MOST_PAIRS), out);
 }
 

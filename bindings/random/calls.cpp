@@ -568,7 +568,7 @@ void dead(Line& in, Answer& out) {
         kept.push_back(UniquePublisherId(in.parts()));
     }
     if (!node) return out.status(node.error());
-    const Result<Removal> removed = service.remove_dead_node_id(*node, kept);
+    const Result<DeadNodeRemoval> removed = service.remove_dead_node_id(*node, kept);
     if (!removed) return out.status(removed.error());
     out.status(status_of(removed->state));
     out.number(removed->first);

@@ -16,7 +16,7 @@ using namespace iox2sd;
 namespace {
 
 void remove(Service& service, const UniqueNodeId& dead, const std::vector<UniquePortId>& kept) {
-    const Result<Removal> removal = service.remove_dead_node_id(dead, kept);
+    const Result<DeadNodeRemoval> removal = service.remove_dead_node_id(dead, kept);
     std::cout << "dead " << dead << ": ";
     if (!removal) {
         std::cout << text(removal.error()) << '\n';

@@ -20,7 +20,7 @@ from iox2sd import (
     TypeDetail,
     UniqueServiceId,
     default_text,
-    service_directory,
+    service_dir,
 )
 
 HEADER = TypeDetail("Header", size=40, alignment=8)
@@ -45,7 +45,7 @@ def create() -> StaticConfig:
 
 def static_config_file(service: StaticConfig) -> FilePath:
     """Where the description of the service is stored."""
-    directory = service_directory(Path(default_text(DefaultText.ROOT_PATH)))
+    directory = service_dir(Path(default_text(DefaultText.ROOT_PATH)))
     prefix = default_text(DefaultText.PREFIX)
     suffix = default_text(DefaultText.STATIC_CONFIG_STORAGE_SUFFIX)
     file = FileName(f"{prefix}{service.service_hash}{suffix}")

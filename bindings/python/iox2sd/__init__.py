@@ -31,7 +31,7 @@ from .details import (
 from .dynamic_config import (
     Capacities,
     ContainerHandle,
-    DeadNode,
+    DeadNodeRemoval,
     DeregisterNodeState,
     DynamicConfig,
 )
@@ -101,8 +101,8 @@ from .settings import (
     PublishSubscribeSettings,
     RequestResponseSettings,
     default_text,
-    node_directory,
-    service_directory,
+    node_dir,
+    service_dir,
 )
 from .static_config import (
     BlackboardStaticConfig,
@@ -149,7 +149,7 @@ __all__ = [
     "ClientDetails",
     "ContainerHandle",
     "DataSegmentType",
-    "DeadNode",
+    "DeadNodeRemoval",
     "default_text",
     "DefaultText",
     "DeregisterNodeState",
@@ -178,7 +178,7 @@ __all__ = [
     "MessagingPattern",
     "MissingKey",
     "MissingPair",
-    "node_directory",
+    "node_dir",
     "NodeNotRegistered",
     "NoFileName",
     "NoIdText",
@@ -211,7 +211,7 @@ __all__ = [
     "RoleNotInPattern",
     "run_script",
     "ServerDetails",
-    "service_directory",
+    "service_dir",
     "ServiceHash",
     "ServiceName",
     "StaticConfig",

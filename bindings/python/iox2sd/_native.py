@@ -15,7 +15,7 @@ from ctypes import POINTER, c_bool, c_char_p, c_size_t, c_uint8, c_uint32, c_uin
 from pathlib import Path
 from typing import Any
 
-ABI = 1
+ABI = 2
 """The number that the library's `iox2sd_abi` is to answer."""
 
 DONE = 0
@@ -66,7 +66,7 @@ class Handle(ctypes.Structure):
     ]
 
 
-class Port(ctypes.Structure):
+class PortDetails(ctypes.Structure):
     _fields_ = [
         ("role", c_uint64),
         ("port", Id),
@@ -125,10 +125,10 @@ class IdAnswer(ctypes.Structure):
 
 
 class PortAnswer(ctypes.Structure):
-    _fields_ = [("status", c_uint32), ("port", Port)]
+    _fields_ = [("status", c_uint32), ("port", PortDetails)]
 
 
-class DeathAnswer(ctypes.Structure):
+class DeadNodeRemoval(ctypes.Structure):
     _fields_ = [("status", c_uint32), ("first", c_size_t), ("second", c_size_t)]
 
 
@@ -284,22 +284,26 @@ version = _export("version", TextAnswer, *_OUT)
 layer_version = _export("layer_version", TextAnswer, *_OUT)
 
 id_is_node = _export("id_is_node", c_bool, Id)
-id_owner = _export("id_owner", c_uint64, Id)
+id_owner_id = _export("id_owner_id", c_uint64, Id)
 id_is_before = _export("id_is_before", c_bool, Id, Id)
 id_text = _export("id_text", TextAnswer, Id, *_OUT)
 
-service_make_at = _export(
-    "service_make_at", c_uint32, *_SERVICE, c_uint32, c_uint64, Capacities, c_uint64
+service_create_at = _export(
+    "service_create_at", c_uint32, *_SERVICE, c_uint32, c_uint64, Capacities, c_uint64
 )
 service_free_at = _export("service_free_at", c_uint32, *_SERVICE)
-register_at = _export("register_at", HandleAnswer, *_SERVICE, Id)
-deregister_at = _export("deregister_at", c_uint32, *_SERVICE, Handle)
-attach_at = _export("attach_at", HandleAnswer, *_SERVICE, POINTER(Port), c_size_t)
-release_at = _export("release_at", c_uint32, *_SERVICE, Handle)
-dead_at = _export("dead_at", DeathAnswer, *_SERVICE, Id, POINTER(Id), c_size_t)
-pattern_at = _export("pattern_at", NumberAnswer, *_SERVICE)
+register_node_id_at = _export("register_node_id_at", HandleAnswer, *_SERVICE, Id)
+deregister_node_id_at = _export("deregister_node_id_at", c_uint32, *_SERVICE, Handle)
+attach_at = _export(
+    "attach_at", HandleAnswer, *_SERVICE, POINTER(PortDetails), c_size_t
+)
+release_port_at = _export("release_port_at", c_uint32, *_SERVICE, Handle)
+remove_dead_node_id_at = _export(
+    "remove_dead_node_id_at", DeadNodeRemoval, *_SERVICE, Id, POINTER(Id), c_size_t
+)
+messaging_pattern_at = _export("messaging_pattern_at", NumberAnswer, *_SERVICE)
 service_number_at = _export("service_number_at", NumberAnswer, *_SERVICE)
-roles_at = _export("roles_at", RolesAnswer, *_SERVICE)
+port_roles_at = _export("port_roles_at", RolesAnswer, *_SERVICE)
 has_role_at = _export("has_role_at", FlagAnswer, *_SERVICE, c_uint64)
 is_locked_at = _export("is_locked_at", FlagAnswer, *_SERVICE)
 number_of_nodes_at = _export("number_of_nodes_at", CountAnswer, *_SERVICE)
@@ -308,50 +312,78 @@ has_room_for_node_at = _export("has_room_for_node_at", FlagAnswer, *_SERVICE)
 count_ports_at = _export("count_ports_at", CountAnswer, *_SERVICE, c_uint64)
 max_ports_at = _export("max_ports_at", CountAnswer, *_SERVICE, c_uint64)
 has_room_at = _export("has_room_at", FlagAnswer, *_SERVICE, c_uint64)
-find_node_at = _export("find_node_at", IdAnswer, *_SERVICE, Handle)
-find_port_at = _export("find_port_at", PortAnswer, *_SERVICE, Handle)
+node_at = _export("node_at", IdAnswer, *_SERVICE, Handle)
+port_at = _export("port_at", PortAnswer, *_SERVICE, Handle)
 nodes_at = _export("nodes_at", CountAnswer, *_SERVICE, POINTER(Id), c_size_t)
-ports_at = _export("ports_at", CountAnswer, *_SERVICE, c_uint64, POINTER(Port), c_size_t)
-ports_of_at = _export("ports_of_at", CountAnswer, *_SERVICE, Id, POINTER(Port), c_size_t)
-script_run = _export("script_run", ScriptAnswer, *_TEXT, *_OUT, library=ctypes.CDLL(_PATH))
+ports_at = _export(
+    "ports_at", CountAnswer, *_SERVICE, c_uint64, POINTER(PortDetails), c_size_t
+)
+ports_of_at = _export(
+    "ports_of_at", CountAnswer, *_SERVICE, Id, POINTER(PortDetails), c_size_t
+)
+script_run = _export(
+    "script_run", ScriptAnswer, *_TEXT, *_OUT, library=ctypes.CDLL(_PATH)
+)
 
 service_name_check = _export("service_name_check", PlaceAnswer, *_TEXT)
-internal_service_name_check = _export("internal_service_name_check", PlaceAnswer, *_TEXT)
-has_internal_prefix = _export("has_internal_prefix", c_bool, *_TEXT)
+internal_service_name_check = _export(
+    "internal_service_name_check", PlaceAnswer, *_TEXT
+)
+has_iox2_prefix = _export("has_iox2_prefix", c_bool, *_TEXT)
 internal_service_name = _export("internal_service_name", TextAnswer, *_TEXT, *_OUT)
 attribute_key_check = _export("attribute_key_check", PlaceAnswer, *_TEXT)
 attribute_value_check = _export("attribute_value_check", PlaceAnswer, *_TEXT)
 path_check = _export("path_check", PlaceAnswer, *_TEXT)
 file_name_check = _export("file_name_check", PlaceAnswer, *_TEXT)
 file_path_check = _export("file_path_check", PlaceAnswer, *_TEXT)
-restricted_name_check = _export("restricted_name_check", PlaceAnswer, *_TEXT)
-path_join = _export("path_join", TextAnswer, *_TEXT, *_TEXT, *_OUT)
-file_path_join = _export("file_path_join", TextAnswer, *_TEXT, *_TEXT, *_OUT)
+restricted_file_name_check = _export("restricted_file_name_check", PlaceAnswer, *_TEXT)
+path_add_path_entry = _export("path_add_path_entry", TextAnswer, *_TEXT, *_TEXT, *_OUT)
+file_path_from_path_and_file = _export(
+    "file_path_from_path_and_file", TextAnswer, *_TEXT, *_TEXT, *_OUT
+)
 hash_text = _export("hash_text", TextAnswer, c_uint32, *_TEXT, *_OUT)
 internal_hash_text = _export("internal_hash_text", TextAnswer, c_uint32, *_TEXT, *_OUT)
 
 attributes_check_at = _export("attributes_check_at", PlaceAnswer, *_PAIRS)
 attributes_sort_at = _export("attributes_sort_at", PlaceAnswer, *_PAIRS)
-attribute_values_at = _export("attribute_values_at", CountAnswer, *_PAIRS, *_TEXT)
-attribute_value_at = _export("attribute_value_at", TextAnswer, *_PAIRS, *_TEXT, c_size_t, *_OUT)
+attributes_number_of_key_values_at = _export(
+    "attributes_number_of_key_values_at", CountAnswer, *_PAIRS, *_TEXT
+)
+attributes_key_value_at = _export(
+    "attributes_key_value_at", TextAnswer, *_PAIRS, *_TEXT, c_size_t, *_OUT
+)
 attributes_verify_at = _export(
     "attributes_verify_at", PlaceAnswer, *_PAIRS, *_PAIRS, POINTER(Key), c_size_t
 )
 
-message_layout_at = _export("message_layout_at", LayoutAnswer, *_DETAILS, c_size_t)
+message_sample_layout_at = _export(
+    "message_sample_layout_at", LayoutAnswer, *_DETAILS, c_size_t
+)
 message_places_at = _export("message_places_at", PlacesAnswer, *_DETAILS, c_size_t)
-message_compatible_at = _export("message_compatible_at", PartAnswer, *_DETAILS, *_DETAILS)
-publisher_chunks = _export("publisher_chunks", CountAnswer, *[c_size_t] * 5)
-client_chunks = _export("client_chunks", CountAnswer, *[c_size_t] * 3)
-server_chunks = _export("server_chunks", CountAnswer, *[c_size_t] * 5)
+message_is_compatible_to_at = _export(
+    "message_is_compatible_to_at", PartAnswer, *_DETAILS, *_DETAILS
+)
+required_amount_of_samples_per_data_segment = _export(
+    "required_amount_of_samples_per_data_segment", CountAnswer, *[c_size_t] * 5
+)
+required_amount_of_chunks_per_client_data_segment = _export(
+    "required_amount_of_chunks_per_client_data_segment", CountAnswer, *[c_size_t] * 3
+)
+required_amount_of_chunks_per_server_data_segment = _export(
+    "required_amount_of_chunks_per_server_data_segment", CountAnswer, *[c_size_t] * 5
+)
 
 global_defaults = _export("global_defaults", GlobalSettings)
 global_settings_check_at = _export(
     "global_settings_check_at", FieldAnswer, POINTER(GlobalSettings), c_size_t
 )
-publish_subscribe_defaults = _export("publish_subscribe_defaults", PublishSubscribeSettings)
+publish_subscribe_defaults = _export(
+    "publish_subscribe_defaults", PublishSubscribeSettings
+)
 event_defaults = _export("event_defaults", EventSettings)
-request_response_defaults = _export("request_response_defaults", RequestResponseSettings)
+request_response_defaults = _export(
+    "request_response_defaults", RequestResponseSettings
+)
 blackboard_defaults = _export("blackboard_defaults", BlackboardSettings)
 samples_of_at = _export(
     "samples_of_at", CountAnswer, POINTER(PublishSubscribeSettings), c_size_t
@@ -363,8 +395,8 @@ responses_of_at = _export(
     "responses_of_at", CountAnswer, POINTER(RequestResponseSettings), c_size_t
 )
 default_text = _export("default_text", TextAnswer, c_uint32, *_OUT)
-service_directory = _export("service_directory", TextAnswer, *_TEXT, *_OUT)
-node_directory = _export("node_directory", TextAnswer, *_TEXT, *_OUT)
+service_dir = _export("service_dir", TextAnswer, *_TEXT, *_OUT)
+node_dir = _export("node_dir", TextAnswer, *_TEXT, *_OUT)
 
 
 def written(function: Any, *arguments: Any) -> "tuple[int, str]":

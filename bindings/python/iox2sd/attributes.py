@@ -53,7 +53,7 @@ class AttributeSet(Sequence[Attribute]):
 
     def number_of_key_values(self, key: AttributeKey) -> int:
         """How many values a key has."""
-        answer = _native.attribute_values_at(
+        answer = _native.attributes_number_of_key_values_at(
             *_pairs(self._attributes), *_key(key, "AttributeSet.number_of_key_values")
         )
         check(answer.status, "AttributeSet.number_of_key_values")
@@ -65,7 +65,7 @@ class AttributeSet(Sequence[Attribute]):
         what = "AttributeSet.key_value"
         index = number(index, Size, what)
         status, text = _native.written(
-            _native.attribute_value_at, *_pairs(self._attributes), *_key(key, what), index
+            _native.attributes_key_value_at, *_pairs(self._attributes), *_key(key, what), index
         )
         if status == _native.NO_SUCH_VALUE:
             return None

@@ -42,8 +42,8 @@ class Details(Checked):
         id: UniquePortId = getattr(self, fields(self)[0].name)
         return id
 
-    def _lent(self) -> _native.Port:
-        port = _native.Port(
+    def _lent(self) -> _native.PortDetails:
+        port = _native.PortDetails(
             role=self.role.value, port=self.port_id._lent(), node=self.node_id._lent()
         )
         for field in fields(self)[2:]:
@@ -165,7 +165,7 @@ PortDetails = Union[
 
 _SEGMENTS = {segment.value: segment for segment in DataSegmentType}
 
-_COLUMNS = {name: at for at, (name, *_) in enumerate(_native.Port._fields_[3:], 9)}
+_COLUMNS = {name: at for at, (name, *_) in enumerate(_native.PortDetails._fields_[3:], 9)}
 """Where the fields after the ids stand in a row."""
 
 
@@ -193,6 +193,6 @@ def details_of_row(row: "tuple[int, ...]") -> PortDetails:
     return details
 
 
-def details_of(port: _native.Port) -> PortDetails:
+def details_of(port: _native.PortDetails) -> PortDetails:
     """The details of a port of the library."""
     return details_of_row(_native.PORT.unpack(bytes(port)))

@@ -71,7 +71,7 @@ class DeregisterNodeState(Choice):
 
 
 @dataclass(frozen=True, slots=True)
-class DeadNode(Checked):
+class DeadNodeRemoval(Checked):
     """What went with a dead node, and what is left."""
 
     state: DeregisterNodeState
@@ -118,7 +118,7 @@ class DynamicConfig:
         instance(messaging_pattern, MessagingPattern, f"{what}.messaging_pattern")
         instance(capacities, Capacities, f"{what}.capacities")
         status = self._call(
-            _native.service_make_at,
+            _native.service_create_at,
             messaging_pattern.value,
             number(service_number, U64, f"{what}.service_number"),
             _native.Capacities(capacities.nodes, capacities.first, capacities.second),
@@ -166,7 +166,7 @@ class DynamicConfig:
         Raises `NoService`, `IsLocked`, `OutOfSpace`.
         """
         instance(node_id, UniqueNodeId, "register_node_id")
-        answer = self._call(_native.register_at, node_id._lent())
+        answer = self._call(_native.register_node_id_at, node_id._lent())
         check(answer.status, f"register node {node_id}")
         return ContainerHandle._of(answer.handle)
 
@@ -177,7 +177,7 @@ class DynamicConfig:
         where it is the only handle of its node and some port has that node.
         """
         instance(handle, ContainerHandle, "deregister_node_id")
-        status = self._call(_native.deregister_at, handle._lent())
+        status = self._call(_native.deregister_node_id_at, handle._lent())
         check(status, f"deregister {handle}")
         return DeregisterNodeState(status)
 
@@ -197,11 +197,11 @@ class DynamicConfig:
         Raises `NoService` and `ForeignHandle`, also for a node's handle.
         """
         instance(handle, ContainerHandle, "release_port")
-        check(self._call(_native.release_at, handle._lent()), f"release {handle}")
+        check(self._call(_native.release_port_at, handle._lent()), f"release {handle}")
 
     def remove_dead_node_id(
         self, node_id: UniqueNodeId, keep: Iterable[UniquePortId] = ()
-    ) -> DeadNode:
+    ) -> DeadNodeRemoval:
         """Removes the ports of a dead node, but for those whose id has the number of one in `keep`,
         and reports how many went. Numbers are looked at and not roles: a listener that is kept
         keeps the notifier of the same number too, though their ids are not equal. Where no port is
@@ -214,9 +214,9 @@ class DynamicConfig:
         for port_id in kept:
             instance(port_id, UniquePortId, "remove_dead_node_id.keep")
         ids = (_native.Id * len(kept))(*(port_id._lent() for port_id in kept))
-        answer = self._call(_native.dead_at, node_id._lent(), ids, len(kept))
+        answer = self._call(_native.remove_dead_node_id_at, node_id._lent(), ids, len(kept))
         check(answer.status, f"remove dead node {node_id}")
-        return DeadNode(DeregisterNodeState(answer.status), answer.first, answer.second)
+        return DeadNodeRemoval(DeregisterNodeState(answer.status), answer.first, answer.second)
 
     @contextmanager
     def registered(self, node_id: UniqueNodeId) -> Iterator[ContainerHandle]:
@@ -252,7 +252,7 @@ class DynamicConfig:
     @property
     def messaging_pattern(self) -> MessagingPattern:
         """The messaging pattern."""
-        answer = self._call(_native.pattern_at)
+        answer = self._call(_native.messaging_pattern_at)
         check(answer.status, "messaging_pattern")
         return MessagingPattern(answer.number)
 
@@ -266,7 +266,7 @@ class DynamicConfig:
     @property
     def port_roles(self) -> "tuple[Role, Role]":
         """The roles of the pattern's two kinds of ports, that first which is recovered first."""
-        answer = self._call(_native.roles_at)
+        answer = self._call(_native.port_roles_at)
         check(answer.status, "port_roles")
         return Role(answer.first), Role(answer.second)
 
@@ -319,7 +319,7 @@ class DynamicConfig:
         any more or never was.
         """
         instance(handle, ContainerHandle, "node")
-        answer = self._call(_native.find_node_at, handle._lent())
+        answer = self._call(_native.node_at, handle._lent())
         check(answer.status, f"node of {handle}")
         return UniqueNodeId._of(answer.id)
 
@@ -328,7 +328,7 @@ class DynamicConfig:
         any more or never was.
         """
         instance(handle, ContainerHandle, "port")
-        answer = self._call(_native.find_port_at, handle._lent())
+        answer = self._call(_native.port_at, handle._lent())
         check(answer.status, f"port of {handle}")
         return details_of(answer.port)
 
@@ -343,7 +343,7 @@ class DynamicConfig:
         """The ports of a role by rising slot. Raises `RoleNotInPattern`."""
         instance(role, Role, "list_ports")
         what = f"list ports, {role}"
-        rows = self._rows(what, _native.Port, _native.PORT, _native.ports_at, role.value)
+        rows = self._rows(what, _native.PortDetails, _native.PORT, _native.ports_at, role.value)
         return tuple(map(details_of_row, rows))
 
     def ports_of(self, node_id: UniqueNodeId) -> "tuple[PortDetails, ...]":
@@ -353,7 +353,7 @@ class DynamicConfig:
         instance(node_id, UniqueNodeId, "ports_of")
         what = f"ports of {node_id}"
         lent = node_id._lent()
-        rows = self._rows(what, _native.Port, _native.PORT, _native.ports_of_at, lent)
+        rows = self._rows(what, _native.PortDetails, _native.PORT, _native.ports_of_at, lent)
         return tuple(map(details_of_row, rows))
 
     def list_publishers(self) -> "tuple[PublisherDetails, ...]":

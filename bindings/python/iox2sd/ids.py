@@ -102,7 +102,7 @@ class UniqueNodeId(UniqueId):
     @property
     def owner_id(self) -> int:
         """process * 2^32 + counter. Nodes of one process with one counter share it."""
-        return int(_native.id_owner(self._lent()))
+        return int(_native.id_owner_id(self._lent()))
 
 
 class UniquePublisherId(UniqueId):

@@ -38,7 +38,7 @@ class TypeDetail(Checked):
         name = utf8(self.type_name, "TypeDetail.type_name").decode()
         object.__setattr__(self, "type_name", name)
         details = _native.MessageDetails(*[self._lent()] * 3)
-        check(_native.message_compatible_at(details, 1, details, 1).status, shown(self))
+        check(_native.message_is_compatible_to_at(details, 1, details, 1).status, shown(self))
 
     def _lent(self) -> _native.TypeDetail:
         return _native.TypeDetail(
@@ -79,7 +79,7 @@ class MessageTypeDetails(Checked):
         """
         what = "MessageTypeDetails.sample_layout"
         elements = number(number_of_elements, Size, what)
-        answer = _native.message_layout_at(self._lent(), 1, elements)
+        answer = _native.message_sample_layout_at(self._lent(), 1, elements)
         check(answer.status, what)
         return Layout(answer.size, answer.alignment)
 
@@ -101,7 +101,7 @@ class MessageTypeDetails(Checked):
         `OtherAlignment` of the header, `GreaterAlignment` of another part: all `Incompatible`.
         """
         instance(service, MessageTypeDetails, "MessageTypeDetails.check_compatible_to")
-        answer = _native.message_compatible_at(self._lent(), 1, service._lent(), 1)
+        answer = _native.message_is_compatible_to_at(self._lent(), 1, service._lent(), 1)
         part = ("header", "user header", "payload")[answer.part]
         check(answer.status, f"the opener's {part}")
 

@@ -260,14 +260,14 @@ def default_text(which: DefaultText) -> str:
     return text
 
 
-def service_directory(root: Path) -> Path:
+def service_dir(root: Path) -> Path:
     """The directory of services below a root path. Raises `TooLong` past 255 bytes."""
-    return _directory(root, "service_directory", _native.service_directory)
+    return _directory(root, "service_dir", _native.service_dir)
 
 
-def node_directory(root: Path) -> Path:
+def node_dir(root: Path) -> Path:
     """The directory of nodes below a root path. Raises `TooLong` past 255 bytes."""
-    return _directory(root, "node_directory", _native.node_directory)
+    return _directory(root, "node_dir", _native.node_dir)
 
 
 def _directory(root: Path, what: str, function: Any) -> Path:

@@ -58,7 +58,7 @@ class PublishSubscribeStaticConfig(Checked):
         and not yet sent. Raises `TooLarge` past 2^64 - 1.
         """
         what = "required_amount_of_samples_per_data_segment"
-        answer = _native.publisher_chunks(
+        answer = _native.required_amount_of_samples_per_data_segment(
             self.max_subscribers,
             self.subscriber_max_buffer_size,
             self.subscriber_max_borrowed_samples,
@@ -128,7 +128,7 @@ class RequestResponseStaticConfig(Checked):
         and not yet sent. Raises `TooLarge` past 2^64 - 1.
         """
         what = "required_amount_of_chunks_per_client_data_segment"
-        answer = _native.client_chunks(
+        answer = _native.required_amount_of_chunks_per_client_data_segment(
             self.max_servers,
             self.max_active_requests_per_client,
             number(client_max_loaned_requests, Size, what),
@@ -142,7 +142,7 @@ class RequestResponseStaticConfig(Checked):
         and not yet sent for each request. Raises `TooLarge` past 2^64 - 1.
         """
         what = "required_amount_of_chunks_per_server_data_segment"
-        answer = _native.server_chunks(
+        answer = _native.required_amount_of_chunks_per_server_data_segment(
             self.max_clients,
             self.max_active_requests_per_client,
             self.max_response_buffer_size,

@@ -73,7 +73,7 @@ class ServiceName(Text):
     def has_iox2_prefix(name: str) -> bool:
         """Whether a text begins as the names of the system's own services do."""
         encoded = utf8(name, "has_iox2_prefix")
-        return bool(_native.has_internal_prefix(encoded, len(encoded)))
+        return bool(_native.has_iox2_prefix(encoded, len(encoded)))
 
 
 class InternalServiceName(ServiceName):
@@ -131,7 +131,7 @@ class Path(Text):
         """
         instance(entry, Path, "Path.add_path_entry")
         what = f"{shown(self)} and {shown(entry)}"
-        return Path._written(what, _native.path_join, *lent(self), *lent(entry))
+        return Path._written(what, _native.path_add_path_entry, *lent(self), *lent(entry))
 
 
 class FileName(Text):
@@ -163,7 +163,7 @@ class FilePath(Text):
         instance(path, Path, "FilePath.from_path_and_file")
         instance(file, FileName, "FilePath.from_path_and_file")
         what = f"{shown(path)} and {shown(file)}"
-        return cls._written(what, _native.file_path_join, *lent(path), *lent(file))
+        return cls._written(what, _native.file_path_from_path_and_file, *lent(path), *lent(file))
 
 
 class RestrictedFileName(Text):
@@ -174,7 +174,7 @@ class RestrictedFileName(Text):
     """
 
     __slots__ = ()
-    _check = _native.restricted_name_check
+    _check = _native.restricted_file_name_check
 
 
 class ServiceHash(RestrictedFileName):

@@ -13,7 +13,7 @@ from iox2sd import (
     ClientDetails,
     ContainerHandle,
     DataSegmentType,
-    DeadNode,
+    DeadNodeRemoval,
     DeregisterNodeState,
     DynamicConfig,
     ListenerDetails,
@@ -384,23 +384,23 @@ class DeadNodes(unittest.TestCase):
     def test_all_goes(self):
         with self.filled() as made:
             gone = made.remove_dead_node_id(NODE)
-            self.assertEqual(gone, DeadNode(DeregisterNodeState.HAS_OWNERS, 2, 1))
+            self.assertEqual(gone, DeadNodeRemoval(DeregisterNodeState.HAS_OWNERS, 2, 1))
             self.assertEqual(made.list_node_ids(), (OTHER,))
             gone = made.remove_dead_node_id(OTHER)
-            self.assertEqual(gone, DeadNode(DeregisterNodeState.NO_MORE_OWNERS, 1, 0))
+            self.assertEqual(gone, DeadNodeRemoval(DeregisterNodeState.NO_MORE_OWNERS, 1, 0))
 
     def test_some_ports_are_kept(self):
         with self.filled() as made:
             keep = (port.port_id for port in made.ports_of(NODE)[1:])
             gone = made.remove_dead_node_id(NODE, keep)
-            self.assertEqual(gone, DeadNode(DeregisterNodeState.HAS_OWNERS, 1, 0))
+            self.assertEqual(gone, DeadNodeRemoval(DeregisterNodeState.HAS_OWNERS, 1, 0))
             self.assertEqual(made.ports_of(NODE), (publisher(2), subscriber(4)))
             self.assertEqual(made.list_node_ids(), (NODE, OTHER, NODE))
 
     def test_an_unknown_node(self):
         with self.filled() as made:
             gone = made.remove_dead_node_id(UniqueNodeId(1, 2, 3, 5))
-            self.assertEqual(gone, DeadNode(DeregisterNodeState.HAS_OWNERS, 0, 0))
+            self.assertEqual(gone, DeadNodeRemoval(DeregisterNodeState.HAS_OWNERS, 0, 0))
 
 
 class Ends(unittest.TestCase):

@@ -37,7 +37,7 @@ VALUES: "list[Any]" = [
     iox2sd.UniqueServiceId(1, 2, 3, 4),
     iox2sd.ContainerHandle(7, iox2sd.Role.NODE, 1, 2),
     iox2sd.Capacities(1, 2, 3),
-    iox2sd.DeadNode(iox2sd.DeregisterNodeState.HAS_OWNERS, 1, 2),
+    iox2sd.DeadNodeRemoval(iox2sd.DeregisterNodeState.HAS_OWNERS, 1, 2),
     *PORTS,
     iox2sd.Layout(8, 4),
     iox2sd.Places(8, 16),
@@ -207,7 +207,7 @@ class Structs(unittest.TestCase):
 
     def test_ports(self):
         for port in PORTS:
-            c, values = self.numbered(_native.Port)
+            c, values = self.numbered(_native.PortDetails)
             c.role, c.data_segment = port.role.value, 1
             c.port, c.node = _native.Id(1, 2, 3, 4), _native.Id(5, 6, 7, 8)
             read = details.details_of(c)
@@ -221,7 +221,7 @@ class Structs(unittest.TestCase):
                 self.assertIs(read.data_segment_type, iox2sd.DataSegmentType.STATIC)
                 self.assertEqual(lent.data_segment, 1)
                 own.remove("data_segment_type")
-            for name, *_ in _native.Port._fields_[3:]:
+            for name, *_ in _native.PortDetails._fields_[3:]:
                 if name in own:
                     self.assertEqual(getattr(read, name), values[name])
                     self.assertEqual(getattr(lent, name), values[name])

@@ -192,10 +192,10 @@ class Texts(unittest.TestCase):
                 iox2sd.default_text(wrong)
 
     def test_directories(self):
-        self.assertEqual(iox2sd.service_directory(Path("/a")), "/a/services")
-        self.assertEqual(iox2sd.node_directory(Path("/a/")), "/a/nodes")
-        self.assertEqual(iox2sd.node_directory(Path("")), "nodes")
-        for call, length in ((iox2sd.service_directory, 246), (iox2sd.node_directory, 249)):
+        self.assertEqual(iox2sd.service_dir(Path("/a")), "/a/services")
+        self.assertEqual(iox2sd.node_dir(Path("/a/")), "/a/nodes")
+        self.assertEqual(iox2sd.node_dir(Path("")), "nodes")
+        for call, length in ((iox2sd.service_dir, 246), (iox2sd.node_dir, 249)):
             self.assertEqual(len(call(Path("y" * length))), 255)
             with self.assertRaises(iox2sd.TooLong):
                 call(Path("y" * (length + 1)))

@@ -251,7 +251,7 @@ class Calls(unittest.TestCase):
     def test_a_service_that_is_closed_beside_a_call(self):
         made = service()
         within, closed = threading.Event(), threading.Event()
-        registered = _native.register_at
+        registered = _native.register_node_id_at
         raised: "list[BaseException]" = []
 
         def waits(*arguments: Any) -> Any:

@@ -87,7 +87,7 @@ checks! {
     check_path: iox2sd_path_check
     check_file_name: iox2sd_file_name_check
     check_file_path: iox2sd_file_path_check
-    check_restricted_name: iox2sd_restricted_name_check
+    check_restricted_name: iox2sd_restricted_file_name_check
 }
 
 /// Defines calls that write a text about plain values.
@@ -124,7 +124,7 @@ macro_rules! values {
 
 values! {
     id_is_node(id: sys::iox2sd_id) -> bool: iox2sd_id_is_node
-    id_owner(id: sys::iox2sd_id) -> u64: iox2sd_id_owner
+    id_owner(id: sys::iox2sd_id) -> u64: iox2sd_id_owner_id
     id_is_before(id: sys::iox2sd_id, other: sys::iox2sd_id) -> bool: iox2sd_id_is_before
     global_defaults() -> sys::iox2sd_global_settings: iox2sd_global_defaults
     publish_subscribe_defaults() -> sys::iox2sd_publish_subscribe_settings:
@@ -139,16 +139,16 @@ values! {
         borrowed: usize,
         history_size: usize,
         loaned: usize
-    ) -> sys::iox2sd_count_answer: iox2sd_publisher_chunks
+    ) -> sys::iox2sd_count_answer: iox2sd_required_amount_of_samples_per_data_segment
     client_chunks(max_servers: usize, active: usize, loaned: usize) -> sys::iox2sd_count_answer:
-        iox2sd_client_chunks
+        iox2sd_required_amount_of_chunks_per_client_data_segment
     server_chunks(
         max_clients: usize,
         active: usize,
         buffer_size: usize,
         borrowed: usize,
         loaned: usize
-    ) -> sys::iox2sd_count_answer: iox2sd_server_chunks
+    ) -> sys::iox2sd_count_answer: iox2sd_required_amount_of_chunks_per_server_data_segment
 }
 
 /// A count of chunks, or `None` where it passes its range.
@@ -175,7 +175,7 @@ pub(crate) fn greatest_length(check: impl Fn(&[u8]) -> sys::iox2sd_place_answer)
 
 pub(crate) fn has_internal_prefix(text: &str) -> bool {
     // SAFETY: pointer and length are those of one slice.
-    unsafe { sys::iox2sd_has_internal_prefix(text.as_ptr(), text.len()) }
+    unsafe { sys::iox2sd_has_iox2_prefix(text.as_ptr(), text.len()) }
 }
 
 pub(crate) fn internal_service_name(name: &str) -> Result<String, u32> {
@@ -201,7 +201,7 @@ pub(crate) fn hash_text(pattern: u32, name: &str) -> Result<String, u32> {
 pub(crate) fn path_join(path: &str, entry: &str) -> Result<String, u32> {
     // SAFETY: as above.
     text(|out| unsafe {
-        sys::iox2sd_path_join(
+        sys::iox2sd_path_add_path_entry(
             path.as_ptr(),
             path.len(),
             entry.as_ptr(),
@@ -215,7 +215,7 @@ pub(crate) fn path_join(path: &str, entry: &str) -> Result<String, u32> {
 pub(crate) fn file_path_join(path: &str, file: &str) -> Result<String, u32> {
     // SAFETY: as above.
     text(|out| unsafe {
-        sys::iox2sd_file_path_join(
+        sys::iox2sd_file_path_from_path_and_file(
             path.as_ptr(),
             path.len(),
             file.as_ptr(),

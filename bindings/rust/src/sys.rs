@@ -107,7 +107,7 @@ pub struct iox2sd_handle {
 
 #[repr(C)]
 #[derive(Clone, Copy, Debug, Default, PartialEq, Eq)]
-pub struct iox2sd_port {
+pub struct iox2sd_port_details {
     pub role: u64,
     pub port: iox2sd_id,
     pub node: iox2sd_id,
@@ -183,11 +183,11 @@ pub struct iox2sd_id_answer {
 #[repr(C)]
 pub struct iox2sd_port_answer {
     pub status: u32,
-    pub port: iox2sd_port,
+    pub port: iox2sd_port_details,
 }
 
 #[repr(C)]
-pub struct iox2sd_death_answer {
+pub struct iox2sd_dead_node_removal {
     pub status: u32,
     pub first: usize,
     pub second: usize,
@@ -345,11 +345,11 @@ extern "C" {
     pub fn iox2sd_layer_version(out: *mut u8, capacity: usize) -> iox2sd_text_answer;
 
     pub fn iox2sd_id_is_node(id: iox2sd_id) -> bool;
-    pub fn iox2sd_id_owner(id: iox2sd_id) -> u64;
+    pub fn iox2sd_id_owner_id(id: iox2sd_id) -> u64;
     pub fn iox2sd_id_is_before(id: iox2sd_id, other: iox2sd_id) -> bool;
     pub fn iox2sd_id_text(id: iox2sd_id, out: *mut u8, capacity: usize) -> iox2sd_text_answer;
 
-    pub fn iox2sd_service_make_at(
+    pub fn iox2sd_service_create_at(
         places: *mut iox2sd_service,
         count: usize,
         pattern: u32,
@@ -358,12 +358,12 @@ extern "C" {
         tickets: u64,
     ) -> u32;
     pub fn iox2sd_service_free_at(places: *mut iox2sd_service, count: usize) -> u32;
-    pub fn iox2sd_register_at(
+    pub fn iox2sd_register_node_id_at(
         places: *mut iox2sd_service,
         count: usize,
         node: iox2sd_id,
     ) -> iox2sd_handle_answer;
-    pub fn iox2sd_deregister_at(
+    pub fn iox2sd_deregister_node_id_at(
         places: *mut iox2sd_service,
         count: usize,
         handle: iox2sd_handle,
@@ -371,26 +371,27 @@ extern "C" {
     pub fn iox2sd_attach_at(
         places: *mut iox2sd_service,
         count: usize,
-        ports: *const iox2sd_port,
+        ports: *const iox2sd_port_details,
         port_count: usize,
     ) -> iox2sd_handle_answer;
-    pub fn iox2sd_release_at(
+    pub fn iox2sd_release_port_at(
         places: *mut iox2sd_service,
         count: usize,
         handle: iox2sd_handle,
     ) -> u32;
-    pub fn iox2sd_dead_at(
+    pub fn iox2sd_remove_dead_node_id_at(
         places: *mut iox2sd_service,
         count: usize,
         dead: iox2sd_id,
         kept: *const iox2sd_id,
         kept_count: usize,
-    ) -> iox2sd_death_answer;
+    ) -> iox2sd_dead_node_removal;
     pub fn iox2sd_service_number_at(
         places: *const iox2sd_service,
         count: usize,
     ) -> iox2sd_number_answer;
-    pub fn iox2sd_roles_at(places: *const iox2sd_service, count: usize) -> iox2sd_roles_answer;
+    pub fn iox2sd_port_roles_at(places: *const iox2sd_service, count: usize)
+        -> iox2sd_roles_answer;
     pub fn iox2sd_has_role_at(
         places: *const iox2sd_service,
         count: usize,
@@ -421,12 +422,12 @@ extern "C" {
         count: usize,
         role: u64,
     ) -> iox2sd_flag_answer;
-    pub fn iox2sd_find_node_at(
+    pub fn iox2sd_node_at(
         places: *const iox2sd_service,
         count: usize,
         handle: iox2sd_handle,
     ) -> iox2sd_id_answer;
-    pub fn iox2sd_find_port_at(
+    pub fn iox2sd_port_at(
         places: *const iox2sd_service,
         count: usize,
         handle: iox2sd_handle,
@@ -441,14 +442,14 @@ extern "C" {
         places: *const iox2sd_service,
         count: usize,
         role: u64,
-        out: *mut iox2sd_port,
+        out: *mut iox2sd_port_details,
         capacity: usize,
     ) -> iox2sd_count_answer;
     pub fn iox2sd_ports_of_at(
         places: *const iox2sd_service,
         count: usize,
         node: iox2sd_id,
-        out: *mut iox2sd_port,
+        out: *mut iox2sd_port_details,
         capacity: usize,
     ) -> iox2sd_count_answer;
 
@@ -464,7 +465,7 @@ extern "C" {
         text: *const u8,
         length: usize,
     ) -> iox2sd_place_answer;
-    pub fn iox2sd_has_internal_prefix(text: *const u8, length: usize) -> bool;
+    pub fn iox2sd_has_iox2_prefix(text: *const u8, length: usize) -> bool;
     pub fn iox2sd_internal_service_name(
         text: *const u8,
         length: usize,
@@ -476,8 +477,9 @@ extern "C" {
     pub fn iox2sd_path_check(text: *const u8, length: usize) -> iox2sd_place_answer;
     pub fn iox2sd_file_name_check(text: *const u8, length: usize) -> iox2sd_place_answer;
     pub fn iox2sd_file_path_check(text: *const u8, length: usize) -> iox2sd_place_answer;
-    pub fn iox2sd_restricted_name_check(text: *const u8, length: usize) -> iox2sd_place_answer;
-    pub fn iox2sd_path_join(
+    pub fn iox2sd_restricted_file_name_check(text: *const u8, length: usize)
+        -> iox2sd_place_answer;
+    pub fn iox2sd_path_add_path_entry(
         path: *const u8,
         path_length: usize,
         entry: *const u8,
@@ -485,7 +487,7 @@ extern "C" {
         out: *mut u8,
         capacity: usize,
     ) -> iox2sd_text_answer;
-    pub fn iox2sd_file_path_join(
+    pub fn iox2sd_file_path_from_path_and_file(
         path: *const u8,
         path_length: usize,
         file: *const u8,
@@ -509,13 +511,13 @@ extern "C" {
         pairs: *mut iox2sd_attribute,
         length: usize,
     ) -> iox2sd_place_answer;
-    pub fn iox2sd_attribute_values_at(
+    pub fn iox2sd_attributes_number_of_key_values_at(
         pairs: *const iox2sd_attribute,
         length: usize,
         key: *const u8,
         key_length: usize,
     ) -> iox2sd_count_answer;
-    pub fn iox2sd_attribute_value_at(
+    pub fn iox2sd_attributes_key_value_at(
         pairs: *const iox2sd_attribute,
         length: usize,
         key: *const u8,
@@ -533,7 +535,7 @@ extern "C" {
         keys_length: usize,
     ) -> iox2sd_place_answer;
 
-    pub fn iox2sd_message_layout_at(
+    pub fn iox2sd_message_sample_layout_at(
         details: *const iox2sd_message_details,
         count: usize,
         elements: usize,
@@ -543,25 +545,25 @@ extern "C" {
         count: usize,
         header: usize,
     ) -> iox2sd_places_answer;
-    pub fn iox2sd_message_compatible_at(
+    pub fn iox2sd_message_is_compatible_to_at(
         opener: *const iox2sd_message_details,
         opener_count: usize,
         service: *const iox2sd_message_details,
         service_count: usize,
     ) -> iox2sd_part_answer;
-    pub fn iox2sd_publisher_chunks(
+    pub fn iox2sd_required_amount_of_samples_per_data_segment(
         max_subscribers: usize,
         subscriber_max_buffer_size: usize,
         subscriber_max_borrowed_samples: usize,
         history_size: usize,
         loaned_samples: usize,
     ) -> iox2sd_count_answer;
-    pub fn iox2sd_client_chunks(
+    pub fn iox2sd_required_amount_of_chunks_per_client_data_segment(
         max_servers: usize,
         max_active_requests_per_client: usize,
         loaned_requests: usize,
     ) -> iox2sd_count_answer;
-    pub fn iox2sd_server_chunks(
+    pub fn iox2sd_required_amount_of_chunks_per_server_data_segment(
         max_clients: usize,
         max_active_requests_per_client: usize,
         max_response_buffer_size: usize,

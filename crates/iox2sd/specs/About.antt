@@ -8,7 +8,7 @@ use Rattle.iox2sd.specs.declared.status.Status.TheVariants as status
 
 -- the number of the structs and exports of today
 abbrev pub the_abi : ℕ
-the_abi = 1
+the_abi = 2
 
 -- what a status says was written, where there is one
 abbrev pub Says : Option Status → List ℕ → TextAnswer → List ℕ → Type 0

@@ -10,7 +10,7 @@ use super::status::{Status, status_of};
 pub extern "C" fn iox2sd_abi() -> u32
     ensures { result ≡ the_abi }
 {
-    1
+    2
 }
 
 /// Writes what a status says. Refused is a number that is not that of a status.

@@ -80,7 +80,7 @@ pub extern "C" fn iox2sd_id_is_node(id: Id) -> bool
 /// The process and the counter in one number, process * 2^32 + counter, which is 0 for an id of no
 /// node alone.
 #[unsafe(no_mangle)]
-pub extern "C" fn iox2sd_id_owner(id: Id) -> u64
+pub extern "C" fn iox2sd_id_owner_id(id: Id) -> u64
     ensures { result ≡ owner_of (number_of id) }
 {
     match id.of_node() {

@@ -69,7 +69,10 @@ pub extern "C" fn iox2sd_attributes_sort_at(pairs: &mut [Attribute<'_>]) -> Plac
 /// Refused are, in this order, pairs that `iox2sd_attributes_check` refuses, with its status, and a
 /// wrong key (`BadAskedKey`).
 #[unsafe(no_mangle)]
-pub extern "C" fn iox2sd_attribute_values_at(pairs: &[Attribute<'_>], key: &[u8]) -> CountAnswer
+pub extern "C" fn iox2sd_attributes_number_of_key_values_at(
+    pairs: &[Attribute<'_>],
+    key: &[u8],
+) -> CountAnswer
     ensures { CountsValues pairs.now key.now result }
 {
     let mut at = 0;
@@ -88,7 +91,7 @@ pub extern "C" fn iox2sd_attribute_values_at(pairs: &[Attribute<'_>], key: &[u8]
 /// Refused are, in this order, pairs that `iox2sd_attributes_check` refuses, with its status, a
 /// wrong key (`BadAskedKey`), and an index that the key has no value for (`NoSuchValue`).
 #[unsafe(no_mangle)]
-pub extern "C" fn iox2sd_attribute_value_at(
+pub extern "C" fn iox2sd_attributes_key_value_at(
     pairs: &[Attribute<'_>],
     key: &[u8],
     index: usize,

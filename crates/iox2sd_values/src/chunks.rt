@@ -24,7 +24,7 @@ pub(super) fn chunks(number: Option<usize>) -> CountAnswer
 ///
 /// Refused is a number that would pass 2^64 - 1 (`TooLarge`).
 #[unsafe(no_mangle)]
-pub extern "C" fn iox2sd_publisher_chunks(
+pub extern "C" fn iox2sd_required_amount_of_samples_per_data_segment(
     max_subscribers: usize,
     subscriber_max_buffer_size: usize,
     subscriber_max_borrowed_samples: usize,
@@ -79,7 +79,7 @@ fn request_response_of(
 ///
 /// Refused is a number that would pass 2^64 - 1 (`TooLarge`).
 #[unsafe(no_mangle)]
-pub extern "C" fn iox2sd_client_chunks(
+pub extern "C" fn iox2sd_required_amount_of_chunks_per_client_data_segment(
     max_servers: usize,
     max_active_requests_per_client: usize,
     loaned_requests: usize,
@@ -97,7 +97,7 @@ pub extern "C" fn iox2sd_client_chunks(
 ///
 /// Refused is a number that would pass 2^64 - 1 (`TooLarge`).
 #[unsafe(no_mangle)]
-pub extern "C" fn iox2sd_server_chunks(
+pub extern "C" fn iox2sd_required_amount_of_chunks_per_server_data_segment(
     max_clients: usize,
     max_active_requests_per_client: usize,
     max_response_buffer_size: usize,

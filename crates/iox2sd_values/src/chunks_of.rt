@@ -5,7 +5,11 @@ ghost use Rattle.iox2sd_values.specs.Chunks.{CountsSamplesOfConfig, CountsReques
 ghost use Rattle.iox2sd_values.specs.Chunks.{CountsResponsesOfConfig};
 
 use super::answers::{CountAnswer, count};
-use super::chunks::{iox2sd_client_chunks, iox2sd_publisher_chunks, iox2sd_server_chunks};
+use super::chunks::{
+    iox2sd_required_amount_of_chunks_per_client_data_segment,
+    iox2sd_required_amount_of_chunks_per_server_data_segment,
+    iox2sd_required_amount_of_samples_per_data_segment,
+};
 use super::descriptions::{PublishSubscribeConfig, RequestResponseConfig};
 use super::settings::{PublishSubscribeSettings, RequestResponseSettings};
 use super::status::Status;
@@ -20,7 +24,7 @@ pub extern "C" fn iox2sd_samples_of_at(settings: &[PublishSubscribeSettings]) ->
 {
     match settings {
         [] => count(Status::Null, 0),
-        [first, ..] => iox2sd_publisher_chunks(
+        [first, ..] => iox2sd_required_amount_of_samples_per_data_segment(
             first.max_subscribers,
             first.subscriber_max_buffer_size,
             first.subscriber_max_borrowed_samples,
@@ -40,7 +44,7 @@ pub extern "C" fn iox2sd_requests_of_at(settings: &[RequestResponseSettings]) ->
 {
     match settings {
         [] => count(Status::Null, 0),
-        [first, ..] => iox2sd_client_chunks(
+        [first, ..] => iox2sd_required_amount_of_chunks_per_client_data_segment(
             first.max_servers,
             first.max_active_requests_per_client,
             first.max_loaned_requests,
@@ -58,7 +62,7 @@ pub extern "C" fn iox2sd_responses_of_at(settings: &[RequestResponseSettings]) -
 {
     match settings {
         [] => count(Status::Null, 0),
-        [first, ..] => iox2sd_server_chunks(
+        [first, ..] => iox2sd_required_amount_of_chunks_per_server_data_segment(
             first.max_clients,
             first.max_active_requests_per_client,
             first.max_response_buffer_size,
@@ -81,7 +85,7 @@ pub extern "C" fn iox2sd_samples_of_config_at(
 {
     match config {
         [] => count(Status::Null, 0),
-        [config, ..] => iox2sd_publisher_chunks(
+        [config, ..] => iox2sd_required_amount_of_samples_per_data_segment(
             config.max_subscribers,
             config.subscriber_max_buffer_size,
             config.subscriber_max_borrowed_samples,
@@ -103,7 +107,7 @@ pub extern "C" fn iox2sd_requests_of_config_at(
 {
     match config {
         [] => count(Status::Null, 0),
-        [config, ..] => iox2sd_client_chunks(
+        [config, ..] => iox2sd_required_amount_of_chunks_per_client_data_segment(
             config.max_servers,
             config.max_active_requests_per_client,
             loaned_requests,
@@ -123,7 +127,7 @@ pub extern "C" fn iox2sd_responses_of_config_at(
 {
     match config {
         [] => count(Status::Null, 0),
-        [config, ..] => iox2sd_server_chunks(
+        [config, ..] => iox2sd_required_amount_of_chunks_per_server_data_segment(
             config.max_clients,
             config.max_active_requests_per_client,
             config.max_response_buffer_size,

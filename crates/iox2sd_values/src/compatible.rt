@@ -132,7 +132,7 @@ fn judge(opener: &Details<'_>, service: &Details<'_>) -> PartAnswer
 /// (`OtherVariant`), another size (`OtherSize`), another alignment of the header
 /// (`OtherAlignment`), a greater one of another part (`GreaterAlignment`).
 #[unsafe(no_mangle)]
-pub extern "C" fn iox2sd_message_compatible_at(
+pub extern "C" fn iox2sd_message_is_compatible_to_at(
     opener: &[Details<'_>],
     service: &[Details<'_>],
 ) -> PartAnswer

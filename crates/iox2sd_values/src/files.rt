@@ -181,7 +181,7 @@ fn node_directory(root: &[u8]) -> Result<Path, Status>
 ///
 /// Refused are, in this order, a wrong root path (`BadPath`), and more than 255 bytes (`TooLong`).
 #[unsafe(no_mangle)]
-pub extern "C" fn iox2sd_service_directory(root: &[u8], out: &mut [u8]) -> TextAnswer
+pub extern "C" fn iox2sd_service_dir(root: &[u8], out: &mut [u8]) -> TextAnswer
     ensures { TellsBelow root.now default_service.directory out.old result out.new }
 {
     match service_directory(root) {
@@ -192,7 +192,7 @@ pub extern "C" fn iox2sd_service_directory(root: &[u8], out: &mut [u8]) -> TextA
 
 /// Writes the directory of nodes below a root path. Refused as that of services is.
 #[unsafe(no_mangle)]
-pub extern "C" fn iox2sd_node_directory(root: &[u8], out: &mut [u8]) -> TextAnswer
+pub extern "C" fn iox2sd_node_dir(root: &[u8], out: &mut [u8]) -> TextAnswer
     ensures { TellsBelow root.now default_node.directory out.old result out.new }
 {
     match node_directory(root) {

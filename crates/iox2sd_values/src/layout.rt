@@ -99,7 +99,10 @@ fn places_of(details: &Details<'_>, header: usize) -> Result<Places, Status>
 /// Refused are, in this order, NULL (`Null`), an alignment that is no power of two
 /// (`BadAlignment`), and a message that would pass 2^63 - 1 bytes (`TooLarge`).
 #[unsafe(no_mangle)]
-pub extern "C" fn iox2sd_message_layout_at(details: &[Details<'_>], elements: usize) -> LayoutAnswer
+pub extern "C" fn iox2sd_message_sample_layout_at(
+    details: &[Details<'_>],
+    elements: usize,
+) -> LayoutAnswer
     ensures { TellsLayout details.now elements result }
 {
     match details {

@@ -54,7 +54,7 @@ fn prefixed_name(text: &[u8]) -> Result<ServiceName, Status>
 
 /// Whether a text begins with `iox2://`, as the names of the system's own services do.
 #[unsafe(no_mangle)]
-pub extern "C" fn iox2sd_has_internal_prefix(text: &[u8]) -> bool
+pub extern "C" fn iox2sd_has_iox2_prefix(text: &[u8]) -> bool
     ensures { result ≡ starts_with nat_eq text.now (codes "iox2://") }
 {
     text.starts_with(INTERNAL_SERVICE_PREFIX.as_bytes())

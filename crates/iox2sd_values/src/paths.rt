@@ -44,7 +44,11 @@ fn join_file(path: &[u8], file: &[u8]) -> Result<FilePath, Status>
 /// Refused are, in this order, a wrong path (`BadPath`), a wrong entry, which is a path too
 /// (`BadEntry`), and more than 255 bytes (`TooLong`).
 #[unsafe(no_mangle)]
-pub extern "C" fn iox2sd_path_join(path: &[u8], entry: &[u8], out: &mut [u8]) -> TextAnswer
+pub extern "C" fn iox2sd_path_add_path_entry(
+    path: &[u8],
+    entry: &[u8],
+    out: &mut [u8],
+) -> TextAnswer
     ensures { TellsPath path.now entry.now out.old result out.new }
 {
     match join_paths(path, entry) {
@@ -59,7 +63,11 @@ pub extern "C" fn iox2sd_path_join(path: &[u8], entry: &[u8], out: &mut [u8]) ->
 /// Refused are, in this order, a wrong path of the directory (`BadPath`), a wrong name of the file
 /// (`BadEntry`), and more than 255 bytes (`TooLong`).
 #[unsafe(no_mangle)]
-pub extern "C" fn iox2sd_file_path_join(path: &[u8], file: &[u8], out: &mut [u8]) -> TextAnswer
+pub extern "C" fn iox2sd_file_path_from_path_and_file(
+    path: &[u8],
+    file: &[u8],
+    out: &mut [u8],
+) -> TextAnswer
     ensures { TellsFile path.now file.now out.old result out.new }
 {
     match join_file(path, file) {

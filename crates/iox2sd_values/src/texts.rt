@@ -196,7 +196,7 @@ pub extern "C" fn iox2sd_file_path_check(text: &[u8]) -> PlaceAnswer
 /// `a` to `z`, digits, `-`, `.`, `:` and `_`, and neither `.` nor `..`. Refused as the name of a
 /// file is.
 #[unsafe(no_mangle)]
-pub extern "C" fn iox2sd_restricted_name_check(text: &[u8]) -> PlaceAnswer
+pub extern "C" fn iox2sd_restricted_file_name_check(text: &[u8]) -> PlaceAnswer
     ensures { ChecksText (MakesRestricted text.now) Alphabet.Restricted 64 text.now result }
 {
     match RestrictedFileName::<64>::new(text) {

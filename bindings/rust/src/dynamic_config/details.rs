@@ -12,7 +12,7 @@ use crate::sys;
 pub(super) trait Details {
     const ROLE: Role;
 
-    fn of(port: &sys::iox2sd_port) -> Self;
+    fn of(port: &sys::iox2sd_port_details) -> Self;
 }
 
 fn number_of_segment_type(segment: DataSegmentType) -> u32 {
@@ -47,7 +47,7 @@ macro_rules! details {
         impl Details for $name {
             const ROLE: Role = Role::$role;
 
-            fn of(port: &sys::iox2sd_port) -> Self {
+            fn of(port: &sys::iox2sd_port_details) -> Self {
                 $name {
                     $id: $id_type::of(port.port),
                     node_id: UniqueNodeId::of(port.node),
@@ -56,9 +56,9 @@ macro_rules! details {
             }
         }
 
-        impl From<$name> for sys::iox2sd_port {
+        impl From<$name> for sys::iox2sd_port_details {
             fn from(details: $name) -> Self {
-                sys::iox2sd_port {
+                sys::iox2sd_port_details {
                     role: Role::$role as u64,
                     port: details.$id.parts,
                     node: details.node_id.parts,
@@ -290,7 +290,7 @@ pub enum PortDetails {
 }
 
 impl PortDetails {
-    pub(super) fn of(port: &sys::iox2sd_port) -> Self {
+    pub(super) fn of(port: &sys::iox2sd_port_details) -> Self {
         match Role::of(port.role) {
             Role::Publisher => PublisherDetails::of(port).into(),
             Role::Subscriber => SubscriberDetails::of(port).into(),
@@ -304,7 +304,7 @@ impl PortDetails {
         }
     }
 
-    pub(super) fn parts(self) -> sys::iox2sd_port {
+    pub(super) fn parts(self) -> sys::iox2sd_port_details {
         match self {
             PortDetails::Publisher(details) => details.into(),
             PortDetails::Subscriber(details) => details.into(),

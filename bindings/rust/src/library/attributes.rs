@@ -56,7 +56,12 @@ pub(crate) fn attribute_values(attributes: &[Attribute], key: &AttributeKey) -> 
     let (pairs, key) = (pairs(attributes), key.as_bytes());
     // SAFETY: as above; the key is a slice.
     let answer = unsafe {
-        sys::iox2sd_attribute_values_at(pairs.as_ptr(), pairs.len(), key.as_ptr(), key.len())
+        sys::iox2sd_attributes_number_of_key_values_at(
+            pairs.as_ptr(),
+            pairs.len(),
+            key.as_ptr(),
+            key.len(),
+        )
     };
     done(answer.status)?;
     Ok(answer.count)
@@ -70,7 +75,7 @@ pub(crate) fn attribute_value(
     let (pairs, key) = (pairs(attributes), key.as_bytes());
     // SAFETY: as above; `out` is a slice that overlaps no other argument.
     text(|out| unsafe {
-        sys::iox2sd_attribute_value_at(
+        sys::iox2sd_attributes_key_value_at(
             pairs.as_ptr(),
             pairs.len(),
             key.as_ptr(),

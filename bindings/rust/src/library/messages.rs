@@ -27,7 +27,7 @@ fn parts(details: &MessageTypeDetails) -> sys::iox2sd_message_details {
 pub(crate) fn layout(details: &MessageTypeDetails, elements: usize) -> Result<(usize, usize), u32> {
     let parts = parts(details);
     // SAFETY: the pointer is that of one struct, whose names are those of details that live on.
-    let answer = unsafe { sys::iox2sd_message_layout_at(&parts, 1, elements) };
+    let answer = unsafe { sys::iox2sd_message_sample_layout_at(&parts, 1, elements) };
     done(answer.status)?;
     Ok((answer.size, answer.alignment))
 }
@@ -48,7 +48,7 @@ pub(crate) fn compatible(
 ) -> sys::iox2sd_part_answer {
     let (opener, service) = (parts(opener), parts(service));
     // SAFETY: as above, twice.
-    unsafe { sys::iox2sd_message_compatible_at(&opener, 1, &service, 1) }
+    unsafe { sys::iox2sd_message_is_compatible_to_at(&opener, 1, &service, 1) }
 }
 
 /// What is wrong of a type, as the library says of a part of a message.
@@ -76,5 +76,5 @@ pub(crate) fn check_type_name(name: &str) -> u32 {
         payload: part(),
     };
     // SAFETY: as above; the name is a slice.
-    unsafe { sys::iox2sd_message_compatible_at(&parts, 1, &parts, 1) }.status
+    unsafe { sys::iox2sd_message_is_compatible_to_at(&parts, 1, &parts, 1) }.status
 }

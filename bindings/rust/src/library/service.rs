@@ -52,7 +52,7 @@ impl Service {
         };
         done(change!(
             service,
-            iox2sd_service_make_at,
+            iox2sd_service_create_at,
             pattern,
             number,
             capacities,
@@ -62,24 +62,27 @@ impl Service {
     }
 
     pub(crate) fn register(&mut self, node: sys::iox2sd_id) -> Result<sys::iox2sd_handle, u32> {
-        let answer = change!(self, iox2sd_register_at, node);
+        let answer = change!(self, iox2sd_register_node_id_at, node);
         done(answer.status)?;
         Ok(answer.handle)
     }
 
     /// Whether the service is locked now.
     pub(crate) fn deregister(&mut self, handle: sys::iox2sd_handle) -> Result<bool, u32> {
-        locked(change!(self, iox2sd_deregister_at, handle))
+        locked(change!(self, iox2sd_deregister_node_id_at, handle))
     }
 
-    pub(crate) fn attach(&mut self, port: &sys::iox2sd_port) -> Result<sys::iox2sd_handle, u32> {
+    pub(crate) fn attach(
+        &mut self,
+        port: &sys::iox2sd_port_details,
+    ) -> Result<sys::iox2sd_handle, u32> {
         let answer = change!(self, iox2sd_attach_at, port, 1);
         done(answer.status)?;
         Ok(answer.handle)
     }
 
     pub(crate) fn release(&mut self, handle: sys::iox2sd_handle) -> Result<(), u32> {
-        done(change!(self, iox2sd_release_at, handle))
+        done(change!(self, iox2sd_release_port_at, handle))
     }
 
     /// Whether the service is locked now.
@@ -88,7 +91,16 @@ impl Service {
         dead: sys::iox2sd_id,
         kept: &[sys::iox2sd_id],
     ) -> Result<bool, u32> {
-        locked(change!(self, iox2sd_dead_at, dead, kept.as_ptr(), kept.len()).status)
+        locked(
+            change!(
+                self,
+                iox2sd_remove_dead_node_id_at,
+                dead,
+                kept.as_ptr(),
+                kept.len()
+            )
+            .status,
+        )
     }
 
     pub(crate) fn number(&self) -> u64 {
@@ -98,7 +110,7 @@ impl Service {
 
     /// The roles of the two kinds of ports.
     pub(crate) fn roles(&self) -> (u64, u64) {
-        let answer = ask!(self, iox2sd_roles_at);
+        let answer = ask!(self, iox2sd_port_roles_at);
         granted(answer.status, (answer.first, answer.second))
     }
 
@@ -143,12 +155,12 @@ impl Service {
     }
 
     pub(crate) fn node(&self, handle: sys::iox2sd_handle) -> Option<sys::iox2sd_id> {
-        let answer = ask!(self, iox2sd_find_node_at, handle);
+        let answer = ask!(self, iox2sd_node_at, handle);
         of_handle(answer.status, answer.id)
     }
 
-    pub(crate) fn port(&self, handle: sys::iox2sd_handle) -> Option<sys::iox2sd_port> {
-        let answer = ask!(self, iox2sd_find_port_at, handle);
+    pub(crate) fn port(&self, handle: sys::iox2sd_handle) -> Option<sys::iox2sd_port_details> {
+        let answer = ask!(self, iox2sd_port_at, handle);
         of_handle(answer.status, answer.port)
     }
 
@@ -157,7 +169,7 @@ impl Service {
             .unwrap_or_else(|status| unexpected(status))
     }
 
-    pub(crate) fn ports(&self, role: u64) -> Option<Vec<sys::iox2sd_port>> {
+    pub(crate) fn ports(&self, role: u64) -> Option<Vec<sys::iox2sd_port_details>> {
         match list(|out| ask!(self, iox2sd_ports_at, role, out.as_mut_ptr(), out.len())) {
             Ok(ports) => Some(ports),
             Err(sys::IOX2SD_ROLE_NOT_IN_PATTERN) => None,
@@ -166,7 +178,7 @@ impl Service {
     }
 
     /// The ports of the node with exactly this id.
-    pub(crate) fn ports_of(&self, node: sys::iox2sd_id) -> Vec<sys::iox2sd_port> {
+    pub(crate) fn ports_of(&self, node: sys::iox2sd_id) -> Vec<sys::iox2sd_port_details> {
         list(|out| ask!(self, iox2sd_ports_of_at, node, out.as_mut_ptr(), out.len()))
             .unwrap_or_else(|status| unexpected(status))
     }

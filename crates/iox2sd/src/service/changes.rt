@@ -46,7 +46,7 @@ impl HandleAnswer {
 /// Refused are, in this order, NULL, a place that holds no service, an id of no node, a locked
 /// service, and want of a place or a ticket.
 #[unsafe(no_mangle)]
-pub extern "C" fn iox2sd_register_at(places: &mut [Service], node: Id) -> HandleAnswer
+pub extern "C" fn iox2sd_register_node_id_at(places: &mut [Service], node: Id) -> HandleAnswer
     requires { All IsSoundPlace places.old }
     ensures { At handle_answer Err Nothing (Registers node) places.old result places.new }
 {
@@ -66,7 +66,7 @@ pub extern "C" fn iox2sd_register_at(places: &mut [Service], node: Id) -> Handle
 /// that is not that of a node here, and one that is the only one of its node while some port has
 /// that node.
 #[unsafe(no_mangle)]
-pub extern "C" fn iox2sd_deregister_at(places: &mut [Service], handle: Handle) -> u32
+pub extern "C" fn iox2sd_deregister_node_id_at(places: &mut [Service], handle: Handle) -> u32
     requires { All IsSoundPlace places.old }
     ensures { At code (λ s. s) Nothing (Deregisters handle) places.old result places.new }
 {
@@ -115,7 +115,7 @@ pub extern "C" fn iox2sd_attach_at(places: &mut [Service], ports: &[Port]) -> Ha
 /// Refused are, in this order, NULL, a place that holds no service, a number of no role, and a
 /// handle that is not that of a port here.
 #[unsafe(no_mangle)]
-pub extern "C" fn iox2sd_release_at(places: &mut [Service], handle: Handle) -> u32
+pub extern "C" fn iox2sd_release_port_at(places: &mut [Service], handle: Handle) -> u32
     requires { All IsSoundPlace places.old }
     ensures { At code (λ s. s) Nothing (Releases handle) places.old result places.new }
 {

@@ -128,7 +128,11 @@ fn die(service: &mut DynamicConfig, dead: Id, kept: &[Id]) -> Death
 ///
 /// Refused are, in this order, NULL, a place that holds no service, and an id of no node.
 #[unsafe(no_mangle)]
-pub extern "C" fn iox2sd_dead_at(places: &mut [Service], dead: Id, kept: &[Id]) -> DeathAnswer
+pub extern "C" fn iox2sd_remove_dead_node_id_at(
+    places: &mut [Service],
+    dead: Id,
+    kept: &[Id],
+) -> DeathAnswer
     requires { All IsSoundPlace places.old }
     ensures { At death_answer death.Refused Nothing (Dies dead kept.now)
         places.old result places.new }

@@ -99,7 +99,7 @@ fn find_port(service: &DynamicConfig, handle: Handle) -> Result<Port, Status>
 /// The node that was registered with this handle. Refused are, in this order, NULL, a place that
 /// holds no service, a number of no role, and each handle that is not that of a node here.
 #[unsafe(no_mangle)]
-pub extern "C" fn iox2sd_find_node_at(places: &mut [Service], handle: Handle) -> IdAnswer
+pub extern "C" fn iox2sd_node_at(places: &mut [Service], handle: Handle) -> IdAnswer
     requires { All IsSoundPlace places.old }
     ensures answer { Asked id_answer Err Nothing (FindsNode handle) places.old result }
     ensures unchanged { places.new ≡ places.old }
@@ -116,7 +116,7 @@ pub extern "C" fn iox2sd_find_node_at(places: &mut [Service], handle: Handle) ->
 /// The port that was attached with this handle. Refused are, in this order, NULL, a place that
 /// holds no service, a number of no role, and each handle that is not that of a port here.
 #[unsafe(no_mangle)]
-pub extern "C" fn iox2sd_find_port_at(places: &mut [Service], handle: Handle) -> PortAnswer
+pub extern "C" fn iox2sd_port_at(places: &mut [Service], handle: Handle) -> PortAnswer
     requires { All IsSoundPlace places.old }
     ensures answer { Asked port_answer Err Nothing (FindsPort handle) places.old result }
     ensures unchanged { places.new ≡ places.old }

@@ -115,8 +115,9 @@ fn list_ports_of(service: &DynamicConfig, node: Id, out: &mut [Port]) -> Listed
 
 /// Lists the ports of a node, by its whole id, at the front of an array, whose other places stay as
 /// they were, and reports how many there are: those of the pattern's first kind before those of its
-/// second, each kind by rising slot, which is what `iox2sd_dead` asks about. Where the array is too
-/// short for all, it stays as it was, and the number that it needs is reported.
+/// second, each kind by rising slot, in the order in which `iox2sd_remove_dead_node_id` finds them.
+/// Where the array is too short for all, it stays as it was, and the number that it needs is
+/// reported.
 ///
 /// Refused are, in this order, NULL, a place that holds no service, an id of no node, and too short
 /// an array; in its place `TooLarge` where the number that it needs passes a `usize`.

@@ -60,7 +60,7 @@ fn make(
 /// Refused are, in this order, NULL, a place that holds a service, which it keeps, a number that is
 /// not that of a pattern, and want of memory.
 #[unsafe(no_mangle)]
-pub extern "C" fn iox2sd_service_make_at(
+pub extern "C" fn iox2sd_service_create_at(
     alloc: Global,
     places: &mut [Service],
     pattern: u32,

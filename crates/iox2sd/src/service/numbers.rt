@@ -105,8 +105,8 @@ pub extern "C" fn iox2sd_max_nodes_at(places: &mut [Service]) -> CountAnswer
     told(Ok(service.max_nodes()))
 }
 
-/// Whether `iox2sd_register` would register a node. Refused are NULL and a place that holds no
-/// service.
+/// Whether `iox2sd_register_node_id` would register a node. Refused are NULL and a place that holds
+/// no service.
 #[unsafe(no_mangle)]
 pub extern "C" fn iox2sd_has_room_for_node_at(places: &mut [Service]) -> FlagAnswer
     requires { All IsSoundPlace places.old }

@@ -139,7 +139,7 @@ fn has_role(service: &DynamicConfig, role: u64) -> Result<bool, Status>
 
 /// The number of the pattern. Refused are NULL and a place that holds no service.
 #[unsafe(no_mangle)]
-pub extern "C" fn iox2sd_pattern_at(places: &mut [Service]) -> NumberAnswer
+pub extern "C" fn iox2sd_messaging_pattern_at(places: &mut [Service]) -> NumberAnswer
     requires { All IsSoundPlace places.old }
     ensures answer { Asked number_answer Err Nothing (Gives (λ s. pattern_number s.pattern))
         places.old result }
@@ -157,7 +157,7 @@ pub extern "C" fn iox2sd_pattern_at(places: &mut [Service]) -> NumberAnswer
 /// The roles of the pattern's two kinds of ports. Refused are NULL and a place that holds no
 /// service.
 #[unsafe(no_mangle)]
-pub extern "C" fn iox2sd_roles_at(places: &mut [Service]) -> RolesAnswer
+pub extern "C" fn iox2sd_port_roles_at(places: &mut [Service]) -> RolesAnswer
     requires { All IsSoundPlace places.old }
     ensures answer { Asked roles_answer Err Nothing (Gives roles_in) places.old result }
     ensures unchanged { places.new ≡ places.old }

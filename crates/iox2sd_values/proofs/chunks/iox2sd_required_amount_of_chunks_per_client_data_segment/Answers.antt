@@ -1,7 +1,7 @@
 use Rattle.std.proofs.Common.{subst}
 use Rattle.iox2_static.specs.Chunks.{TellsGreatest}
 use Rattle.iox2_static.specs.RequestResponse.{client_limits}
-use Rattle.iox2sd_values.proofs.chunks.iox2sd_client_chunks.Goals as goal
+use Rattle.iox2sd_values.proofs.chunks.iox2sd_required_amount_of_chunks_per_client_data_segment.Goals as goal
 
 pub returns : goal.returns
 returns c =
