@@ -80,7 +80,7 @@ impl UniqueNodeId {
 
     /// The process and the counter in one number, process * 2^32 + counter, which is never 0.
     ///
-    /// Nodes of one process with one counter share it, so it does not tell nodes apart.
+    /// Nodes of one process with the same counter share it, so it does not identify a node.
     pub fn owner_id(&self) -> u64
         ensures value { result ≡ owner_of self.now }
         ensures never_zero { 0 < result }

@@ -39,7 +39,7 @@ fn dash<const N: usize>() -> SemanticString<AttributeContent, N>
     SemanticString::of_allowed(text)
 }
 
-/// The key `-`, which stands where a list of fixed room wants a value.
+/// The key `-`, which fills unused elements of a list of fixed capacity.
 impl Default for AttributeKey {
     ghost is_default = { λ k. k ≡ codes "-" };
 
@@ -48,7 +48,7 @@ impl Default for AttributeKey {
     }
 }
 
-/// The value `-`, which stands where a list of fixed room wants a value.
+/// The value `-`, which fills unused elements of a list of fixed capacity.
 impl Default for AttributeValue {
     ghost is_default = { λ v. v ≡ codes "-" };
 

@@ -16,8 +16,8 @@ use thiserror::Error;
 /// Why a script was not run to its end.
 #[derive(Debug, Drop, Error)]
 pub enum ScriptError {
-    /// The line of this number has no meaning at its place, or no newline. Lines are numbered from
-    /// 1, and a script without a line is bad at 1.
+    /// The line of this number is not one that may stand there, or has no newline. Lines are
+    /// numbered from 1, and a script without a line is bad at 1.
     #[error("bad line {0}")]
     BadLine(usize),
     /// Memory was refused.
@@ -39,8 +39,8 @@ const BYTES_OF_LINE: usize = 16;
 /// How many bytes of lines there are for a byte of replies, or more.
 const BYTES_FOR_REPLY: usize = 2;
 
-/// Takes at once the room that the lines and their replies are
-/// likely to need, or is refused. More is taken bit by bit.
+/// Takes at once the memory that the lines and their replies are likely to need, or is refused.
+/// More is taken bit by bit.
 fn make_room(state: &mut ServiceState, lines: &[u8], out: &mut Vec<u8>) -> Result<(), AllocError>
     ensures state { state.new ≡ state.old }
     ensures out { out.new.items ≡ out.old.items }

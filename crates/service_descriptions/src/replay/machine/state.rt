@@ -77,7 +77,7 @@ impl ServiceState {
         self.description = Some(description);
     }
 
-    /// Takes the room for what is kept of this many more commands, or is refused.
+    /// Takes the memory for what is kept of this many more commands, or is refused.
     pub(crate) fn reserve(&mut self, commands: usize) -> Result<(), AllocError>
         ensures { self.new ≡ self.old }
     {
