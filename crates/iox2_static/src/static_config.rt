@@ -24,6 +24,18 @@ use messaging_pattern::MessagingPattern;
 use std::marker::Model;
 
 /// What is fixed of a service, as its creator describes it.
+///
+/// From `crates/service_examples_tests/src/services.rt`:
+///
+/// ```
+/// let mut service = StaticConfig::new_publish_subscribe::<Sha1Hasher>(
+///     &name,
+///     &Config::default(),
+///     UniqueServiceId::new(1, 0, 0, 9),
+/// ).expect(rt, "a description");
+/// assert!(rt; service.is_publish_subscribe());
+/// service.publish_subscribe_mut().message_type_details = types(rt, 8);
+/// ```
 #[derive(Debug, Drop, PartialEq, Eq)]
 pub struct StaticConfig {
     service_hash: ServiceHash,

@@ -14,6 +14,12 @@ use std::io::{ErrorKind, Read, Write};
 ///
 /// Any other error is the reader's own. What was read before an error is lost. Memory is never
 /// refused where there is no byte.
+///
+/// From `crates/service_descriptions/src/replay/streams.rt`:
+///
+/// ```
+/// let end = match read_all(alloc, input)? {
+/// ```
 pub fn read_all<R: Read>(alloc: Global, reader: &mut R) -> io::Result<Result<Vec<u8>, AllocError>>
     ensures bytes { IfOk result (λ read. IfOk read (λ all.
         IfSome (R.remaining reader.old) (λ input. all.items ≡ input))) }

@@ -82,6 +82,14 @@ impl MessageTypeDetails {
     /// Wherever the header begins at a multiple of its alignment, all parts lie inside the layout,
     /// apart and aligned, for the service and for every compatible opener. The same holds of
     /// messages that lie end to end. A smaller layout may be possible.
+    ///
+    /// From `crates/service_examples/src/factory.rt`:
+    ///
+    /// ```
+    /// let Some(block) = types.sample_layout(max_elements) else {
+    ///     return Err(PublisherError::MessageTooLarge);
+    /// };
+    /// ```
     #[tactic(auto, using(iox2_texts::proofs::Multiple::multiples))]
     pub fn sample_layout(&self, n: usize) -> Option<SampleLayout>
         requires { HaveAlignments self.now }

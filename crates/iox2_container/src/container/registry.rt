@@ -19,6 +19,18 @@ use iox2_texts::bounded::CallbackProgression;
 ///
 /// No change reads or writes its slots more than twice as often as it has slots. No call takes
 /// memory, and a refused one changes no entry, no lock and no ticket.
+///
+/// From `crates/iox2_dynamic/src/dynamic_config/service.rt`:
+///
+/// ```
+/// match self.nodes.add(id) {
+///     Ok(handle) => Ok(handle),
+///     Err(ContainerAddFailure::IsLocked) => Err(RegisterNodeResult::MarkedForDestruction),
+///     Err(ContainerAddFailure::OutOfSpace) => Err(
+///         RegisterNodeResult::ExceedsMaxNumberOfNodes,
+///     ),
+/// }
+/// ```
 pub trait Registry<T: Attached + Copy> {
     /// What the registry holds, and how often a change read or wrote one of its slots.
     ghost state: { Self → ContainerState T };

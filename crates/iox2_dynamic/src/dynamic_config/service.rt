@@ -40,6 +40,13 @@ use std::marker::Model;
 /// a locked service has no port. A refused call changes no entry, no lock and no ticket. Of the
 /// calls on a service that was made only `nodes`, `ports` and `ports_of` take memory, for their
 /// lists.
+///
+/// From `crates/service_examples_tests/src/services.rt`:
+///
+/// ```
+/// let settings = MessagingPatternSettings::new(PatternKind::PublishSubscribe, 2, 2);
+/// Ok(Box::new(alloc, DynamicConfig::new(alloc, &settings, nodes, 7)?)?)
+/// ```
 #[derive(Debug, Drop)]
 pub struct DynamicConfig {
     pub(super) pattern: MessagingPattern,
@@ -213,6 +220,15 @@ impl DynamicConfig {
     /// it returns `RemovePort`. Where none of its ports is left, the node is removed too, with all
     /// its handles; if it was the last one, the service is locked for good. Where one is left, no
     /// node is removed.
+    ///
+    /// From `crates/service_examples/src/monitor.rt`:
+    ///
+    /// ```
+    /// let mut remove = |_port: UniquePortId| -> PortCleanupAction
+    ///     ensures { result ≡ PortCleanupAction.RemovePort }
+    /// { PortCleanupAction::RemovePort };
+    /// service.remove_dead_node_id(dead, &mut remove)
+    /// ```
     pub fn remove_dead_node_id<F: FnMut(UniquePortId) -> PortCleanupAction>(
         &mut self,
         dead: &UniqueNodeId,

@@ -11,6 +11,12 @@ use std::marker::Model;
 enum NodeKind {}
 
 /// The id of a node. Its process or its counter is not 0.
+///
+/// From `crates/service_examples_tests/src/services.rt`:
+///
+/// ```
+/// UniqueNodeId::new(1, 0, 0, counter).expect(rt, "process 1 has nodes")
+/// ```
 #[derive(Clone, Copy, Debug, PartialEq, Eq, PartialOrd, Ord, Hash)]
 pub struct UniqueNodeId {
     id: UniqueId<NodeKind>,

@@ -11,9 +11,21 @@ pub const MAX_ATTRIBUTE_KEY_LENGTH: usize = 64;
 pub const MAX_ATTRIBUTE_VALUE_LENGTH: usize = 256;
 
 /// The key of an attribute: 1 to 64 bytes, each from 1 to 127.
+///
+/// From `crates/service_examples_tests/src/services.rt`:
+///
+/// ```
+/// AttributeKey::try_from("color").expect(rt, "a key"),
+/// ```
 pub type AttributeKey = SemanticString<AttributeContent, MAX_ATTRIBUTE_KEY_LENGTH>;
 
 /// The value of an attribute: 1 to 256 bytes, each from 1 to 127.
+///
+/// From `crates/service_examples_tests/src/services.rt`:
+///
+/// ```
+/// AttributeValue::try_from(value).expect(rt, "a value"),
+/// ```
 pub type AttributeValue = SemanticString<AttributeContent, MAX_ATTRIBUTE_VALUE_LENGTH>;
 
 /// What keys and values of attributes allow: every text but the empty one.

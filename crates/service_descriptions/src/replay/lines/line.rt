@@ -83,6 +83,14 @@ pub(super) fn command_before(
 /// sign and fits its type; an id is four `u32` numbers joined by three dots (process, seconds,
 /// nanoseconds, counter), and of a node's id process or counter is not 0. So each command has one
 /// text.
+///
+/// From `crates/service_descriptions_tests/src/line_runs.rt`:
+///
+/// ```
+/// let Some(command) = read_line(alloc, line.as_bytes())? else {
+///     return out.extend_from_slice(b"?\n");
+/// };
+/// ```
 pub fn read_line(alloc: Global, line: &[u8]) -> Result<Option<Command>, AllocError>
     ensures { IfOk result (λ found. Reads HasLine line_of found line.now) }
 {

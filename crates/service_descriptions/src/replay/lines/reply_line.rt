@@ -213,6 +213,14 @@ fn append_line(reply: &Reply, out: &mut Vec<u8>) -> Result<(), AllocError>
 
 /// Appends the line of a reply with its newline. Where
 /// memory is refused, the bytes are left as they were.
+///
+/// From `crates/service_descriptions_tests/src/serving.rt`:
+///
+/// ```
+/// for reply in replies {
+///     write_reply(reply, out)?;
+/// }
+/// ```
 pub fn write_reply(reply: &Reply, out: &mut Vec<u8>) -> Result<(), AllocError>
     ensures ok { OnOk result (out.new.items ≡ out.old.items ++ reply_line reply.now) }
     ensures err { OnErr result (out.new.items ≡ out.old.items) }

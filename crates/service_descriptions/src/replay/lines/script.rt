@@ -101,6 +101,17 @@ fn run_lines(
 ///
 /// At a bad line the replies to all commands before it have been appended. Where memory is refused,
 /// nothing has been appended, or the whole reply lines of some first commands.
+///
+/// From `crates/service_descriptions_tests/src/scripts.rt`:
+///
+/// ```
+/// let mut out = Vec::new(rt.alloc());
+/// let end = match run_script(rt.alloc(), script.as_bytes(), &mut out) {
+///     Ok(()) => None,
+///     Err(ScriptError::BadLine(line)) => Some(line),
+///     Err(ScriptError::NoMemory(_)) => Some(0),
+/// };
+/// ```
 pub fn run_script(alloc: Global, script: &[u8], out: &mut Vec<u8>) -> Result<(), ScriptError>
     ensures { (text : List ℕ) × (out.new.items ≡ out.old.items ++ text)
         × Scripted script.now result text }
