@@ -28,7 +28,8 @@ Asks words (Err BadArgument) =
 Asks words (Err NoMemory) = ⊥
 
 -- what the arguments ask for: where they could not be had, there is no memory or they are bad
-abbrev pub AsksFor : Result (IntoIter (String Global) Global) Error → Result Request RequestError → Type 0
+abbrev pub AsksFor : Result (IntoIter (String Global) Global) Error → Result Request RequestError
+    → Type 0
 AsksFor (Ok words) asked = Asks (drop 1 (words_of words)) asked
 AsksFor (Err why) (Err NoMemory) = error_kind why ≡ OutOfMemory
 AsksFor (Err why) (Err BadArgument) = error_kind why ≢ OutOfMemory

@@ -60,7 +60,8 @@ fn write_text<W: Write>(out: &mut W, text: &str) -> io::Result<()>
 fn print<W: Write>(out: &mut W, text: &str, status: u8) -> u8
     requires { status < 3 }
     ensures range { result < 4 }
-    ensures printed { result < 3 → Printed text.now status result (W.contents out.old) (W.contents out.new) }
+    ensures printed { result < 3
+        → Printed text.now status result (W.contents out.old) (W.contents out.new) }
 {
     match write_text(out, text) {
         Ok(()) => status,
