@@ -1,9 +1,10 @@
 #!/bin/sh
-# Fails where a page quotes code that does not stand so, line by line, in the file that it names. A
-# quote is a block of code below a line `<!-- quote FILE -->`, where FILE is a path from the top of
-# the repository. Prints each such quote, and how many there are. Fails too where docs/PROMISES.md
-# names a mistake, as `FUNCTION--mistake`, that is neither a must-fail edit of a crate nor one of
-# those in an edit.
+# Fails where a page or a doc comment quotes code that is not so, line by line, in the file that it
+# names. In a page, a quote is a block of code below a line `<!-- quote FILE -->`; in a doc comment of
+# a crate, below a line "From `FILE`:", and there the indentation may differ. FILE is a path from the
+# top of the repository. Prints each wrong quote, and how many there are. Fails too where
+# docs/PROMISES.md names a mistake, as `FUNCTION--mistake`, that is neither a must-fail edit of a crate
+# nor one of those in an edit.
 set -eu
 cd "$(dirname "$0")/.."
 awk '
@@ -11,8 +12,11 @@ awk '
         text = ""
         while ((getline line < file) > 0) text = text line "\n"
         close(file)
+        if (FILENAME ~ /[.]rt$/) gsub(/\n +/, "\n", text)
         return text
     }
+    FILENAME ~ /[.]rt$/ { if (!sub(/^ *\/\/\/ */, "")) next }
+    FILENAME ~ /[.]rt$/ && /^From `.*`:$/ { split($0, part, "`"); file = part[2]; next }
     /^<!-- quote .* -->$/ { file = $3; next }
     /^```/ && file != "" && !inside { inside = 1; quote = ""; next }
     /^```/ && inside {
@@ -30,7 +34,7 @@ awk '
         print quotes + 0 " quotes, " wrong + 0 " wrong"
         exit quotes == 0 || wrong > 0
     }
-' README.md docs/*.md crates/*/README.md
+' README.md docs/*.md crates/*/README.md $(grep -rlE '^ *///.*From `' crates/*/src)
 grep -o '`[a-z0-9_][a-z0-9_]*--[a-z0-9_]*`' docs/PROMISES.md | tr -d '`' | sort -u | while read -r mistake; do
     grep -q -x "# $mistake" crates/*/must-fail/*.edit && continue
     ls crates/*/must-fail/"$mistake".edit > /dev/null || exit 1

@@ -249,12 +249,12 @@ class Pages:
                         for word, meaning in self.words)
         return self.page(
             TITLE,
-            "<p>What stands in each crate, with what is proved of it. A condition "
+            "<p>The public items of each crate, with what is proved of them. A condition "
             "(<code>requires</code>) is what a caller is proved to keep; a promise "
             "(<code>ensures</code>) is what the function is proved to keep, for every argument. "
-            "Below the promises stands what the definitions in them mean, in words, each with a "
-            "link to the definition itself. A must-fail edit is a mistake that the prover was seen "
-            "to refuse at this contract.</p>"
+            "Below the promises, the definitions in them are explained, each with a link to the "
+            "definition itself. A must-fail edit is a mistake that the prover refused at this "
+            "contract.</p>"
             f'<h2>Crates, bottom up</h2><div class="named">{rows}</div>'
             f'<h2>Words</h2><div class="named">{words}</div>')
 

@@ -9,7 +9,7 @@ use service_descriptions::identifiers::{UniqueListenerId, UniqueNodeId};
 use service_descriptions::replay::{Command, ServiceState, replay, write_reply};
 use std::alloc::{AllocError, Global};
 
-/// A service with this many places for nodes and for listeners.
+/// A service with this capacity for nodes and for listeners.
 fn state(alloc: Global, places: usize) -> Result<ServiceState, AllocError> {
     let settings = MessagingPatternSettings::new(PatternKind::Event, places, 1);
     ServiceState::new(alloc, &settings, places, 7)

@@ -7,11 +7,11 @@ use service_descriptions::hash::PatternKind;
 use service_descriptions::replay::ServiceState;
 use std::alloc::{AllocError, Global};
 
-/// How many first ports, second ports and nodes a service has room for.
+/// The capacities of a service: first ports, second ports and nodes.
 type Places = (usize, usize, usize);
 
-/// The settings of each pattern, with this many places for the ports that are recovered first, and
-/// for the others.
+/// The settings of each pattern, with these capacities of the ports that are recovered first, and
+/// of the others.
 fn settings(first: usize, second: usize) -> [MessagingPatternSettings; 4] {
     [
         MessagingPatternSettings::new(PatternKind::PublishSubscribe, first, second),

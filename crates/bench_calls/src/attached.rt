@@ -10,7 +10,7 @@ use iox2_ids::identifiers::{UniqueNodeId, UniquePortId, UniquePublisherId, Uniqu
 use iox2_texts::bounded::CallbackProgression;
 use std::alloc::{AllocError, Global};
 
-/// For how many nodes and ports a publish-subscribe service has room.
+/// The capacities of a publish-subscribe service for nodes and ports.
 #[derive(Clone, Copy, Debug)]
 pub(super) struct Places {
     pub(super) nodes: u32,

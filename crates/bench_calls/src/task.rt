@@ -24,7 +24,7 @@ enum Call {
     Deregister,
     /// A node with ports dies.
     Death,
-    /// The room for a message.
+    /// The layout of a message.
     Layout,
     /// 16 attributes are verified.
     Verification,

@@ -48,6 +48,15 @@ fn make_next<M: Machine>(
 ///
 /// A state that several orders lead to is returned once for each of them. The search follows each
 /// order as far as its calls can be made: of n calls by n callers there are up to n! orders.
+///
+/// From `crates/call_orders_tests/src/orders.rt`:
+///
+/// ```
+/// let machine = Recorded {
+///     calls: Vec::from_slice(alloc, calls)?,
+/// };
+/// reached(alloc, &machine, &0, &group[..calls.len().min(4)])
+/// ```
 pub fn reached<M: Machine>(
     alloc: Global,
     machine: &M,

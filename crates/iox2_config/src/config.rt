@@ -29,6 +29,13 @@ pub use request_response::RequestResonse;
 pub use service::Service;
 
 /// All settings: those of the system, and those that services get by default.
+///
+/// From `crates/iox2_static_tests/src/chunk_counts.rt`:
+///
+/// ```
+/// let mut config = publish_subscribe::StaticConfig::new(&Config::default());
+/// config.max_subscribers = subscribers;
+/// ```
 #[derive(Debug, Drop, PartialEq, Eq)]
 pub struct Config {
     /// The settings that all services and nodes of one system share.

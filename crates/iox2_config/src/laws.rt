@@ -88,8 +88,8 @@ pub fn configurations_are_equal_by_fields(one: &Config, other: &Config) -> bool
     one == other
 }
 
-/// Variants of types are equal exactly where they are the
-/// same, are hashed by their place, and a clone is the same.
+/// Variants of types are equal exactly where they are the same, are hashed by their number, and a
+/// clone is the same.
 pub fn type_variants_go_by_variant<H: Hasher>(
     one: &TypeVariant,
     other: &TypeVariant,
@@ -104,7 +104,7 @@ pub fn type_variants_go_by_variant<H: Hasher>(
 }
 
 /// A strategy of each kind, a type of data segments, a kind of pattern, an event id, a layout and
-/// places.
+/// offsets.
 pub type Choices = (
     BackpressureStrategy,
     AllocationStrategy,
@@ -115,8 +115,8 @@ pub type Choices = (
     Places,
 );
 
-/// Strategies, types, kinds, event ids, layouts and places are equal exactly where they are the
-/// same, and a clone of one is it and takes no memory.
+/// Strategies, types, kinds, event ids, layouts and offsets are equal exactly where they are the
+/// same. A clone of one is the same and takes no memory.
 pub fn choices_go_by_variant(one: &Choices, other: &Choices) -> (bool, Result<Choices, AllocError>)
     ensures equal { IsTrue result.0 ↔ (one.now ≡ other.now) }
     ensures cloned { IsOkAnd result.1 (λ copy. copy ≡ one.now) }
@@ -124,11 +124,10 @@ pub fn choices_go_by_variant(one: &Choices, other: &Choices) -> (bool, Result<Ch
     (one == other, one.clone())
 }
 
-/// A refusal of details, of a hasher and of a hash text.
+/// An error of details, of a hasher and of a hash text.
 pub type Refusals = (TypeDetailError, HashError, ServiceHashError);
 
-/// Refusals are equal exactly where they are the same, and a clone of one is it and takes no
-/// memory.
+/// Errors are equal exactly where they are the same, and a clone of one is it and takes no memory.
 pub fn refusals_go_by_variant(
     one: &Refusals,
     other: &Refusals,

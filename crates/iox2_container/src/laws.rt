@@ -56,7 +56,7 @@ pub fn handles_go_by_fields(
     (one == other, one.clone())
 }
 
-/// A role, a mode and a state of release, and a refusal of an add and of a removal.
+/// A role, a mode and a state of release, and an error of an add and of a removal.
 pub type Variants = (
     Role,
     ReleaseMode,
@@ -65,8 +65,8 @@ pub type Variants = (
     ContainerRemoveError,
 );
 
-/// Roles, modes, states and refusals are equal exactly where they are the same, and a clone of one
-/// is it and takes no memory.
+/// Roles, modes, states and errors are equal exactly where they are the same. A clone of one is the
+/// same and takes no memory.
 pub fn values_go_by_variant(
     one: &Variants,
     other: &Variants,

@@ -1,5 +1,5 @@
-//! Containers of what is attached to a service: bounded
-//! registries that hand out a new handle for each entry.
+//! Containers of what is attached to a service: bounded registries that issue a new handle for each
+//! entry.
 #![tactic(auto, using(crate::proofs::Callable::callbacks))]
 
 pub mod container;

@@ -24,6 +24,18 @@ use messaging_pattern::MessagingPattern;
 use std::marker::Model;
 
 /// What is fixed of a service, as its creator describes it.
+///
+/// From `crates/service_examples_tests/src/services.rt`:
+///
+/// ```
+/// let mut service = StaticConfig::new_publish_subscribe::<Sha1Hasher>(
+///     &name,
+///     &Config::default(),
+///     UniqueServiceId::new(1, 0, 0, 9),
+/// ).expect(rt, "a description");
+/// assert!(rt; service.is_publish_subscribe());
+/// service.publish_subscribe_mut().message_type_details = types(rt, 8);
+/// ```
 #[derive(Debug, Drop, PartialEq, Eq)]
 pub struct StaticConfig {
     service_hash: ServiceHash,
@@ -214,28 +226,28 @@ impl StaticConfig {
             .is_same_pattern(&rhs.messaging_pattern)
     }
 
-    /// Whether [`StaticConfig::request_response`] may be asked.
+    /// Whether [`StaticConfig::request_response`] may be called.
     pub fn is_request_response(&self) -> bool
         ensures { IsTrue result ↔ (kind_of self.now.pattern ≡ PatternKind.RequestResponse) }
     {
         self.messaging_pattern.kind() == PatternKind::RequestResponse
     }
 
-    /// Whether [`StaticConfig::event`] may be asked.
+    /// Whether [`StaticConfig::event`] may be called.
     pub fn is_event(&self) -> bool
         ensures { IsTrue result ↔ (kind_of self.now.pattern ≡ PatternKind.Event) }
     {
         self.messaging_pattern.kind() == PatternKind::Event
     }
 
-    /// Whether [`StaticConfig::publish_subscribe`] may be asked.
+    /// Whether [`StaticConfig::publish_subscribe`] may be called.
     pub fn is_publish_subscribe(&self) -> bool
         ensures { IsTrue result ↔ (kind_of self.now.pattern ≡ PatternKind.PublishSubscribe) }
     {
         self.messaging_pattern.kind() == PatternKind::PublishSubscribe
     }
 
-    /// Whether [`StaticConfig::blackboard`] may be asked.
+    /// Whether [`StaticConfig::blackboard`] may be called.
     pub fn is_blackboard(&self) -> bool
         ensures { IsTrue result ↔ (kind_of self.now.pattern ≡ PatternKind.Blackboard) }
     {

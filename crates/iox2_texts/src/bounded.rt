@@ -112,7 +112,7 @@ impl<const N: usize> StaticString<N> {
         Ok(())
     }
 
-    /// Appends these legal bytes, for which there must be room.
+    /// Appends these legal bytes, for which there must be capacity left.
     pub(crate) fn push_bytes(&mut self, more: &[u8])
         requires room { length self.old + length more.now ≤ N }
         requires legal { IsText more.now }

@@ -57,6 +57,12 @@ impl fmt::Display for ServiceNameError {
 impl Error for ServiceNameError {}
 
 /// The name of a service: 1 to 255 bytes, each from 1 to 127.
+///
+/// From `crates/iox2_config_tests/src/hash.rt`:
+///
+/// ```
+/// let name = ServiceName::new("My/Funk/ServiceName").expect(&rt, "a name");
+/// ```
 #[derive(Debug, Drop, PartialEq, Eq, PartialOrd, Ord, Hash)]
 pub struct ServiceName {
     text: StaticString<MAX_SERVICE_NAME_LENGTH>,

@@ -57,7 +57,7 @@ fn put(text: &[u8], out: &mut [u8]) -> Status
     Status::Done
 }
 
-/// Writes the text to the front of the buffer, or nothing where it does not fit, and tells its
+/// Writes the text to the front of the buffer, or nothing where it does not fit, and returns its
 /// length.
 pub(super) fn write(text: &[u8], out: &mut [u8]) -> TextAnswer
     ensures { Written text.now out.old result out.new }

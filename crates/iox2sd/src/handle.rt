@@ -16,7 +16,7 @@ pub struct Handle {
     pub service: u64,
     /// The number of the role.
     pub role: u64,
-    /// The place of the entry.
+    /// The slot of the entry.
     pub slot: usize,
     /// The ticket of the entry.
     pub ticket: u64,

@@ -1,4 +1,4 @@
-//! Ports as plain values: a number that tells the kind, and the fields of all kinds.
+//! Ports as plain values: a number for the kind, and the fields of all kinds.
 ghost use Rattle.std.specs.Prelude.{◌≡◌};
 ghost use Rattle.iox2sd.specs.Ports.{segment_number, ReadsSegment, ReadsPort, blank, told_port};
 ghost use Rattle.iox2sd.specs.Ports.{no_port};
@@ -13,8 +13,7 @@ use iox2_dynamic::dynamic_config::{
     ServerDetails, SubscriberDetails, WriterDetails,
 };
 
-/// What a port tells of itself. A field that its kind does not have is not looked at, and is told
-/// as 0.
+/// The details of a port. A field that its kind does not have is not checked, and is returned as 0.
 #[repr(C)]
 #[derive(Clone, Copy)]
 pub struct Port {
@@ -87,7 +86,7 @@ impl Port {
         }
     }
 
-    /// What the details of every kind tell; all other fields are 0.
+    /// What the details of every kind have; all other fields are 0.
     #[inline]
     fn blank(details: &PortDetails) -> Port
         ensures { result ≡ blank details.now }
@@ -100,7 +99,7 @@ impl Port {
         }
     }
 
-    /// What the details tell.
+    /// The port with these details.
     #[inline]
     pub(super) fn of(details: &PortDetails) -> Port
         ensures { result ≡ told_port details.now }
@@ -138,7 +137,7 @@ impl Port {
         }
     }
 
-    /// The details that the port tells.
+    /// The details of the port.
     pub(super) fn read(&self) -> Result<PortDetails, Status>
         ensures { ReadsPort self.now result }
     {

@@ -46,7 +46,7 @@ impl Service {
         Some(self.slot.take(alloc))
     }
 
-    /// Borrows the service, where there is one. It stays in the place.
+    /// Borrows the service, where there is one. It stays in the object.
     pub(super) fn lend(&mut self) -> Option<&mut DynamicConfig>
         requires { IsSoundPlace self.old }
         ensures* writes_back { sem 𝓛 (LendsHeld self.entry result) }

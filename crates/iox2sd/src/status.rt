@@ -13,9 +13,9 @@ pub enum Status {
     BufferTooShort = 2,
     /// Memory was refused.
     NoMemory = 3,
-    /// The place holds no service.
+    /// The object holds no service.
     NoService = 4,
-    /// The place holds a service already.
+    /// The object holds a service already.
     HasService = 5,
     /// The number is not that of a messaging pattern.
     UnknownPattern = 6,
@@ -25,7 +25,7 @@ pub enum Status {
     NoNode = 8,
     /// The service is locked for good.
     IsLocked = 9,
-    /// No place or no ticket is left.
+    /// No slot or no ticket is left.
     OutOfSpace = 10,
     /// No entry has the handle.
     ForeignHandle = 11,
@@ -43,7 +43,7 @@ pub enum Status {
     BadValue = 17,
     /// There are more than sixteen pairs.
     TooMany = 18,
-    /// NULL where a place is wanted.
+    /// NULL where a struct is expected.
     Null = 20,
     /// The number is not that of a status.
     UnknownStatus = 21,
@@ -71,7 +71,7 @@ pub enum Status {
     BadRequiredKey = 50,
     /// A value of a required pair is not valid.
     BadRequiredValue = 51,
-    /// A required key, or one that is asked for, is not valid.
+    /// A required key, or one that is searched for, is not valid.
     BadAskedKey = 52,
     /// More than sixteen pairs and keys are required.
     TooManyRequired = 53,

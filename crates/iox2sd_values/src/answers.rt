@@ -1,17 +1,17 @@
-//! What exports answer beside a status: a place, a count, or a text for a buffer.
+//! What exports return beside a status: an index, a count, or a text for a buffer.
 ghost use Rattle.std.specs.Prelude.{◌≡◌, ◌≤◌, ◌++◌, length, drop};
 ghost use Rattle.iox2sd_values.specs.Answers.{place_answer, count_answer, text_answer, Writes};
 ghost use Rattle.iox2sd_values.specs.Answers.{Written, flag_answer, zero_padded};
 
 use super::status::Status;
 
-/// A place in what the caller gave.
+/// An index in what the caller passed.
 #[repr(C)]
 #[derive(Clone, Copy)]
 pub struct PlaceAnswer {
     /// The number of a [`Status`].
     pub status: u32,
-    /// The place of which the status speaks, counted from 0; 0 where it speaks of none.
+    /// The index for which the status holds; 0 where it holds for none.
     pub at: usize,
 }
 
@@ -45,7 +45,7 @@ pub struct TextAnswer {
     pub length: usize,
 }
 
-/// The answer of this status, which speaks of this place.
+/// The answer of this status with this index.
 pub(super) fn place(status: Status, at: usize) -> PlaceAnswer
     ensures { result ≡ place_answer status at }
 {
@@ -115,7 +115,7 @@ fn put(text: &[u8], out: &mut [u8]) -> Status
     Status::Done
 }
 
-/// Writes the text to the front of the buffer, or nothing where it does not fit, and tells its
+/// Writes the text to the front of the buffer, or nothing where it does not fit, and returns its
 /// length.
 pub(super) fn write(text: &[u8], out: &mut [u8]) -> TextAnswer
     ensures { Written text.now out.old result out.new }

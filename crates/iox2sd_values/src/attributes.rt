@@ -34,8 +34,8 @@ pub struct Key<'a> {
 /// Whether these pairs are a set: at most sixteen, each of legal texts, in any order and with
 /// repeats.
 ///
-/// Told is the first pair of the first seventeen that is wrong, with its place: of a wrong key
-/// (`BadKey`), of a right key and a wrong value (`BadValue`), or the seventeenth (`TooMany`).
+/// Reports the first pair of the first seventeen that is wrong, with its index: for a wrong key
+/// `BadKey`, for a right key and a wrong value `BadValue`, for the seventeenth `TooMany`.
 #[unsafe(no_mangle)]
 pub extern "C" fn iox2sd_attributes_check_at(pairs: &[Attribute<'_>]) -> PlaceAnswer
     ensures { TellsSet pairs.now result }

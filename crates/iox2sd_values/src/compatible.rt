@@ -123,14 +123,14 @@ fn judge(opener: &Details<'_>, service: &Details<'_>) -> PartAnswer
 /// `service`: the headers are equal, and user headers and payloads are equal but for their
 /// alignments, which are at most those of the service.
 ///
-/// Refused are, in this order, NULL (`Null`), the opener's before the service's; details that are
-/// none, the opener's first, and of these the first invalid part, for the first of its causes: a
-/// number that is not that of a variant (`UnknownVariant`), a name that is no UTF-8 (`NotUtf8`),
-/// has more than 256 bytes (`TooLong`) or a byte that is not from 1 to 127 (`IllegalByte`), an
-/// alignment that is no power of two (`BadAlignment`); and an opener that may not, of which the
-/// first part and the first cause are told: another name (`OtherName`), another variant
-/// (`OtherVariant`), another size (`OtherSize`), another alignment of the header
-/// (`OtherAlignment`), a greater one of another part (`GreaterAlignment`).
+/// Errors, in this order: NULL (`Null`), the opener's before the service's; invalid details, the
+/// opener's first, with the first invalid part and its first cause: a number that is not that of a
+/// variant (`UnknownVariant`), a name that is no UTF-8 (`NotUtf8`), has more than 256 bytes
+/// (`TooLong`) or a byte that is not from 1 to 127 (`IllegalByte`), an alignment that is no power
+/// of two (`BadAlignment`); an opener that is not compatible, with the first part that differs and
+/// its first cause: another name (`OtherName`), another variant (`OtherVariant`), another size
+/// (`OtherSize`), another alignment of the header (`OtherAlignment`), a greater one of another part
+/// (`GreaterAlignment`).
 #[unsafe(no_mangle)]
 pub extern "C" fn iox2sd_message_is_compatible_to_at(
     opener: &[Details<'_>],

@@ -63,7 +63,7 @@ impl Refusal {
     }
 }
 
-/// Fills the first place with what was made, or leaves it as it is.
+/// Fills the first struct with what was made, or leaves it as it is.
 fn fill(made: Result<StaticConfig, Refusal>, id: Id, out: &mut [ServiceDescription]) -> FieldAnswer
     ensures { Fills out.old made id result out.new }
 {
@@ -97,7 +97,7 @@ fn make_publish_subscribe(
     }
 }
 
-/// Fills the first place with the description of a publish-subscribe service, where there are
+/// Fills the first struct with the description of a publish-subscribe service, where there are
 /// settings.
 fn fill_publish_subscribe(
     name: Result<ServiceName, Status>,
@@ -119,10 +119,10 @@ fn fill_publish_subscribe(
 
 /// Describes a publish-subscribe service that has a user's name.
 ///
-/// Refused are, in this order, NULL (`Null`); a name that is no UTF-8 (`NotUtf8`); one that
+/// Errors, in this order: NULL (`Null`); a name that is no UTF-8 (`NotUtf8`); one that
 /// `iox2sd_service_name_check` refuses (`BadServiceName`); settings that
-/// `iox2sd_publish_subscribe_settings_check_at` refuses, for the same cause and field; and a hash
-/// text that cannot be the name of a file (`IllegalHash`). Then the place is as it was.
+/// `iox2sd_publish_subscribe_settings_check_at` refuses, with the same cause and field; and a hash
+/// text that cannot be the name of a file (`IllegalHash`). Then the struct is as it was.
 #[unsafe(no_mangle)]
 pub extern "C" fn iox2sd_describe_publish_subscribe_at(
     settings: &[PublishSubscribeSettings],
@@ -167,7 +167,7 @@ fn make_event(
     }
 }
 
-/// Fills the first place with the description of an event service, where there are settings.
+/// Fills the first struct with the description of an event service, where there are settings.
 fn fill_event(
     name: Result<ServiceName, Status>,
     settings: &[EventSettings],
@@ -227,7 +227,7 @@ fn make_request_response(
     }
 }
 
-/// Fills the first place with the description of a request-response service, where there are
+/// Fills the first struct with the description of a request-response service, where there are
 /// settings.
 fn fill_request_response(
     name: Result<ServiceName, Status>,
@@ -293,7 +293,7 @@ fn make_blackboard(
     }
 }
 
-/// Fills the first place with the description of a blackboard service, where there are settings.
+/// Fills the first struct with the description of a blackboard service, where there are settings.
 fn fill_blackboard(
     name: Result<ServiceName, Status>,
     settings: &[BlackboardSettings],

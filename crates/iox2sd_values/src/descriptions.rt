@@ -24,7 +24,7 @@ pub struct Id {
     pub seconds: u32,
     /// When it was made: the nanoseconds beside the seconds.
     pub nanoseconds: u32,
-    /// The number that tells it from others.
+    /// The number that distinguishes it from others.
     pub counter: u32,
 }
 
@@ -49,11 +49,11 @@ pub struct PublishSubscribeConfig {
     pub max_nodes: usize,
     /// How many of the last samples a publisher keeps for subscribers that come later.
     pub history_size: usize,
-    /// How many samples a subscriber's buffer has room for.
+    /// The capacity of a subscriber's buffer, in samples.
     pub subscriber_max_buffer_size: usize,
     /// How many samples a subscriber may hold at once.
     pub subscriber_max_borrowed_samples: usize,
-    /// Whether a new sample takes the oldest one's place where a buffer is full.
+    /// Whether a new sample replaces the oldest one where a buffer is full.
     pub enable_safe_overflow: bool,
 }
 
@@ -71,11 +71,11 @@ pub struct EventConfig {
     pub event_id_max_value: usize,
     /// The longest time that may pass between two events, if there is such a limit.
     pub deadline: OptionalDuration,
-    /// The number of the event that tells of a new notifier, if any does.
+    /// The number of the event that reports a new notifier, if any does.
     pub notifier_created_event: OptionalEventId,
-    /// The number of the event that tells of a notifier that went, if any does.
+    /// The number of the event that reports a notifier that left, if any does.
     pub notifier_dropped_event: OptionalEventId,
-    /// The number of the event that tells of a notifier whose node died, if any does.
+    /// The number of the event that reports a notifier whose node died, if any does.
     pub notifier_dead_event: OptionalEventId,
 }
 
@@ -87,7 +87,7 @@ pub struct RequestResponseConfig {
     pub max_active_requests_per_client: usize,
     /// How many requests a client may have under way, taken and not yet sent.
     pub max_loaned_requests: usize,
-    /// How many responses to one request a client's buffer has room for.
+    /// The capacity of a client's buffer for the responses to one request.
     pub max_response_buffer_size: usize,
     /// How many servers may be attached at once.
     pub max_servers: usize,
@@ -97,9 +97,9 @@ pub struct RequestResponseConfig {
     pub max_nodes: usize,
     /// How many responses to one request a client may hold at once.
     pub max_borrowed_responses_per_pending_response: usize,
-    /// Whether a new request takes the oldest one's place where a server's buffer is full.
+    /// Whether a new request replaces the oldest one where a server's buffer is full.
     pub enable_safe_overflow_for_requests: bool,
-    /// Whether a new response takes the oldest one's place where a client's buffer is full.
+    /// Whether a new response replaces the oldest one where a client's buffer is full.
     pub enable_safe_overflow_for_responses: bool,
     /// Whether a client may send a request and take no response.
     pub enable_fire_and_forget_requests: bool,

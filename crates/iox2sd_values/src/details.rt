@@ -18,7 +18,7 @@ pub struct Part<'a> {
     pub variant: u32,
     /// How many bytes a value takes.
     pub size: usize,
-    /// The number of which the place of each value is a multiple, a power of two.
+    /// The alignment of each value, a power of two.
     pub alignment: usize,
 }
 

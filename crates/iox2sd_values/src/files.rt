@@ -26,7 +26,7 @@ pub(super) enum Named {
     DynamicConfigStorageSuffix,
     /// The end of the name of a connection between two ports.
     ConnectionSuffix,
-    /// The end of the name of a connection by which events are told.
+    /// The end of the name of a connection that carries events.
     EventConnectionSuffix,
     /// The end of the name of a blackboard's management segment.
     BlackboardMgmtSuffix,

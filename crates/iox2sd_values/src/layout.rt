@@ -1,4 +1,4 @@
-//! Where the parts of a message lie, and how much room it needs.
+//! Where the parts of a message lie, and its layout.
 ghost use Rattle.std.specs.Prelude.{◌≡◌};
 ghost use Rattle.iox2sd_values.specs.Layouts.{LaysOut, layout_answer, TellsLayout};
 ghost use Rattle.iox2sd_values.specs.Layouts.{PlacesOf, places_answer, TellsPlaces};
@@ -7,7 +7,7 @@ use super::details::{Details, shape_details};
 use super::status::Status;
 use iox2_config::types::{Places, SampleLayout};
 
-/// The room for a message.
+/// The layout of a message.
 #[repr(C)]
 #[derive(Clone, Copy)]
 pub struct LayoutAnswer {
@@ -15,23 +15,23 @@ pub struct LayoutAnswer {
     pub status: u32,
     /// How many bytes the message needs, at most 2^63 - 1.
     pub size: usize,
-    /// The number of which the place of the message is a multiple.
+    /// The alignment of the message.
     pub alignment: usize,
 }
 
-/// The places of two parts of a message.
+/// The offsets of two parts of a message.
 #[repr(C)]
 #[derive(Clone, Copy)]
 pub struct PlacesAnswer {
     /// The number of a [`Status`]. Where it is not that of `Done`, the other fields are 0.
     pub status: u32,
-    /// The place of the user header.
+    /// The offset of the user header.
     pub user_header: usize,
-    /// The place of the payload.
+    /// The offset of the payload.
     pub payload: usize,
 }
 
-/// The answer with this room, or with the cause for which there is none.
+/// The answer with this layout, or with the cause for which there is none.
 fn layout_answer(made: Result<SampleLayout, Status>) -> LayoutAnswer
     ensures { result ≡ layout_answer made }
 {
@@ -49,7 +49,7 @@ fn layout_answer(made: Result<SampleLayout, Status>) -> LayoutAnswer
     }
 }
 
-/// The answer with these places, or with the cause for which there are none.
+/// The answer with these offsets, or with the cause for which there are none.
 fn places_answer(made: Result<Places, Status>) -> PlacesAnswer
     ensures { result ≡ places_answer made }
 {
@@ -67,7 +67,7 @@ fn places_answer(made: Result<Places, Status>) -> PlacesAnswer
     }
 }
 
-/// The room for a message whose payload has so many elements.
+/// The layout of a message whose payload has so many elements.
 fn lay_out(details: &Details<'_>, elements: usize) -> Result<SampleLayout, Status>
     ensures { LaysOut details.now elements result }
 {
@@ -80,7 +80,7 @@ fn lay_out(details: &Details<'_>, elements: usize) -> Result<SampleLayout, Statu
     }
 }
 
-/// The places of user header and payload behind a header at this place.
+/// The offsets of user header and payload behind a header at this offset.
 fn places_of(details: &Details<'_>, header: usize) -> Result<Places, Status>
     ensures { PlacesOf details.now header result }
 {
@@ -93,11 +93,11 @@ fn places_of(details: &Details<'_>, header: usize) -> Result<Places, Status>
     }
 }
 
-/// The room for a message whose payload has so many elements. Sizes and alignments alone are looked
-/// at.
+/// The layout of a message whose payload has so many elements. Only sizes and alignments are
+/// checked.
 ///
-/// Refused are, in this order, NULL (`Null`), an alignment that is no power of two
-/// (`BadAlignment`), and a message that would pass 2^63 - 1 bytes (`TooLarge`).
+/// Errors, in this order: NULL (`Null`), an alignment that is no power of two (`BadAlignment`), and
+/// a message that would pass 2^63 - 1 bytes (`TooLarge`).
 #[unsafe(no_mangle)]
 pub extern "C" fn iox2sd_message_sample_layout_at(
     details: &[Details<'_>],
@@ -111,11 +111,11 @@ pub extern "C" fn iox2sd_message_sample_layout_at(
     }
 }
 
-/// The places of user header and payload in a message with its header at the place `header`. Sizes
-/// and alignments alone are looked at.
+/// The offsets of user header and payload in a message with its header at the offset `header`. Only
+/// sizes and alignments are checked.
 ///
-/// Refused are, in this order, NULL (`Null`), an alignment that is no power of two
-/// (`BadAlignment`), and a payload whose place would pass 2^64 - 1 (`TooLarge`).
+/// Errors, in this order: NULL (`Null`), an alignment that is no power of two (`BadAlignment`), and
+/// a payload whose offset would pass 2^64 - 1 (`TooLarge`).
 #[unsafe(no_mangle)]
 pub extern "C" fn iox2sd_message_places_at(details: &[Details<'_>], header: usize) -> PlacesAnswer
     ensures { TellsPlaces details.now header result }

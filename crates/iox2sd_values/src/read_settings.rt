@@ -23,7 +23,7 @@ use std::time::Duration;
 pub(super) enum Field {
     /// What a publisher does where a buffer is full.
     BackpressureStrategy,
-    /// How a publisher's room grows.
+    /// How a publisher's data segment grows.
     PublisherAllocationStrategy,
     /// The longest time between two events.
     Deadline,
@@ -31,9 +31,9 @@ pub(super) enum Field {
     ClientBackpressureStrategy,
     /// What a server does where a buffer is full.
     ServerBackpressureStrategy,
-    /// How a client's room grows.
+    /// How a client's data segment grows.
     ClientAllocationStrategy,
-    /// How a server's room grows.
+    /// How a server's data segment grows.
     ServerAllocationStrategy,
     /// For how long an opener waits.
     CreationTimeout,

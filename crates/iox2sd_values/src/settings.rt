@@ -69,7 +69,7 @@ pub struct PublishSubscribeSettings {
     pub max_publishers: usize,
     /// How many nodes may use the service at once.
     pub max_nodes: usize,
-    /// How many samples a subscriber's buffer has room for.
+    /// The capacity of a subscriber's buffer, in samples.
     pub subscriber_max_buffer_size: usize,
     /// How many samples a subscriber may hold at once.
     pub subscriber_max_borrowed_samples: usize,
@@ -82,10 +82,10 @@ pub struct PublishSubscribeSettings {
     /// What a publisher does where a buffer is full. 0: it tries again. 1: it leaves the receiver
     /// out.
     pub backpressure_strategy: u32,
-    /// How a publisher's room grows. 0: by what is needed. 1: to the next power of two. 2: it does
-    /// not.
+    /// How a publisher's data segment grows. 0: by what is needed. 1: to the next power of two. 2:
+    /// it does not.
     pub publisher_allocation_strategy: u32,
-    /// Whether a new sample takes the oldest one's place where a buffer is full.
+    /// Whether a new sample replaces the oldest one where a buffer is full.
     pub enable_safe_overflow: bool,
 }
 
@@ -103,11 +103,11 @@ pub struct EventSettings {
     pub event_id_max_value: usize,
     /// The longest time that may pass between two events, if there is such a limit.
     pub deadline: OptionalDuration,
-    /// The number of the event that tells of a new notifier, if any does.
+    /// The number of the event that reports a new notifier, if any does.
     pub notifier_created_event: OptionalEventId,
-    /// The number of the event that tells of a notifier that went, if any does.
+    /// The number of the event that reports a notifier that left, if any does.
     pub notifier_dropped_event: OptionalEventId,
-    /// The number of the event that tells of a notifier whose node died, if any does.
+    /// The number of the event that reports a notifier whose node died, if any does.
     pub notifier_dead_event: OptionalEventId,
 }
 
@@ -117,7 +117,7 @@ pub struct EventSettings {
 pub struct RequestResponseSettings {
     /// How many requests of one client may be open at each server at once.
     pub max_active_requests_per_client: usize,
-    /// How many responses to one request a client's buffer has room for.
+    /// The capacity of a client's buffer for the responses to one request.
     pub max_response_buffer_size: usize,
     /// How many servers may be attached at once.
     pub max_servers: usize,
@@ -139,14 +139,14 @@ pub struct RequestResponseSettings {
     pub client_backpressure_strategy: u32,
     /// The same of a server.
     pub server_backpressure_strategy: u32,
-    /// How a client's room grows. 0: by what is needed. 1: to the next power of two. 2: it does
-    /// not.
+    /// How a client's data segment grows. 0: by what is needed. 1: to the next power of two. 2: it
+    /// does not.
     pub client_allocation_strategy: u32,
     /// The same of a server.
     pub server_allocation_strategy: u32,
-    /// Whether a new request takes the oldest one's place where a server's buffer is full.
+    /// Whether a new request replaces the oldest one where a server's buffer is full.
     pub enable_safe_overflow_for_requests: bool,
-    /// Whether a new response takes the oldest one's place where a client's buffer is full.
+    /// Whether a new response replaces the oldest one where a client's buffer is full.
     pub enable_safe_overflow_for_responses: bool,
     /// Whether a client may send a request and take no response.
     pub enable_fire_and_forget_requests: bool,

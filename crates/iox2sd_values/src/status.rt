@@ -17,7 +17,7 @@ pub enum Status {
     BadValue = 17,
     /// There are more than sixteen.
     TooMany = 18,
-    /// NULL where a place is wanted.
+    /// NULL where a struct is expected.
     Null = 20,
     /// The text is empty where that is forbidden.
     Empty = 40,
@@ -43,7 +43,7 @@ pub enum Status {
     BadRequiredKey = 50,
     /// A value of a required pair is none.
     BadRequiredValue = 51,
-    /// A required key, or one that is asked for, is none.
+    /// A required key, or one that is searched for, is not valid.
     BadAskedKey = 52,
     /// More than sixteen pairs and keys are required.
     TooManyRequired = 53,

@@ -41,7 +41,7 @@ impl Alphabet {
     }
 }
 
-/// The place of the first byte that the text may not hold.
+/// The index of the first byte that the text may not have.
 fn first_illegal(text: &[u8], alphabet: Alphabet) -> Option<usize>
     ensures { FindsIllegal alphabet text.now result }
 {
@@ -53,7 +53,7 @@ fn first_illegal(text: &[u8], alphabet: Alphabet) -> Option<usize>
     None
 }
 
-/// Why a text that was refused is none of its kind; the place of the byte that is wrong is written.
+/// Why a text that was refused is none of its kind; the index of the byte that is wrong is written.
 fn explain(
     error: SemanticStringError,
     text: &[u8],
@@ -95,8 +95,8 @@ fn refusal(error: SemanticStringError, text: &[u8], alphabet: Alphabet, most: us
 /// Whether a text is the name of a service, which may be one of the system's own: 1 to 255 bytes,
 /// each from 1 to 127.
 ///
-/// Refused are, in this order, the empty text (`Empty`), more than 255 bytes (`TooLong`), and a
-/// byte that is not from 1 to 127 (`IllegalByte`). The first byte that is wrong is told.
+/// Errors, in this order: the empty text (`Empty`), more than 255 bytes (`TooLong`), and a byte
+/// that is not from 1 to 127 (`IllegalByte`), with the index of the first wrong byte.
 #[unsafe(no_mangle)]
 pub extern "C" fn iox2sd_internal_service_name_check(text: &[u8]) -> PlaceAnswer
     ensures { ChecksText (MakesName 255 text.now) Alphabet.Text 255 text.now result }
@@ -123,8 +123,8 @@ pub extern "C" fn iox2sd_service_name_check(text: &[u8]) -> PlaceAnswer
 
 /// Whether a text is the key of an attribute: 1 to 64 bytes, each from 1 to 127.
 ///
-/// Refused are, in this order, the empty text (`Empty`), more than 64 bytes (`TooLong`), and a byte
-/// that is not from 1 to 127 (`IllegalByte`). The first byte that is wrong is told.
+/// Errors, in this order: the empty text (`Empty`), more than 64 bytes (`TooLong`), and a byte that
+/// is not from 1 to 127 (`IllegalByte`), with the index of the first wrong byte.
 #[unsafe(no_mangle)]
 pub extern "C" fn iox2sd_attribute_key_check(text: &[u8]) -> PlaceAnswer
     ensures { ChecksText (MakesName 64 text.now) Alphabet.Text 64 text.now result }

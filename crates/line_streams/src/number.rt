@@ -1,4 +1,4 @@
-//! Numbers in one spelling.
+//! Decimal numbers without leading zeros.
 ghost use Rattle.std.specs.Prelude.{◌≡◌, ◌+◌, ◌*◌, ◌<◌, ◌≤◌, ℕ, false, IfSome, IfNone};
 ghost use Rattle.std.specs.Option.{option_map};
 ghost use Rattle.line_streams.specs.Spelling.{Reads, number};
@@ -20,8 +20,8 @@ fn with_digit(value: u64, digit: u8, most: u64) -> Option<u64>
     Some(value * 10 + digit as u64)
 }
 
-/// The number that is spelled by all the digits at the front,
-/// unless it is greater than `most`, and what follows them.
+/// The number that all the digits at the front are the text of, unless it is greater than `most`,
+/// and what follows them.
 #[inline(always)]
 pub fn number_before(bytes: &[u8], most: u64) -> Option<(u64, &[u8])>
     ensures { Reads (number most).Fits (number most).text

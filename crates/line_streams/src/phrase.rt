@@ -11,12 +11,12 @@ pub trait Phrase<'a> {
     /// What is read.
     type Value: Drop;
 
-    /// What a spelling says of a value.
+    /// What the definition of the text sees of a value.
     ghost Seen: { Type 0 };
 
     ghost view: { Self.Value → Seen };
 
-    /// How values, with what follows them, are spelled.
+    /// The texts of values, with what follows them.
     ghost spelling: { Self → Spelling Seen };
 
     /// Whether a value takes memory.

@@ -10,10 +10,16 @@ use std::alloc::{AllocError, Global};
 use std::io;
 use std::io::{ErrorKind, Read, Write};
 
-/// All bytes of a reader, in pieces of at most 4096, or the refusal of memory for them.
+/// All bytes of a reader, in pieces of at most 4096, or the error that memory for them was refused.
 ///
-/// An error is the reader's own. What was read before it, or before memory was refused, is lost.
-/// Memory is never refused where there is no byte.
+/// Any other error is the reader's own. What was read before an error is lost. Memory is never
+/// refused where there is no byte.
+///
+/// From `crates/service_descriptions/src/replay/streams.rt`:
+///
+/// ```
+/// let end = match read_all(alloc, input)? {
+/// ```
 pub fn read_all<R: Read>(alloc: Global, reader: &mut R) -> io::Result<Result<Vec<u8>, AllocError>>
     ensures bytes { IfOk result (λ read. IfOk read (λ all.
         IfSome (R.remaining reader.old) (λ input. all.items ≡ input))) }

@@ -31,7 +31,8 @@ pub struct Opener {
 pub struct OpenedService {
     /// The handle of the opener's node.
     pub node: ContainerHandle,
-    /// The room of a message, in which all its parts lie as the service and the opener align them.
+    /// The layout of a message, in which all its parts lie as the service and the opener align
+    /// them.
     pub message: SampleLayout,
 }
 
@@ -86,7 +87,7 @@ fn types_of(description: &StaticConfig) -> &MessageTypeDetails
     description.publish_subscribe().message_type_details()
 }
 
-/// The room of a message of the opener's.
+/// The layout of a message of the opener's.
 fn room_for(types: &MessageTypeDetails, opener: &Opener) -> Result<SampleLayout, OpenError>
     ensures { GivesRoom types.now opener.now result }
 {

@@ -19,7 +19,7 @@ pub struct PortCount {
 pub struct Census {
     /// How many handles of nodes there are: a node that is registered twice counts twice.
     pub nodes: usize,
-    /// The ports of the pattern's first kind, about which a recovery asks first.
+    /// The ports of the pattern's first kind, which are recovered first.
     pub first: PortCount,
     /// The ports of the pattern's second kind.
     pub second: PortCount,

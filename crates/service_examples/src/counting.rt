@@ -1,4 +1,5 @@
-//! Callbacks that count by `+= 1`: what they are asked about is bounded, since it is in a registry.
+//! Callbacks that count by `+= 1`. The number of calls is bounded, since each entry is in a
+//! registry.
 ghost use Rattle.std.specs.Prelude.{◌≡◌, ◌+◌, ◌<◌, ◌^◌, false, length};
 ghost use Rattle.iox2_container.specs.Steps.{entries_of};
 
@@ -25,7 +26,7 @@ pub fn count_entries<T: Attached + Copy, R: Registry<T>>(registry: &R) -> usize
     count
 }
 
-/// Asks about each entry of the node and removes none; how many it asked about.
+/// Recovers the node with a callback that removes nothing, and returns how often it was called.
 pub fn count_asked<T: Attached + Copy, R: Registry<T>>(
     registry: &mut R,
     node: &UniqueNodeId,

@@ -34,9 +34,9 @@ impl Member {
     }
 }
 
-/// Puts everybody who is attached to the service into the list, in place of what it held: each node
-/// and each port once, by rising node, and for each node first the node and then its ports. It
-/// takes room for all of them at once. Where memory is refused, the list is empty.
+/// Replaces the contents of the list by all who are attached to the service: each node and each
+/// port once, by rising node, and for each node first the node and then its ports. It takes memory
+/// for all of them at once. Where memory is refused, the list is empty.
 pub fn list_attached(
     alloc: Global,
     service: &DynamicConfig,
@@ -60,7 +60,7 @@ pub fn list_attached(
     Ok(())
 }
 
-/// Who was found so far, in a list with room for all.
+/// Who was found so far, in a list with the capacity for all.
 #[derive(Drop)]
 struct Roster<T: Copy> {
     members: Vec<T>,

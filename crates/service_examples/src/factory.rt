@@ -28,7 +28,7 @@ pub struct PublisherSettings {
 /// end to end, one for each chunk that can be in use.
 #[derive(Clone, Copy, Debug, PartialEq, Eq)]
 pub struct DataSegment {
-    /// The room of one message. The segment begins at a multiple of its alignment.
+    /// The layout of one message. The segment begins at a multiple of its alignment.
     pub block: SampleLayout,
     /// How many blocks there are.
     pub blocks: usize,

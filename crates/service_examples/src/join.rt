@@ -24,17 +24,16 @@ pub enum JoinError {
     PortOfAnotherNode,
     /// The service is locked for good, since its last node left.
     ServiceIsLocked,
-    /// There are as many nodes as there may be, or every ticket for nodes was handed out.
+    /// There are as many nodes as there may be, or every ticket for nodes is used.
     NoRoomForNode,
-    /// There are as many ports of this role as there
-    /// may be, or every ticket for them was handed out.
+    /// There are as many ports of this role as there may be, or every ticket for them is used.
     NoRoomForPort,
 }
 
 /// Registers the node and attaches this port of it, or changes nothing at all.
 ///
-/// It asks before it acts: a registration that was taken back because the port found no room would
-/// lock a service for good that had no other node.
+/// It checks first: a registration that is undone, since the port cannot be attached, would lock
+/// for good a service that has no other node.
 pub fn join(
     service: &mut DynamicConfig,
     node: UniqueNodeId,

@@ -6,13 +6,13 @@ use std::marker::Model;
 /// What a sender does where a receiver's buffer is full and may not overflow.
 #[derive(Clone, Copy, Debug, PartialEq, Eq)]
 pub enum BackpressureStrategy {
-    /// It tries again until the receiver has room.
+    /// It tries again until the receiver can take the message.
     RetryUntilDelivered,
     /// It leaves the receiver out.
     DiscardData,
 }
 
-/// How the room for messages grows where their length is known only at run time.
+/// How a data segment grows for messages whose length is known only at run time.
 #[derive(Clone, Copy, Debug, PartialEq, Eq)]
 pub enum AllocationStrategy {
     /// By as much as the message needs.
@@ -32,7 +32,7 @@ pub enum DataSegmentType {
     Static,
 }
 
-/// The number by which listeners tell the events of one service apart.
+/// The number by which listeners distinguish the events of one service.
 #[derive(Clone, Copy, Debug, PartialEq, Eq)]
 pub struct EventId {
     value: usize,

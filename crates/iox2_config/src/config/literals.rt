@@ -1,4 +1,4 @@
-//! Texts that the code spells out.
+//! The fixed texts.
 ghost use Rattle.std.specs.Prelude.{◌≡◌};
 ghost use Rattle.iox2_texts.specs.Name.{IsAllowed};
 

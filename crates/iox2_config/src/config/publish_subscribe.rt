@@ -11,7 +11,7 @@ pub struct PublishSubscribe {
     pub max_publishers: usize,
     /// How many nodes may use the service at once.
     pub max_nodes: usize,
-    /// How many samples a subscriber's buffer has room for.
+    /// The capacity of a subscriber's buffer, in samples.
     pub subscriber_max_buffer_size: usize,
     /// How many samples a subscriber may hold at once.
     pub subscriber_max_borrowed_samples: usize,
@@ -19,14 +19,14 @@ pub struct PublishSubscribe {
     pub publisher_max_loaned_samples: usize,
     /// How many of the last samples a publisher keeps for subscribers that come later.
     pub publisher_history_size: usize,
-    /// Whether a new sample takes the oldest one's place where a buffer is full.
+    /// Whether a new sample replaces the oldest one where a buffer is full.
     pub enable_safe_overflow: bool,
     /// What a publisher does where a buffer is full and may not overflow.
     pub backpressure_strategy: BackpressureStrategy,
     /// How many connections of publishers that are gone
     /// a subscriber keeps, since samples lie in them.
     pub subscriber_expired_connection_buffer: usize,
-    /// How a publisher's room grows for payloads whose length is known only at run time.
+    /// How a publisher's data segment grows for payloads whose length is known only at run time.
     pub publisher_allocation_strategy: AllocationStrategy,
 }
 

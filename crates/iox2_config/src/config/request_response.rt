@@ -5,13 +5,13 @@ use super::choices::{AllocationStrategy, BackpressureStrategy};
 /// The settings that a request-response service gets by default.
 #[derive(Debug, Drop, PartialEq, Eq)]
 pub struct RequestResonse {
-    /// Whether a new request takes the oldest one's place where a server's buffer is full.
+    /// Whether a new request replaces the oldest one where a server's buffer is full.
     pub enable_safe_overflow_for_requests: bool,
-    /// Whether a new response takes the oldest one's place where a client's buffer is full.
+    /// Whether a new response replaces the oldest one where a client's buffer is full.
     pub enable_safe_overflow_for_responses: bool,
     /// How many requests of one client may be open at each server at once.
     pub max_active_requests_per_client: usize,
-    /// How many responses to one request a client's buffer has room for.
+    /// The capacity of a client's buffer for the responses to one request.
     pub max_response_buffer_size: usize,
     /// How many servers may be attached at once.
     pub max_servers: usize,
@@ -35,9 +35,9 @@ pub struct RequestResonse {
     pub server_expired_connection_buffer: usize,
     /// Whether a client may send a request and take no response.
     pub enable_fire_and_forget_requests: bool,
-    /// How a client's room grows for requests whose length is known only at run time.
+    /// How a client's data segment grows for requests whose length is known only at run time.
     pub client_allocation_strategy: AllocationStrategy,
-    /// How a server's room grows for responses whose length is known only at run time.
+    /// How a server's data segment grows for responses whose length is known only at run time.
     pub server_allocation_strategy: AllocationStrategy,
 }
 

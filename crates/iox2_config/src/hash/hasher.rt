@@ -28,8 +28,7 @@ pub trait Hash: Drop {
     fn new(bytes: &[u8]) -> Self
         ensures { takes result bytes.now };
 
-    /// The text that is meant by the input, or a refusal,
-    /// which comes only for inputs that may be refused.
+    /// The text of the input, or an error, which occurs only for inputs that may be refused.
     fn value(&self) -> Result<HashValue, HashError>
         ensures ok { (input : List ℕ) → takes self.now input
             → IfOk result (λ text. text ≡ meaning input) }

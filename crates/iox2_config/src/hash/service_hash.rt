@@ -23,6 +23,13 @@ pub enum ServiceHashError {
 
 /// The hash text of a service, under which its files are found: the name of a file, of at most 64
 /// bytes. Comparisons and hashes go by its bytes.
+///
+/// From `crates/iox2_config_tests/src/hash.rt`:
+///
+/// ```
+/// let event = ServiceHash::new::<Sha1Hasher>(&name, PatternKind::Event).expect(&rt, "a hash");
+/// assert_eq!(rt; event.as_str().len(), 27);
+/// ```
 #[derive(Debug, Drop, PartialEq, Eq, PartialOrd, Ord, Hash)]
 pub struct ServiceHash {
     text: RestrictedFileName<SERVICE_HASH_CAPACITY>,

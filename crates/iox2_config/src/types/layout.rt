@@ -1,4 +1,4 @@
-//! Where the parts of a message lie, and how much room it needs.
+//! Where the parts of a message lie, and its layout.
 ghost use Rattle.std.specs.Prelude.{◌≡◌, ◌^◌, ◌<◌, ◌≤◌, ◌↔◌, IsTrue, IfSome, IfNone, MatchOption};
 ghost use Rattle.iox2_texts.specs.Multiple.{least_multiple};
 ghost use Rattle.iox2_config.specs.Blocks.{HoldsEverywhere};
@@ -25,8 +25,8 @@ impl MessageTypeDetails {
             && self.payload.alignment() != 0
     }
 
-    /// The places of user header and payload in a message with its header at the place `header`, or
-    /// `None` exactly where `has_places` says no.
+    /// The offsets of user header and payload in a message with its header at the offset `header`,
+    /// or `None` exactly where `has_places` is false.
     #[tactic(auto, using(iox2_texts::proofs::Multiple::multiples))]
     pub fn places(&self, header: usize) -> Option<Places>
         ensures { MatchOption result (¬ (HasPlaces self.now header))
@@ -45,16 +45,16 @@ impl MessageTypeDetails {
         })
     }
 
-    /// Whether a message with its header at the place `header` has a place for its payload: no
-    /// alignment is 0, and the payload's place fits 64 bits.
+    /// Whether a message with its header at the offset `header` has an offset for its payload: no
+    /// alignment is 0, and the payload's offset is below 2^64.
     pub fn has_places(&self, header: usize) -> bool
         ensures { IsTrue result ↔ HasPlaces self.now header }
     {
         self.places(header).is_some()
     }
 
-    /// The place of the user header in a message with its header at the place `header`, for which
-    /// `has_places` says yes.
+    /// The offset of the user header in a message with its header at the offset `header`, for which
+    /// `has_places` is true.
     #[tactic(auto, using(iox2_texts::proofs::Multiple::multiples))]
     pub fn user_header_ptr_from_header(&self, header: usize) -> usize
         requires { HasPlaces self.now header }
@@ -63,8 +63,8 @@ impl MessageTypeDetails {
         align(header + self.header.size(), self.user_header.alignment())
     }
 
-    /// The place of the payload in a message with its header at the place `header`, for which
-    /// `has_places` says yes.
+    /// The offset of the payload in a message with its header at the offset `header`, for which
+    /// `has_places` is true.
     #[tactic(auto, using(iox2_texts::proofs::Multiple::multiples))]
     pub fn payload_ptr_from_header(&self, header: usize) -> usize
         requires { HasPlaces self.now header }
@@ -76,12 +76,20 @@ impl MessageTypeDetails {
         )
     }
 
-    /// The room for a message whose payload has `n` elements, or `None` exactly where it would pass
-    /// 2^63 - 1 bytes. It is asked of details for which `has_alignments` says yes.
+    /// The layout of a message whose payload has `n` elements, or `None` exactly where its size
+    /// would pass 2^63 - 1 bytes. The details must be ones for which `has_alignments` is true.
     ///
-    /// Wherever the header lies at a multiple of its alignment, all parts lie in the room, apart
-    /// and aligned, for the service and for every compatible opener; so they do in rooms that lie
-    /// end to end. The room need not be the least.
+    /// Wherever the header begins at a multiple of its alignment, all parts lie inside the layout,
+    /// apart and aligned, for the service and for every compatible opener. The same holds of
+    /// messages that lie end to end. A smaller layout may be possible.
+    ///
+    /// From `crates/service_examples/src/factory.rt`:
+    ///
+    /// ```
+    /// let Some(block) = types.sample_layout(max_elements) else {
+    ///     return Err(PublisherError::MessageTooLarge);
+    /// };
+    /// ```
     #[tactic(auto, using(iox2_texts::proofs::Multiple::multiples))]
     pub fn sample_layout(&self, n: usize) -> Option<SampleLayout>
         requires { HaveAlignments self.now }

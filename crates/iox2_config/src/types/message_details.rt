@@ -5,6 +5,16 @@ use super::type_detail::{TypeDetail, TypeDetailError, TypeVariant};
 use super::zero_copy_send::ZeroCopySend;
 
 /// What a service knows of the parts of its messages, which lie one after another.
+///
+/// From `crates/service_examples_tests/src/services.rt`:
+///
+/// ```
+/// MessageTypeDetails {
+///     header: part(rt, "Header", TypeVariant::FixedSize, (40, 8)),
+///     user_header: part(rt, "()", TypeVariant::FixedSize, (0, 1)),
+///     payload: part(rt, "u64", TypeVariant::Dynamic, (8, alignment)),
+/// }
+/// ```
 #[derive(Debug, Drop, PartialEq, Eq, Hash)]
 pub struct MessageTypeDetails {
     /// The first part, which belongs to the system.

@@ -1,6 +1,6 @@
 //! Where the parts of a message lie.
 
-/// The places of two parts of a message, as offsets or addresses like that of its header.
+/// The positions of two parts of a message, as offsets or addresses like that of its header.
 #[derive(Clone, Copy, Debug, PartialEq, Eq)]
 pub struct Places {
     /// Of the user header.

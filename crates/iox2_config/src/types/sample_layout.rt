@@ -1,11 +1,11 @@
-//! The room that a message needs.
+//! The layout of a message.
 ghost use Rattle.std.specs.Prelude.{◌≡◌, ◌<◌, ◌^◌, IsTrue};
 ghost use Rattle.std.specs.Int.{is_power_of_two};
 ghost use Rattle.iox2_config.specs.SampleLayoutParts.{IsSampleLayout};
 
 use std::marker::Model;
 
-/// The room that a message needs: how many bytes, and the number of which its place is a multiple.
+/// The layout of a message: size in bytes, and alignment.
 #[derive(Clone, Copy, Debug, PartialEq, Eq)]
 pub struct SampleLayout {
     size: usize,
@@ -25,7 +25,7 @@ impl Model for SampleLayout {
 }
 
 impl SampleLayout {
-    /// The room of this many bytes at a multiple of the alignment.
+    /// The layout of this many bytes with this alignment.
     pub(super) fn new(size: usize, alignment: usize) -> Self
         requires { IsSampleLayout size alignment }
         ensures { result ≡ record { size = size; alignment = alignment } }
@@ -41,7 +41,7 @@ impl SampleLayout {
         self.size
     }
 
-    /// The number of which the place of the message is a multiple, a power of two.
+    /// The alignment of the message, a power of two.
     pub fn align(&self) -> usize
         ensures value { result ≡ self.now.alignment }
         ensures power { IsTrue (is_power_of_two result) }

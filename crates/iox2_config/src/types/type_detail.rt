@@ -44,10 +44,10 @@ pub enum TypeDetailError {
 }
 
 /// What a service knows of a type: its name, how many of its values a message has, their size in
-/// bytes and the number of which their places are multiples.
+/// bytes and their alignment.
 ///
-/// The alignment is a power of two, but for the default details, which stand where none were given:
-/// their alignment and size are 0, and their name is empty.
+/// The alignment is a power of two. The default details, which mean that none were given, have the
+/// alignment 0, the size 0 and an empty name.
 #[derive(Debug, Drop, PartialEq, Eq, Hash)]
 pub struct TypeDetail {
     variant: TypeVariant,
@@ -159,8 +159,7 @@ impl TypeDetail {
         self.size
     }
 
-    /// The number of which the place of each value is a
-    /// multiple: a power of two, or 0 in the default details.
+    /// The alignment of each value: a power of two, or 0 in the default details.
     pub fn alignment(&self) -> usize
         ensures value { result ≡ self.now.alignment }
         ensures power { IsAlignment result }

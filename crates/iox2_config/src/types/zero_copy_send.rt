@@ -19,7 +19,7 @@ pub trait ZeroCopySend {
     /// How many bytes a value takes, a multiple of the alignment.
     const SIZE: usize;
 
-    /// The number of which the place of each value is a multiple, a power of two.
+    /// The alignment of each value, a power of two.
     const ALIGNMENT: usize;
 
     /// The name by which processes agree on the type.

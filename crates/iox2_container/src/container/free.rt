@@ -1,4 +1,4 @@
-//! How free places are found: by a list of them, or by the lowest.
+//! How free slots are found: by a list of them, or by a scan for the lowest.
 
 mod free_list;
 mod lowest_free;

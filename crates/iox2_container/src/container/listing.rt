@@ -7,8 +7,8 @@ use super::registry::Registry;
 use iox2_texts::bounded::CallbackProgression;
 use std::alloc::{AllocError, Global};
 
-/// The details in a registry, by rising slot. It takes just the room that they need, in one
-/// request; refused where there is no memory for it.
+/// The details in a registry, by rising slot. It takes memory for exactly that, in one request;
+/// refused where there is no memory for it.
 pub fn entries<T: Attached + Copy, R: Registry<T>>(
     alloc: Global,
     registry: &R,

@@ -1,4 +1,4 @@
-//! What a container does with all its places, one after another.
+//! Passes of a container over all its slots, one after another.
 ghost use Rattle.std.specs.Prelude.{◌≡◌, ◌+◌, ◌≤◌, ◌<◌, IsTrue, false, nat_lt};
 ghost use Rattle.std.specs.Prelude.{MatchOption, length, map, slice_set, if◌then◌else◌};
 ghost use Rattle.std.specs.Fn.{CalledAt, TakesAt};
@@ -17,7 +17,7 @@ use super::slots::Occupant;
 use iox2_ids::identifiers::UniqueNodeId;
 use iox2_texts::bounded::CallbackProgression;
 
-/// Asks the callback once.
+/// Calls the callback once.
 fn ask<T: Copy, R, F: FnMut(&T) -> R>(details: T, f: &mut F) -> R
     requires { TakesAt F.FnMut f.old details }
     ensures { CalledAt F.FnMut f.old details result f.new }
@@ -25,7 +25,7 @@ fn ask<T: Copy, R, F: FnMut(&T) -> R>(details: T, f: &mut F) -> R
     f(&details)
 }
 
-/// Asks the callback about what stands in a place, if anything does.
+/// Calls the callback with the entry of a slot, if it has one.
 fn show<T: Copy, F: FnMut(&T) -> CallbackProgression>(
     cell: Option<Occupant<T>>,
     f: &mut F,
@@ -39,7 +39,7 @@ fn show<T: Copy, F: FnMut(&T) -> CallbackProgression>(
     }
 }
 
-/// Asks the callback about each entry in turn, until it stops. It looks at each place at most once.
+/// Calls the callback with each entry in turn, until it stops. It reads each slot at most once.
 pub(super) fn visit<T: Copy, S: SlotAllocator<T>, F: FnMut(&T) -> CallbackProgression>(
     places: &Places<T, S::Next>,
     free: &S,
@@ -66,7 +66,7 @@ struct Found<T: Copy> {
     details: T,
 }
 
-/// Whether what stands in a place is the node's.
+/// Whether the entry of a slot is the node's.
 fn belongs_to<T: Attached + Copy>(cell: Option<Occupant<T>>, node: &UniqueNodeId) -> bool
     ensures { result ≡ cell_is_of T.node node.now cell }
 {
@@ -232,7 +232,7 @@ pub(super) fn has_of<T: Attached + Copy, S: SlotAllocator<T>>(
     next_of(places, likely + 1, end, node).is_some()
 }
 
-/// How many entries are those of the node. It looks at each place at most once.
+/// How many entries are those of the node. It reads each slot at most once.
 pub(super) fn count_of<T: Attached + Copy, S: SlotAllocator<T>>(
     places: &Places<T, S::Next>,
     free: &S,

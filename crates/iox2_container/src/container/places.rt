@@ -1,4 +1,4 @@
-//! Numbered places for entries, whatever finds the free ones.
+//! Numbered slots for entries, whatever finds the free ones.
 ghost use Rattle.std.specs.Prelude.{◌≡◌, ◌≢◌, ◌+◌, ◌≤◌, ◌<◌, Some, None, IfNone, IfSome, MatchOption};
 ghost use Rattle.std.specs.Prelude.{length, map, slice_get, slice_set};
 ghost use Rattle.iox2_container.specs.Cells.{occupant, shown};
@@ -9,11 +9,11 @@ use super::handle::ContainerHandle;
 use super::slot_map::Looks;
 use super::slots::{Cell, Occupant, Slots};
 
-/// Places in which entries stand, each with its ticket. A free one's cell keeps an `N`.
+/// Slots with entries, each with its ticket. A free one keeps an `N`.
 pub type Places<T, N> = Slots<Cell<T, N>>;
 
 impl<T: Copy, N: Copy> Places<T, N> {
-    /// What stands in a place.
+    /// The entry of a slot.
     pub(super) fn look(&mut self, slot: usize) -> Option<Occupant<T>>
         requires { slot < length self.old.cells }
         ensures cell { slice_get (map shown self.old.cells) slot ≡ Some result }
@@ -23,7 +23,7 @@ impl<T: Copy, N: Copy> Places<T, N> {
         self.read(slot).occupant()
     }
 
-    /// What stands in a place, for calls that change nothing, which count how often they look.
+    /// The entry of a slot, for calls that change nothing. They count how often they read.
     pub(super) fn peek_at(&self, slot: usize, looks: &mut Looks) -> Option<Occupant<T>>
         requires { slot < length self.now.cells }
         ensures cell { slice_get (map shown self.now.cells) slot ≡ Some result }
@@ -51,7 +51,7 @@ fn with_ticket<T: Copy>(cell: Option<Occupant<T>>, ticket: u64) -> Option<T>
     }
 }
 
-/// The details in the handle's place, if they have its ticket. It looks at that place alone, once.
+/// The details in the handle's slot, if they have its ticket. It reads that slot alone, once.
 pub(super) fn find<T: Copy, N: Copy>(
     places: &Places<T, N>,
     handle: ContainerHandle,
@@ -64,7 +64,7 @@ pub(super) fn find<T: Copy, N: Copy>(
     with_ticket(places.peek_at(handle.slot(), looks), handle.ticket())
 }
 
-/// Takes the entry out of the handle's place, if it has its ticket.
+/// Takes the entry out of the handle's slot, if it has its ticket.
 pub(super) fn take_out<T: Copy, S: SlotAllocator<T>>(
     places: &mut Places<T, S::Next>,
     free: &mut S,

@@ -5,7 +5,7 @@
 pub enum ContainerAddFailure {
     /// The container is locked for good.
     IsLocked,
-    /// Every slot is taken, or every ticket was handed out.
+    /// Every slot is taken, or every ticket is used.
     OutOfSpace,
 }
 

@@ -19,6 +19,18 @@ use iox2_texts::bounded::CallbackProgression;
 ///
 /// No change reads or writes its slots more than twice as often as it has slots. No call takes
 /// memory, and a refused one changes no entry, no lock and no ticket.
+///
+/// From `crates/iox2_dynamic/src/dynamic_config/service.rt`:
+///
+/// ```
+/// match self.nodes.add(id) {
+///     Ok(handle) => Ok(handle),
+///     Err(ContainerAddFailure::IsLocked) => Err(RegisterNodeResult::MarkedForDestruction),
+///     Err(ContainerAddFailure::OutOfSpace) => Err(
+///         RegisterNodeResult::ExceedsMaxNumberOfNodes,
+///     ),
+/// }
+/// ```
 pub trait Registry<T: Attached + Copy> {
     /// What the registry holds, and how often a change read or wrote one of its slots.
     ghost state: { Self → ContainerState T };
@@ -30,7 +42,7 @@ pub trait Registry<T: Attached + Copy> {
     ghost most_for_remove: { ℕ };
 
     /// Adds an entry in a free slot, with the next ticket. Refused where the registry is locked,
-    /// and else where every slot is taken or every ticket was handed out.
+    /// and else where every slot is taken or every ticket is used.
     fn add(&mut self, details: T) -> Result<ContainerHandle, ContainerAddFailure>
         ensures known { IsRegistry (state self.old).registry }
         ensures adds { Adds (state self.old) details result (state self.new) }
@@ -48,10 +60,10 @@ pub trait Registry<T: Attached + Copy> {
         ensures removes { Removes (state self.old) handle mode result (state self.new) }
         ensures few { (state self.new).touches ≤ (state self.old).touches + most_for_remove };
 
-    /// Asks the callback once about each entry of the dead node, by rising slot, and removes those
-    /// that it answers with `true`. Says whether the registry is locked then. Where no entry goes,
-    /// nothing is locked. It reads each slot at most once, and writes one for each entry that goes.
-    /// The callback must be callable on those entries in turn, each time as the
+    /// Calls the callback once for each entry of the dead node, by rising slot, and removes those
+    /// for which it returns `true`. Returns whether the registry is locked then. Where no entry is
+    /// removed, nothing is locked. It reads each slot at most once, and writes one for each entry
+    /// that it removes. The callback must be callable on those entries in turn, each time as the
     /// call before left it.
     fn recover<F: FnMut(&T) -> bool>(
         &mut self,

@@ -1,4 +1,4 @@
-//! What a container knows beside its places.
+//! What a container knows beside its slots.
 ghost use Rattle.std.specs.Prelude.{◌≡◌, ◌+◌, ◌-◌, ◌≤◌, ◌<◌, ◌^◌, ◌↔◌};
 ghost use Rattle.std.specs.Prelude.{IsTrue, false};
 ghost use Rattle.iox2_container.specs.Steps.{lock_after, release_state};
@@ -7,8 +7,8 @@ use super::handle::ContainerHandle;
 use super::release::{ReleaseMode, ReleaseState};
 use super::role::Role;
 
-/// Whose container it is, how many entries stand in its places, how many tickets it handed out and
-/// may hand out, and whether it is locked.
+/// Whose container it is, how many entries it has, how many tickets it issued and may issue, and
+/// whether it is locked.
 #[derive(Debug, Drop)]
 pub(super) struct RegistryHeader {
     service: u64,
@@ -48,7 +48,7 @@ impl RegistryHeader {
         self.service
     }
 
-    /// How many entries stand in the places.
+    /// How many entries there are.
     pub(super) fn count(&self) -> usize
         ensures { result ≡ self.now.count }
     {
@@ -78,7 +78,7 @@ impl RegistryHeader {
         self.used < self.budget
     }
 
-    /// Counts one entry more, and hands out its ticket.
+    /// Counts one entry more, and issues its ticket.
     pub(super) fn enter(&mut self) -> u64
         requires ticket { self.old.used < self.old.budget }
         requires fits { self.old.count + 1 < 2 ^ 64 }

@@ -28,7 +28,7 @@ impl ReleaseMode {
 pub enum ReleaseState {
     /// It is empty, and takes no entry any more.
     Locked,
-    /// It takes entries, where there is room.
+    /// It takes entries, as far as its capacity allows.
     Unlocked,
 }
 

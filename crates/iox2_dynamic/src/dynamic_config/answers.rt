@@ -9,7 +9,7 @@ use iox2_container::container::ReleaseState;
 pub enum RegisterNodeResult {
     /// The service is locked for good, since its last node left.
     MarkedForDestruction,
-    /// There are as many nodes as there may be, or every ticket was handed out.
+    /// There are as many nodes as there may be, or every ticket is used.
     ExceedsMaxNumberOfNodes,
 }
 
@@ -50,6 +50,6 @@ pub enum AttachError {
     ServiceIsLocked,
     /// The port's node is not registered.
     NodeNotRegistered,
-    /// There are as many ports of this kind as there may be, or every ticket was handed out.
+    /// There are as many ports of this kind as there may be, or every ticket is used.
     OutOfSpace,
 }

@@ -33,7 +33,7 @@ pub(super) fn list_details<T: PortKind, F: FnMut(&PortDetails) -> CallbackProgre
     ports.for_each(&mut show);
 }
 
-/// The details of all ports, by rising slot, in just the room that they need.
+/// The details of all ports, by rising slot, in a list of exactly that capacity.
 pub(super) fn details<T: PortKind>(
     alloc: Global,
     ports: &ServiceRegistry<T>,
@@ -57,7 +57,7 @@ pub(super) fn details<T: PortKind>(
     Ok(list)
 }
 
-/// Puts the details of the node's ports at the end of a list that has room for them.
+/// Appends the details of the node's ports to a list with the capacity for them.
 pub(super) fn append_details_of<T: PortKind>(
     ports: &ServiceRegistry<T>,
     node: &UniqueNodeId,

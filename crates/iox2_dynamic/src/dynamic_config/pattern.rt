@@ -182,7 +182,7 @@ impl MessagingPattern {
         }
     }
 
-    /// Asks about each port of a dead node whether it goes, and says whether one is left.
+    /// Calls the callback for each port of a dead node, and returns whether one is left.
     pub(super) fn recover<F: FnMut(UniquePortId) -> PortCleanupAction>(
         &mut self,
         dead: &UniqueNodeId,

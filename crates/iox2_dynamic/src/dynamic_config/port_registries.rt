@@ -131,8 +131,8 @@ impl<A: PortKind, B: PortKind> PortRegistries<A, B> {
         Err(of_neither_kind)
     }
 
-    /// Asks about each port of a dead node whether it goes, first about those of the first kind,
-    /// and says whether one is left.
+    /// Calls the callback for each port of a dead node, first for those of the first kind, and
+    /// returns whether one is left.
     pub(super) fn recover<F: FnMut(UniquePortId) -> PortCleanupAction>(
         &mut self,
         dead: &UniqueNodeId,

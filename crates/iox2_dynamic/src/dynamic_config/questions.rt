@@ -1,4 +1,4 @@
-//! What a service answers to those who ask before they act.
+//! Queries of a service.
 ghost use Rattle.std.specs.Prelude.{◌≡◌, ◌↔◌, IfOk, IfSome, IsTrue, MatchOption, length, map, vec_capacity};
 ghost use Rattle.iox2_container.specs.Steps.{IsUnknownHandle, HasEntry, TakesEntry, listed};
 ghost use Rattle.iox2_dynamic.specs.Details.{port_of};
@@ -56,8 +56,8 @@ impl DynamicConfig {
         self.pattern.capacity(role)
     }
 
-    /// Whether `register_node_id` would register a node: the
-    /// service is not locked, and a place and a ticket are left.
+    /// Whether `register_node_id` would register a node: the service is not locked, and a slot and
+    /// a ticket are left.
     pub fn has_room_for_node(&self) -> bool
         ensures room { IsTrue result ↔ TakesEntry self.now.nodes.registry }
         ensures kept { IsService self.now }
@@ -66,7 +66,7 @@ impl DynamicConfig {
     }
 
     /// Whether `attach` would attach a port of the role, if its node is registered: the service is
-    /// not locked, and a place and a ticket are left for such ports. The role is one of the
+    /// not locked, and a slot and a ticket are left for such ports. The role is one of the
     /// pattern's, as `has_role` says.
     pub fn has_room(&self, role: Role) -> bool
         requires { HasRole self.now.pattern role }
@@ -96,8 +96,8 @@ impl DynamicConfig {
         self.pattern.get(handle)
     }
 
-    /// The ids of the nodes by rising slot, one for each handle. The list takes just the room that
-    /// it needs, in one request; refused where there is no memory for it.
+    /// The ids of the nodes by rising slot, one for each handle. The list takes memory for exactly
+    /// that, in one request, and fails where it is refused.
     pub fn nodes(&self, alloc: Global) -> Result<Vec<UniqueNodeId>, AllocError>
         ensures listed { IfOk result (λ ids. ids.items ≡ listed self.now.nodes.registry) }
         ensures exact { IfOk result (λ ids. vec_capacity ids ≡ length ids.items) }
@@ -107,7 +107,7 @@ impl DynamicConfig {
     }
 
     /// The ports of the role by rising slot; `None` where the pattern has no such ports. The list
-    /// takes just the room that it needs, in one request; refused where there is no memory for it.
+    /// takes memory for exactly that, in one request, and fails where it is refused.
     pub fn ports(&self, alloc: Global, role: Role) -> Result<Option<Vec<PortDetails>>, AllocError>
         ensures listed { IfOk result (OfRole (λ r list. list.items ≡ listed r)
             (first_role self.now.pattern) (second_role self.now.pattern) self.now.ports role) }
@@ -118,10 +118,9 @@ impl DynamicConfig {
         self.pattern.ports(alloc, role)
     }
 
-    /// The ports of the node, by its whole id: those of the pattern's first kind before those of
-    /// its second, each kind by rising slot, which is what `remove_dead_node_id` asks about. The
-    /// list takes just the room that it needs, in one request; refused where there is no memory for
-    /// it.
+    /// The ports of the node, by its whole id, in the order of `remove_dead_node_id`: those of the
+    /// pattern's first kind before those of its second, each kind by rising slot. The list takes
+    /// memory for exactly that, in one request, and fails where it is refused.
     pub fn ports_of(
         &self,
         alloc: Global,

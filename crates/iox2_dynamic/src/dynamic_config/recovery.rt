@@ -12,7 +12,7 @@ use super::registry::ServiceRegistry;
 use iox2_container::container::{Registry, ReleaseMode, ReleaseState};
 use iox2_ids::identifiers::{UniqueNodeId, UniquePortId};
 
-/// Asks about each port of the node whether it goes, and says whether one is left.
+/// Calls the callback for each port of the node, and returns whether one is left.
 pub(super) fn recover_ports<T: PortKind, F: FnMut(UniquePortId) -> PortCleanupAction>(
     ports: &mut ServiceRegistry<T>,
     dead: &UniqueNodeId,

@@ -40,6 +40,13 @@ use std::marker::Model;
 /// a locked service has no port. A refused call changes no entry, no lock and no ticket. Of the
 /// calls on a service that was made only `nodes`, `ports` and `ports_of` take memory, for their
 /// lists.
+///
+/// From `crates/service_examples_tests/src/services.rt`:
+///
+/// ```
+/// let settings = MessagingPatternSettings::new(PatternKind::PublishSubscribe, 2, 2);
+/// Ok(Box::new(alloc, DynamicConfig::new(alloc, &settings, nodes, 7)?)?)
+/// ```
 #[derive(Debug, Drop)]
 pub struct DynamicConfig {
     pub(super) pattern: MessagingPattern,
@@ -176,9 +183,9 @@ impl DynamicConfig {
         self.pattern.has_role(role)
     }
 
-    /// Attaches a port of one of the pattern's roles, as `has_role` says. Refused where the service
-    /// is locked, else where the port's node is not registered, by its whole id, and else where
-    /// there is no place or no ticket for the port.
+    /// Attaches a port of one of the pattern's roles, as `has_role` says. Errors, in this order:
+    /// the service is locked, the port's node is not registered, by its whole id, no slot or no
+    /// ticket is left for the port.
     pub fn attach(&mut self, details: PortDetails) -> Result<ContainerHandle, AttachError>
         requires { HasRole self.old.pattern (role_of details) }
         ensures step { AttachStep self.old details result self.new }
@@ -208,11 +215,20 @@ impl DynamicConfig {
         }
     }
 
-    /// Asks the callback once about each port of the dead node, those of the pattern's first kind
-    /// before those of its second and each kind by rising slot, and removes exactly those that it
-    /// answers with `RemovePort`. Where none of its ports is left, the node goes too, with all its
-    /// handles; where it was the last one, the service is locked for good. Where one is left, no
-    /// node goes.
+    /// Calls the callback once for each port of the dead node, those of the pattern's first kind
+    /// before those of its second and each kind by rising slot, and removes exactly those for which
+    /// it returns `RemovePort`. Where none of its ports is left, the node is removed too, with all
+    /// its handles; if it was the last one, the service is locked for good. Where one is left, no
+    /// node is removed.
+    ///
+    /// From `crates/service_examples/src/monitor.rt`:
+    ///
+    /// ```
+    /// let mut remove = |_port: UniquePortId| -> PortCleanupAction
+    ///     ensures { result ≡ PortCleanupAction.RemovePort }
+    /// { PortCleanupAction::RemovePort };
+    /// service.remove_dead_node_id(dead, &mut remove)
+    /// ```
     pub fn remove_dead_node_id<F: FnMut(UniquePortId) -> PortCleanupAction>(
         &mut self,
         dead: &UniqueNodeId,

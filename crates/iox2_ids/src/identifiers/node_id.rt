@@ -11,6 +11,12 @@ use std::marker::Model;
 enum NodeKind {}
 
 /// The id of a node. Its process or its counter is not 0.
+///
+/// From `crates/service_examples_tests/src/services.rt`:
+///
+/// ```
+/// UniqueNodeId::new(1, 0, 0, counter).expect(rt, "process 1 has nodes")
+/// ```
 #[derive(Clone, Copy, Debug, PartialEq, Eq, PartialOrd, Ord, Hash)]
 pub struct UniqueNodeId {
     id: UniqueId<NodeKind>,
@@ -80,7 +86,7 @@ impl UniqueNodeId {
 
     /// The process and the counter in one number, process * 2^32 + counter, which is never 0.
     ///
-    /// Nodes of one process with one counter share it, so it does not tell nodes apart.
+    /// Nodes of one process with the same counter share it, so it does not identify a node.
     pub fn owner_id(&self) -> u64
         ensures value { result ≡ owner_of self.now }
         ensures never_zero { 0 < result }

@@ -5,8 +5,8 @@ ghost use Rattle.iox2_static.specs.Chunks.{TellsGreatest};
 /// The greatest number of chunks in use at once, where the limits of all that hold chunks add up to
 /// `holders * for_each + others`.
 ///
-/// Only the final number is compared with the greatest `usize`: a huge `for_each` is no refusal
-/// where there are no holders.
+/// Only the final number is compared with the greatest `usize`: a huge `for_each` is no error where
+/// there are no holders.
 #[tactic(auto, using(crate::proofs::Greatest::tells))]
 pub(super) fn amount_of_chunks(holders: u128, for_each: u128, others: u128) -> Option<usize>
     ensures { (limits : List ℕ) → sum limits ≡ holders * for_each + others

@@ -39,6 +39,14 @@ impl fmt::Display for AttributeDefinitionError {
 impl Error for AttributeDefinitionError {}
 
 /// Up to 16 pairs in rising order. A pair that was added twice stands in it twice.
+///
+/// From `crates/service_examples_tests/src/services.rt`:
+///
+/// ```
+/// let mut attributes = AttributeSet::new();
+/// let (key, value) = color(rt, "red");
+/// attributes.add(&key, &value).expect(rt, "room");
+/// ```
 #[derive(Debug, Drop, PartialEq, Eq)]
 pub struct AttributeSet {
     attributes: ArrayVec<Attribute, MAX_ATTRIBUTES>,

@@ -7,6 +7,14 @@ use super::text::{AttributeKey, AttributeValue};
 use std::marker::Model;
 
 /// A set of attributes that is built pair by pair.
+///
+/// From `crates/iox2_texts_tests/src/texts/attributes.rt`:
+///
+/// ```
+/// AttributeSpecifier::new()
+///     .define(&some, &value(rt, "some attribute value"))
+///     .expect(rt, "room")
+/// ```
 #[derive(Debug, Drop)]
 pub struct AttributeSpecifier {
     attributes: AttributeSet,

@@ -11,9 +11,21 @@ pub const MAX_ATTRIBUTE_KEY_LENGTH: usize = 64;
 pub const MAX_ATTRIBUTE_VALUE_LENGTH: usize = 256;
 
 /// The key of an attribute: 1 to 64 bytes, each from 1 to 127.
+///
+/// From `crates/service_examples_tests/src/services.rt`:
+///
+/// ```
+/// AttributeKey::try_from("color").expect(rt, "a key"),
+/// ```
 pub type AttributeKey = SemanticString<AttributeContent, MAX_ATTRIBUTE_KEY_LENGTH>;
 
 /// The value of an attribute: 1 to 256 bytes, each from 1 to 127.
+///
+/// From `crates/service_examples_tests/src/services.rt`:
+///
+/// ```
+/// AttributeValue::try_from(value).expect(rt, "a value"),
+/// ```
 pub type AttributeValue = SemanticString<AttributeContent, MAX_ATTRIBUTE_VALUE_LENGTH>;
 
 /// What keys and values of attributes allow: every text but the empty one.
@@ -39,7 +51,7 @@ fn dash<const N: usize>() -> SemanticString<AttributeContent, N>
     SemanticString::of_allowed(text)
 }
 
-/// The key `-`, which stands where a list of fixed room wants a value.
+/// The key `-`, which fills unused elements of a list of fixed capacity.
 impl Default for AttributeKey {
     ghost is_default = { λ k. k ≡ codes "-" };
 
@@ -48,7 +60,7 @@ impl Default for AttributeKey {
     }
 }
 
-/// The value `-`, which stands where a list of fixed room wants a value.
+/// The value `-`, which fills unused elements of a list of fixed capacity.
 impl Default for AttributeValue {
     ghost is_default = { λ v. v ≡ codes "-" };
 

@@ -71,6 +71,17 @@ impl fmt::Display for AttributeVerificationError {
 impl Error for AttributeVerificationError {}
 
 /// The pairs and the keys that a set of attributes must have, at most 16 together.
+///
+/// From `crates/service_examples/src/builder.rt`:
+///
+/// ```
+/// if let Err(missing) = opener
+///     .verifier
+///     .verify_requirements(description.attributes())
+/// {
+///     return Err(OpenError::IncompatibleAttributes(missing));
+/// }
+/// ```
 #[derive(Debug, Drop)]
 pub struct AttributeVerifier {
     attributes: AttributeSet,

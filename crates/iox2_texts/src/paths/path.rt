@@ -8,6 +8,13 @@ use super::joining::joined;
 use crate::bounded::{Content, SemanticString, SemanticStringError};
 
 /// A path of at most 255 bytes, which may be empty.
+///
+/// From `crates/iox2_texts_tests/src/texts/paths.rt`:
+///
+/// ```
+/// let mut whole = path(rt, front);
+/// whole.add_path_entry(&path(rt, entry)).expect(rt, "room");
+/// ```
 pub type Path = SemanticString<PathContent, MAX_PATH_LENGTH>;
 
 /// What a path allows: every text.

@@ -23,7 +23,7 @@ pub struct HandleAnswer {
 }
 
 impl HandleAnswer {
-    /// The answer that tells what was made, or why nothing was.
+    /// The answer with what was made, or why nothing was.
     #[inline(always)]
     fn of(made: Result<Handle, Status>) -> HandleAnswer
         ensures { result ≡ handle_answer made }
@@ -43,8 +43,8 @@ impl HandleAnswer {
 
 /// Registers a node, which may have several handles.
 ///
-/// Refused are, in this order, NULL, a place that holds no service, an id of no node, a locked
-/// service, and want of a place or a ticket.
+/// Errors, in this order: NULL, an object without a service, an id of no node, a locked service, no
+/// slot or no ticket left.
 #[unsafe(no_mangle)]
 pub extern "C" fn iox2sd_register_node_id_at(places: &mut [Service], node: Id) -> HandleAnswer
     requires { All IsSoundPlace places.old }
@@ -59,12 +59,11 @@ pub extern "C" fn iox2sd_register_node_id_at(places: &mut [Service], node: Id) -
     HandleAnswer::of(register(service, node))
 }
 
-/// Deregisters the node with this handle, and tells whether the service is locked for good, as it
-/// was the last one.
+/// Deregisters the node with this handle. Returns whether the service is locked for good, which it
+/// is after the last one.
 ///
-/// Refused are, in this order, NULL, a place that holds no service, a number of no role, a handle
-/// that is not that of a node here, and one that is the only one of its node while some port has
-/// that node.
+/// Errors, in this order: NULL, an object without a service, a number of no role, a handle that is
+/// not that of a node here, and one that is the only one of its node while some port has that node.
 #[unsafe(no_mangle)]
 pub extern "C" fn iox2sd_deregister_node_id_at(places: &mut [Service], handle: Handle) -> u32
     requires { All IsSoundPlace places.old }
@@ -79,7 +78,7 @@ pub extern "C" fn iox2sd_deregister_node_id_at(places: &mut [Service], handle: H
     deregister(service, handle).code()
 }
 
-/// Attaches a port to the service in a place that may be NULL.
+/// Attaches a port to the service of an object that may be NULL.
 fn attach_in(places: &mut [Service], port: &Port) -> HandleAnswer
     requires { All IsSoundPlace places.old }
     ensures { At handle_answer Err Nothing (AttachesPort port.now) places.old result places.new }
@@ -95,10 +94,10 @@ fn attach_in(places: &mut [Service], port: &Port) -> HandleAnswer
 
 /// Attaches a port of one of the pattern's roles.
 ///
-/// Refused are, in this order, NULL for the port and for the place, a place that holds no service,
-/// an id that is not a node's, a role that is not that of a port, an unknown kind of data segment,
-/// a role that the pattern does not have, a locked service, a node that is not registered, by its
-/// whole id, and want of a place or a ticket.
+/// Errors, in this order: NULL for the port and for the object, an object without a service, an id
+/// that is not a node's, a role that is not that of a port, an unknown kind of data segment, a role
+/// that the pattern does not have, a locked service, a node that is not registered, by its whole
+/// id, no slot or no ticket left.
 #[unsafe(no_mangle)]
 pub extern "C" fn iox2sd_attach_at(places: &mut [Service], ports: &[Port]) -> HandleAnswer
     requires { All IsSoundPlace places.old }
@@ -112,8 +111,8 @@ pub extern "C" fn iox2sd_attach_at(places: &mut [Service], ports: &[Port]) -> Ha
 
 /// Releases the port with this handle.
 ///
-/// Refused are, in this order, NULL, a place that holds no service, a number of no role, and a
-/// handle that is not that of a port here.
+/// Errors, in this order: NULL, an object without a service, a number of no role, and a handle that
+/// is not that of a port here.
 #[unsafe(no_mangle)]
 pub extern "C" fn iox2sd_release_port_at(places: &mut [Service], handle: Handle) -> u32
     requires { All IsSoundPlace places.old }

@@ -1,4 +1,4 @@
-//! Deaths of nodes.
+//! The removal of dead nodes.
 ghost use Rattle.std.specs.Prelude.{◌≡◌, ◌≤◌, All};
 ghost use Rattle.iox2_dynamic.specs.Steps.{DeadStep};
 ghost use Rattle.iox2sd.specs.Counts.{counted};
@@ -48,7 +48,7 @@ impl DeathAnswer {
         }
     }
 
-    /// The answer that tells it.
+    /// The answer with it.
     fn of(death: Death) -> DeathAnswer
         ensures { result ≡ death_answer death }
     {
@@ -122,11 +122,12 @@ fn die(service: &mut DynamicConfig, dead: Id, kept: &[Id]) -> Death
     }
 }
 
-/// Removes those ports of a dead node whose ids are not among `kept`, and tells how many went.
-/// Where none of its ports is left, the node goes too, with all its handles; where it was the last
-/// one, the service is locked for good, as it is told to be where it was before.
+/// Removes those ports of a dead node whose ids are not among `kept`, and returns how many it
+/// removed. Where none of its ports is left, the node is removed too, with all its handles; if it
+/// was the last one, the service is locked for good. The status reports a locked service also where
+/// it was locked before.
 ///
-/// Refused are, in this order, NULL, a place that holds no service, and an id of no node.
+/// Errors, in this order: NULL, an object without a service, an id of no node.
 #[unsafe(no_mangle)]
 pub extern "C" fn iox2sd_remove_dead_node_id_at(
     places: &mut [Service],

@@ -28,12 +28,12 @@ pub struct IdAnswer {
 pub struct PortAnswer {
     /// The number of a [`Status`].
     pub status: u32,
-    /// What it tells; all 0 where the status is not that of `Done`.
+    /// The port; all 0 where the status is not that of `Done`.
     pub port: Port,
 }
 
 impl IdAnswer {
-    /// The answer that tells a node, or why there is none.
+    /// The answer with a node, or why there is none.
     #[inline(always)]
     fn of(found: Result<Id, Status>) -> IdAnswer
         ensures { result ≡ id_answer found }
@@ -52,7 +52,7 @@ impl IdAnswer {
 }
 
 impl PortAnswer {
-    /// The answer that tells a port, or why there is none.
+    /// The answer with a port, or why there is none.
     #[inline(always)]
     fn of(found: Result<Port, Status>) -> PortAnswer
         ensures { result ≡ port_answer found }
@@ -96,8 +96,8 @@ fn find_port(service: &DynamicConfig, handle: Handle) -> Result<Port, Status>
     }
 }
 
-/// The node that was registered with this handle. Refused are, in this order, NULL, a place that
-/// holds no service, a number of no role, and each handle that is not that of a node here.
+/// The node that was registered with this handle. Errors, in this order: NULL, an object without a
+/// service, a number of no role, and each handle that is not that of a node here.
 #[unsafe(no_mangle)]
 pub extern "C" fn iox2sd_node_at(places: &mut [Service], handle: Handle) -> IdAnswer
     requires { All IsSoundPlace places.old }
@@ -113,8 +113,8 @@ pub extern "C" fn iox2sd_node_at(places: &mut [Service], handle: Handle) -> IdAn
     IdAnswer::of(find_node(service, handle))
 }
 
-/// The port that was attached with this handle. Refused are, in this order, NULL, a place that
-/// holds no service, a number of no role, and each handle that is not that of a port here.
+/// The port that was attached with this handle. Errors, in this order: NULL, an object without a
+/// service, a number of no role, and each handle that is not that of a port here.
 #[unsafe(no_mangle)]
 pub extern "C" fn iox2sd_port_at(places: &mut [Service], handle: Handle) -> PortAnswer
     requires { All IsSoundPlace places.old }

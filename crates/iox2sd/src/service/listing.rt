@@ -28,7 +28,7 @@ pub(super) enum Listed {
 }
 
 impl Listed {
-    /// The answer that tells it.
+    /// The answer with it.
     pub(super) fn answer(self) -> CountAnswer
         ensures { result ≡ listed_answer self }
     {
@@ -40,7 +40,7 @@ impl Listed {
     }
 }
 
-/// Puts an item into the next place, or stops where there is none.
+/// Puts an item at the next index, or stops where there is none.
 #[inline(always)]
 pub(super) fn put<T: Copy>(out: &mut [T], used: &mut usize, item: T) -> CallbackProgression
     ensures { Puts (out.old, used.old) item result (out.new, used.new) }
@@ -149,12 +149,12 @@ fn list_ports(service: &DynamicConfig, role: u64, out: &mut [Port]) -> Listed
     Listed::All(number)
 }
 
-/// Lists the ports of a role by rising slot at the front of an array, whose other places stay as
-/// they were, and tells how many there are. Where the array is too short for all, it stays as it
-/// was, and the number that it needs is told.
+/// Lists the ports of a role by rising slot at the front of an array, whose other elements stay as
+/// they were, and returns how many there are. Where the array is too short for all, it stays as it
+/// was, and the length that it needs is returned.
 ///
-/// Refused are, in this order, NULL, a place that holds no service, a number of no role, a role
-/// that the pattern does not have, and too short an array.
+/// Errors, in this order: NULL, an object without a service, a number of no role, a role that the
+/// pattern does not have, and too short an array.
 #[tactic(auto, using(crate::proofs::Lending::same_places))]
 #[unsafe(no_mangle)]
 pub extern "C" fn iox2sd_ports_at(

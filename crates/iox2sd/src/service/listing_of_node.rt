@@ -32,7 +32,7 @@ fn one_more(count: Option<usize>) -> Option<usize>
     }
 }
 
-/// Puts a port into this place, where there is one.
+/// Puts a port at this index, where there is one.
 fn put_at(out: &mut [Port], place: Option<usize>, port: Port)
     ensures { PutsAt place port out.old out.new }
 {
@@ -43,8 +43,8 @@ fn put_at(out: &mut [Port], place: Option<usize>, port: Port)
     }
 }
 
-/// Puts a port that is to be listed behind those that were put before, where there is a place, and
-/// counts it.
+/// Puts a port that is to be listed behind those that were put before, as far as the array goes,
+/// and counts it.
 fn note(is_its: bool, out: &mut [Port], count: &mut Option<usize>, port: Port)
     ensures { Notes is_its (out.old, count.old) port (out.new, count.new) }
 {
@@ -55,8 +55,8 @@ fn note(is_its: bool, out: &mut [Port], count: &mut Option<usize>, port: Port)
     *count = one_more(*count);
 }
 
-/// Puts the ports of the role that have the node behind those that were put before, as far as there
-/// are places, and counts them.
+/// Puts the ports of the role that have the node behind those that were put before, as far as the
+/// array goes, and counts them.
 fn note_ports(
     service: &DynamicConfig,
     role: Role,
@@ -83,8 +83,7 @@ fn note_ports(
     service.list_ports(role, &mut show);
 }
 
-/// Puts the ports of the node at the front of the array, as far as there are places, and counts
-/// them.
+/// Puts the ports of the node at the front of the array, as far as it goes, and counts them.
 fn note_all(service: &DynamicConfig, node: &UniqueNodeId, out: &mut [Port]) -> Option<usize>
     ensures { Stand out.old (map told_port (ports_of_node node.now service.now.ports))
         out.new result }
@@ -113,14 +112,13 @@ fn list_ports_of(service: &DynamicConfig, node: Id, out: &mut [Port]) -> Listed
     Listed::All(number)
 }
 
-/// Lists the ports of a node, by its whole id, at the front of an array, whose other places stay as
-/// they were, and reports how many there are: those of the pattern's first kind before those of its
-/// second, each kind by rising slot, in the order in which `iox2sd_remove_dead_node_id` finds them.
-/// Where the array is too short for all, it stays as it was, and the number that it needs is
-/// reported.
+/// Lists the ports of a node, by its whole id, at the front of an array, whose other elements stay
+/// as they were, and returns how many there are: those of the pattern's first kind before those of
+/// its second, each kind by rising slot, in the order of `iox2sd_remove_dead_node_id`. Where the
+/// array is too short for all, it stays as it was, and the length that it needs is returned.
 ///
-/// Refused are, in this order, NULL, a place that holds no service, an id of no node, and too short
-/// an array; in its place `TooLarge` where the number that it needs passes a `usize`.
+/// Errors, in this order: NULL, an object without a service, an id of no node, and too short an
+/// array, or instead `TooLarge` where the length that it needs passes a `usize`.
 #[tactic(auto, using(crate::proofs::Lending::same_places))]
 #[unsafe(no_mangle)]
 pub extern "C" fn iox2sd_ports_of_at(

@@ -9,7 +9,7 @@ use iox2_config::hash::PatternKind;
 use iox2_dynamic::dynamic_config::{DynamicConfig, MessagingPatternSettings};
 use std::alloc::Global;
 
-/// For how many nodes and ports at a time a service has room.
+/// How many nodes and ports a service can have at a time.
 #[repr(C)]
 #[derive(Clone, Copy)]
 pub struct Capacities {
@@ -21,7 +21,7 @@ pub struct Capacities {
     pub second: usize,
 }
 
-/// Makes a service in the place of none.
+/// Makes a service in an object without one.
 fn make(
     alloc: Global,
     place: &mut Service,
@@ -54,11 +54,11 @@ fn make(
     Status::Done.code()
 }
 
-/// Makes a service with nothing attached: its number is told in its handles, and so many tickets
-/// are given out for nodes and for each kind of ports.
+/// Makes a service with nothing attached. Its number is part of its handles. It has so many tickets
+/// for nodes, and as many for each kind of ports.
 ///
-/// Refused are, in this order, NULL, a place that holds a service, which it keeps, a number that is
-/// not that of a pattern, and want of memory.
+/// Errors, in this order: NULL, an object that holds a service, which it keeps, a number that is
+/// not that of a pattern, refused memory.
 #[unsafe(no_mangle)]
 pub extern "C" fn iox2sd_service_create_at(
     alloc: Global,
@@ -77,8 +77,8 @@ pub extern "C" fn iox2sd_service_create_at(
     }
 }
 
-/// Frees the service, and leaves its place for another. Refused are NULL and a place that holds
-/// none.
+/// Frees the service; the object holds none then. Errors, in this order: NULL, an object without a
+/// service.
 #[unsafe(no_mangle)]
 pub extern "C" fn iox2sd_service_free_at(alloc: Global, places: &mut [Service]) -> u32
     requires { All IsSoundPlace places.old }

@@ -40,10 +40,10 @@ fn list_nodes(service: &DynamicConfig, out: &mut [Id]) -> Listed
 }
 
 /// Lists the ids of the nodes by rising slot, one for each handle, at the front of an array, whose
-/// other places stay as they were, and tells how many there are. Where the array is too short for
-/// all, it stays as it was, and the number that it needs is told.
+/// other elements stay as they were, and returns how many there are. Where the array is too short
+/// for all, it stays as it was, and the length that it needs is returned.
 ///
-/// Refused are, in this order, NULL, a place that holds no service, and too short an array.
+/// Errors, in this order: NULL, an object without a service, and too short an array.
 #[tactic(auto, using(crate::proofs::Lending::same_places))]
 #[unsafe(no_mangle)]
 pub extern "C" fn iox2sd_nodes_at(places: &mut [Service], out: &mut [Id]) -> CountAnswer

@@ -1,5 +1,4 @@
-//! How many nodes and ports there are, how many there may be, and whether there is room for one
-//! more.
+//! How many nodes and ports there are, how many there may be, and whether one more may join.
 #![tactic(auto, using(crate::proofs::Lending::same_places))]
 
 ghost use Rattle.std.specs.Prelude.{◌≡◌, All, Err, length};
@@ -14,7 +13,7 @@ use crate::handle::role_of;
 use crate::status::Status;
 use iox2_dynamic::dynamic_config::DynamicConfig;
 
-/// The answer that tells how many, or why it does not.
+/// The answer with how many, or why it does not.
 fn told(asked: Result<usize, Status>) -> CountAnswer
     ensures { result ≡ told_count asked }
 {
@@ -50,7 +49,7 @@ fn max_ports(service: &DynamicConfig, role: u64) -> Result<usize, Status>
     }
 }
 
-/// Whether there is room for a port of the role of this number.
+/// Whether a port of the role of this number can be attached.
 fn has_room(service: &DynamicConfig, role: u64) -> Result<bool, Status>
     ensures { AsksRoom role service.now result }
 {
@@ -63,14 +62,14 @@ fn has_room(service: &DynamicConfig, role: u64) -> Result<bool, Status>
     Ok(service.has_room(role))
 }
 
-/// Whether there is room for a node.
+/// Whether a node can be registered.
 fn has_room_for_node(service: &DynamicConfig) -> Result<bool, Status>
     ensures { AsksNodeRoom service.now result }
 {
     Ok(service.has_room_for_node())
 }
 
-/// How many handles of nodes there are. Refused are NULL and a place that holds no service.
+/// How many handles of nodes there are. Errors, in this order: NULL, an object without a service.
 #[unsafe(no_mangle)]
 pub extern "C" fn iox2sd_number_of_nodes_at(places: &mut [Service]) -> CountAnswer
     requires { All IsSoundPlace places.old }
@@ -87,8 +86,8 @@ pub extern "C" fn iox2sd_number_of_nodes_at(places: &mut [Service]) -> CountAnsw
     told(Ok(service.number_of_nodes()))
 }
 
-/// How many handles of nodes there may be at a time. Refused are NULL and a place that holds no
-/// service.
+/// How many handles of nodes there may be at a time. Errors, in this order: NULL, an object without
+/// a service.
 #[unsafe(no_mangle)]
 pub extern "C" fn iox2sd_max_nodes_at(places: &mut [Service]) -> CountAnswer
     requires { All IsSoundPlace places.old }
@@ -105,8 +104,8 @@ pub extern "C" fn iox2sd_max_nodes_at(places: &mut [Service]) -> CountAnswer
     told(Ok(service.max_nodes()))
 }
 
-/// Whether `iox2sd_register_node_id` would register a node. Refused are NULL and a place that holds
-/// no service.
+/// Whether `iox2sd_register_node_id` would register a node. Errors, in this order: NULL, an object
+/// without a service.
 #[unsafe(no_mangle)]
 pub extern "C" fn iox2sd_has_room_for_node_at(places: &mut [Service]) -> FlagAnswer
     requires { All IsSoundPlace places.old }
@@ -122,8 +121,8 @@ pub extern "C" fn iox2sd_has_room_for_node_at(places: &mut [Service]) -> FlagAns
     FlagAnswer::of(has_room_for_node(service))
 }
 
-/// How many ports of the role there are. Refused are, in this order, NULL, a place that holds no
-/// service, a number of no role, and a role that the pattern does not have.
+/// How many ports of the role there are. Errors, in this order: NULL, an object without a service,
+/// a number of no role, and a role that the pattern does not have.
 #[unsafe(no_mangle)]
 pub extern "C" fn iox2sd_count_ports_at(places: &mut [Service], role: u64) -> CountAnswer
     requires { All IsSoundPlace places.old }

@@ -54,7 +54,7 @@ struct Roles {
 }
 
 impl NumberAnswer {
-    /// The answer that tells a number, or why there is none.
+    /// The answer with a number, or why there is none.
     fn of(asked: Result<u64, Status>) -> NumberAnswer
         ensures { result ≡ number_answer asked }
     {
@@ -72,7 +72,7 @@ impl NumberAnswer {
 }
 
 impl RolesAnswer {
-    /// The answer that tells two roles, or why there are none.
+    /// The answer with two roles, or why there are none.
     fn of(asked: Result<Roles, Status>) -> RolesAnswer
         ensures { result ≡ roles_answer asked }
     {
@@ -137,7 +137,7 @@ fn has_role(service: &DynamicConfig, role: u64) -> Result<bool, Status>
     }
 }
 
-/// The number of the pattern. Refused are NULL and a place that holds no service.
+/// The number of the pattern. Errors, in this order: NULL, an object without a service.
 #[unsafe(no_mangle)]
 pub extern "C" fn iox2sd_messaging_pattern_at(places: &mut [Service]) -> NumberAnswer
     requires { All IsSoundPlace places.old }
@@ -154,7 +154,7 @@ pub extern "C" fn iox2sd_messaging_pattern_at(places: &mut [Service]) -> NumberA
     NumberAnswer::of(Ok(pattern(service)))
 }
 
-/// The roles of the pattern's two kinds of ports. Refused are NULL and a place that holds no
+/// The roles of the pattern's two kinds of ports. Errors, in this order: NULL, an object without a
 /// service.
 #[unsafe(no_mangle)]
 pub extern "C" fn iox2sd_port_roles_at(places: &mut [Service]) -> RolesAnswer
@@ -171,8 +171,8 @@ pub extern "C" fn iox2sd_port_roles_at(places: &mut [Service]) -> RolesAnswer
     RolesAnswer::of(Ok(roles_of(service)))
 }
 
-/// The service's number, which each of its handles has. Refused are NULL and a place that holds no
-/// service.
+/// The service's number, which each of its handles has. Errors, in this order: NULL, an object
+/// without a service.
 #[unsafe(no_mangle)]
 pub extern "C" fn iox2sd_service_number_at(places: &mut [Service]) -> NumberAnswer
     requires { All IsSoundPlace places.old }
@@ -189,7 +189,8 @@ pub extern "C" fn iox2sd_service_number_at(places: &mut [Service]) -> NumberAnsw
     NumberAnswer::of(Ok(service.service_number()))
 }
 
-/// Whether the service is locked for good. Refused are NULL and a place that holds no service.
+/// Whether the service is locked for good. Errors, in this order: NULL, an object without a
+/// service.
 #[unsafe(no_mangle)]
 pub extern "C" fn iox2sd_is_locked_at(places: &mut [Service]) -> FlagAnswer
     requires { All IsSoundPlace places.old }
@@ -206,8 +207,8 @@ pub extern "C" fn iox2sd_is_locked_at(places: &mut [Service]) -> FlagAnswer
     FlagAnswer::of(Ok(service.is_locked()))
 }
 
-/// Whether the pattern has ports of the role. Refused are, in this order, NULL, a place that holds
-/// no service, and a number of no role.
+/// Whether the pattern has ports of the role. Errors, in this order: NULL, an object without a
+/// service, and a number of no role.
 #[unsafe(no_mangle)]
 pub extern "C" fn iox2sd_has_role_at(places: &mut [Service], role: u64) -> FlagAnswer
     requires { All IsSoundPlace places.old }

@@ -25,7 +25,7 @@ pub(super) enum Fault {
 }
 
 impl Fault {
-    /// The status that tells it of a pair of a set.
+    /// The status for it of a pair of a set.
     fn of_set(self) -> Status
         ensures { result ≡ set_fault self }
     {
@@ -36,7 +36,7 @@ impl Fault {
         }
     }
 
-    /// The status that tells it of a required pair.
+    /// The status for it of a required pair.
     fn of_required(self) -> Status
         ensures { result ≡ required_fault self }
     {
@@ -66,7 +66,7 @@ fn is_name(bytes: &[u8], most: usize) -> bool
     1 <= bytes.len() && bytes.len() <= most && is_text(bytes)
 }
 
-/// Whether the pairs are legal and sixteen at most; the place of the first that is not is written.
+/// Whether the pairs are legal and sixteen at most; the index of the first that is not is written.
 fn check_pairs(pairs: &[Attribute<'_>], at: &mut usize) -> Result<(), Fault>
     ensures { ChecksPairs pairs.now at.old result at.new }
 {
@@ -87,7 +87,7 @@ fn check_pairs(pairs: &[Attribute<'_>], at: &mut usize) -> Result<(), Fault>
     Ok(())
 }
 
-/// Whether the pairs are a set, or why not; the place of the pair that is wrong is written.
+/// Whether the pairs are a set, or why not; the index of the pair that is wrong is written.
 pub(super) fn check_set(pairs: &[Attribute<'_>], at: &mut usize) -> Result<(), Status>
     ensures { (set : List Pair) → IsListing (map pair_of pairs.now) set
         → ReadsSet pairs.now at.old (result_map_both (λ _. set) (λ e. e) result) at.new }
@@ -98,7 +98,7 @@ pub(super) fn check_set(pairs: &[Attribute<'_>], at: &mut usize) -> Result<(), S
     }
 }
 
-/// Whether the pairs may be required, or why not; the place of the pair that is wrong is written.
+/// Whether the pairs may be required, or why not; the index of the pair that is wrong is written.
 pub(super) fn check_required(required: &[Attribute<'_>], at: &mut usize) -> Result<(), Status>
     ensures { (listing : List Pair) → IsListing (map pair_of required.now) listing
         → RequiresPairs required.now at.old
@@ -111,7 +111,7 @@ pub(super) fn check_required(required: &[Attribute<'_>], at: &mut usize) -> Resu
     }
 }
 
-/// Whether the keys may be required beside so many pairs, or why not; the place of the key that is
+/// Whether the keys may be required beside so many pairs, or why not; the index of the key that is
 /// wrong is written.
 pub(super) fn check_keys(keys: &[Key<'_>], pairs: usize, at: &mut usize) -> Result<(), Status>
     requires { pairs ≤ 16 }

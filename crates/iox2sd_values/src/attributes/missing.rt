@@ -50,7 +50,7 @@ fn has_key(set: &[Attribute<'_>], key: &Key<'_>) -> bool
     false
 }
 
-/// The first place of a required pair that the set lacks.
+/// The first index of a required pair that the set lacks.
 fn first_missing(set: &[Attribute<'_>], required: &[Attribute<'_>]) -> Option<usize>
     ensures { FindsLack (Has (map pair_of set.now)) required.now result }
 {
@@ -70,8 +70,8 @@ fn is_lesser(set: &[Attribute<'_>], pair: &Attribute<'_>, other: &Attribute<'_>)
     pair.cmp(other).is_lt() && !has_pair(set, pair)
 }
 
-/// The first place of the least required pair that the set lacks, where the first that it lacks
-/// stands at `first`.
+/// The first index of the least required pair that the set lacks, where the first that it lacks has
+/// the index `first`.
 fn least_missing(set: &[Attribute<'_>], required: &[Attribute<'_>], first: usize) -> usize
     requires { IsFirstLack (Has (map pair_of set.now)) required.now first }
     ensures { IsLeastAt (map pair_of set.now) required.now result }
@@ -85,7 +85,7 @@ fn least_missing(set: &[Attribute<'_>], required: &[Attribute<'_>], first: usize
     least
 }
 
-/// The first place of a required key that no pair of the set has.
+/// The first index of a required key that no pair of the set has.
 fn missing_key(set: &[Attribute<'_>], keys: &[Key<'_>]) -> Option<usize>
     ensures { FindsLack (HasKeyOf (map pair_of set.now)) keys.now result }
 {

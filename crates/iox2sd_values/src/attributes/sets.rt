@@ -5,7 +5,7 @@ use super::Attribute;
 use crate::status::Status;
 use iox2_texts::attribute::{AttributeKey, AttributeSet, AttributeValue};
 
-/// The set of the pairs, or why there is none; the place of the pair that is wrong is written.
+/// The set of the pairs, or why there is none; the index of the pair that is wrong is written.
 pub(super) fn read_set(pairs: &[Attribute<'_>], at: &mut usize) -> Result<AttributeSet, Status>
     ensures { ReadsSet pairs.now at.old result at.new }
 {

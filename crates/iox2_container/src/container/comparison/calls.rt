@@ -5,7 +5,7 @@ use crate::container::refusal::ContainerAddFailure;
 use crate::container::release::{ReleaseMode, ReleaseState};
 use iox2_ids::identifiers::UniqueNodeId;
 
-/// A call on a registry. In a list of calls each one is named by its place, counted from 0.
+/// A call on a registry. In a list of calls each one is named by its index.
 #[derive(Debug, Drop)]
 pub enum RegistryCall<T: Copy> {
     /// Adds an entry with these details.

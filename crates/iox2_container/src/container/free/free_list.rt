@@ -1,5 +1,5 @@
-//! Places of which the one that was freed last is taken. The
-//! free ones are in a list that is linked through the cells.
+//! Slots of which the one that was freed last is taken. The free ones are in a list that is linked
+//! through the slots.
 ghost use Rattle.std.specs.Prelude.{◌≡◌, ◌+◌, ◌*◌, ◌≤◌, ◌<◌, ◌^◌, ℕ, List, [], ◌∷◌, Some, None};
 ghost use Rattle.std.specs.Prelude.{length, map, replicate, slice_get, slice_set};
 ghost use Rattle.iox2_container.specs.declared.container.slots.cell.Cell.TheVariants.{Free};
@@ -12,10 +12,10 @@ use super::slot_allocator::SlotAllocator;
 use crate::container::places::Places;
 use crate::container::slots::Cell;
 
-/// Places of which a free one has the one that was freed before it.
+/// Slots of which a free one has the index of the one that was freed before it.
 type LinkedPlaces<T> = Places<T, Option<usize>>;
 
-/// Where the free places are.
+/// Where the free slots are.
 #[derive(Debug, Drop)]
 pub struct FreeList {
     // The place that was freed last, of those that are free again.
@@ -25,7 +25,7 @@ pub struct FreeList {
 }
 
 impl FreeList {
-    /// Takes the place that was freed last, or else the first that was never used.
+    /// Takes the slot that was freed last, or else the first that was never used.
     fn take_first<T: Copy>(&mut self, places: &mut LinkedPlaces<T>) -> usize
         requires free { HasFree places.old.cells self.old.head self.old.fresh }
         requires fits { length places.old.cells < 2 ^ 64 }
@@ -74,8 +74,7 @@ impl<T: Copy> SlotAllocator<T> for FreeList {
         self.fresh
     }
 
-    /// Puts an entry into the place that was freed last,
-    /// or else into the first that was never used.
+    /// Puts an entry into the slot that was freed last, or else into the first that was never used.
     fn put(&mut self, places: &mut LinkedPlaces<T>, ticket: u64, details: T) -> usize
         requires fits { IsFreeList self.old places.old.cells }
         requires room { length (entries_from 0 (map shown places.old.cells))
@@ -97,7 +96,7 @@ impl<T: Copy> SlotAllocator<T> for FreeList {
         slot
     }
 
-    /// Takes the entry out of a place, which is taken before all others then.
+    /// Takes the entry out of a slot, which is then the next to be used.
     fn clear(&mut self, places: &mut LinkedPlaces<T>, slot: usize)
         requires fits { IsFreeList self.old places.old.cells }
         requires taken { IsTakenAt (map shown places.old.cells) slot }

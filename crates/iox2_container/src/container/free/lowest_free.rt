@@ -1,4 +1,4 @@
-//! Places of which the lowest free one is taken, found by reading them from the first on.
+//! Slots of which the lowest free one is taken, found by reading them from the first on.
 ghost use Rattle.std.specs.Prelude.{◌≡◌, ◌≢◌, ◌+◌, ◌*◌, ◌≤◌, ◌<◌, ℕ};
 ghost use Rattle.std.specs.Prelude.{Some, None, IfSome, IfNone};
 ghost use Rattle.std.specs.Prelude.{length, map, slice_get, slice_set};
@@ -9,11 +9,11 @@ use super::slot_allocator::SlotAllocator;
 use crate::container::places::Places;
 use crate::container::slots::Cell;
 
-/// Finds the free places by a scan. It keeps nothing, so it goes with any cells.
+/// Finds free slots by a scan. It keeps nothing, so it fits any slots.
 #[derive(Debug, Drop)]
 pub struct LowestFree;
 
-/// The lowest free place.
+/// The lowest free slot.
 fn lowest_free<T: Copy>(places: &mut Places<T, ()>) -> Option<usize>
     ensures cells { places.new.cells ≡ places.old.cells }
     ensures touched { places.new.touches ≤ places.old.touches + length places.old.cells }
@@ -47,7 +47,7 @@ impl<T: Copy> SlotAllocator<T> for LowestFree {
         places.len()
     }
 
-    /// Puts an entry into the lowest free place.
+    /// Puts an entry into the lowest free slot.
     fn put(&mut self, places: &mut Places<T, ()>, ticket: u64, details: T) -> usize
         requires fits { Unit {0} }
         requires room { length (entries_from 0 (map shown places.old.cells))

@@ -1,4 +1,4 @@
-//! What finds the free ones among places.
+//! What finds free slots.
 ghost use Rattle.std.specs.Prelude.{◌≡◌, ◌+◌, ◌*◌, ◌≤◌, ◌<◌, ℕ, Some, None, List};
 ghost use Rattle.std.specs.Prelude.{length, map, replicate, slice_get, slice_set};
 ghost use Rattle.iox2_container.specs.declared.container.slots.cell.Cell.{Cell};
@@ -9,28 +9,28 @@ ghost use Rattle.iox2_container.specs.Places.{IsTakenAt, NoneFrom, entries_from}
 use crate::container::places::Places;
 use std::fmt::Debug;
 
-/// Finds the free ones among places, by what it keeps and what their cells keep.
+/// Finds free slots, by what it keeps and what the slots keep.
 pub trait SlotAllocator<T: Copy>: Drop {
-    /// What the cell of a free place keeps.
+    /// What a free slot keeps.
     type Next: Copy + Debug;
 
     /// It goes with these cells.
     ghost fits: { Self → List (Cell T Self.Next) → Type 0 };
 
-    /// The most touches of a put, by the number of places.
+    /// The most touches of a put, by the number of slots.
     ghost most_for_put: { ℕ → ℕ };
 
-    /// What goes with any number of free places, and what each of their cells keeps.
+    /// The allocator for any number of free slots, and what each of them keeps.
     fn all_free() -> (Self, Self::Next)
         ensures { (n : ℕ) → fits result.0 (replicate n (Free result.1)) };
 
-    /// A place from which on none is taken, so that a pass may end there.
+    /// A slot from which on none is taken, so that a pass may end there.
     fn end(&self, places: &Places<T, Self::Next>) -> usize
         requires { fits self.now places.now.cells }
         ensures within { result ≤ length places.now.cells }
         ensures free { NoneFrom (map shown places.now.cells) result };
 
-    /// Puts an entry into a free place of its choice.
+    /// Puts an entry into a free slot of its choice.
     fn put(&mut self, places: &mut Places<T, Self::Next>, ticket: u64, details: T) -> usize
         requires fits { fits self.old places.old.cells }
         requires room { length (entries_from 0 (map shown places.old.cells))
@@ -44,7 +44,7 @@ pub trait SlotAllocator<T: Copy>: Drop {
             places.old.touches + most_for_put (length places.old.cells) }
         ensures counted { places.old.touches ≤ places.new.touches };
 
-    /// Takes the entry out of a place.
+    /// Takes the entry out of a slot.
     fn clear(&mut self, places: &mut Places<T, Self::Next>, slot: usize)
         requires fits { fits self.old places.old.cells }
         requires taken { IsTakenAt (map shown places.old.cells) slot }

@@ -74,14 +74,23 @@ pub(super) fn command_before(
     }
 }
 
-/// The command that a line without its newline spells, or `None` where it spells none.
+/// Parses a line without its newline as a command, or returns `None` where it is not the text of
+/// one.
 ///
-/// The lines are `register NODE`, `deregister NUMBER`, `nodes`, `add ROLE PORT NODE`,
-/// `release NUMBER`, `list ROLE`, `count ROLE`, `dead NODE` and `dead NODE skip PORT ..`. Words are
+/// The lines are `register NODE`, `deregister NUMBER`, `nodes`, `add ROLE PORT NODE`, `release
+/// NUMBER`, `list ROLE`, `count ROLE`, `dead NODE` and `dead NODE skip PORT ..`. Words are
 /// separated by exactly one space, with none at either end. A number has no leading zero and no
 /// sign and fits its type; an id is four `u32` numbers joined by three dots (process, seconds,
 /// nanoseconds, counter), and of a node's id process or counter is not 0. So each command has one
-/// spelling.
+/// text.
+///
+/// From `crates/service_descriptions_tests/src/line_runs.rt`:
+///
+/// ```
+/// let Some(command) = read_line(alloc, line.as_bytes())? else {
+///     return out.extend_from_slice(b"?\n");
+/// };
+/// ```
 pub fn read_line(alloc: Global, line: &[u8]) -> Result<Option<Command>, AllocError>
     ensures { IfOk result (λ found. Reads HasLine line_of found line.now) }
 {

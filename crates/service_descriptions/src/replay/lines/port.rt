@@ -64,7 +64,7 @@ impl<'a> Phrase<'a> for RoleName {
     ghost one_way = { λ s. role_one };
 }
 
-/// A port as a line spells it.
+/// A port as a line has it.
 #[derive(Clone, Copy)]
 pub(crate) struct ScriptPort {
     role: Role,

@@ -12,7 +12,7 @@ use iox2_texts::attribute::AttributeVerificationError;
 use itoa::write_digits;
 use std::alloc::AllocError;
 
-/// Writes a word so that it ends at this place, and returns where it begins.
+/// Writes a word so that it ends at this index, and returns the index where it begins.
 #[inline(always)]
 fn write_word(word: &[u8], line: &mut [u8], end: usize) -> usize
     requires { (length word.now ≤ end) × (end ≤ length line.old) }
@@ -92,8 +92,8 @@ fn append_ports(ports: &[PortDetails], out: &mut Vec<u8>) -> Result<(), AllocErr
     out.extend_from_slice(b"\n")
 }
 
-/// Writes what attributes lack, and a newline, so that the newline ends at this place, and returns
-/// where it begins.
+/// Writes what attributes lack, and a newline, so that the newline ends at this index, and returns
+/// the index where it begins.
 fn write_fault(fault: &AttributeVerificationError, line: &mut [u8], end: usize) -> usize
     requires { (512 ≤ end) × (end ≤ length line.old) }
     ensures start { (8 ≤ result) × (result ≤ end) }
@@ -213,6 +213,14 @@ fn append_line(reply: &Reply, out: &mut Vec<u8>) -> Result<(), AllocError>
 
 /// Appends the line of a reply with its newline. Where
 /// memory is refused, the bytes are left as they were.
+///
+/// From `crates/service_descriptions_tests/src/serving.rt`:
+///
+/// ```
+/// for reply in replies {
+///     write_reply(reply, out)?;
+/// }
+/// ```
 pub fn write_reply(reply: &Reply, out: &mut Vec<u8>) -> Result<(), AllocError>
     ensures ok { OnOk result (out.new.items ≡ out.old.items ++ reply_line reply.now) }
     ensures err { OnErr result (out.new.items ≡ out.old.items) }

@@ -16,8 +16,8 @@ use thiserror::Error;
 /// Why a script was not run to its end.
 #[derive(Debug, Drop, Error)]
 pub enum ScriptError {
-    /// The line of this number has no meaning at its place, or no newline. Lines are numbered from
-    /// 1, and a script without a line is bad at 1.
+    /// The line of this number is not one that may stand there, or has no newline. Lines are
+    /// numbered from 1, and a script without a line is bad at 1.
     #[error("bad line {0}")]
     BadLine(usize),
     /// Memory was refused.
@@ -39,8 +39,8 @@ const BYTES_OF_LINE: usize = 16;
 /// How many bytes of lines there are for a byte of replies, or more.
 const BYTES_FOR_REPLY: usize = 2;
 
-/// Takes at once the room that the lines and their replies are
-/// likely to need, or is refused. More is taken bit by bit.
+/// Takes at once the memory that the lines and their replies are likely to need, or is refused.
+/// More is taken bit by bit.
 fn make_room(state: &mut ServiceState, lines: &[u8], out: &mut Vec<u8>) -> Result<(), AllocError>
     ensures state { state.new ≡ state.old }
     ensures out { out.new.items ≡ out.old.items }
@@ -101,6 +101,17 @@ fn run_lines(
 ///
 /// At a bad line the replies to all commands before it have been appended. Where memory is refused,
 /// nothing has been appended, or the whole reply lines of some first commands.
+///
+/// From `crates/service_descriptions_tests/src/scripts.rt`:
+///
+/// ```
+/// let mut out = Vec::new(rt.alloc());
+/// let end = match run_script(rt.alloc(), script.as_bytes(), &mut out) {
+///     Ok(()) => None,
+///     Err(ScriptError::BadLine(line)) => Some(line),
+///     Err(ScriptError::NoMemory(_)) => Some(0),
+/// };
+/// ```
 pub fn run_script(alloc: Global, script: &[u8], out: &mut Vec<u8>) -> Result<(), ScriptError>
     ensures { (text : List ℕ) × (out.new.items ≡ out.old.items ++ text)
         × Scripted script.now result text }

@@ -58,7 +58,7 @@ pub(super) fn verify(about: &Option<StaticConfig>, required: &AttributeVerifier)
     }
 }
 
-/// The room for a message with this many elements.
+/// The layout of a message with this many elements.
 pub(super) fn layout(about: &Option<StaticConfig>, part: MessagePart, n: usize) -> Reply
     ensures { ServesMessages (ServesLayout n) about.now part result }
 {
@@ -75,7 +75,7 @@ pub(super) fn layout(about: &Option<StaticConfig>, part: MessagePart, n: usize) 
     }
 }
 
-/// The places of user header and payload in a message with its header at this place.
+/// The offsets of user header and payload in a message with its header at this offset.
 pub(super) fn places(about: &Option<StaticConfig>, part: MessagePart, header: usize) -> Reply
     ensures { ServesMessages (ServesPlaces header) about.now part result }
 {

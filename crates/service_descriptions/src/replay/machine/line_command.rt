@@ -7,8 +7,7 @@ use crate::replay::lines::ScriptPort;
 use iox2_container::container::Role;
 use iox2_ids::identifiers::UniqueNodeId;
 
-/// A command that a line can spell. It is small, where
-/// a [`Command`] has room for what a verifier requires.
+/// A command that has a line. It is small; a [`Command`] can hold what a verifier requires.
 #[derive(Drop)]
 pub(crate) enum LineCommand {
     Register(UniqueNodeId),

@@ -8,8 +8,8 @@ use iox2_container::container::ContainerHandle;
 use iox2_dynamic::dynamic_config::PortDetails;
 use iox2_ids::identifiers::UniqueNodeId;
 
-/// A reply to a command on the nodes and ports of a service. It is small, where a [`Reply`] has
-/// room for an attribute.
+/// A reply to a command on the nodes and ports of a service. It is small; a [`Reply`] can hold an
+/// attribute.
 #[derive(Drop)]
 pub(crate) enum LineReply {
     Handle(ContainerHandle),

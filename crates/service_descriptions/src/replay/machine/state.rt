@@ -21,6 +21,12 @@ use std::marker::Model;
 
 /// A service, its description or none, and for each earlier command the handle that it was answered
 /// with. No two of these handles are equal.
+///
+/// From `crates/service_descriptions_tests/src/serving.rt`:
+///
+/// ```
+/// ServiceState::new(alloc, &settings, max_nodes, number)?,
+/// ```
 #[derive(Drop)]
 pub struct ServiceState {
     service: DynamicConfig,
@@ -77,7 +83,7 @@ impl ServiceState {
         self.description = Some(description);
     }
 
-    /// Takes the room for what is kept of this many more commands, or is refused.
+    /// Takes the memory for what is kept of this many more commands, or is refused.
     pub(crate) fn reserve(&mut self, commands: usize) -> Result<(), AllocError>
         ensures { self.new ≡ self.old }
     {
@@ -134,6 +140,13 @@ impl ServiceState {
 /// Commands of one state are numbered from 0 over all calls. Where memory is refused, the state is
 /// after exactly as many of the commands as replies were appended, and fewer than all were: the
 /// rest may be given again.
+///
+/// From `crates/service_descriptions_tests/src/line_runs.rt`:
+///
+/// ```
+/// let mut replies = Vec::new(alloc);
+/// replay(alloc, state, &[command], &mut replies)?;
+/// ```
 pub fn replay(
     alloc: Global,
     state: &mut ServiceState,
