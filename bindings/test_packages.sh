@@ -12,10 +12,11 @@ if [ "${1:-}" != inside ]; then
     trap 'rm -rf "$work"' EXIT
     ./package.sh "$work/dist" > "$work/log" 2>&1 || { cat "$work/log"; exit 1; }
     ./package.sh "$work/again" > "$work/log" 2>&1 || { cat "$work/log"; exit 1; }
-    cp -r ../examples ../crates/iox2_replay/std* ../crates/iox2_describe/std* test_packages.sh "$work"
-    mkdir "$work/describe" && cp ../crates/iox2_describe/std* "$work/describe"
-    cp ../crates/iox2_replay/std* "$work"
-    mkdir -p ../dist && cp -r "$work"/dist/. ../dist
+    cp -r ../examples test_packages.sh "$work"
+    for program in replay describe; do
+        mkdir "$work/$program" && cp "../crates/iox2_$program"/std* "$work/$program"
+    done
+    rm -rf ../dist && cp -r "$work/dist" ../dist
     # In a mount namespace of its own, an empty folder stands over the repository and the toolchain.
     kit=$(dirname "$(rt doc)")
     unshare --map-root-user --mount bash -c '
@@ -49,6 +50,7 @@ run "the sums are right" bash -c 'cd "$1/dist" && sha256sum --quiet -c SHA256SUM
 
 mkdir "$work/any where"
 tar xzf "$work"/dist/iox2sd-*-linux-gnu.tar.gz -C "$work/any where"
+version=$(cd "$work/any where" && echo iox2sd-* | sed 's/^iox2sd-\([0-9.]*\)-.*/\1/')
 mv "$work/any where"/iox2sd-* "$work/prefix"
 prefix=$work/prefix
 mkdir "$work/c" && cd "$work/c" && cp "$work"/examples/short.* .
@@ -69,19 +71,25 @@ by_cmake() {
     cmake -S "$examples" -B "$work/build" && cmake --build "$work/build" &&
         prints "$work/short" "$work/build/short_cpp" && prints "$work/short" "$work/build/short_c"
 }
-replays() { "$prefix/bin/iox2-replay" < "$work/stdin" | diff - "$work/stdout"; }
-describes() { "$prefix/bin/iox2-describe" < "$work/describe/stdin" | diff - "$work/describe/stdout"; }
+# A program of the archive on its stored run.
+repeats() { "$prefix/bin/iox2-$1" < "$work/$1/stdin" | diff - "$work/$1/stdout"; }
+has_version() { [ "$("$prefix/bin/$1" --version)" = "$1 $version (iceoryx2 0.9.3)" ]; }
 has_manual() { zcat "$prefix/share/man/man1/$1.1.gz" | man -l - | grep -q "$2"; }
 if has gcc; then run "archive: C" c_static; fi
 if has g++; then run "archive: C++" cpp_static; fi
 if has gcc && has pkg-config; then run "archive: pkg-config" by_pkg_config; fi
 if has make && has g++; then run "archive: make" by_make; fi
 if has cmake && has g++; then run "archive: CMake" by_cmake; fi
-run "archive: iox2-replay" replays
-run "archive: iox2-describe" describes
+refuses_argument() { ! "$prefix/bin/$1" what < /dev/null; }
+for program in replay describe; do
+    run "archive: iox2-$program" repeats $program
+    run "archive: iox2-$program --version" has_version iox2-$program
+    run "archive: iox2-$program with a bad argument" refuses_argument iox2-$program
+done
 if has man; then
-    run "archive: man iox2-replay" has_manual iox2-replay 'one service'
-    run "archive: man iox2-describe" has_manual iox2-describe 'usage: iox2-describe'
+    for program in iox2-replay iox2-describe; do
+        run "archive: man $program" has_manual $program "usage: $program"
+    done
 fi
 
 # ---- The crate and the wheel ----
@@ -116,7 +124,7 @@ used() {
     gcc "-I$root/usr/include" short.c "$lib/libiox2sd.a" -o c && prints "$work/short" ./c &&
         gcc "-I$root/usr/include" short.c "-L$lib" -liox2sd -o c &&
         LD_LIBRARY_PATH=$lib prints "$work/short" ./c &&
-        "$root/usr/bin/iox2-replay" < "$work/stdin" | diff - "$work/stdout" &&
+        "$root/usr/bin/iox2-replay" < "$work/replay/stdin" | diff - "$work/replay/stdout" &&
         PYTHONPATH=$root/usr/lib/python3/dist-packages prints "$work/short" \
             python3 "$work/examples/short.py"
 }

@@ -92,7 +92,8 @@ static void verify(const iox2sd_attribute *attributes, size_t number_of_attribut
 /* A node joins with a publisher, is listed, and dies. */
 static void live(iox2sd_service *service) {
     const iox2sd_id node = {1, 0, 0, 2};
-    iox2sd_port_details publisher = {.role = IOX2SD_PUBLISHER, .port = {1, 0, 0, 3}, .node = {1, 0, 0, 2}};
+    iox2sd_port_details publisher = {
+        .role = IOX2SD_PUBLISHER, .port = {1, 0, 0, 3}, .node = {1, 0, 0, 2}};
     iox2sd_id nodes[20];
     iox2sd_port_details ports[2];
     iox2sd_count_answer found;

@@ -1,12 +1,17 @@
 //! Runs the script on standard input, and writes the replies to standard output.
 #![tactic(auto)]
 
-use service_descriptions::replay::run_streams;
+mod program;
+mod request;
+
+use program::replay_streams;
+use std::env;
 use std::process::ExitCode;
 
 fn main(rt: HostRuntime) -> ExitCode {
-    ExitCode::from(run_streams(
+    ExitCode::from(replay_streams(
         rt.alloc(),
+        env::args(&rt),
         &mut rt.stdin(),
         &mut rt.stdout(),
         &mut rt.stderr(),

@@ -96,7 +96,7 @@ both_equal Less b e = absurd (true≢false (sym (ap is_eq e)))
 both_equal Equal b e = (refl, e)
 both_equal Greater b e = absurd (true≢false (sym (ap is_eq e)))
 
-text_tie : (a b : List ℕ) → text_cmp a b ≡ Equal → a ≡ b
+pub text_tie : (a b : List ℕ) → text_cmp a b ≡ Equal → a ≡ b
 text_tie a b e = (bytes_decides a b).0 (texts_ties a b ∙ ap is_eq e)
 
 -- pairs that tie are one

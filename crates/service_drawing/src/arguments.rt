@@ -42,8 +42,8 @@ docs/DESCRIBE.md has the lines of descriptions. The status is 0 after a drawing,
 argument or line, 2 where memory was refused, 3 where reading or writing failed.
 ";
 
-/// The version, that of the iceoryx2 whose layer is drawn.
-pub(crate) const VERSION: &str = "iox2-describe 0.9.3\n";
+/// The version of the program, and that of the iceoryx2 whose layer it draws.
+pub(crate) const VERSION: &str = "iox2-describe 0.1.0 (iceoryx2 0.9.3)\n";
 
 /// What the arguments, of which the first is the program's name, ask for.
 pub(crate) fn asked_by(arguments: io::Result<Args>) -> Result<Asked, Fault>

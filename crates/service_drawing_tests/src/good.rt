@@ -178,7 +178,7 @@ fn told_without_a_description(rt: HostRuntime) {
     let (status, output, errors) = run(&rt, alloc, &["iox2-describe", "--version"], "bad");
     assert_eq!(rt;
         (status, output.as_slice(), errors.len()),
-        (0, b"iox2-describe 0.9.3\n".as_slice(), 0)
+        (0, b"iox2-describe 0.1.0 (iceoryx2 0.9.3)\n".as_slice(), 0)
     );
     let (status, output, errors) = run(&rt, alloc, &["iox2-describe", "--help"], "bad");
     let usage = b"usage: iox2-describe [svg | --help | --version] < DESCRIPTION\n";

@@ -180,17 +180,16 @@ impl AttributeSet {
     pub(super) fn contains(&self, attribute: &Attribute) -> bool
         ensures { IsTrue result ↔ Contains self.now attribute.now }
     {
-        self.attributes.as_slice().contains(attribute)
+        self.as_slice().binary_search(attribute).is_ok()
     }
 
     /// Whether some pair has the key.
     pub(super) fn contains_key(&self, key: &AttributeKey) -> bool
         ensures { IsTrue result ↔ ContainsKey self.now key.now }
     {
-        self.attributes
-            .as_slice()
-            .iter()
-            .any(|attribute| attribute.key() == key)
+        self.as_slice()
+            .binary_search_by(|attribute| attribute.cmp_key(key))
+            .is_ok()
     }
 
     /// An equal set.

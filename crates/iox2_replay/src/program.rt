@@ -1,0 +1,100 @@
+//! The program: what its arguments ask for is done with its streams.
+ghost use Rattle.std.specs.Prelude.{◌≡◌, ◌<◌, OnOk};
+ghost use Rattle.std.specs.Io.KnownBytes.{Appends, IsAtEnd};
+ghost use Rattle.iox2_replay.specs.Program.{AsksFor, IsScript, Printed, Ran};
+
+use crate::request::{Request, RequestError, request_of};
+use line_streams::write_whole;
+use service_descriptions::replay::run_streams;
+use std::alloc::Global;
+use std::env::Args;
+use std::io;
+use std::io::{Read, Write};
+
+/// How the program is used.
+pub(crate) const HELP: &str = "usage: iox2-replay [--help | --version] < SCRIPT
+
+Reads a script from standard input, runs its commands on one service, and writes one reply line
+for each command to standard output.
+
+  --help     write this text and read nothing
+  --version  write the version and read nothing
+
+The first line makes the service, with its number and its capacities of nodes and of its two kinds
+of ports:
+
+  service publish-subscribe|event|request-response|blackboard NUMBER NODES FIRST SECOND
+
+Commands, among others (docs/SCRIPT.md has all lines and replies):
+
+  register NODE           register the node
+  deregister K            deregister the handle that command K returned
+  nodes                   list the nodes
+  add ROLE PORT NODE      attach the port to the node
+  release K               release the port whose handle command K returned
+  list ROLE, count ROLE   list or count the ports of the role
+  dead NODE               the node has died: its ports leave, and then the node
+
+An id is PROCESS.SECONDS.NANOSECONDS.COUNTER. The status is 0 after all commands, 1 after a bad
+argument or line, 2 where memory was refused, 3 where reading or writing failed.
+";
+
+/// The version of the program, and that of the iceoryx2 whose layer it runs.
+pub(crate) const VERSION: &str = "iox2-replay 0.1.0 (iceoryx2 0.9.3)\n";
+
+/// What is reported of arguments that the program does not know.
+pub(crate) const BAD_ARGUMENT: &str = "bad argument: iox2-replay --help says how it is used\n";
+
+/// What is reported where memory was refused.
+pub(crate) const NO_MEMORY: &str = "no memory\n";
+
+/// Writes a text and flushes its writer.
+fn write_text<W: Write>(out: &mut W, text: &str) -> io::Result<()>
+    ensures { OnOk result (Appends (W.contents out.old) (W.contents out.new) text.now) }
+{
+    write_whole(out, text.as_bytes())?;
+    out.flush()
+}
+
+/// Writes a text and returns the status, or 3 where the writer fails.
+fn print<W: Write>(out: &mut W, text: &str, status: u8) -> u8
+    requires { status < 3 }
+    ensures range { result < 4 }
+    ensures printed { result < 3
+        → Printed text.now status result (W.contents out.old) (W.contents out.new) }
+{
+    match write_text(out, text) {
+        Ok(()) => status,
+        Err(_) => 3,
+    }
+}
+
+/// Runs the script that the reader gives, or writes how the program is used or its version, and
+/// returns its status. The first argument is the program's name.
+///
+/// - 0: the script was run to its end, or the text was written.
+/// - 1: an argument or a line is bad.
+/// - 2: memory was refused.
+/// - 3: a read, a write or a flush failed. Nothing was written after it.
+pub(crate) fn replay_streams<R: Read, W: Write, E: Write>(
+    alloc: Global,
+    arguments: io::Result<Args>,
+    input: &mut R,
+    output: &mut W,
+    errors: &mut E,
+) -> u8
+    ensures range { result < 4 }
+    ensures ran { result < 3 → Ran arguments result (R.remaining input.old)
+        (W.contents output.old) (W.contents output.new)
+        (E.contents errors.old) (E.contents errors.new) }
+    // All of a script was read, unless memory ran out.
+    ensures read { result < 2 → IsScript arguments → IsAtEnd (R.remaining input.new) }
+{
+    match request_of(arguments) {
+        Ok(Request::Script) => run_streams(alloc, input, output, errors),
+        Ok(Request::Help) => print(output, HELP, 0),
+        Ok(Request::Version) => print(output, VERSION, 0),
+        Err(RequestError::BadArgument) => print(errors, BAD_ARGUMENT, 1),
+        Err(RequestError::NoMemory) => print(errors, NO_MEMORY, 2),
+    }
+}
