@@ -2,9 +2,9 @@
 # Fails where a page or a doc comment quotes code that is not so, line by line, in the file that it
 # names. In a page, a quote is a block of code below a line `<!-- quote FILE -->`; in a doc comment of
 # a crate, below a line "From `FILE`:", and there the indentation may differ. FILE is a path from the
-# top of the repository. Prints each wrong quote, and how many there are. Fails too where
-# docs/PROMISES.md names a mistake, as `FUNCTION--mistake`, that is neither a must-fail edit of a crate
-# nor one of those in an edit.
+# top of the repository. Prints each wrong quote, and how many there are. Fails too where a page names
+# a mistake, as `FUNCTION--mistake`, that is neither a must-fail edit of a crate nor one of those in an
+# edit.
 set -eu
 cd "$(dirname "$0")/.."
 awk '
@@ -35,7 +35,7 @@ awk '
         exit quotes == 0 || wrong > 0
     }
 ' README.md docs/*.md crates/*/README.md $(grep -rlE '^ *///.*From `' crates/*/src)
-grep -o '`[a-z0-9_][a-z0-9_]*--[a-z0-9_]*`' docs/PROMISES.md | tr -d '`' | sort -u | while read -r mistake; do
+grep -oh '`[a-z0-9_][a-z0-9_]*--[a-z0-9_]*`' docs/*.md crates/*/README.md | tr -d '`' | sort -u | while read -r mistake; do
     grep -q -x "# $mistake" crates/*/must-fail/*.edit && continue
     ls crates/*/must-fail/"$mistake".edit > /dev/null || exit 1
 done
