@@ -1,4 +1,4 @@
--- What the arguments ask for, and what the streams of the program get.
+-- What the arguments request, and what the streams of the program get.
 use Rattle.std.specs.Prelude.{◌≡◌, ◌≢◌, ℕ, List, [], ◌∷◌, codes, map, drop, Option, IfSome, Result, Ok, Err, String, string_bytes}
 use Rattle.std.specs.IoError.{error_kind}
 use Rattle.std.specs.Io.KnownBytes.{Appends}
@@ -18,26 +18,26 @@ use Rattle.iox2_replay.specs.declared.request.RequestError.TheVariants.{BadArgum
 abbrev pub words_of : IntoIter (String Global) Global → List (List ℕ)
 words_of words = map string_bytes (into_iter_items words)
 
--- what the words after the program's name ask for
-abbrev pub Asks : List (List ℕ) → Result Request RequestError → Type 0
-Asks words (Ok Script) = words ≡ []
-Asks words (Ok Help) = words ≡ codes "--help" ∷ []
-Asks words (Ok Version) = words ≡ codes "--version" ∷ []
-Asks words (Err BadArgument) =
+-- what the words after the program's name request
+abbrev pub RequestsIn : List (List ℕ) → Result Request RequestError → Type 0
+RequestsIn words (Ok Script) = words ≡ []
+RequestsIn words (Ok Help) = words ≡ codes "--help" ∷ []
+RequestsIn words (Ok Version) = words ≡ codes "--version" ∷ []
+RequestsIn words (Err BadArgument) =
     (words ≢ []) × (words ≢ codes "--help" ∷ []) × (words ≢ codes "--version" ∷ [])
-Asks words (Err NoMemory) = ⊥
+RequestsIn words (Err NoMemory) = ⊥
 
--- what the arguments ask for: where they could not be had, there is no memory or they are bad
-abbrev pub AsksFor : Result (IntoIter (String Global) Global) Error → Result Request RequestError
+-- what the arguments request: where they could not be had, there is no memory or they are bad
+abbrev pub Requests : Result (IntoIter (String Global) Global) Error → Result Request RequestError
     → Type 0
-AsksFor (Ok words) asked = Asks (drop 1 (words_of words)) asked
-AsksFor (Err why) (Err NoMemory) = error_kind why ≡ OutOfMemory
-AsksFor (Err why) (Err BadArgument) = error_kind why ≢ OutOfMemory
-AsksFor (Err why) (Ok request) = ⊥
+Requests (Ok words) request = RequestsIn (drop 1 (words_of words)) request
+Requests (Err why) (Err NoMemory) = error_kind why ≡ OutOfMemory
+Requests (Err why) (Err BadArgument) = error_kind why ≢ OutOfMemory
+Requests (Err why) (Ok request) = ⊥
 
--- a script is asked for
-abbrev pub IsScript : Result (IntoIter (String Global) Global) Error → Type 0
-IsScript arguments = AsksFor arguments (Ok Script)
+-- a script is requested
+abbrev pub RequestsScript : Result (IntoIter (String Global) Global) Error → Type 0
+RequestsScript arguments = Requests arguments (Ok Script)
 
 -- the text was written, and the status is this one
 abbrev pub Printed : List ℕ → ℕ → ℕ → Option (List ℕ) → Option (List ℕ) → Type 0
@@ -58,9 +58,9 @@ Runs (Err BadArgument) status input out_old out_new err_old err_new =
 Runs (Err NoMemory) status input out_old out_new err_old err_new =
     Printed NO_MEMORY.now 2 status err_old err_new × (out_new ≡ out_old)
 
--- what the arguments ask for was done
+-- what the arguments request was done
 pub record Ran (arguments : Result (IntoIter (String Global) Global) Error) (status : ℕ)
     (input out_old out_new err_old err_new : Option (List ℕ)) : Type 0 where
   pub request : Result Request RequestError
-  pub asked : AsksFor arguments request
+  pub requested : Requests arguments request
   pub runs : Runs request status input out_old out_new err_old err_new

@@ -1,7 +1,7 @@
-//! The program: what its arguments ask for is done with its streams.
+//! The program: what its arguments request, done with its streams.
 ghost use Rattle.std.specs.Prelude.{◌≡◌, ◌<◌, OnOk};
 ghost use Rattle.std.specs.Io.KnownBytes.{Appends, IsAtEnd};
-ghost use Rattle.iox2_replay.specs.Program.{AsksFor, IsScript, Printed, Ran};
+ghost use Rattle.iox2_replay.specs.Program.{Printed, Ran, RequestsScript};
 
 use crate::request::{Request, RequestError, request_of};
 use line_streams::write_whole;
@@ -88,7 +88,7 @@ pub(crate) fn replay_streams<R: Read, W: Write, E: Write>(
         (W.contents output.old) (W.contents output.new)
         (E.contents errors.old) (E.contents errors.new) }
     // All of a script was read, unless memory ran out.
-    ensures read { result < 2 → IsScript arguments → IsAtEnd (R.remaining input.new) }
+    ensures read { result < 2 → RequestsScript arguments → IsAtEnd (R.remaining input.new) }
 {
     match request_of(arguments) {
         Ok(Request::Script) => run_streams(alloc, input, output, errors),

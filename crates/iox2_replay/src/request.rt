@@ -1,12 +1,12 @@
-//! What the program's arguments ask for.
+//! What the program's arguments request.
 ghost use Rattle.std.specs.Prelude.{drop};
-ghost use Rattle.iox2_replay.specs.Program.{Asks, AsksFor, words_of};
+ghost use Rattle.iox2_replay.specs.Program.{Requests, RequestsIn, words_of};
 
 use std::env::Args;
 use std::io;
 use std::io::ErrorKind;
 
-/// What is asked for.
+/// What is requested.
 #[derive(Clone, Copy)]
 pub(crate) enum Request {
     /// To run the script that is read.
@@ -17,7 +17,7 @@ pub(crate) enum Request {
     Version,
 }
 
-/// Why nothing is asked for.
+/// Why nothing is requested.
 #[derive(Clone, Copy)]
 pub(crate) enum RequestError {
     /// There are arguments, and not one of the known words alone.
@@ -26,9 +26,9 @@ pub(crate) enum RequestError {
     NoMemory,
 }
 
-/// What the arguments, of which the first is the program's name, ask for.
+/// What the arguments request. The first is the program's name.
 pub(crate) fn request_of(arguments: io::Result<Args>) -> Result<Request, RequestError>
-    ensures { AsksFor arguments result }
+    ensures { Requests arguments result }
 {
     match arguments {
         Ok(words) => request_in(words),
@@ -37,12 +37,12 @@ pub(crate) fn request_of(arguments: io::Result<Args>) -> Result<Request, Request
     }
 }
 
-/// What the words after the first ask for.
+/// What the words after the first request.
 fn request_in(words: Args) -> Result<Request, RequestError>
-    ensures { Asks (drop 1 (words_of words)) result }
+    ensures { RequestsIn (drop 1 (words_of words)) result }
 {
     let mut words = words;
-    // The program's name asks for nothing.
+    // The program's name requests nothing.
     let _program = words.next();
     let Some(word) = words.next() else {
         return Ok(Request::Script);
