@@ -127,7 +127,8 @@ pub fn choices_go_by_variant(one: &Choices, other: &Choices) -> (bool, Result<Ch
 /// An error of details, of a hasher and of a hash text.
 pub type Refusals = (TypeDetailError, HashError, ServiceHashError);
 
-/// Errors are equal exactly where they are the same, and a clone of one is it and takes no memory.
+/// Errors are equal exactly where they are the same, and a clone of one is the same and takes no
+/// memory.
 pub fn refusals_go_by_variant(
     one: &Refusals,
     other: &Refusals,

@@ -15,8 +15,8 @@ use crate::container::{
 };
 use std::alloc::AllocError;
 
-/// A recovery is exactly one of the changes, with the answers that its callback gave in turn and
-/// the handles of the entries that went.
+/// A recovery is exactly one of the changes, with the results of its callback in turn and the
+/// handles of the entries that were removed.
 pub fn recoveries_are_changes<T, F: FnMut(&T) -> bool>()
     ensures { (is_dead : T → Bool) (old new : RegistryState T)
         (f left : F) (mode : ReleaseMode) (state : ReleaseState)

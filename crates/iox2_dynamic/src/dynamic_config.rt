@@ -1,4 +1,4 @@
-//! The nodes and the ports of a service. A port stands only on a registered node of an unlocked
+//! The nodes and the ports of a service. A port exists only with a registered node of an unlocked
 //! service, and a node cannot leave its ports behind.
 
 mod answers;

@@ -1,4 +1,4 @@
-//! What holds of every service, and how details, settings and answers are compared and copied.
+//! What holds of every service, and how details, settings and results are compared and copied.
 ghost use Rattle.std.specs.Prelude.{◌≡◌, ◌↔◌, ◌<◌, ℕ, Bool, IsTrue, List, IsOk, IsOkAnd, Result, length, not};
 ghost use Rattle.std.specs.Prelude.{count_by};
 ghost use Rattle.iox2_container.specs.declared.container.release.ReleaseMode.{ReleaseMode};
@@ -26,8 +26,8 @@ pub fn locked_services_have_no_port()
     ensures { (s : Service) → IsService s → IsTrue s.nodes.registry.locked → HasNoPort s.ports }
 {}
 
-/// The ports of a dead node that are left by its recovery are as many as its callback kept: where a
-/// port is left, some answer was `SkipPort`, and where none was, none is left.
+/// The ports of a dead node that are left by its recovery are as many as its callback kept: a port
+/// is left exactly where it returned `SkipPort` for one.
 pub fn skipped_ports_are_left()
     ensures { (dead : ℕ) (old new : RegistryState PortDetails) (marked : ℕ → Bool)
         (mode : ReleaseMode) (state : ReleaseState)
@@ -61,7 +61,7 @@ pub fn details_go_by_fields(
     (one == other, one.clone())
 }
 
-/// An answer of each kind that the calls on a service give or are given.
+/// A value of each kind that the calls on a service return, or that their callbacks do.
 pub type Answers = (
     RegisterNodeResult,
     DeregisterNodeState,
@@ -70,7 +70,8 @@ pub type Answers = (
     PortCleanupAction,
 );
 
-/// Answers are equal exactly where they are the same, and a clone of one is it and takes no memory.
+/// Results are equal exactly where they are the same, and a clone of one is the same and takes no
+/// memory.
 pub fn answers_go_by_variant(one: &Answers, other: &Answers) -> (bool, Result<Answers, AllocError>)
     ensures equal { IsTrue result.0 ↔ (one.now ≡ other.now) }
     ensures cloned { IsOkAnd result.1 (λ copy. copy ≡ one.now) }

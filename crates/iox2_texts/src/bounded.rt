@@ -1,5 +1,5 @@
-//! Texts of a bounded length, those of them that have a
-//! meaning, the answers of callbacks, and least multiples.
+//! Texts of a bounded length, those of them that have a meaning, the results of callbacks, and
+//! least multiples.
 //!
 //! A text holds bytes from 1 to 127 alone: ASCII without the zero byte.
 ghost use Rattle.std.specs.Prelude.{◌≡◌, ◌↔◌, ◌+◌, ◌<◌, ◌^◌, ◌≤◌, ◌++◌, [], Some, length, IsTrue};

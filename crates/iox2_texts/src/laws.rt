@@ -40,12 +40,12 @@ pub fn sets_are_equal_by_pairs(one: &AttributeSet, other: &AttributeSet) -> bool
     one == other
 }
 
-/// `key_value` answers `None` exactly from `number_of_key_values` on.
+/// `key_value` returns `None` exactly from `number_of_key_values` on.
 pub fn values_are_counted()
     ensures { ValuesAreCounted }
 {}
 
-/// Each nonzero alignment has one least multiple from a value on, which `align` answers.
+/// Each nonzero alignment has one least multiple from a value on, which `align` returns.
 pub fn least_multiples_are_unique()
     ensures { LeastMultiplesAreUnique }
 {}
@@ -144,7 +144,7 @@ pub fn attributes_go_by_bytes(one: &Attribute, other: &Attribute) -> (bool, Orde
     (one == other, one.cmp(other))
 }
 
-/// An answer of a callback, and an error of each type that has nothing but its variant.
+/// A result of a callback, and an error of each type that has nothing but its variant.
 pub type Variants = (
     CallbackProgression,
     StringModificationError,
@@ -153,8 +153,8 @@ pub type Variants = (
     AttributeDefinitionError,
 );
 
-/// Answers of callbacks and errors are equal exactly where they are the same, and a clone of one is
-/// it and takes no memory.
+/// Results of callbacks and errors are equal exactly where they are the same, and a clone of one is
+/// the same and takes no memory.
 pub fn values_go_by_variant(
     one: &Variants,
     other: &Variants,
@@ -165,7 +165,7 @@ pub fn values_go_by_variant(
     (one == other, one.clone())
 }
 
-/// Faults of a set of attributes are equal exactly where their variant, key and value are.
+/// Errors of a verification are equal exactly where their variant, key and value are.
 pub fn attribute_verification_errors_go_by_bytes(
     one: &AttributeVerificationError,
     other: &AttributeVerificationError,

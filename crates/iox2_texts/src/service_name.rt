@@ -92,8 +92,8 @@ impl ServiceName {
         Self::internal_new(name)
     }
 
-    /// A name that may begin with the prefix. Refused are, in this order, the empty text, more than
-    /// 255 bytes, and a byte that is not from 1 to 127.
+    /// A name that may begin with the prefix. Errors, in this order: the empty text, more than 255
+    /// bytes, and a byte that is not from 1 to 127.
     pub fn internal_new(name: &str) -> Result<Self, ServiceNameError>
         ensures { MakesServiceName name.now result }
     {

@@ -22,8 +22,8 @@ pub trait Phrase<'a> {
     /// Whether a value takes memory.
     ghost takes_memory: { Bool };
 
-    /// The value that begins the bytes, and what follows it. `None` is answered where no value
-    /// begins them, and an error where memory for the value is refused.
+    /// The value that begins the bytes, and what follows it. `None` where no value begins them, and
+    /// an error where memory for the value is refused.
     fn read(
         &self,
         alloc: Global,

@@ -1,4 +1,4 @@
-//! Words, and what stands before a byte or after a word.
+//! Words, and what comes before a byte or after a word.
 ghost use Rattle.std.specs.Prelude.{◌≡◌, ◌≢◌, ◌==◌, ℕ, ◌∷◌, ◌++◌, List};
 ghost use Rattle.std.specs.Prelude.{IfSome, IfNone, MatchOption};
 ghost use Rattle.std.specs.List.{before_first, position};
@@ -56,14 +56,14 @@ pub fn after_word<'a>(bytes: &'a [u8], word: &[u8]) -> Option<&'a [u8]>
     after_bytes(rest, more)
 }
 
-/// Where this byte stands first.
+/// The first index of this byte.
 fn place_of(bytes: &[u8], byte: u8) -> Option<usize>
     ensures { result ≡ position (λ b. b == byte) bytes.now }
 {
     bytes.iter().position(|b| *b == byte)
 }
 
-/// What stands before the first such byte, and what follows it.
+/// What comes before the first such byte, and what follows it.
 pub fn before_byte(bytes: &[u8], byte: u8) -> Option<(&[u8], &[u8])>
     ensures read { Reads (before byte).Fits (before byte).text
         (option_map (λ found. (found.0.now, found.1.now)) result) bytes.now }

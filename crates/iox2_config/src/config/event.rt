@@ -17,7 +17,7 @@ pub struct Event {
     pub deadline: Option<Duration>,
     /// The number of the event that reports a new notifier, if any does.
     pub notifier_created_event: Option<usize>,
-    /// The number of the event that reports that a notifier went, if any does.
+    /// The number of the event that reports that a notifier left, if any does.
     pub notifier_dropped_event: Option<usize>,
     /// The number of the event that reports a notifier whose node died, if any does.
     pub notifier_dead_event: Option<usize>,

@@ -20,7 +20,7 @@ pub struct Node {
     pub global_mgmt_suffix: FileName,
     /// Whether somebody who creates a node first removes what dead nodes left.
     pub cleanup_dead_nodes_on_creation: bool,
-    /// Whether a node that goes removes what dead nodes left.
+    /// Whether a node that is dropped removes the remains of dead nodes.
     pub cleanup_dead_nodes_on_destruction: bool,
 }
 

@@ -1,4 +1,4 @@
-//! What a hasher answers.
+//! The result of a hasher.
 ghost use Rattle.std.specs.Prelude.{◌≡◌, ◌≤◌, ◌↔◌, length, IsSome, IfSome};
 
 use arrayvec::ArrayVec;

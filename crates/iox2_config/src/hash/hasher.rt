@@ -13,7 +13,7 @@ pub enum HashError {
 /// A hasher of bytes.
 ///
 /// What it means, and which inputs it may refuse, depend on the input alone: two hashers of one
-/// type that were made of one input answer the same text, or refuse.
+/// type that were made of one input return the same text, or an error.
 pub trait Hash: Drop {
     /// The text that the hasher means by an input.
     ghost meaning: { List ℕ → List ℕ };

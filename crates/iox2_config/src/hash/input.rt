@@ -6,8 +6,8 @@ use arrayvec::ArrayVec;
 use iox2_texts::bounded::StaticString;
 use iox2_texts::service_name::ServiceName;
 
-/// The pattern by which the ports of a service exchange
-/// messages. Its number stands in the hash text.
+/// The pattern by which the ports of a service exchange messages. Its number is part of what is
+/// hashed.
 #[derive(Clone, Copy, Debug, PartialEq, Eq)]
 pub enum PatternKind {
     /// Publishers send samples to subscribers.

@@ -1,10 +1,10 @@
-//! What stands in a container.
+//! The entries of a container.
 ghost use Rattle.std.specs.Prelude.{◌≡◌, ℕ};
 
 use iox2_ids::identifiers::UniqueNodeId;
 
-/// Details of something that is attached to a service.
-/// Both answers are functions of the value alone.
+/// Details of something that is attached to a service. Its key and its node are functions of the
+/// value alone.
 pub trait Attached {
     /// The number of the node's id.
     ghost node: { Self → ℕ };

@@ -114,13 +114,13 @@ fn serve_both<T: Attached + Copy, A: Registry<T>, B: Registry<T>>(
     Ok(())
 }
 
-/// Makes the same calls on two new registries of one capacity and one ticket budget; their services
-/// and roles may differ.
+/// Makes the same calls on two new registries of the same capacity and number of tickets; their
+/// services and roles may differ.
 ///
-/// Each list, empty at first, gets the replies of its registry. The answer is `true`: the replies
-/// are the same but for handles and the order of listings. The memory of each call is taken for
-/// both lists before either registry changes, so after an error both have made the same number of
-/// calls, fewer than all, and have as many replies.
+/// Each list, empty at first, gets the replies of its registry. It returns `true`: the replies are
+/// the same but for handles and the order of listings. The memory of each call is taken for both
+/// lists before either registry changes, so after an error both have made the same number of calls,
+/// fewer than all, and have as many replies.
 pub fn compare<T: Attached + Copy + Eq, A: Registry<T>, B: Registry<T>>(
     alloc: Global,
     a: &mut A,

@@ -4,8 +4,8 @@ ghost use Rattle.std.specs.Prelude.{◌≡◌};
 use super::role::Role;
 use std::marker::Model;
 
-/// Names an entry of a container. It is a value: a container takes it for its own exactly where the
-/// service number, the role, the slot and the ticket are those of an entry that stands in it.
+/// Names an entry of a container. It is a value: a container accepts it exactly where the service
+/// number, the role, the slot and the ticket are those of one of its entries.
 #[derive(Clone, Copy, Debug, PartialEq, Eq)]
 pub struct ContainerHandle {
     service: u64,
@@ -61,7 +61,7 @@ impl ContainerHandle {
         self.role
     }
 
-    /// The number of the slot that the entry stands in, the first being 0.
+    /// The slot of the entry, from 0.
     pub fn slot(&self) -> usize
         ensures { result ≡ self.now.slot }
     {

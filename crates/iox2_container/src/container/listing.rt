@@ -1,4 +1,4 @@
-//! What stands in a registry, as a list.
+//! The entries of a registry, as a list.
 ghost use Rattle.std.specs.Prelude.{◌≡◌, ◌+◌, ◌<◌, ◌++◌, ◌∷◌, [], IfOk, length, vec_capacity, vec_len};
 ghost use Rattle.iox2_container.specs.Steps.{listed};
 

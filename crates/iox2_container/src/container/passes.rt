@@ -203,8 +203,8 @@ fn next_of<T: Attached + Copy, N: Copy>(
     next_by_one(places, slot, end, node)
 }
 
-/// Whether an entry of the node stands in some slot. It looks at the one where it may stand first,
-/// then at all before it, then at all after it: at none twice.
+/// Whether some slot has an entry of the node. It reads the likely slot first, then all before it,
+/// then all after it: none twice.
 pub(super) fn has_of<T: Attached + Copy, S: SlotAllocator<T>>(
     places: &mut Places<T, S::Next>,
     free: &S,

@@ -80,7 +80,7 @@ pub trait Registry<T: Attached + Copy> {
             (state self.old).touches + (state self.old).registry.capacity
             + length (state self.old).registry.entries };
 
-    /// Calls the callback on the details by rising slot, each once, up to and with the first answer
+    /// Calls the callback on the details by rising slot, each once, up to and with the first
     /// `Stop`. It must be callable on them in turn, each time as the call before left it.
     fn for_each<F: FnMut(&T) -> CallbackProgression>(&self, f: &mut F)
         requires { CanVisit (TakesAt F.FnMut) (CalledAt F.FnMut) f.old

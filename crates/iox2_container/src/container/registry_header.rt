@@ -106,8 +106,8 @@ impl RegistryHeader {
         ContainerHandle::from_parts(self.service, self.role, slot, ticket)
     }
 
-    /// Counts this many entries less, locks where the last one went and the mode says so, and
-    /// answers whether the container is locked then.
+    /// Counts this many entries less, locks where the last one was removed and the mode says so,
+    /// and returns whether the container is locked then.
     pub(super) fn leave(&mut self, gone: usize, mode: ReleaseMode) -> ReleaseState
         requires { gone ≤ self.old.count }
         ensures left { self.new ≡ record self.old {

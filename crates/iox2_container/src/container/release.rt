@@ -12,7 +12,7 @@ pub enum ReleaseMode {
 }
 
 impl ReleaseMode {
-    /// The lock after some entry went, where this many are left.
+    /// The lock after an entry was removed, where this many are left.
     pub(super) fn lock_after(self, left: usize, locked: bool) -> bool
         ensures { (before : ℕ) → left < before → result ≡ lock_after self before left locked }
     {

@@ -1,4 +1,4 @@
-//! What the calls on a service answer.
+//! The results of the calls on a service.
 ghost use Rattle.std.specs.Prelude.{◌≡◌};
 ghost use Rattle.iox2_dynamic.specs.Answers.{state_of};
 

@@ -44,8 +44,8 @@ impl DynamicConfig {
         )
     }
 
-    /// Calls the callback on the details of the readers by
-    /// rising slot, up to and with the first answer `Stop`.
+    /// Calls the callback on the details of the readers by rising slot, up to and with the first
+    /// `Stop`.
     pub fn list_readers<F: FnMut(&ReaderDetails) -> CallbackProgression>(&self, f: &mut F)
         requires { CanVisit (TakesAt F.FnMut) (CalledAt F.FnMut) f.old
             (listed self.now.first.registry) }
@@ -61,8 +61,8 @@ impl DynamicConfig {
         self.first.len()
     }
 
-    /// Calls the callback on the details of the writers by
-    /// rising slot, up to and with the first answer `Stop`.
+    /// Calls the callback on the details of the writers by rising slot, up to and with the first
+    /// `Stop`.
     pub fn list_writers<F: FnMut(&WriterDetails) -> CallbackProgression>(&self, f: &mut F)
         requires { CanVisit (TakesAt F.FnMut) (CalledAt F.FnMut) f.old
             (listed self.now.second.registry) }

@@ -44,8 +44,8 @@ impl DynamicConfig {
         )
     }
 
-    /// Calls the callback on the details of the listeners by
-    /// rising slot, up to and with the first answer `Stop`.
+    /// Calls the callback on the details of the listeners by rising slot, up to and with the first
+    /// `Stop`.
     pub fn list_listeners<F: FnMut(&ListenerDetails) -> CallbackProgression>(&self, f: &mut F)
         requires { CanVisit (TakesAt F.FnMut) (CalledAt F.FnMut) f.old
             (listed self.now.first.registry) }
@@ -61,8 +61,8 @@ impl DynamicConfig {
         self.first.len()
     }
 
-    /// Calls the callback on the details of the notifiers by
-    /// rising slot, up to and with the first answer `Stop`.
+    /// Calls the callback on the details of the notifiers by rising slot, up to and with the first
+    /// `Stop`.
     pub fn list_notifiers<F: FnMut(&NotifierDetails) -> CallbackProgression>(&self, f: &mut F)
         requires { CanVisit (TakesAt F.FnMut) (CalledAt F.FnMut) f.old
             (listed self.now.second.registry) }

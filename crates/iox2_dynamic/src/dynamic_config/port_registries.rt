@@ -58,8 +58,8 @@ impl<A: PortKind, B: PortKind> PortRegistries<A, B> {
     }
 
     /// Calls the callback on the details of the ports that are recovered first by rising slot, up
-    /// to and with the first answer `Stop`. Code for all patterns lists both kinds so, each with
-    /// the details of its own.
+    /// to and with the first `Stop`. Code for all patterns lists both kinds so, each with the
+    /// details of its own.
     pub fn list_first<F: FnMut(&A) -> CallbackProgression>(&self, f: &mut F)
         requires { CanVisit (TakesAt F.FnMut) (CalledAt F.FnMut) f.old
             (listed self.now.first.registry) }
@@ -69,7 +69,7 @@ impl<A: PortKind, B: PortKind> PortRegistries<A, B> {
     }
 
     /// Calls the callback on the details of the other ports by rising slot, up to and with the
-    /// first answer `Stop`.
+    /// first `Stop`.
     pub fn list_second<F: FnMut(&B) -> CallbackProgression>(&self, f: &mut F)
         requires { CanVisit (TakesAt F.FnMut) (CalledAt F.FnMut) f.old
             (listed self.now.second.registry) }

@@ -45,8 +45,8 @@ impl DynamicConfig {
         )
     }
 
-    /// Calls the callback on the details of the publishers by
-    /// rising slot, up to and with the first answer `Stop`.
+    /// Calls the callback on the details of the publishers by rising slot, up to and with the first
+    /// `Stop`.
     pub fn list_publishers<F: FnMut(&PublisherDetails) -> CallbackProgression>(&self, f: &mut F)
         requires { CanVisit (TakesAt F.FnMut) (CalledAt F.FnMut) f.old
             (listed self.now.first.registry) }
@@ -62,8 +62,8 @@ impl DynamicConfig {
         self.first.len()
     }
 
-    /// Calls the callback on the details of the subscribers by
-    /// rising slot, up to and with the first answer `Stop`.
+    /// Calls the callback on the details of the subscribers by rising slot, up to and with the
+    /// first `Stop`.
     pub fn list_subscribers<F: FnMut(&SubscriberDetails) -> CallbackProgression>(&self, f: &mut F)
         requires { CanVisit (TakesAt F.FnMut) (CalledAt F.FnMut) f.old
             (listed self.now.second.registry) }

@@ -164,8 +164,8 @@ impl DynamicConfig {
         }
     }
 
-    /// Calls the callback on the nodes by rising slot, one time
-    /// for each handle, up to and with the first answer `Stop`.
+    /// Calls the callback on the nodes by rising slot, one time for each handle, up to and with the
+    /// first `Stop`.
     pub fn list_node_ids<F: FnMut(&UniqueNodeId) -> CallbackProgression>(&self, f: &mut F)
         requires { CanVisit (TakesAt F.FnMut) (CalledAt F.FnMut) f.old
             (listed self.now.nodes.registry) }
@@ -263,7 +263,7 @@ impl DynamicConfig {
     }
 
     /// Calls the callback on the details of the ports of the role by rising slot, up to and with
-    /// the first answer `Stop`. `false`, and no call, where the pattern has no such ports.
+    /// the first `Stop`. `false`, and no call, where the pattern has no such ports.
     pub fn list_ports<F: FnMut(&PortDetails) -> CallbackProgression>(
         &self,
         role: Role,

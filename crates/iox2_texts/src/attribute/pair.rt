@@ -50,7 +50,7 @@ impl Attribute {
         &self.value
     }
 
-    /// How its key stands to another.
+    /// How its key compares to another.
     pub(super) fn cmp_key(&self, key: &AttributeKey) -> Ordering
         ensures { result ≡ text_cmp self.now.key key.now }
     {

@@ -38,7 +38,7 @@ impl fmt::Display for AttributeDefinitionError {
 
 impl Error for AttributeDefinitionError {}
 
-/// Up to 16 pairs in rising order. A pair that was added twice stands in it twice.
+/// Up to 16 pairs in rising order. A pair that was added twice is in it twice.
 ///
 /// From `crates/service_examples_tests/src/services.rt`:
 ///
@@ -77,7 +77,7 @@ impl AttributeSet {
 
     /// Adds a pair. One that is there already is kept once more.
     ///
-    /// Refused where 16 pairs stand, and then the set stays as it was.
+    /// Refused where there are 16 pairs; then the set stays as it was.
     pub fn add(
         &mut self,
         key: &AttributeKey,
@@ -150,8 +150,7 @@ impl AttributeSet {
         None
     }
 
-    /// Calls `callback` with the key's values in rising order,
-    /// up to and with the first that it answers `Stop`.
+    /// Calls `callback` with the key's values in rising order, up to and with the first `Stop`.
     ///
     /// It must be callable on them in turn, each time as the call before left it, and is left in
     /// the state after its last call. One that may always be called may be called again.

@@ -39,7 +39,7 @@ impl AttributeSpecifier {
         }
     }
 
-    /// Adds a pair. Refused where 16 stand, and then the specifier is spent.
+    /// Adds a pair. Refused where there are 16; then the specifier is spent.
     pub fn define(
         self,
         key: &AttributeKey,

@@ -1,4 +1,4 @@
-//! What a callback answers.
+//! The result of a callback.
 
 /// Whether a callback wants to be called again.
 #[derive(Clone, Copy, Debug, PartialEq, Eq)]

@@ -40,8 +40,8 @@ impl<C: Content, const N: usize> Model for SemanticString<C, N> {
 impl<C: Content, const N: usize> SemanticString<C, N> {
     /// The semantic string of these bytes.
     ///
-    /// Refused are, in this order, no byte at all where that is not allowed (`InvalidContent`),
-    /// more than `N` bytes (`ExceedsMaximumLength`), and any other content that is not allowed
+    /// Errors, in this order: no byte at all where that is not allowed (`InvalidContent`), more
+    /// than `N` bytes (`ExceedsMaximumLength`), and any other content that is not allowed
     /// (`InvalidContent`): a byte that is not from 1 to 127, or what `C` forbids.
     pub fn new(bytes: &[u8]) -> Result<Self, SemanticStringError>
         ensures { MakesLegal (IsAllowed C.Allows N) N bytes.now result }

@@ -14,7 +14,7 @@ pub trait SlotAllocator<T: Copy>: Drop {
     /// What a free slot keeps.
     type Next: Copy + Debug;
 
-    /// It goes with these cells.
+    /// It fits these cells.
     ghost fits: { Self → List (Cell T Self.Next) → Type 0 };
 
     /// The most touches of a put, by the number of slots.

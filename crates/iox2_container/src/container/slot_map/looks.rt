@@ -1,9 +1,9 @@
-//! A count for proofs of how often a call that changes nothing looked at slots.
+//! A count for proofs of how often a call that changes nothing read slots.
 ghost use Rattle.std.specs.Prelude.{◌≡◌, ◌+◌};
 
 use crate::container::slots::Touches;
 
-/// How often slots were looked at. It takes no bytes. The calls of a registry alone begin a count.
+/// How often slots were read. It takes no bytes. The calls of a registry alone begin a count.
 #[derive(Debug, Drop)]
 pub(crate) struct Looks {
     touches: Touches,

@@ -2,7 +2,7 @@
 ghost use Rattle.std.specs.Prelude.{◌≡◌};
 ghost use Rattle.iox2_container.specs.Cells.{shown};
 
-/// What stands in a slot: details, and the ticket that they were given.
+/// The entry of a slot: details and ticket.
 #[derive(Clone, Copy, Debug)]
 pub struct Occupant<T: Copy> {
     pub(crate) ticket: u64,
@@ -17,7 +17,7 @@ pub enum Cell<T: Copy, N: Copy> {
 }
 
 impl<T: Copy, N: Copy> Cell<T, N> {
-    /// What stands in it, if it is taken.
+    /// Its entry, if it is taken.
     pub(crate) fn occupant(self) -> Option<Occupant<T>>
         ensures { result ≡ shown self }
     {

@@ -10,7 +10,7 @@ use crate::replay::machine::{Cleanup, Command, LineCommand};
 use line_streams::{Line, LineEnd, Number, Phrase, after_word};
 use std::alloc::{AllocError, Global};
 
-/// The name of an earlier command: how many commands stand before it.
+/// The name of an earlier command: how many commands come before it.
 const EARLIER: Number = Number(u64::MAX);
 
 /// The command whose line begins these bytes, and what follows its end.

@@ -1,4 +1,4 @@
-//! Recoveries that answer as a cleanup says.
+//! Recoveries with the decisions of a cleanup.
 ghost use Rattle.std.specs.Prelude.{◌≡◌};
 ghost use Rattle.iox2_dynamic.specs.Service.{IsService};
 ghost use Rattle.iox2_ids.specs.PortId.{port_value};
@@ -10,7 +10,7 @@ use super::command::Cleanup;
 use iox2_dynamic::dynamic_config::{DeregisterNodeState, DynamicConfig, PortCleanupAction};
 use iox2_ids::identifiers::{UniqueNodeId, UniquePortId};
 
-/// The answer on a port, where ports of these values stay.
+/// The decision on a port, where ports of these values stay.
 fn answer_by_port(kept: &[u128], port: &UniquePortId) -> PortCleanupAction
     ensures { result ≡ action_for kept.now (port_value port.now) }
 {
@@ -21,7 +21,7 @@ fn answer_by_port(kept: &[u128], port: &UniquePortId) -> PortCleanupAction
     }
 }
 
-/// Removes a dead node, with answers in order.
+/// Removes a dead node, with decisions in order.
 #[inline(always)]
 fn by_order(
     service: &mut DynamicConfig,
@@ -48,7 +48,7 @@ fn by_order(
     service.remove_dead_node_id(dead, &mut answer)
 }
 
-/// Removes a dead node, with answers by the value of the port.
+/// Removes a dead node, with decisions by the value of the port.
 #[inline(always)]
 fn by_port(
     service: &mut DynamicConfig,

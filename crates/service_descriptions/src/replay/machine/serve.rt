@@ -26,7 +26,7 @@ use iox2_ids::identifiers::UniqueNodeId;
 use iox2_static::static_config::StaticConfig;
 use std::alloc::{AllocError, Global};
 
-/// The handle that an earlier command was answered with.
+/// The handle that an earlier command returned.
 fn named(number: u64, earlier: &[Earlier], k: usize) -> Option<ContainerHandle>
     ensures { result ≡ named (handles_in number earlier.now) k }
 {
@@ -161,8 +161,8 @@ pub(super) fn serve_line(
     }
 }
 
-/// The reply to a command on a service of this number, where earlier commands were answered so. All
-/// memory that it needs is taken before the service changes.
+/// The reply to a command on a service of this number, after these earlier commands. All memory
+/// that it needs is taken before the service changes.
 pub(super) fn serve_command(
     alloc: Global,
     service: &mut DynamicConfig,

@@ -19,8 +19,8 @@ use iox2_static::static_config::StaticConfig;
 use std::alloc::{AllocError, Global};
 use std::marker::Model;
 
-/// A service, its description or none, and for each earlier command the handle that it was answered
-/// with. No two of these handles are equal.
+/// A service, its description or none, and for each earlier command the handle that it returned. No
+/// two of these handles are equal.
 ///
 /// From `crates/service_descriptions_tests/src/serving.rt`:
 ///
