@@ -1,6 +1,6 @@
 //! Discovery: who is attached to a service.
 ghost use Rattle.std.specs.Prelude.{◌≡◌, ◌+◌, ◌≤◌, ◌<◌, [], ◌∷◌, IfOk, OnOk, OnErr};
-ghost use Rattle.std.specs.Prelude.{length, vec_capacity, vec_len};
+ghost use Rattle.std.specs.Prelude.{length, max, vec_capacity, vec_len};
 ghost use Rattle.iox2_dynamic.specs.Service.{first_role, second_role};
 ghost use Rattle.service_examples.specs.Members.{Appends, IsRoster, members_of, nodes_in, ports_in};
 ghost use Rattle.service_examples.specs.Members.{node_of_member};
@@ -35,8 +35,9 @@ impl Member {
 }
 
 /// Puts everybody who is attached to the service into the list, in place of what it held: each node
-/// and each port once, by rising node, and for each node first the node and then its ports. It
-/// takes room for all of them at once. Where memory is refused, the list is empty.
+/// and each port once, by rising node, and for each node first the node and then its ports. Where
+/// the list has less room than they need, it takes just that room, in one request, and sorting them
+/// takes some for as long as it lasts. Where memory is refused, the list is empty.
 pub fn list_attached(
     alloc: Global,
     service: &DynamicConfig,
@@ -44,10 +45,12 @@ pub fn list_attached(
 ) -> Result<(), AllocError>
     ensures listed { OnOk result (IsRoster service.now members.new.items) }
     ensures cleared { OnErr result (members.new.items ≡ []) }
+    ensures exact { OnOk result (vec_capacity members.new
+        ≡ max (vec_capacity members.old) (length (members_of service.now))) }
 {
     let mut list = mem::replace(members, Vec::new(alloc));
     list.clear();
-    list.reserve(number_attached(service)?)?;
+    list.reserve_exact(number_attached(service)?)?;
     let (first, second) = service.kind().port_roles();
     let mut roster = Roster { members: list };
     append_nodes(service, &mut roster);
