@@ -1,5 +1,7 @@
 pub mod Answers
 pub mod Read
+pub mod Rows
 pub mod Settings
 pub mod Unknown
 pub mod Values
+pub mod Write

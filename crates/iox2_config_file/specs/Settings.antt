@@ -1,5 +1,5 @@
 -- The table of settings: the key of each, what it may be, and where it lies in the configuration.
-use Rattle.std.specs.Prelude.{Bool, Option, List, [], ◌∷◌, ℕ, codes}
+use Rattle.std.specs.Prelude.{Bool, Option, option_map, slice_get, List, [], ◌∷◌, ℕ, codes}
 use Rattle.std.specs.Duration.{as_nanos}
 use Rattle.std.specs.declared.time.Duration.{Duration}
 use Rattle.iox2_config.specs.declared.config.choices.BackpressureStrategy.{BackpressureStrategy}
@@ -171,3 +171,7 @@ tables_in section.Global = codes "service" ∷ codes "node" ∷ []
 tables_in section.Defaults =
     codes "publish-subscribe" ∷ codes "event" ∷ codes "request-response" ∷ codes "blackboard" ∷ []
 tables_in _ = []
+
+-- what the setting of this number holds
+abbrev pub held_at : List Setting → ℕ → Option SettingValue
+held_at xs i = option_map (λ x. x.value) (slice_get xs i)

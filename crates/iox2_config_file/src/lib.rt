@@ -7,14 +7,18 @@ mod fault;
 mod kind;
 mod read;
 mod section;
+mod setting;
 mod tables;
 mod texts;
 mod unknown;
 mod value;
+mod write;
 
 pub use error::ConfigFileError;
 pub use fault::SettingFault;
 pub use kind::{Fault, Kind, TomlType};
 pub use read::{FileSettings, read_config, read_config_over, report_all};
 pub use section::{Row, SECTIONS, Section, rows};
+pub use setting::{SettingValue, value_at};
 pub use unknown::UnknownKey;
+pub use write::{ConfigWriteError, Misfit, write_config};

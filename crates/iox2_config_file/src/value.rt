@@ -6,8 +6,10 @@ ghost use Rattle.toml.specs.Data.{get_member};
 ghost use Rattle.toml.specs.View.{view, table_view};
 ghost use Rattle.iox2_config_file.specs.Values.{type_in, value_in, value_or, duration_in, part_in, flag};
 ghost use Rattle.iox2_config_file.specs.Values as values;
+ghost use Rattle.iox2_config_file.specs.Write.{value_view};
 
 use crate::kind::{Fault, Kind, TomlType};
+use crate::setting::SettingValue;
 use crate::tables::{get, member_count};
 use crate::texts::{file_name, path};
 use iox2_config::config::{AllocationStrategy, BackpressureStrategy};
@@ -29,6 +31,10 @@ pub(crate) trait FromToml {
     /// The setting that a value means, or what is wrong with it.
     fn from_toml(value: &Value) -> Result<Self, Fault>
         ensures { result_map_both value_of (λ e. e) result ≡ value_in wanted (view value.now) };
+
+    /// What the setting holds.
+    fn to_value(&self) -> SettingValue<'_>
+        ensures { value_view result ≡ value_of self.now };
 }
 
 impl FromToml for usize {
@@ -44,6 +50,10 @@ impl FromToml for usize {
             _ => Err(wrong_type(value, Kind::Number)),
         }
     }
+
+    fn to_value(&self) -> SettingValue<'_> {
+        SettingValue::Number(*self)
+    }
 }
 
 impl FromToml for bool {
@@ -58,6 +68,10 @@ impl FromToml for bool {
             Value::Boolean(b) => Ok(*b),
             _ => Err(wrong_type(value, Kind::Flag)),
         }
+    }
+
+    fn to_value(&self) -> SettingValue<'_> {
+        SettingValue::Flag(*self)
     }
 }
 
@@ -75,6 +89,10 @@ impl FromToml for Path {
             _ => Err(wrong_type(value, Kind::Path)),
         }
     }
+
+    fn to_value(&self) -> SettingValue<'_> {
+        SettingValue::Text(self.as_str())
+    }
 }
 
 impl FromToml for FileName {
@@ -90,6 +108,10 @@ impl FromToml for FileName {
             Value::String(text) => file_name(text.as_bytes()).map_err(Fault::NoFileName),
             _ => Err(wrong_type(value, Kind::FileName)),
         }
+    }
+
+    fn to_value(&self) -> SettingValue<'_> {
+        SettingValue::Text(self.as_str())
     }
 }
 
@@ -110,6 +132,10 @@ impl FromToml for BackpressureStrategy {
             },
             _ => Err(wrong_type(value, Kind::Backpressure)),
         }
+    }
+
+    fn to_value(&self) -> SettingValue<'_> {
+        SettingValue::Backpressure(*self)
     }
 }
 
@@ -132,6 +158,10 @@ impl FromToml for AllocationStrategy {
             _ => Err(wrong_type(value, Kind::Allocation)),
         }
     }
+
+    fn to_value(&self) -> SettingValue<'_> {
+        SettingValue::Allocation(*self)
+    }
 }
 
 impl FromToml for Duration {
@@ -147,6 +177,10 @@ impl FromToml for Duration {
             Value::Table(parts) => duration(parts),
             _ => Err(wrong_type(value, Kind::Duration)),
         }
+    }
+
+    fn to_value(&self) -> SettingValue<'_> {
+        SettingValue::Duration(*self)
     }
 }
 
@@ -202,6 +236,13 @@ impl<T: FromToml> FromToml for Option<T> {
         match T::from_toml(value) {
             Ok(setting) => Ok(Some(setting)),
             Err(fault) => Err(fault),
+        }
+    }
+
+    fn to_value(&self) -> SettingValue<'_> {
+        match self {
+            Some(setting) => setting.to_value(),
+            None => SettingValue::Absent,
         }
     }
 }

@@ -7,3 +7,5 @@ mod faults;
 mod settings;
 #[cfg(test)]
 mod unknown;
+#[cfg(test)]
+mod written;

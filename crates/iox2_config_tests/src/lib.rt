@@ -6,6 +6,8 @@
 #[cfg(test)]
 mod config;
 #[cfg(test)]
+mod debugs;
+#[cfg(test)]
 mod hash;
 #[cfg(test)]
 mod laws;

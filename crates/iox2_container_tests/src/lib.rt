@@ -8,6 +8,8 @@ mod calls;
 #[cfg(test)]
 mod comparison;
 #[cfg(test)]
+mod debugs;
+#[cfg(test)]
 mod handles;
 #[cfg(test)]
 mod laws;

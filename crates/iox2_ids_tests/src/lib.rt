@@ -3,6 +3,8 @@
 #![tactic(auto)]
 
 #[cfg(test)]
+mod debugs;
+#[cfg(test)]
 mod digits;
 #[cfg(test)]
 mod ids;

@@ -5,6 +5,8 @@
 #[cfg(test)]
 mod chunk_counts;
 #[cfg(test)]
+mod debugs;
+#[cfg(test)]
 mod defaults;
 #[cfg(test)]
 mod descriptions;

@@ -3,6 +3,8 @@
 #![tactic(auto, using(iox2_texts::proofs::Callable::callbacks))]
 
 #[cfg(test)]
+mod debugs;
+#[cfg(test)]
 mod failing;
 #[cfg(test)]
 mod lengths;

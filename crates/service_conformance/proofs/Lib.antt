@@ -11,8 +11,9 @@ pub mod Releasing
 pub mod Listing
 pub mod Quiet
 pub mod Following
-pub mod OneLine
+pub mod Words
 pub mod Conforming
 pub mod Stepping
 pub mod Dying
 pub mod DeadSteps
+pub mod Logs

@@ -1,5 +1,5 @@
 -- The replies that a run could give.
-use Rattle.std.specs.Prelude.{◌≡◌, ◌<◌, ◌^◌, Bool, true, false, Option, Some, None}
+use Rattle.std.specs.Prelude.{◌≡◌, Bool, true, false, Option, Some, None}
 use Rattle.iox2_container.specs.declared.container.refusal.ContainerAddFailure.{ContainerAddFailure}
 use Rattle.iox2_container.specs.declared.container.refusal.ContainerAddFailure.TheVariants.{IsLocked, OutOfSpace}
 use Rattle.iox2_container.specs.Handle.{Handle}
@@ -11,7 +11,7 @@ use Rattle.service_descriptions.specs.declared.replay.machine.command.Command.{C
 use Rattle.service_descriptions.specs.declared.replay.machine.command.Command.TheVariants as command
 use Rattle.service_descriptions.specs.declared.replay.machine.reply.Reply.{Reply}
 use Rattle.service_descriptions.specs.declared.replay.machine.reply.Reply.TheVariants as reply
-use Rattle.service_descriptions.specs.Replies.{IsSameReply, text_of}
+use Rattle.service_descriptions.specs.Replies.{IsSameReply}
 use Rattle.service_conformance.specs.declared.conformance.possible.Part.{Part}
 use Rattle.service_conformance.specs.declared.conformance.possible.Part.TheVariants as part
 use Rattle.service_conformance.specs.declared.conformance.possible.Possible.{Possible}
@@ -62,13 +62,3 @@ IsCovered (command.List role) = Unit {0}
 IsCovered (command.Count role) = Unit {0}
 IsCovered (command.Dead dead (ByPort kept)) = Unit {0}
 IsCovered _ = ⊥
-
--- the slot of the handle that is given, if one is, is a number of 64 bits
-abbrev pub IsInWords : Reply → Type 0
-IsInWords (reply.Handle handle) = handle.slot < 2 ^ 64
-IsInWords _ = Unit {0}
-
--- of the replies with which these steps lead to a service, those with one line are the same
-abbrev pub OneLine : (Reply → Service → Type 0) → Type 0
-OneLine Step = (r q : Reply) (new other : Service) → Step r new → IsService new → Step q other
-    → IsService other → IsInWords r → IsInWords q → text_of r ≡ text_of q → IsSameReply r q

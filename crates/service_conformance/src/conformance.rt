@@ -1,6 +1,7 @@
 //! Checks of commands and replies that were seen, against the steps of
 //! registries and services.
 
+mod log;
 mod placed;
 mod possible;
 mod registry_check;
@@ -8,5 +9,8 @@ mod replies;
 mod run_check;
 mod service_check;
 mod sides;
+mod words;
 
+pub use log::{Expected, Refusal, Verdict, check_log};
+pub use possible::{NextHandle, PossibleReplies};
 pub use run_check::{RunCheck, conforms};

@@ -48,11 +48,13 @@ IsVerified d o = (kind_of d.pattern ≡ kind.PublishSubscribe) × IsSatisfied o.
 abbrev pub IsCompatible : Description → Opener → Type 0
 IsCompatible d o = IsVerified d o × MayOpen o.types (types_of d.pattern)
 
--- the opener may use the messages, which fit the room that it was given, and its node is registered
+-- the opener may use the messages, which fit the room that it was given, one of just the size and
+-- alignment that the service's messages have, and its node is registered
 abbrev pub Opens : Description → Opener → Service → OpenedService → Service → Type 0
 Opens d o old opened new =
     IsCompatible d o
     × MessagesFit (types_of d.pattern) o.types o.elements opened.message.size
+    × (opened.message.size ≡ sample_size (types_of d.pattern) o.elements)
     × (opened.message.alignment ≡ (types_of d.pattern).header.alignment)
     × RegisterStep old o.node (Ok opened.node) new
 
@@ -60,6 +62,7 @@ Opens d o old opened new =
 abbrev pub GivesRoom : MessageTypeDetails → Opener → Result SampleLayoutParts OpenError → Type 0
 GivesRoom types o (Ok room) =
     MayOpen o.types types × MessagesFit types o.types o.elements room.size
+    × (room.size ≡ sample_size types o.elements)
     × (room.alignment ≡ types.header.alignment)
     × (sample_size types o.elements < 2 ^ 63)
 GivesRoom types o (Err IncompatibleTypes) = ¬ MayOpen o.types types

@@ -26,6 +26,7 @@ use Rattle.service_examples.specs.declared.factory.PublisherSettings.{PublisherS
 -- multiple of the header's alignment, each holds a message of n elements
 pub record IsSegment (s : StaticConfig) (loans n : ℕ) (segment : DataSegment) : Type 0 where
   pub blocks_are : IsGreatest (sample_limits s loans) segment.blocks
+  pub block_size_is : segment.block.size ≡ sample_size s.message_type_details n
   pub size_is : segment.size ≡ segment.blocks * segment.block.size
   pub size_fits : segment.size < 2 ^ 63
   pub alignment_is : segment.block.alignment ≡ s.message_type_details.header.alignment

@@ -1,6 +1,6 @@
 //! Discovery: who is attached to a service.
 ghost use Rattle.std.specs.Prelude.{◌≡◌, ◌+◌, ◌≤◌, ◌<◌, [], ◌∷◌, IfOk, OnOk, OnErr};
-ghost use Rattle.std.specs.Prelude.{length, vec_capacity, vec_len};
+ghost use Rattle.std.specs.Prelude.{length, max, vec_capacity, vec_len};
 ghost use Rattle.iox2_dynamic.specs.Service.{first_role, second_role};
 ghost use Rattle.service_examples.specs.Members.{Appends, IsRoster, members_of, nodes_in, ports_in};
 ghost use Rattle.service_examples.specs.Members.{node_of_member};
@@ -35,8 +35,10 @@ impl Member {
 }
 
 /// Replaces the contents of the list by all who are attached to the service: each node and each
-/// port once, by rising node, and for each node first the node and then its ports. It takes memory
-/// for all of them at once. Where memory is refused, the list is empty.
+/// port once, by rising node, and for each node first the node and then its ports.
+///
+/// A list with too small a capacity gets just the capacity that they need, in one request. Sorting
+/// takes memory for as long as it lasts. Where memory is refused, the list is empty.
 pub fn list_attached(
     alloc: Global,
     service: &DynamicConfig,
@@ -44,10 +46,12 @@ pub fn list_attached(
 ) -> Result<(), AllocError>
     ensures listed { OnOk result (IsRoster service.now members.new.items) }
     ensures cleared { OnErr result (members.new.items ≡ []) }
+    ensures exact { OnOk result (vec_capacity members.new
+        ≡ max (vec_capacity members.old) (length (members_of service.now))) }
 {
     let mut list = mem::replace(members, Vec::new(alloc));
     list.clear();
-    list.reserve(number_attached(service)?)?;
+    list.reserve_exact(number_attached(service)?)?;
     let (first, second) = service.kind().port_roles();
     let mut roster = Roster { members: list };
     append_nodes(service, &mut roster);

@@ -105,3 +105,15 @@ fn two_nodes_come_and_go(rt: HostRuntime) -> Result<(), Fail> {
     assert_eq!(rt; seen, [true; 6]);
     Ok(())
 }
+
+/// The death of node 1 leaves node 2, nobody knows node 3, and that of node 2 is the last.
+#[test]
+fn the_last_of_some_deaths_ends_a_service(rt: HostRuntime) -> Result<(), Fail> {
+    let mut service = service(rt.alloc(), 3)?;
+    come(&rt, &mut service);
+    let dead = [node(&rt, 1), node(&rt, 3), node(&rt, 2)];
+    let told = remove_dead_nodes(&mut service, &dead);
+    assert!(rt; told == Some(DeregisterNodeState::NoMoreOwners));
+    assert!(rt; are_attached(rt.alloc(), &service, &[])?);
+    Ok(())
+}

@@ -137,6 +137,20 @@ pub(super) fn details_of<T: Copy>(
     Ok(list)
 }
 
+/// The slots of the entries.
+pub(super) fn slots_of<T: Copy>(
+    alloc: Global,
+    entries: &[Placed<T>],
+) -> Result<Vec<usize>, AllocError>
+    ensures { IfOk result (λ list. list.items ≡ map (λ e. e.slot) entries.now) }
+{
+    let mut list = Vec::new(alloc);
+    for entry in entries {
+        list.push(entry.slot())?;
+    }
+    Ok(list)
+}
+
 impl Placed<UniqueNodeId> {
     /// Whether it is an entry of the node.
     pub(super) fn is_of(&self, node: &UniqueNodeId) -> bool

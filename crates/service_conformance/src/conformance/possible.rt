@@ -21,3 +21,23 @@ pub(super) enum Possible {
     /// Each handle of a free slot of this registry, with its next ticket.
     Given(Part),
 }
+
+/// The handles that an add may give: each of a free slot, with the next ticket.
+#[derive(Debug, Drop)]
+pub struct NextHandle {
+    /// The ticket.
+    pub ticket: u64,
+    /// How many slots there are. They are numbered from 0.
+    pub capacity: usize,
+    /// The slots that are not free, rising.
+    pub taken: Vec<usize>,
+}
+
+/// The replies that a run could give, for readers of logs.
+#[derive(Debug, Drop)]
+pub enum PossibleReplies {
+    /// This one alone.
+    One(Reply),
+    /// Each of these handles.
+    Handle(NextHandle),
+}

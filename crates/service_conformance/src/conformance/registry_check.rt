@@ -11,8 +11,11 @@ ghost use Rattle.iox2_dynamic.specs.Details.{node_of};
 ghost use Rattle.iox2_dynamic.specs.Service.{entries_of_node};
 ghost use Rattle.service_conformance.specs.Dead.{stays, without_node, without_ports};
 ghost use Rattle.service_conformance.specs.Entries.{MayGive, Refuses, StandsAt};
+ghost use Rattle.service_conformance.specs.Words.{IsNextHandle, TellsHandle};
 
-use super::placed::{Placed, details_of, free_position, position_with, put};
+use super::placed::{Placed, details_of, free_position, position_with, put, slots_of};
+use super::possible::NextHandle;
+use super::words::slot_and_ticket;
 use iox2_container::container::{ContainerAddFailure, ContainerHandle, ReleaseMode, Role};
 use iox2_dynamic::dynamic_config::PortDetails;
 use iox2_ids::identifiers::UniqueNodeId;
@@ -118,6 +121,37 @@ impl<T: Copy> RegistryCheck<T> {
             return None;
         };
         Some(ContainerHandle::from_parts(self.service, self.role, slot, self.used))
+    }
+
+    /// The handles that the next add may give, where it is not refused.
+    pub(super) fn next_handle(&self, alloc: Global) -> Result<NextHandle, AllocError>
+        ensures next { IfOk result (IsNextHandle self.now) }
+        ensures kept { IsRegistry self.now }
+    {
+        Ok(NextHandle {
+            ticket: self.used,
+            capacity: self.capacity,
+            taken: slots_of(alloc, &self.entries)?,
+        })
+    }
+
+    /// The handle that the next add may give and that has these words, or `None` where none has.
+    pub(super) fn told(&self, alloc: Global, words: &[u8]) -> Option<ContainerHandle>
+        ensures told { TellsHandle (MayGive self.now) words.now result }
+        ensures kept { IsRegistry self.now }
+    {
+        // For the proof: slots and tickets are numbers of 64 bits.
+        let (_capacity, _used) = (self.capacity, self.used);
+        let Some((slot, ticket)) = slot_and_ticket(alloc, words) else {
+            return None;
+        };
+        let Some(handle) = self.next(slot) else {
+            return None;
+        };
+        if handle.ticket() != ticket {
+            return None;
+        }
+        Some(handle)
     }
 
     /// Whether the next add may give the handle.

@@ -1,15 +1,19 @@
 //! Checks of whole runs.
-ghost use Rattle.std.specs.Prelude.{◌≡◌, IfOk, OnErr, All, length};
+ghost use Rattle.std.specs.Prelude.{◌≡◌, ◌++◌, IfOk, OnErr, All, length};
+ghost use Rattle.iox2_container.specs.Steps.{listed};
 ghost use Rattle.iox2_dynamic.specs.Service.{capacities_in};
 ghost use Rattle.service_conformance.specs.Possible.{IsCovered};
 ghost use Rattle.service_conformance.specs.Quiet.{quiet_state};
 ghost use Rattle.service_conformance.specs.Runs.{Follows, Conforms};
+ghost use Rattle.service_conformance.specs.Words.{AreRepliesTo, FollowsWords};
 ghost use Rattle.service_descriptions.specs.Steps.{new_state};
 
+use super::possible::PossibleReplies;
 use super::replies::given;
 use super::service_check::ServiceCheck;
 use iox2_container::container::ContainerHandle;
-use iox2_dynamic::dynamic_config::MessagingPatternSettings;
+use iox2_dynamic::dynamic_config::{MessagingPatternSettings, PortDetails};
+use iox2_ids::identifiers::UniqueNodeId;
 use service_descriptions::replay::{Command, Reply};
 use std::alloc::{AllocError, Global};
 use std::marker::Model;
@@ -69,6 +73,61 @@ impl RunCheck {
         }
         self.earlier.push_reserved(given(reply));
         Ok(true)
+    }
+
+    /// Whether the command could be answered with a reply of these words, as `write_reply` writes
+    /// them, without the newline. If so, the check goes on from the one state that the reply
+    /// leaves, else it stays as it was.
+    pub fn check_words(
+        &mut self,
+        alloc: Global,
+        command: &Command,
+        words: &[u8],
+    ) -> Result<bool, AllocError>
+        requires { IsCovered command.now }
+        ensures ok { IfOk result (λ yes.
+            FollowsWords self.old command.now words.now yes self.new) }
+        ensures err { OnErr result (self.new ≡ self.old) }
+        ensures rest { quiet_state self.old ≡ self.old }
+        ensures rests { quiet_state self.new ≡ self.new }
+    {
+        self.earlier.reserve(1)?;
+        let found = self
+            .service
+            .check_words(alloc, &self.earlier, command, words)?;
+        let Some(reply) = found else {
+            return Ok(false);
+        };
+        self.earlier.push_reserved(given(&reply));
+        Ok(true)
+    }
+
+    /// The replies that the command may have next.
+    pub fn possible(&self, alloc: Global, command: &Command) -> Result<PossibleReplies, AllocError>
+        requires { IsCovered command.now }
+        ensures { IfOk result (AreRepliesTo self.now command.now) }
+    {
+        let replies = self
+            .service
+            .possible_replies(alloc, &self.earlier, command)?;
+        Ok(replies)
+    }
+
+    /// The nodes that are registered now, by rising slot.
+    pub fn nodes(&self, alloc: Global) -> Result<Vec<UniqueNodeId>, AllocError>
+        ensures { IfOk result (λ nodes. nodes.items ≡ listed self.now.service.nodes.registry) }
+    {
+        self.service.nodes_listed(alloc)
+    }
+
+    /// The ports that are attached now: those of the pattern's first kind by rising slot, and
+    /// then the others.
+    pub fn ports(&self, alloc: Global) -> Result<Vec<PortDetails>, AllocError>
+        ensures { IfOk result (λ ports. ports.items
+            ≡ listed self.now.service.ports.first.registry
+            ++ listed self.now.service.ports.second.registry) }
+    {
+        self.service.ports_listed(alloc)
     }
 }
 

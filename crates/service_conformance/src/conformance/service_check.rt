@@ -8,10 +8,12 @@ ghost use Rattle.service_conformance.specs.Dead.{after_dead, ports_after, stays}
 ghost use Rattle.service_conformance.specs.Possible.{IsCovered};
 ghost use Rattle.service_conformance.specs.Quiet.{Checked, ports_at_rest, quiet};
 ghost use Rattle.service_conformance.specs.Sides.{ports_at, side_of};
+ghost use Rattle.service_conformance.specs.Words.{CheckedWords};
 ghost use Rattle.service_descriptions.specs.Steps.{Serves};
 
 mod following;
 mod replies_possible;
+mod reply_told;
 
 use super::registry_check::RegistryCheck;
 use iox2_config::hash::PatternKind;
@@ -233,5 +235,32 @@ impl ServiceCheck {
         }
         self.follow(earlier, command, reply)?;
         Ok(true)
+    }
+
+    /// Checks a command with the words of its reply, where earlier ones gave these handles: the
+    /// reply, or `None` where no possible one has the words. With a reply, the check goes on from
+    /// the one state that it leaves.
+    pub(super) fn check_words(
+        &mut self,
+        alloc: Global,
+        earlier: &[Option<ContainerHandle>],
+        command: &Command,
+        words: &[u8],
+    ) -> Result<Option<Reply>, AllocError>
+        requires { IsCovered command.now }
+        ensures ok { IfOk result (λ found. CheckedWords
+            (Serves self.old None earlier.now command.now) words.now self.old found self.new) }
+        ensures err { OnErr result (self.new ≡ self.old) }
+        ensures kept { IsService self.new }
+        ensures rest { quiet self.new ≡ self.new }
+    {
+        // For the proof: what is true of every check.
+        let _pattern = &self.pattern;
+        let possible = self.possible(alloc, earlier, command)?;
+        let Some(reply) = self.told(alloc, possible, words)? else {
+            return Ok(None);
+        };
+        self.follow(earlier, command, &reply)?;
+        Ok(Some(reply))
     }
 }

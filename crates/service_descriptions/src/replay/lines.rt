@@ -11,3 +11,4 @@ pub use line::read_line;
 pub(crate) use port::ScriptPort;
 pub use reply_line::write_reply;
 pub use script::{ScriptError, run_script};
+pub use service_line::{ServiceLine, service_before};

@@ -1,11 +1,12 @@
 //! The replies that a command may have.
 ghost use Rattle.std.specs.Prelude.{◌≡◌, ◌↔◌, IsTrue, IfOk, None};
-ghost use Rattle.service_conformance.specs.Possible.{Allows, ArePossible, IsCovered, MayGiveIn, OneLine};
+ghost use Rattle.service_conformance.specs.Possible.{Allows, ArePossible, IsCovered, MayGiveIn};
 ghost use Rattle.service_conformance.specs.Quiet.{Reports};
 ghost use Rattle.service_descriptions.specs.Cleanups.{ServesDead};
 ghost use Rattle.service_descriptions.specs.Listings.{ServesCount, ServesList, ServesNodes};
 ghost use Rattle.service_descriptions.specs.Steps.{Serves, ServesAdd, ServesDeregister, ServesRegister, ServesRelease};
 ghost use Rattle.service_descriptions.specs.declared.replay.machine.command.Cleanup.TheVariants as cleanup;
+ghost use Rattle.service_descriptions.specs.declared.replay.machine.command.Command.TheVariants as command;
 
 use super::super::possible::{Part, Possible};
 use super::super::replies::{given, named, possible_add, reply_of_owners};
@@ -90,6 +91,17 @@ impl ServiceCheck {
         Possible::One(reply_of_owners(locked))
     }
 
+    /// The replies that removing a dead node with this cleanup may have.
+    fn possible_cleanup(&self, dead: &UniqueNodeId, cleanup: &Cleanup) -> Possible
+        requires { IsCovered (command.Dead dead.now cleanup.now) }
+        ensures { ArePossible self.now (ServesDead self.now dead.now cleanup.now) result }
+    {
+        match cleanup {
+            Cleanup::ByPort(kept) => self.possible_dead(dead, kept),
+            Cleanup::ByOrder(_) => unreachable!(),
+        }
+    }
+
     /// The replies that a list of the nodes may be.
     fn possible_nodes(&self, alloc: Global) -> Result<Possible, AllocError>
         ensures { IfOk result (ArePossible self.now (Reports self.now (ServesNodes self.now))) }
@@ -123,7 +135,6 @@ impl ServiceCheck {
     }
 
     /// The replies that a command may have, where earlier ones gave these handles.
-    #[tactic(auto, using(crate::proofs::OneLine::one_line))]
     pub(super) fn possible(
         &self,
         alloc: Global,
@@ -131,11 +142,8 @@ impl ServiceCheck {
         command: &Command,
     ) -> Result<Possible, AllocError>
         requires { IsCovered command.now }
-        ensures all { IfOk result (ArePossible self.now
+        ensures { IfOk result (ArePossible self.now
             (Serves self.now None earlier.now command.now)) }
-        // Of those, the ones with one line are the same.
-        ensures line { IfOk result
-            (λ p. OneLine (Serves self.now None earlier.now command.now)) }
     {
         match command {
             Command::Register(id) => Ok(self.possible_register(*id)),
@@ -145,7 +153,7 @@ impl ServiceCheck {
             Command::Release(k) => Ok(self.possible_release(named(earlier, *k))),
             Command::List(role) => self.possible_list(alloc, *role),
             Command::Count(role) => Ok(self.possible_count(*role)),
-            Command::Dead(dead, Cleanup::ByPort(kept)) => Ok(self.possible_dead(dead, kept)),
+            Command::Dead(dead, cleanup) => Ok(self.possible_cleanup(dead, cleanup)),
             _ => unreachable!(),
         }
     }

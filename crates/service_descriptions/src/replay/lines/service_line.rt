@@ -13,17 +13,17 @@ use std::alloc::{AllocError, Global};
 
 /// What the first line of a script says of its service.
 #[derive(Clone, Copy)]
-pub(super) struct ServiceLine {
+pub struct ServiceLine {
     /// The pattern.
-    pub(super) pattern: PatternKind,
+    pub pattern: PatternKind,
     /// The number of the service.
-    pub(super) number: u64,
+    pub number: u64,
     /// How many nodes may be registered at a time.
-    pub(super) max_nodes: usize,
+    pub max_nodes: usize,
     /// How many of the ports that are recovered first may be attached at a time.
-    pub(super) first: usize,
+    pub first: usize,
     /// How many of the other ports may be attached at a time.
-    pub(super) second: usize,
+    pub second: usize,
 }
 
 /// The word for a pattern, and a space.
@@ -63,7 +63,7 @@ impl<'a> Phrase<'a> for PatternName {
 const NUMBER: Number = Number(u64::MAX);
 
 /// The service line with its newline that begins these bytes, and what follows the newline.
-pub(super) fn service_before(alloc: Global, bytes: &[u8]) -> Option<(ServiceLine, &[u8])>
+pub fn service_before(alloc: Global, bytes: &[u8]) -> Option<(ServiceLine, &[u8])>
     ensures { Reads IsServiceFront service_front
         (option_map (λ found. (found.0, found.1.now)) result) bytes.now }
 {

@@ -53,7 +53,7 @@ returns-in-Ok-clause-opened c =
     (c.if-not-is_publish_subscribe.ensures.0 refl) c.attributes.ensures c.in_default.ensures
     in
     let room = rw c.types_of.ensures at c.in_ok-message.ensures in
-    ((v, room.0), room.1, room.2, c.in-Ok.ensures.step)
+    ((v, room.0), room.1, room.2, room.3, c.in-Ok.ensures.step)
 
 pub returns-in-Err-register_node_id-clause-cause : goal.returns-in-Err-register_node_id-clause-cause
 returns-in-Err-register_node_id-clause-cause c =
@@ -62,7 +62,7 @@ returns-in-Err-register_node_id-clause-cause c =
     in
     let room = rw c.types_of.ensures at c.in_ok-message.ensures in (
       (v, room.0),
-      room.3,
+      room.4,
       not_registered c.args.service.now c.args.opener.now.node c.in-Err-register_node_id.why _
           c.in-Err-register_node_id.ensures.step,
     )

@@ -18,7 +18,8 @@ returns-clause-listed c =
     let second =
     c.append_ports-2.ensures.second
     (c.port_roles-first.ensures.second ∙ ap second_role c.kind.ensures.kind) in
-    let none : c.reserve.new.self.items ≡ [] = c.reserve.ensures.items ∙ c.clear.ensures.items in
+    let none : c.reserve_exact.new.self.items ≡ [] =
+    c.reserve_exact.ensures.items ∙ c.clear.ensures.items in
     let all : c.append_ports-2.new.roster.members.items ≡ members_of s =
     second.0
     ∙ (ap (λ (l : List Member). l ++ ports_in s.ports.second)

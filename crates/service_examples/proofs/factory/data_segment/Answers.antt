@@ -10,5 +10,5 @@ returns-in-Some-size_of_row c =
       search rules,
       is_segment c.args.settings.now c.args.max_loaned_samples c.args.max_elements _
           c.in-Some.ensures size c.in-Some-size_of_row.ensures.1
-          (ap (λ r. r.alignment) room) holds,
+          (ap (λ r. r.size) room) (ap (λ r. r.alignment) room) holds,
     )

@@ -1,0 +1,232 @@
+//! The settings of a configuration, one by one.
+ghost use Rattle.std.specs.Prelude.{◌≡◌, Some, option_map};
+ghost use Rattle.iox2_config_file.specs.Settings as table_of;
+ghost use Rattle.iox2_config_file.specs.Write.{value_view, value_text, value_is_set, value_fits};
+
+use crate::section::Section;
+use crate::value::FromToml;
+use iox2_config::config::{
+    AllocationStrategy, BackpressureStrategy, Blackboard, Config, Event, Global, Node,
+    PublishSubscribe, RequestResonse, Service,
+};
+use std::fmt;
+use std::time::Duration;
+use toml_writer::write_string;
+
+/// What a setting holds. `{}` writes it as TOML does.
+#[derive(Clone, Copy, Debug, PartialEq, Eq)]
+pub enum SettingValue<'a> {
+    /// A number.
+    Number(usize),
+    /// A switch.
+    Flag(bool),
+    /// A path, or the name of a file.
+    Text(&'a str),
+    /// What a sender does where a receiver has no room.
+    Backpressure(BackpressureStrategy),
+    /// How the room for messages grows.
+    Allocation(AllocationStrategy),
+    /// A time.
+    Duration(Duration),
+    /// Nothing: the setting is not set.
+    Absent,
+}
+
+impl fmt::Display for SettingValue<'_> {
+    ghost output = { λ value. Some (value_text (value_view value)) };
+
+    fn fmt<W: fmt::Write>(&self, f: &mut fmt::Formatter<W>) -> fmt::Result {
+        match self {
+            SettingValue::Number(n) => write!(f, "{n}"),
+            SettingValue::Flag(on) => write!(f, "{on}"),
+            SettingValue::Text(text) => write_string(f, text),
+            SettingValue::Backpressure(BackpressureStrategy::RetryUntilDelivered) => f.write_str(
+                "\"RetryUntilDelivered\"",
+            ),
+            SettingValue::Backpressure(BackpressureStrategy::DiscardData) => f.write_str(
+                "\"DiscardData\"",
+            ),
+            SettingValue::Allocation(AllocationStrategy::BestFit) => f.write_str("\"BestFit\""),
+            SettingValue::Allocation(AllocationStrategy::PowerOfTwo) => f.write_str(
+                "\"PowerOfTwo\"",
+            ),
+            SettingValue::Allocation(AllocationStrategy::Static) => f.write_str("\"Static\""),
+            SettingValue::Duration(time) => write!(
+                f,
+                "{{ nanos = {}, secs = {} }}",
+                time.subsec_nanos(),
+                time.as_secs()
+            ),
+            SettingValue::Absent => f.write_str("not set"),
+        }
+    }
+}
+
+impl SettingValue<'_> {
+    /// Whether it is anything.
+    pub(crate) fn is_set(self) -> bool
+        ensures { result ≡ value_is_set (value_view self.entry) }
+    {
+        !matches!(self, SettingValue::Absent)
+    }
+
+    /// Whether TOML has the number, or the seconds: whether it is below 2^63.
+    pub(crate) fn fits(self) -> bool
+        ensures { result ≡ value_fits (value_view self.entry) }
+    {
+        match self {
+            SettingValue::Number(n) => n < 1 << 63,
+            SettingValue::Duration(time) => time.as_secs() < 1 << 63,
+            _ => true,
+        }
+    }
+}
+
+/// What the setting of a row holds: of the row of this number among those of the table, from 0 on.
+pub fn value_at(config: &Config, section: Section, index: usize) -> Option<SettingValue<'_>>
+    ensures { option_map value_view result
+        ≡ table_of.held_at (table_of.settings_in section config.now) index }
+{
+    match section {
+        Section::Root | Section::Defaults => None,
+        Section::Global => global(&config.global, index),
+        Section::Service => service(&config.global.service, index),
+        Section::Node => node(&config.global.node, index),
+        Section::PublishSubscribe => publish_subscribe(&config.defaults.publish_subscribe, index),
+        Section::Event => event(&config.defaults.event, index),
+        Section::RequestResponse => request_response(&config.defaults.request_response, index),
+        Section::Blackboard => blackboard(&config.defaults.blackboard, index),
+    }
+}
+
+/// The settings of a whole system, by the numbers of their rows.
+fn global(settings: &Global, index: usize) -> Option<SettingValue<'_>>
+    ensures { option_map value_view result
+        ≡ table_of.held_at (table_of.global_settings settings.now) index }
+{
+    match index {
+        0 => Some(settings.root_path().to_value()),
+        1 => Some(settings.prefix.to_value()),
+        2 => Some(settings.creation_timeout.to_value()),
+        _ => None,
+    }
+}
+
+/// The settings of services' files.
+fn service(settings: &Service, index: usize) -> Option<SettingValue<'_>>
+    ensures { option_map value_view result
+        ≡ table_of.held_at (table_of.service_settings settings.now) index }
+{
+    match index {
+        0 => Some(settings.directory.to_value()),
+        1 => Some(settings.data_segment_suffix.to_value()),
+        2 => Some(settings.static_config_storage_suffix.to_value()),
+        3 => Some(settings.dynamic_config_storage_suffix.to_value()),
+        4 => Some(settings.connection_suffix.to_value()),
+        5 => Some(settings.event_connection_suffix.to_value()),
+        6 => Some(settings.blackboard_mgmt_suffix.to_value()),
+        7 => Some(settings.blackboard_data_suffix.to_value()),
+        8 => Some(settings.cleanup_dead_nodes_on_open.to_value()),
+        _ => None,
+    }
+}
+
+/// The settings of nodes' files.
+fn node(settings: &Node, index: usize) -> Option<SettingValue<'_>>
+    ensures { option_map value_view result
+        ≡ table_of.held_at (table_of.node_settings settings.now) index }
+{
+    match index {
+        0 => Some(settings.directory.to_value()),
+        1 => Some(settings.monitor_suffix.to_value()),
+        2 => Some(settings.static_config_suffix.to_value()),
+        3 => Some(settings.service_tag_suffix.to_value()),
+        4 => Some(settings.port_tag_suffix.to_value()),
+        5 => Some(settings.global_mgmt_suffix.to_value()),
+        6 => Some(settings.cleanup_dead_nodes_on_creation.to_value()),
+        7 => Some(settings.cleanup_dead_nodes_on_destruction.to_value()),
+        _ => None,
+    }
+}
+
+/// The settings of publish-subscribe services.
+fn publish_subscribe(settings: &PublishSubscribe, index: usize) -> Option<SettingValue<'_>>
+    ensures { option_map value_view result
+        ≡ table_of.held_at (table_of.publish_subscribe_settings settings.now) index }
+{
+    match index {
+        0 => Some(settings.max_subscribers.to_value()),
+        1 => Some(settings.max_publishers.to_value()),
+        2 => Some(settings.max_nodes.to_value()),
+        3 => Some(settings.subscriber_max_buffer_size.to_value()),
+        4 => Some(settings.subscriber_max_borrowed_samples.to_value()),
+        5 => Some(settings.publisher_max_loaned_samples.to_value()),
+        6 => Some(settings.publisher_history_size.to_value()),
+        7 => Some(settings.enable_safe_overflow.to_value()),
+        8 => Some(settings.backpressure_strategy.to_value()),
+        9 => Some(settings.subscriber_expired_connection_buffer.to_value()),
+        10 => Some(settings.publisher_allocation_strategy.to_value()),
+        _ => None,
+    }
+}
+
+/// The settings of event services.
+fn event(settings: &Event, index: usize) -> Option<SettingValue<'_>>
+    ensures { option_map value_view result
+        ≡ table_of.held_at (table_of.event_settings settings.now) index }
+{
+    match index {
+        0 => Some(settings.max_listeners.to_value()),
+        1 => Some(settings.max_notifiers.to_value()),
+        2 => Some(settings.max_nodes.to_value()),
+        3 => Some(settings.event_id_max_value.to_value()),
+        4 => Some(settings.deadline.to_value()),
+        5 => Some(settings.notifier_created_event.to_value()),
+        6 => Some(settings.notifier_dropped_event.to_value()),
+        7 => Some(settings.notifier_dead_event.to_value()),
+        _ => None,
+    }
+}
+
+/// The settings of request-response services.
+fn request_response(settings: &RequestResonse, index: usize) -> Option<SettingValue<'_>>
+    ensures { option_map value_view result
+        ≡ table_of.held_at (table_of.request_response_settings settings.now) index }
+{
+    match index {
+        0 => Some(settings.enable_safe_overflow_for_requests.to_value()),
+        1 => Some(settings.enable_safe_overflow_for_responses.to_value()),
+        2 => Some(settings.max_active_requests_per_client.to_value()),
+        3 => Some(settings.max_response_buffer_size.to_value()),
+        4 => Some(settings.max_servers.to_value()),
+        5 => Some(settings.max_clients.to_value()),
+        6 => Some(settings.max_nodes.to_value()),
+        7 => Some(
+            settings
+                .max_borrowed_responses_per_pending_response
+                .to_value(),
+        ),
+        8 => Some(settings.max_loaned_requests.to_value()),
+        9 => Some(settings.server_max_loaned_responses_per_request.to_value()),
+        10 => Some(settings.client_backpressure_strategy.to_value()),
+        11 => Some(settings.server_backpressure_strategy.to_value()),
+        12 => Some(settings.client_expired_connection_buffer.to_value()),
+        13 => Some(settings.server_expired_connection_buffer.to_value()),
+        14 => Some(settings.enable_fire_and_forget_requests.to_value()),
+        15 => Some(settings.client_allocation_strategy.to_value()),
+        16 => Some(settings.server_allocation_strategy.to_value()),
+        _ => None,
+    }
+}
+
+/// The settings of blackboard services.
+fn blackboard(settings: &Blackboard, index: usize) -> Option<SettingValue<'_>>
+    ensures { option_map value_view result
+        ≡ table_of.held_at (table_of.blackboard_settings settings.now) index }
+{
+    match index {
+        0 => Some(settings.max_readers.to_value()),
+        1 => Some(settings.max_nodes.to_value()),
+        _ => None,
+    }
+}

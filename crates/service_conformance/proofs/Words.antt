@@ -1,0 +1,352 @@
+-- What words tell.
+use Rattle.std.proofs.Common.{◌≡◌, ◌≢◌, ℕ, ◌^◌, ◌<◌, ◌+◌, Option, Some, None, List, [], ◌∷◌, ◌++◌, All, codes, map, refl, sym, ◌∙◌, ap, subst, arith, append_assoc, length, length-append, take, ◌-◌}
+use Rattle.std.specs.Fmt.{decimal}
+use Rattle.std.specs.Global.{Vec}
+use Rattle.std.specs.List.{flat_map}
+use Rattle.std.proofs.lemmas.Fmt.{decimal_injective}
+use Rattle.std.proofs.lemmas.List.{append_cancel_left, append-nil, take_at}
+use Rattle.std.proofs.lemmas.List.Elements.{All-cons, All-head, All-map, All-nil, All-tail}
+use Rattle.iox2_container.specs.declared.container.role.Role.{Role}
+use Rattle.iox2_container.specs.Handle.{Handle}
+use Rattle.iox2_container.specs.State.{Entry, RegistryState}
+use Rattle.iox2_container.specs.Steps.{listed}
+use Rattle.iox2_dynamic.specs.declared.dynamic_config.port_details.PortDetails.{PortDetails}
+use Rattle.iox2_dynamic.specs.Ports.{OfRole}
+use Rattle.iox2_dynamic.specs.Service.{Service, first_role, second_role}
+use Rattle.line_streams.specs.Numerals.{cons_same}
+use Rattle.line_streams.specs.OneWay.{number_one}
+use Rattle.line_streams.specs.declared.end.LineEnd.TheVariants.{Bytes}
+use Rattle.line_streams.specs.Spelling.{EndsNumber, Spelling, after, ended, sequence}
+use Rattle.service_descriptions.specs.declared.replay.machine.command.Cleanup.TheVariants.{ByPort}
+use Rattle.service_descriptions.specs.declared.replay.machine.command.Command.{Command}
+use Rattle.service_descriptions.specs.declared.replay.machine.command.Command.TheVariants as command
+use Rattle.service_descriptions.specs.declared.replay.machine.reply.Reply.{Reply}
+use Rattle.service_descriptions.specs.declared.replay.machine.reply.Reply.TheVariants as reply
+use Rattle.service_descriptions.specs.Handles.{named}
+use Rattle.service_descriptions.specs.Lines.{HasLine}
+use Rattle.service_descriptions.specs.Replies.{IsSameReply, id_word, port_word, text_of}
+use Rattle.service_descriptions.specs.Steps.{Serves, ServesDeregister, ServesRelease, handle_in}
+use Rattle.service_descriptions.proofs.Lines.{any_fits, any_number}
+use Rattle.service_conformance.specs.declared.conformance.possible.NextHandle.{NextHandle}
+use Rattle.service_conformance.specs.declared.conformance.possible.Part.{Part}
+use Rattle.service_conformance.specs.declared.conformance.possible.Part.TheVariants as part
+use Rattle.service_conformance.specs.declared.conformance.possible.Possible.{Possible}
+use Rattle.service_conformance.specs.declared.conformance.possible.Possible.TheVariants as possible
+use Rattle.service_conformance.specs.declared.conformance.possible.PossibleReplies.TheVariants as replies
+use Rattle.service_conformance.specs.Entries.{MayGive}
+use Rattle.service_conformance.specs.Possible.{ArePossible, IsCovered, MayGiveIn}
+use Rattle.service_conformance.specs.Quiet.{CanServe, LeadsTo}
+use Rattle.service_conformance.specs.Words.{AllowsWords, ArePossibleWords, CheckedWords, IsNextHandle, IsNextIn, Tells, TellsHandle, handle_words}
+
+-- the text of a handle: its slot, a space, and the rest
+spaced : (slot ticket : ℕ) → codes "handle " ++ decimal slot ++ codes " " ++ decimal ticket
+    ≡ codes "handle " ++ (decimal slot ++ 32 ∷ decimal ticket)
+spaced slot ticket =
+    ap (λ (l : List ℕ). codes "handle " ++ l)
+    (append_assoc (decimal slot) (32 ∷ []) (decimal ticket))
+
+-- handles that may be given and have one text are the same
+pub same_handle : {T : Type 0} (r : RegistryState T) (h k : Handle) → MayGive r h → MayGive r k
+    → h.slot < 2 ^ 64 → k.slot < 2 ^ 64 → text_of (reply.Handle h) ≡ text_of (reply.Handle k)
+    → h ≡ k
+same_handle r h k m n p q e =
+    let ends : (t : ℕ) → EndsNumber (32 ∷ decimal t) = λ t digit. omega arith in
+    let most = h.slot + k.slot in
+    let slots =
+    (number_one most).same (h.slot, 32 ∷ decimal h.ticket) (k.slot, 32 ∷ decimal k.ticket)
+    (omega arith, p, ends h.ticket) (omega arith, q, ends k.ticket)
+    (append_cancel_left (codes "handle ") (decimal h.slot ++ 32 ∷ decimal h.ticket)
+    (decimal k.slot ++ 32 ∷ decimal k.ticket)
+    (sym (spaced h.slot h.ticket) ∙ (e ∙ spaced k.slot k.ticket))) in
+    let f : ℕ → Role → ℕ → ℕ → Handle =
+    λ s o t i. record { service = s; role = o; slot = t; ticket = i } in
+    ap (λ s. f s h.role h.slot h.ticket) (m.service ∙ sym n.service)
+    ∙ (ap (λ o. f k.service o h.slot h.ticket) (m.role ∙ sym n.role)
+    ∙ (ap (λ t. f k.service k.role t h.ticket) slots.0
+    ∙ ap (λ i. f k.service k.role k.slot i) (m.ticket ∙ sym n.ticket)))
+
+same_reply : (r : Reply) → IsSameReply r r
+same_reply (reply.Nodes ids) = refl
+same_reply (reply.Ports ports) = refl
+same_reply _ = refl
+
+is_nodes : (ids : Vec ℕ) (r : Reply) → IsSameReply (reply.Nodes ids) r
+    → (other : Vec ℕ) × (r ≡ reply.Nodes other) × (ids.items ≡ other.items)
+is_nodes ids (reply.Nodes other) e = (other, refl, e)
+is_nodes ids _ e = absurd (cc)
+
+is_ports : (ports : Vec PortDetails) (r : Reply) → IsSameReply (reply.Ports ports) r
+    → (other : Vec PortDetails) × (r ≡ reply.Ports other) × (ports.items ≡ other.items)
+is_ports ports (reply.Ports other) e = (other, refl, e)
+is_ports ports _ e = absurd (cc)
+
+-- slots and tickets with one text are the same
+parts_same : (s t u v : ℕ) → s < 2 ^ 64 → t < 2 ^ 64 → u < 2 ^ 64 → v < 2 ^ 64
+    → handle_words s t ≡ handle_words u v → (s ≡ u) × (t ≡ v)
+parts_same s t u v p q p' q' e =
+    let ends : (t : ℕ) → EndsNumber (32 ∷ decimal t) = λ t digit. omega arith in
+    let most = s + u in
+    let parts =
+    (number_one most).same (s, 32 ∷ decimal t) (u, 32 ∷ decimal v) (omega arith, p, ends t)
+    (omega arith, p', ends v)
+    (append_cancel_left (codes "handle ") (decimal s ++ 32 ∷ decimal t) (decimal u ++ 32 ∷ decimal v)
+    (sym (spaced s t) ∙ (e ∙ spaced u v))) in
+    (parts.0, decimal_injective t v q q' (cons_same parts.1).1)
+
+abbrev pub handle_phrase : Spelling (ℕ × ℕ)
+handle_phrase =
+    after (codes "handle ")
+    (sequence any_number (after (codes " ") (ended any_number Bytes)))
+
+-- where the phrase of a handle is not read, no slot and ticket have the words
+pub unread : (words : List ℕ) → ((a : (ℕ × ℕ) × List ℕ) → handle_phrase.Fits a
+    → words ≢ handle_phrase.text a) → (slot ticket : ℕ) → slot < 2 ^ 64 → ticket < 2 ^ 64
+    → handle_words slot ticket ≢ words
+unread words never slot ticket s t e =
+    let space : EndsNumber (32 ∷ (decimal ticket ++ [])) = λ digit. omega arith in
+    let nothing : EndsNumber [] = λ digit. omega arith in
+    never ((slot, ticket), [])
+    (any_fits slot (32 ∷ (decimal ticket ++ [])) s space, (any_fits ticket [] t nothing, refl))
+    (sym e ∙ (spaced slot ticket
+    ∙ ap (λ (l : List ℕ). codes "handle " ++ (decimal slot ++ 32 ∷ l))
+    (sym (append-nil (decimal ticket)))))
+
+-- a text before its newline
+pub before_last : (text line : List ℕ) (n : ℕ) → n ≡ length line → line ≡ text ++ 10 ∷ []
+    → take (n - 1) line ≡ text
+before_last text line n is e =
+    let one : length line ≡ length text + 1 = ap length e ∙ length-append text (10 ∷ []) in
+    ap (take (n - 1)) e ∙ take_at text (10 ∷ []) (n - 1) (omega (arith, is, one))
+
+module _ {T : Type 0} (r : RegistryState T) (words : List ℕ) (fits : r.capacity < 2 ^ 64)
+    (counts : r.used < 2 ^ 64) where
+  -- no slot and ticket have the words
+  pub none_parsed : ((slot ticket : ℕ) → slot < 2 ^ 64 → ticket < 2 ^ 64
+      → handle_words slot ticket ≢ words) → TellsHandle (MayGive r) words None
+  none_parsed never h may e =
+      never h.slot h.ticket (omega (arith, may.fits, fits)) (omega (arith, may.ticket, counts)) e
+
+  module _ (slot ticket : ℕ) (s : slot < 2 ^ 64) (t : ticket < 2 ^ 64)
+      (told : handle_words slot ticket ≡ words) where
+    parts_told : (h : Handle) → MayGive r h → text_of (reply.Handle h) ≡ words
+        → (h.slot ≡ slot) × (h.ticket ≡ ticket)
+    parts_told h may e =
+        parts_same h.slot h.ticket slot ticket (omega (arith, may.fits, fits))
+        (omega (arith, may.ticket, counts)) s t (e ∙ sym told)
+
+    -- the slot is not free
+    pub none_free : ((h : Handle) → h.slot ≡ slot → ¬ (MayGive r h))
+        → TellsHandle (MayGive r) words None
+    none_free never h may e = never h (parts_told h may e).0 may
+
+    -- the ticket is not the next one
+    pub none_next : (next : Handle) → MayGive r next → next.ticket ≢ ticket
+        → TellsHandle (MayGive r) words None
+    none_next next may never h so e = never (may.ticket ∙ sym so.ticket ∙ (parts_told h so e).1)
+
+    pub one_next : (next : Handle) → next.slot ≡ slot → MayGive r next → next.ticket ≡ ticket
+        → TellsHandle (MayGive r) words (Some next)
+    one_next next is may same =
+        let text : text_of (reply.Handle next) ≡ words =
+        ap (λ k. handle_words k next.ticket) is ∙ ap (handle_words slot) same ∙ told in (
+          may,
+          text,
+          λ other so e. same_handle r next other may so (omega (arith, may.fits, fits))
+              (omega (arith, so.fits, fits)) (text ∙ sym e),
+        )
+
+same_text : (one r : Reply) → IsSameReply one r → text_of one ≡ text_of r
+same_text (reply.Nodes ids) r e =
+    let a = is_nodes ids r e in
+    subst (λ r. text_of (reply.Nodes ids) ≡ text_of r) (sym a.1)
+    (ap (λ (l : List ℕ). codes "list" ++ flat_map id_word l) a.2)
+same_text (reply.Ports ports) r e =
+    let a = is_ports ports r e in
+    subst (λ r. text_of (reply.Ports ports) ≡ text_of r) (sym a.1)
+    (ap (λ (l : List PortDetails). codes "list" ++ flat_map port_word l) a.2)
+same_text _ r e = ap text_of e
+
+pub same_given : (one r : Reply) → IsSameReply one r → handle_in one ≡ handle_in r
+same_given (reply.Nodes ids) r e = ap handle_in (sym (is_nodes ids r e).1)
+same_given (reply.Ports ports) r e = ap handle_in (sym (is_ports ports r e).1)
+same_given _ r e = ap handle_in e
+
+module _ (s : Service) (words : List ℕ) where
+  pub one_told : (one : Reply) → text_of one ≡ words → Tells s (possible.One one) words (Some one)
+  one_told one e = (same_reply one, e, λ other a f. a)
+
+  pub one_not : (one : Reply) → ¬ (text_of one ≡ words) → Tells s (possible.One one) words None
+  one_not one never r a e = never (same_text one r a ∙ e)
+
+  pub given_told : (part : Part) (h : Handle) → TellsHandle (MayGiveIn s part) words (Some h)
+      → Tells s (possible.Given part) words (Some (reply.Handle h))
+  given_told part h tells = (
+    (h, refl, tells.0),
+    tells.1,
+    λ other a e. ap reply.Handle (tells.2 a.0 a.2 (ap text_of (sym a.1) ∙ e)) ∙ sym a.1,
+  )
+
+  pub given_not : (part : Part) → TellsHandle (MayGiveIn s part) words None
+      → Tells s (possible.Given part) words None
+  given_not part never r a e = never a.0 a.2 (ap text_of (sym a.1) ∙ e)
+
+module _ (s : Service) (Step : Reply → Service → Type 0) (p : Possible) (words : List ℕ)
+    (all : ArePossible s Step p) where
+  pub told_none : (new : Service) → new ≡ s → Tells s p words None → CheckedWords Step words s None new
+  told_none new e never = (λ r f can. never r (all.only r can.0 can.1 can.2) f, e)
+
+  pub told_can : (r : Reply) → Tells s p words (Some r) → CanServe Step r
+  told_can r tells = all.can r tells.0
+
+  pub told_one : (r : Reply) (new : Service) → Tells s p words (Some r) → LeadsTo Step r new
+      → CheckedWords Step words s (Some r) new
+  told_one r new tells leads = (
+    tells.1,
+    (told_can r tells, leads),
+    λ other e can. tells.2 other (all.only other can.0 can.1 can.2) e,
+  )
+
+from_map : {X Y : Type 0} (P : X → Type 0) (f : Y → X) (ys : List Y) → All P (map f ys)
+    → All (λ y. P (f y)) ys
+from_map P f [] a = All-nil (λ y. P (f y))
+from_map P f (y ∷ ys) a =
+    All-cons (λ y. P (f y)) y ys (All-head P (f y) (map f ys) a)
+    (from_map P f ys (All-tail P (f y) (map f ys) a))
+
+module _ {T : Type 0} (r : RegistryState T) (next : NextHandle) (is : IsNextHandle r next)
+    (words : List ℕ) where
+  next_may : AllowsWords (replies.Handle next) words
+      → (h : Handle) × MayGive r h × (text_of (reply.Handle h) ≡ words)
+  next_may a = (
+    record { service = r.service; role = r.role; slot = a.0; ticket = r.used },
+    record {
+      service = refl;
+      role = refl;
+      ticket = refl;
+      fits = subst (λ n. a.0 < n) is.capacity a.1;
+      free = from_map (λ t. t ≢ a.0) (λ (e : Entry T). e.slot) r.entries
+          (subst (All (λ t. t ≢ a.0)) is.taken a.2);
+    },
+    ap (handle_words a.0) (sym is.ticket) ∙ a.3,
+  )
+
+  may_next : (h : Handle) → MayGive r h → text_of (reply.Handle h) ≡ words
+      → AllowsWords (replies.Handle next) words
+  may_next h may e = (
+    h.slot,
+    subst (λ n. h.slot < n) (sym is.capacity) may.fits,
+    subst (All (λ t. t ≢ h.slot)) (sym is.taken)
+        (All-map (λ t. t ≢ h.slot) (λ (e : Entry T). e.slot) r.entries may.free),
+    ap (handle_words h.slot) (is.ticket ∙ sym may.ticket) ∙ e,
+  )
+
+module _ (s : Service) (Step : Reply → Service → Type 0) where
+  pub one_words : (one : Reply) → ArePossible s Step (possible.One one)
+      → ArePossibleWords Step (replies.One one)
+  one_words one all words = (
+    λ e. (one, e, all.can one (same_reply one)),
+    λ a. same_text one a.0 (all.only a.0 a.2.0 a.2.1 a.2.2) ∙ a.1,
+  )
+
+  module _ (part : Part) (next : NextHandle)
+      (all : ArePossible s Step (possible.Given part)) where
+    -- where the handles that may be given are those of a registry
+    by_registry : {T : Type 0} (r : RegistryState T) → IsNextHandle r next
+        → ((h : Handle) → MayGive r h → MayGiveIn s part h)
+        → ((h : Handle) → MayGiveIn s part h → MayGive r h)
+        → ArePossibleWords Step (replies.Handle next)
+    by_registry r is here there words = (
+      λ a.
+          let h = next_may r next is words a in
+          (reply.Handle h.0, h.2, all.can (reply.Handle h.0) (h.0, refl, here h.0 h.1)),
+      λ a.
+          let h = all.only a.0 a.2.0 a.2.1 a.2.2 in
+          may_next r next is words h.0 (there h.0 h.2) (ap text_of (sym h.1) ∙ a.1),
+    )
+
+  pub given_words : (part : Part) (next : NextHandle) → ArePossible s Step (possible.Given part)
+      → IsNextIn s part next → ArePossibleWords Step (replies.Handle next)
+  given_words part.Nodes next all is =
+      by_registry part.Nodes next all s.nodes.registry is (λ h m. m) (λ h m. m)
+  given_words part.First next all is =
+      by_registry part.First next all s.ports.first.registry is (λ h m. m) (λ h m. m)
+  given_words part.Second next all is =
+      by_registry part.Second next all s.ports.second.registry is (λ h m. m) (λ h m. m)
+
+no_deregister : (s new : Service) (h : Option Handle) (ids : Vec ℕ)
+    → ServesDeregister s h (reply.Nodes ids) new → ⊥
+no_deregister s new None ids so = so
+no_deregister s new (Some h) ids so = so
+
+no_release : (s new : Service) (h : Option Handle) (ids : Vec ℕ)
+    → ServesRelease s h (reply.Nodes ids) new → ⊥
+no_release s new None ids so = so
+no_release s new (Some h) ids so = so
+
+no_deregister_ports : (s new : Service) (h : Option Handle) (ports : Vec PortDetails)
+    → ServesDeregister s h (reply.Ports ports) new → ⊥
+no_deregister_ports s new None ports so = so
+no_deregister_ports s new (Some h) ports so = so
+
+no_release_ports : (s new : Service) (h : Option Handle) (ports : Vec PortDetails)
+    → ServesRelease s h (reply.Ports ports) new → ⊥
+no_release_ports s new None ports so = so
+no_release_ports s new (Some h) ports so = so
+
+module _ (s new : Service) (handles : List (Option Handle)) where
+  nodes_step : (c : Command) → IsCovered c → (ids other : Vec ℕ) → ids.items ≡ other.items
+      → Serves s None handles c (reply.Nodes other) new
+      → Serves s None handles c (reply.Nodes ids) new
+  nodes_step command.Nodes i ids other e so = (e ∙ so.0, so.1)
+  nodes_step (command.Register id) i ids other e so = absurd so
+  nodes_step (command.Deregister k) i ids other e so =
+      absurd (no_deregister s new (named handles k) other so)
+  nodes_step (command.Add d) i ids other e so = absurd so
+  nodes_step (command.Release k) i ids other e so =
+      absurd (no_release s new (named handles k) other so)
+  nodes_step (command.List role) i ids other e so = absurd so.0
+  nodes_step (command.Count role) i ids other e so = absurd so.0
+  nodes_step (command.Dead dead (ByPort kept)) i ids other e so = absurd so
+  nodes_step _ i ids other e so = absurd i
+
+  ports_step : (c : Command) → IsCovered c → (ports other : Vec PortDetails)
+      → ports.items ≡ other.items → Serves s None handles c (reply.Ports other) new
+      → Serves s None handles c (reply.Ports ports) new
+  ports_step command.Nodes i ports other e so = absurd so.0
+  ports_step (command.Register id) i ports other e so = absurd so
+  ports_step (command.Deregister k) i ports other e so =
+      absurd (no_deregister_ports s new (named handles k) other so)
+  ports_step (command.Add d) i ports other e so = absurd so
+  ports_step (command.Release k) i ports other e so =
+      absurd (no_release_ports s new (named handles k) other so)
+  ports_step (command.List role) i ports other e so = (
+    subst (λ l. OfRole (λ r items. items ≡ listed r) (first_role s.pattern)
+        (second_role s.pattern) s.ports role (Some l)) (sym e) so.0,
+    so.1,
+  )
+  ports_step (command.Count role) i ports other e so = absurd so.0
+  ports_step (command.Dead dead (ByPort kept)) i ports other e so = absurd so
+  ports_step _ i ports other e so = absurd i
+
+  -- the same reply has the same steps
+  pub same_step : (c : Command) → IsCovered c → (r q : Reply) → IsSameReply r q
+      → Serves s None handles c q new → Serves s None handles c r new
+  same_step c i (reply.Nodes ids) q e so =
+      let a = is_nodes ids q e in
+      nodes_step c i ids a.0 a.2 (subst (λ q. Serves s None handles c q new) a.1 so)
+  same_step c i (reply.Ports ports) q e so =
+      let a = is_ports ports q e in
+      ports_step c i ports a.0 a.2 (subst (λ q. Serves s None handles c q new) a.1 so)
+  same_step c i _ q e so = subst (λ r. Serves s None handles c r new) (sym e) so
+
+-- a command with a line is one whose replies are known
+pub covered : (c : Command) → HasLine c → IsCovered c
+covered (command.Register id) h = tt
+covered (command.Deregister k) h = tt
+covered command.Nodes h = tt
+covered (command.Add d) h = tt
+covered (command.Release k) h = tt
+covered (command.List role) h = tt
+covered (command.Count role) h = tt
+covered (command.Dead id (ByPort kept)) h = tt
+covered _ h = absurd h

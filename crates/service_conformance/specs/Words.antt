@@ -1,0 +1,91 @@
+-- What the words of a reply tell.
+use Rattle.std.specs.Prelude.{◌≡◌, ◌≢◌, ◌↔◌, ◌<◌, ℕ, Bool, true, false, List, ◌++◌, All, codes, map, Option, Some, None}
+use Rattle.std.specs.Fmt.{decimal}
+use Rattle.iox2_container.specs.Handle.{Handle}
+use Rattle.iox2_container.specs.State.{Entry, RegistryState}
+use Rattle.iox2_dynamic.specs.Service.{Service}
+use Rattle.service_descriptions.specs.declared.replay.machine.command.Command.{Command}
+use Rattle.service_descriptions.specs.declared.replay.machine.reply.Reply.{Reply}
+use Rattle.service_descriptions.specs.declared.replay.machine.reply.Reply.TheVariants as reply
+use Rattle.service_descriptions.specs.Replies.{IsSameReply, text_of}
+use Rattle.service_descriptions.specs.Steps.{State, ServiceStep}
+use Rattle.service_conformance.specs.declared.conformance.possible.NextHandle.{NextHandle}
+use Rattle.service_conformance.specs.declared.conformance.possible.Part.{Part}
+use Rattle.service_conformance.specs.declared.conformance.possible.Part.TheVariants as part
+use Rattle.service_conformance.specs.declared.conformance.possible.Possible.{Possible}
+use Rattle.service_conformance.specs.declared.conformance.possible.PossibleReplies.{PossibleReplies}
+use Rattle.service_conformance.specs.declared.conformance.possible.PossibleReplies.TheVariants as replies
+use Rattle.service_conformance.specs.Possible.{Allows}
+use Rattle.service_conformance.specs.Quiet.{CanServe, Checked, quiet_state}
+
+-- the words of a handle
+abbrev pub handle_words : ℕ → ℕ → List ℕ
+handle_words slot ticket = codes "handle " ++ decimal slot ++ codes " " ++ decimal ticket
+
+-- of the handles that may be given, the one with these words; none where none has them
+abbrev pub TellsHandle : (Handle → Type 0) → List ℕ → Option Handle → Type 0
+TellsHandle May words (Some h) =
+    May h × (text_of (reply.Handle h) ≡ words)
+    × ((other : Handle) → May other → text_of (reply.Handle other) ≡ words → h ≡ other)
+TellsHandle May words None = (h : Handle) → May h → text_of (reply.Handle h) ≢ words
+
+-- of the possible replies, the one with these words; none where none has them
+abbrev pub Tells : Service → Possible → List ℕ → Option Reply → Type 0
+Tells s p words (Some r) =
+    Allows s p r × (text_of r ≡ words)
+    × ((other : Reply) → Allows s p other → text_of other ≡ words → IsSameReply r other)
+Tells s p words None = (r : Reply) → Allows s p r → text_of r ≢ words
+
+-- Some: of the replies with which the steps lead to a service, the one with these words, and the
+-- state that it leaves. None: none has these words, and nothing has changed.
+abbrev pub CheckedWords : (Reply → Service → Type 0) → List ℕ → Service → Option Reply → Service
+    → Type 0
+CheckedWords Step words old (Some r) new =
+    (text_of r ≡ words) × Checked Step r old true new
+    × ((other : Reply) → text_of other ≡ words → CanServe Step other → IsSameReply r other)
+CheckedWords Step words old None new =
+    ((r : Reply) → text_of r ≡ words → ¬ (CanServe Step r)) × (new ≡ old)
+
+-- a step with a reply of these words
+abbrev pub WordsStep : State → Command → List ℕ → State → Type 0
+WordsStep old c words new = (r : Reply) × (text_of r ≡ words) × ServiceStep old c r new
+
+-- Yes: a step with these words leads to the new state, and each state that one leads to is seen as
+-- the new one. No: none leads to a state, and nothing has changed.
+abbrev pub FollowsWords : State → Command → List ℕ → Bool → State → Type 0
+FollowsWords old c words true new =
+    WordsStep old c words new
+    × ((other : State) → WordsStep old c words other → quiet_state other ≡ new)
+FollowsWords old c words false new =
+    ((other : State) → ¬ (WordsStep old c words other)) × (new ≡ old)
+
+-- these are the handles that the next add may give
+pub record IsNextHandle {T : Type 0} (r : RegistryState T) (next : NextHandle) : Type 0 where
+  pub ticket : next.ticket ≡ r.used
+  pub capacity : next.capacity ≡ r.capacity
+  pub taken : next.taken.items ≡ map (λ (e : Entry T). e.slot) r.entries
+
+-- these are the handles that the registry of the part may give next
+abbrev pub IsNextIn : Service → Part → NextHandle → Type 0
+IsNextIn s part.Nodes next = IsNextHandle s.nodes.registry next
+IsNextIn s part.First next = IsNextHandle s.ports.first.registry next
+IsNextIn s part.Second next = IsNextHandle s.ports.second.registry next
+
+-- one of these replies has the words
+abbrev pub AllowsWords : PossibleReplies → List ℕ → Type 0
+AllowsWords (replies.One r) words = text_of r ≡ words
+AllowsWords (replies.Handle next) words =
+    (slot : ℕ) × (slot < next.capacity) × All (λ t. t ≢ slot) next.taken.items
+    × (handle_words slot next.ticket ≡ words)
+
+-- these are the replies, by their words, with which the steps lead to a service
+abbrev pub ArePossibleWords : (Reply → Service → Type 0) → PossibleReplies → Type 0
+ArePossibleWords Step p =
+    (words : List ℕ)
+    → AllowsWords p words ↔ ((r : Reply) × (text_of r ≡ words) × CanServe Step r)
+
+-- these are the replies, by their words, with which a step from the state under the command leads
+-- to a state
+abbrev pub AreRepliesTo : State → Command → PossibleReplies → Type 0
+AreRepliesTo s c p =
+    (words : List ℕ) → AllowsWords p words ↔ ((new : State) × WordsStep s c words new)
