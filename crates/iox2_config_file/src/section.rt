@@ -429,7 +429,7 @@ const BLACKBOARD: [Row; 2] = [
     },
 ];
 
-/// The name of a table that has settings, as its header spells it, and what the table is.
+/// The name of a table that has settings, as its header has it, and what the table is.
 pub(crate) fn header(section: Section) -> Option<(&'static str, &'static str)>
     ensures name { option_map (λ h. h.0.now) result ≡ header_name section }
     ensures about { IfSome result (λ h. is_line h.1.now ≡ true) }

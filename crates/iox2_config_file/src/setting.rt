@@ -22,9 +22,9 @@ pub enum SettingValue<'a> {
     Flag(bool),
     /// A path, or the name of a file.
     Text(&'a str),
-    /// What a sender does where a receiver has no room.
+    /// What a sender does where a receiver's buffer is full.
     Backpressure(BackpressureStrategy),
-    /// How the room for messages grows.
+    /// How a data segment grows.
     Allocation(AllocationStrategy),
     /// A time.
     Duration(Duration),

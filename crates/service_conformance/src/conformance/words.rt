@@ -10,7 +10,7 @@ use std::alloc::{AllocError, Global};
 /// A number.
 const NUMBER: Number = Number(u64::MAX);
 
-/// The slot and the ticket of the handle that the words tell.
+/// The slot and the ticket of the handle in the words.
 pub(super) fn slot_and_ticket(alloc: Global, words: &[u8]) -> Option<(usize, u64)>
     ensures some { IfSome result (λ h. handle_words h.0 h.1 ≡ words.now) }
     ensures words { IfSome result (λ h. (h.0 < 2 ^ 64) × (h.1 < 2 ^ 64)) }

@@ -1,4 +1,4 @@
-//! The reply that words tell.
+//! The reply that words stand for.
 ghost use Rattle.std.specs.Prelude.{◌≡◌, ◌++◌, IfOk, None};
 ghost use Rattle.iox2_container.specs.Steps.{listed};
 ghost use Rattle.service_conformance.specs.Possible.{IsCovered, MayGiveIn};
