@@ -719,8 +719,9 @@ public:
     }
 
 private:
-    explicit ServiceHash(const Text<64>& text) noexcept
-        : RestrictedFileName(text, detail::FromLibrary{}) {}
+    friend class StaticConfig;
+
+    explicit ServiceHash(std::string_view text) noexcept : RestrictedFileName(text) {}
 };
 
 // ---- Ids ----
@@ -1095,9 +1096,8 @@ public:
                                      std::size_t size, std::size_t alignment) noexcept {
         const iox2sd_type_detail detail{detail::bytes(type_name), type_name.size(),
                                         static_cast<std::uint32_t>(variant), size, alignment};
-        const iox2sd_message_details each{detail, detail, detail};
-        const iox2sd_part_answer answer = iox2sd_message_is_compatible_to(&each, &each);
-        if (answer.status != IOX2SD_DONE) return Status{answer.status};
+        const std::uint32_t status = iox2sd_type_detail_check(&detail);
+        if (status != IOX2SD_DONE) return Status{status};
         return TypeDetail(variant, TypeName(type_name), size, alignment);
     }
 
@@ -1360,18 +1360,23 @@ struct PublishSubscribeSettings {
 
     /// Whether all fields are valid.
     Result<void, SettingsError> check() const noexcept {
-        const iox2sd_publish_subscribe_settings c{max_subscribers,
-                                                  max_publishers,
-                                                  max_nodes,
-                                                  subscriber_max_buffer_size,
-                                                  subscriber_max_borrowed_samples,
-                                                  publisher_max_loaned_samples,
-                                                  publisher_history_size,
-                                                  subscriber_expired_connection_buffer,
-                                                  detail::number(backpressure_strategy),
-                                                  detail::number(publisher_allocation_strategy),
-                                                  enable_safe_overflow};
+        const iox2sd_publish_subscribe_settings c = as_c();
         return detail::valid(iox2sd_publish_subscribe_settings_check(&c));
+    }
+
+    /// The settings as the C header takes them.
+    iox2sd_publish_subscribe_settings as_c() const noexcept {
+        return {max_subscribers,
+                max_publishers,
+                max_nodes,
+                subscriber_max_buffer_size,
+                subscriber_max_borrowed_samples,
+                publisher_max_loaned_samples,
+                publisher_history_size,
+                subscriber_expired_connection_buffer,
+                detail::number(backpressure_strategy),
+                detail::number(publisher_allocation_strategy),
+                enable_safe_overflow};
     }
 };
 
@@ -1406,15 +1411,20 @@ struct EventSettings {
 
     /// Whether all fields are valid.
     Result<void, SettingsError> check() const noexcept {
-        const iox2sd_event_settings c{max_listeners,
-                                      max_notifiers,
-                                      max_nodes,
-                                      event_id_max_value,
-                                      detail::as_c(deadline),
-                                      detail::as_c(notifier_created_event),
-                                      detail::as_c(notifier_dropped_event),
-                                      detail::as_c(notifier_dead_event)};
+        const iox2sd_event_settings c = as_c();
         return detail::valid(iox2sd_event_settings_check(&c));
+    }
+
+    /// The settings as the C header takes them.
+    iox2sd_event_settings as_c() const noexcept {
+        return {max_listeners,
+                max_notifiers,
+                max_nodes,
+                event_id_max_value,
+                detail::as_c(deadline),
+                detail::as_c(notifier_created_event),
+                detail::as_c(notifier_dropped_event),
+                detail::as_c(notifier_dead_event)};
     }
 };
 
@@ -1473,24 +1483,29 @@ struct RequestResponseSettings {
 
     /// Whether all fields are valid.
     Result<void, SettingsError> check() const noexcept {
-        const iox2sd_request_response_settings c{max_active_requests_per_client,
-                                                 max_response_buffer_size,
-                                                 max_servers,
-                                                 max_clients,
-                                                 max_nodes,
-                                                 max_borrowed_responses_per_pending_response,
-                                                 max_loaned_requests,
-                                                 server_max_loaned_responses_per_request,
-                                                 client_expired_connection_buffer,
-                                                 server_expired_connection_buffer,
-                                                 detail::number(client_backpressure_strategy),
-                                                 detail::number(server_backpressure_strategy),
-                                                 detail::number(client_allocation_strategy),
-                                                 detail::number(server_allocation_strategy),
-                                                 enable_safe_overflow_for_requests,
-                                                 enable_safe_overflow_for_responses,
-                                                 enable_fire_and_forget_requests};
+        const iox2sd_request_response_settings c = as_c();
         return detail::valid(iox2sd_request_response_settings_check(&c));
+    }
+
+    /// The settings as the C header takes them.
+    iox2sd_request_response_settings as_c() const noexcept {
+        return {max_active_requests_per_client,
+                max_response_buffer_size,
+                max_servers,
+                max_clients,
+                max_nodes,
+                max_borrowed_responses_per_pending_response,
+                max_loaned_requests,
+                server_max_loaned_responses_per_request,
+                client_expired_connection_buffer,
+                server_expired_connection_buffer,
+                detail::number(client_backpressure_strategy),
+                detail::number(server_backpressure_strategy),
+                detail::number(client_allocation_strategy),
+                detail::number(server_allocation_strategy),
+                enable_safe_overflow_for_requests,
+                enable_safe_overflow_for_responses,
+                enable_fire_and_forget_requests};
     }
 };
 
@@ -1506,6 +1521,9 @@ struct BlackboardSettings {
         const iox2sd_blackboard_settings c = iox2sd_blackboard_defaults();
         return {c.max_readers, c.max_nodes};
     }
+
+    /// The settings as the C header takes them.
+    iox2sd_blackboard_settings as_c() const noexcept { return {max_readers, max_nodes}; }
 };
 
 /// The texts of the configuration.
@@ -1693,16 +1711,113 @@ inline PatternKind kind(const MessagingPattern& pattern) noexcept {
     return kinds[pattern.index()];
 }
 
+namespace detail {
+
+/// What the library makes of the settings with which a pattern's part is made. In the part stands
+/// then what it says, beside the types.
+inline iox2sd_field_answer describe(PublishSubscribeStaticConfig& part, const ServiceName& name,
+                                    const iox2sd_id& id, iox2sd_description& made) noexcept {
+    PublishSubscribeSettings settings = PublishSubscribeSettings::defaults();
+    settings.max_subscribers = part.max_subscribers;
+    settings.max_publishers = part.max_publishers;
+    settings.max_nodes = part.max_nodes;
+    settings.publisher_history_size = part.history_size;
+    settings.subscriber_max_buffer_size = part.subscriber_max_buffer_size;
+    settings.subscriber_max_borrowed_samples = part.subscriber_max_borrowed_samples;
+    settings.enable_safe_overflow = part.enable_safe_overflow;
+    const iox2sd_publish_subscribe_settings given = settings.as_c();
+    const iox2sd_field_answer answer =
+        iox2sd_describe_publish_subscribe(&given, bytes(name), name.size(), true, id, &made);
+    const iox2sd_publish_subscribe_config& c = made.publish_subscribe;
+    part.max_subscribers = c.max_subscribers;
+    part.max_publishers = c.max_publishers;
+    part.max_nodes = c.max_nodes;
+    part.history_size = c.history_size;
+    part.subscriber_max_buffer_size = c.subscriber_max_buffer_size;
+    part.subscriber_max_borrowed_samples = c.subscriber_max_borrowed_samples;
+    part.enable_safe_overflow = c.enable_safe_overflow;
+    return answer;
+}
+
+inline iox2sd_field_answer describe(EventStaticConfig& part, const ServiceName& name,
+                                    const iox2sd_id& id, iox2sd_description& made) noexcept {
+    const iox2sd_event_settings given = part.as_c();
+    const iox2sd_field_answer answer =
+        iox2sd_describe_event(&given, bytes(name), name.size(), true, id, &made);
+    const iox2sd_event_config& c = made.event;
+    part = {c.max_listeners,
+            c.max_notifiers,
+            c.max_nodes,
+            c.event_id_max_value,
+            from_c(c.deadline),
+            from_c(c.notifier_created_event),
+            from_c(c.notifier_dropped_event),
+            from_c(c.notifier_dead_event)};
+    return answer;
+}
+
+inline iox2sd_field_answer describe(RequestResponseStaticConfig& part, const ServiceName& name,
+                                    const iox2sd_id& id, iox2sd_description& made) noexcept {
+    RequestResponseSettings settings = RequestResponseSettings::defaults();
+    settings.enable_safe_overflow_for_requests = part.enable_safe_overflow_for_requests;
+    settings.enable_safe_overflow_for_responses = part.enable_safe_overflow_for_responses;
+    settings.enable_fire_and_forget_requests = part.enable_fire_and_forget_requests;
+    settings.max_active_requests_per_client = part.max_active_requests_per_client;
+    settings.max_loaned_requests = part.max_loaned_requests;
+    settings.max_response_buffer_size = part.max_response_buffer_size;
+    settings.max_servers = part.max_servers;
+    settings.max_clients = part.max_clients;
+    settings.max_nodes = part.max_nodes;
+    settings.max_borrowed_responses_per_pending_response =
+        part.max_borrowed_responses_per_pending_response;
+    const iox2sd_request_response_settings given = settings.as_c();
+    const iox2sd_field_answer answer =
+        iox2sd_describe_request_response(&given, bytes(name), name.size(), true, id, &made);
+    const iox2sd_request_response_config& c = made.request_response;
+    part.enable_safe_overflow_for_requests = c.enable_safe_overflow_for_requests;
+    part.enable_safe_overflow_for_responses = c.enable_safe_overflow_for_responses;
+    part.enable_fire_and_forget_requests = c.enable_fire_and_forget_requests;
+    part.max_active_requests_per_client = c.max_active_requests_per_client;
+    part.max_loaned_requests = c.max_loaned_requests;
+    part.max_response_buffer_size = c.max_response_buffer_size;
+    part.max_servers = c.max_servers;
+    part.max_clients = c.max_clients;
+    part.max_nodes = c.max_nodes;
+    part.max_borrowed_responses_per_pending_response =
+        c.max_borrowed_responses_per_pending_response;
+    return answer;
+}
+
+inline iox2sd_field_answer describe(BlackboardStaticConfig& part, const ServiceName& name,
+                                    const iox2sd_id& id, iox2sd_description& made) noexcept {
+    const iox2sd_blackboard_settings given{part.max_readers, part.max_nodes};
+    const iox2sd_field_answer answer =
+        iox2sd_describe_blackboard(&given, bytes(name), name.size(), true, id, &made);
+    part.max_readers = made.blackboard.max_readers;
+    part.max_writers = made.blackboard.max_writers;
+    part.max_nodes = made.blackboard.max_nodes;
+    return answer;
+}
+
+}  // namespace detail
+
 /// The description of a service: what its maker fixes, and what an opener verifies.
 class StaticConfig {
 public:
-    /// Refusal: `IllegalHash`, which was never seen.
+    /// What the library makes of the name, the id and the pattern's part, with these attributes and
+    /// the part's types. A blackboard has one writer, whatever the part says.
+    /// Refusals: `BadDuration` of a deadline; `IllegalHash`, which was never seen.
     static Result<StaticConfig> create(const ServiceName& name, const UniqueServiceId& id,
                                        const AttributeSet& attributes,
                                        const MessagingPattern& pattern) noexcept {
-        const Result<ServiceHash> hash = ServiceHash::create(name, iox2sd::kind(pattern));
-        if (!hash) return hash.error();
-        return StaticConfig(*hash, name, id, attributes, pattern);
+        MessagingPattern described = pattern;
+        iox2sd_description made{};
+        const iox2sd_field_answer answer = std::visit(
+            [&](auto& part) { return detail::describe(part, name, id.parts(), made); }, described);
+        if (answer.status != IOX2SD_DONE) return Status{answer.status};
+        const char* hash = reinterpret_cast<const char*>(made.hash);
+        return StaticConfig(ServiceHash(std::string_view(hash, made.hash_length)), name, id,
+                            attributes, described);
     }
 
     const ServiceHash& service_hash() const noexcept { return service_hash_; }

@@ -594,8 +594,21 @@ void descriptions() {
 template <class Settings, class Describe>
 iox2sd_description described(const Settings& settings, Describe describe) {
     iox2sd_description made{};
-    CHECK(describe(&settings, reinterpret_cast<const std::uint8_t*>("a"), 1, iox2sd_id{}, &made)
+    CHECK(describe(&settings, reinterpret_cast<const std::uint8_t*>("a"), 1, false, iox2sd_id{},
+                   &made)
               .status == IOX2SD_DONE);
+    return made;
+}
+
+/// The description with this part, which is to show the part as it was given.
+template <class Part>
+StaticConfig shown(const Part& part) {
+    const StaticConfig made =
+        StaticConfig::create(ServiceName::create("a").value(), UniqueServiceId(1, 2, 3, 4),
+                             AttributeSet(), part)
+            .value();
+    CHECK(made.messaging_pattern() == MessagingPattern(part));
+    CHECK(made.service_hash() == ServiceHash::create(made.name(), made.kind()).value());
     return made;
 }
 
@@ -610,20 +623,29 @@ void descriptions_of_the_library() {
     p.publisher_history_size = 14, p.subscriber_max_buffer_size = 15;
     p.subscriber_max_borrowed_samples = 16, p.enable_safe_overflow = false;
     const auto& a = described(ps, iox2sd_describe_publish_subscribe).publish_subscribe;
-    const PublishSubscribeStaticConfig b(p, details(8, 8));
+    const StaticConfig of_p = shown(PublishSubscribeStaticConfig(p, details(8, 8)));
+    const PublishSubscribeStaticConfig& b = *of_p.publish_subscribe();
     CHECK(b.max_subscribers == a.max_subscribers && b.max_publishers == a.max_publishers);
     CHECK(b.max_nodes == a.max_nodes && b.history_size == a.history_size);
     CHECK(b.subscriber_max_buffer_size == a.subscriber_max_buffer_size);
     CHECK(b.subscriber_max_borrowed_samples == a.subscriber_max_borrowed_samples);
     CHECK(b.enable_safe_overflow == a.enable_safe_overflow);
-    CHECK(b.required_amount_of_samples_per_data_segment(3).value() ==
-          iox2sd_samples_of_config(&a, 3).count);
 
     iox2sd_event_settings es = iox2sd_event_defaults();
     es.max_listeners = 21, es.max_notifiers = 22, es.max_nodes = 23, es.event_id_max_value = 24;
     EventStaticConfig q = EventSettings::defaults();
     q.max_listeners = 21, q.max_notifiers = 22, q.max_nodes = 23, q.event_id_max_value = 24;
     const auto& c = described(es, iox2sd_describe_event).event;
+    const StaticConfig of_q = shown(q);
+    CHECK(*of_q.event() == q);
+    q.deadline = Duration{1, 999999999};
+    q.notifier_created_event = EventId{25}, q.notifier_dropped_event = EventId{26};
+    q.notifier_dead_event = EventId{27};
+    shown(q);
+    q.deadline->nanoseconds = 1000000000;
+    CHECK(StaticConfig::create(of_q.name(), of_q.unique_service_id(), of_q.attributes(), q)
+              .status() == Status::BadDuration);
+    q = *of_q.event();
     CHECK(q.max_listeners == c.max_listeners && q.max_notifiers == c.max_notifiers);
     CHECK(q.max_nodes == c.max_nodes && q.event_id_max_value == c.event_id_max_value);
     CHECK(q.deadline.has_value() == c.deadline.is_some);
@@ -642,7 +664,9 @@ void descriptions_of_the_library() {
     r.max_borrowed_responses_per_pending_response = 37;
     r.enable_safe_overflow_for_requests = r.enable_fire_and_forget_requests = false;
     const auto& d = described(rs, iox2sd_describe_request_response).request_response;
-    const RequestResponseStaticConfig e(r, details(8, 8), details(16, 8));
+    const StaticConfig of_r =
+        shown(RequestResponseStaticConfig(r, details(8, 8), details(16, 8)));
+    const RequestResponseStaticConfig& e = *of_r.request_response();
     CHECK(e.max_active_requests_per_client == d.max_active_requests_per_client);
     CHECK(e.max_loaned_requests == d.max_loaned_requests && e.max_nodes == d.max_nodes);
     CHECK(e.max_response_buffer_size == d.max_response_buffer_size);
@@ -652,14 +676,12 @@ void descriptions_of_the_library() {
     CHECK(e.enable_safe_overflow_for_requests == d.enable_safe_overflow_for_requests);
     CHECK(e.enable_safe_overflow_for_responses == d.enable_safe_overflow_for_responses);
     CHECK(e.enable_fire_and_forget_requests == d.enable_fire_and_forget_requests);
-    CHECK(e.required_amount_of_chunks_per_client_data_segment(3).value() ==
-          iox2sd_requests_of_config(&d, 3).count);
-    CHECK(e.required_amount_of_chunks_per_server_data_segment(3).value() ==
-          iox2sd_responses_of_config(&d, 3).count);
 
     const iox2sd_blackboard_settings bs = {41, 42};
     const auto& f = described(bs, iox2sd_describe_blackboard).blackboard;
-    const BlackboardStaticConfig g(BlackboardSettings{41, 42}, type("u8", 1, 1));
+    const StaticConfig of_g =
+        shown(BlackboardStaticConfig(BlackboardSettings{41, 42}, type("u8", 1, 1)));
+    const BlackboardStaticConfig& g = *of_g.blackboard();
     CHECK(g.max_readers == f.max_readers && g.max_writers == f.max_writers);
     CHECK(g.max_nodes == f.max_nodes);
 }

@@ -1,5 +1,6 @@
 import pickle
 import unittest
+from dataclasses import replace
 from typing import Any
 
 import iox2sd
@@ -8,8 +9,10 @@ from iox2sd import (
     BlackboardSettings,
     BlackboardStaticConfig,
     Duration,
+    EventId,
     EventSettings,
     EventStaticConfig,
+    InternalServiceName,
     MessagingPattern,
     PublishSubscribeSettings,
     PublishSubscribeStaticConfig,
@@ -69,6 +72,62 @@ class StaticConfigs(unittest.TestCase):
         board = BlackboardStaticConfig.new(keys, BlackboardSettings(max_readers=3, max_nodes=5))
         self.assertEqual((board.max_readers, board.max_nodes, board.type_details), (3, 5, keys))
         self.assertEqual(board.max_writers, 1)
+
+    def test_descriptions_show_what_they_are_made_of(self):
+        event = dict(notifier_created_event=None, notifier_dropped_event=EventId(0))
+        configs: "list[Any]" = [
+            PublishSubscribeStaticConfig(
+                max_subscribers=1,
+                max_publishers=2,
+                max_nodes=3,
+                history_size=4,
+                subscriber_max_buffer_size=5,
+                subscriber_max_borrowed_samples=6,
+                enable_safe_overflow=overflow,
+                message_type_details=details(),
+            )
+            for overflow in (False, True)
+        ]
+        configs += [
+            EventStaticConfig(
+                max_listeners=1,
+                max_notifiers=2,
+                max_nodes=3,
+                event_id_max_value=4,
+                deadline=deadline,
+                notifier_dead_event=EventId(MOST),
+                **event,
+            )
+            for deadline in (None, Duration(0), Duration(MOST, 999_999_999))
+        ]
+        flags = ("for_requests", "for_responses")
+        configs += [
+            RequestResponseStaticConfig(
+                max_active_requests_per_client=1,
+                max_response_buffer_size=2,
+                max_servers=3,
+                max_clients=4,
+                max_nodes=5,
+                max_borrowed_responses_per_pending_response=6,
+                max_loaned_requests=7,
+                enable_fire_and_forget_requests=flag == "fire_and_forget",
+                request_message_type_details=details(),
+                response_message_type_details=details(size=16),
+                **{f"enable_safe_overflow_{end}": flag == end for end in flags},
+            )
+            for flag in (*flags, "fire_and_forget")
+        ]
+        configs.append(
+            BlackboardStaticConfig(max_readers=1, max_nodes=2, type_details=TypeDetail("Key", 8, 8))
+        )
+        for config in configs:
+            for name in (NAME, InternalServiceName.prefixed("x")):
+                described = StaticConfig(name, ID, config)
+                self.assertEqual((described.pattern_config, described.name), (config, name))
+                of_name = ServiceHash.new(name, described.messaging_pattern)
+                self.assertEqual(described.service_hash, of_name)
+        three = replace(configs[-1], max_writers=3)
+        self.assertEqual(StaticConfig(NAME, ID, three).pattern_config, configs[-1])
 
     def test_chunks_of_publishers(self):
         given: "dict[str, Any]" = dict(

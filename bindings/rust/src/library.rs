@@ -3,12 +3,14 @@
 //! A call answers `Err` with the status where the library reports a refusal.
 
 mod attributes;
+mod descriptions;
 mod messages;
 mod service;
 
 pub(crate) use attributes::{
     attribute_capacity, attribute_value, attribute_values, sorted, verify, Missing,
 };
+pub(crate) use descriptions::Settings;
 pub(crate) use messages::{check_type, check_type_name, compatible, layout, places};
 pub(crate) use service::Service;
 

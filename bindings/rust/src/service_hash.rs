@@ -33,6 +33,15 @@ pub enum ServiceHashError {
 
 error_by_path!(ServiceHashError);
 
+impl ServiceHashError {
+    pub(crate) fn of(status: u32) -> Self {
+        match status {
+            sys::IOX2SD_ILLEGAL_HASH => ServiceHashError::IllegalText,
+            other => library::unexpected(other),
+        }
+    }
+}
+
 /// The hash text of a service, under which its files are found: the name of a file. Hash texts are
 /// compared by their bytes.
 ///
@@ -71,8 +80,15 @@ impl ServiceHash {
             Ok(text) => Ok(ServiceHash {
                 text: RestrictedFileName::of_legal(&text),
             }),
-            Err(sys::IOX2SD_ILLEGAL_HASH) => Err(ServiceHashError::IllegalText),
-            Err(other) => library::unexpected(other),
+            Err(refusal) => Err(ServiceHashError::of(refusal)),
+        }
+    }
+
+    /// The hash text of a description that the library made.
+    pub(crate) fn of(made: &sys::iox2sd_description) -> Self {
+        let text = std::str::from_utf8(&made.hash[..made.hash_length]);
+        ServiceHash {
+            text: RestrictedFileName::of_legal(text.expect("the library writes texts")),
         }
     }
 

@@ -27,6 +27,7 @@ pub mod request_response;
 use crate::attribute::AttributeSet;
 use crate::config::Config;
 use crate::identifiers::UniqueServiceId;
+use crate::library::Settings;
 use crate::service_hash::{ServiceHash, ServiceHashError};
 use crate::service_name::ServiceName;
 use messaging_pattern::MessagingPattern;
@@ -67,12 +68,19 @@ macro_rules! of_pattern {
             config: &Config,
             unique_service_id: UniqueServiceId,
         ) -> Result<Self, ServiceHashError> {
-            let settings = $module::StaticConfig::new(config);
-            Self::describe(
-                service_name,
-                unique_service_id,
-                MessagingPattern::$variant(settings),
-            )
+            let settings = &config.defaults.$module;
+            match settings.describe(service_name, unique_service_id.parts) {
+                Ok(made) => Ok(StaticConfig {
+                    service_hash: ServiceHash::of(&made),
+                    service_name: *service_name,
+                    unique_service_id,
+                    attributes: AttributeSet::new(),
+                    messaging_pattern: MessagingPattern::$variant($module::StaticConfig::of(
+                        &made.$module,
+                    )),
+                }),
+                Err(refusal) => Err(ServiceHashError::of(refusal)),
+            }
         }
 
         #[doc = concat!("Whether it is ", $kind, " service.")]
@@ -230,20 +238,6 @@ impl StaticConfig {
         /// # Ok::<(), Box<dyn std::error::Error>>(())
         /// ```
         new_blackboard
-    }
-
-    fn describe(
-        service_name: &ServiceName,
-        unique_service_id: UniqueServiceId,
-        messaging_pattern: MessagingPattern,
-    ) -> Result<Self, ServiceHashError> {
-        Ok(StaticConfig {
-            service_hash: ServiceHash::new(service_name, messaging_pattern.kind())?,
-            service_name: *service_name,
-            unique_service_id,
-            attributes: AttributeSet::new(),
-            messaging_pattern,
-        })
     }
 
     /// The same service with these attributes in place of those that it had.

@@ -10,6 +10,8 @@
 
 use super::message_type_details::TypeDetail;
 use crate::config::Config;
+use crate::library::Settings;
+use crate::sys;
 
 /// What is fixed of a blackboard service.
 ///
@@ -44,11 +46,15 @@ impl StaticConfig {
     /// assert_eq!((fixed.max_readers, fixed.max_writers, fixed.max_nodes), (8, 1, 20));
     /// ```
     pub fn new(config: &Config) -> Self {
-        let defaults = &config.defaults.blackboard;
+        Self::of(&config.defaults.blackboard.fixed().blackboard)
+    }
+
+    /// What the library says is fixed, with the default type details.
+    pub(crate) fn of(fixed: &sys::iox2sd_blackboard_config) -> Self {
         StaticConfig {
-            max_readers: defaults.max_readers,
-            max_writers: 1,
-            max_nodes: defaults.max_nodes,
+            max_readers: fixed.max_readers,
+            max_writers: fixed.max_writers,
+            max_nodes: fixed.max_nodes,
             type_details: TypeDetail::default(),
         }
     }

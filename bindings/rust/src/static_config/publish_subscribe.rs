@@ -10,7 +10,8 @@
 
 use super::message_type_details::MessageTypeDetails;
 use crate::config::Config;
-use crate::library;
+use crate::library::{self, Settings};
+use crate::sys;
 
 /// What is fixed of a publish-subscribe service.
 ///
@@ -54,15 +55,19 @@ impl StaticConfig {
     /// assert!(!fixed.message_type_details.has_alignments());
     /// ```
     pub fn new(config: &Config) -> Self {
-        let defaults = &config.defaults.publish_subscribe;
+        Self::of(&config.defaults.publish_subscribe.fixed().publish_subscribe)
+    }
+
+    /// What the library says is fixed, with the default type details.
+    pub(crate) fn of(fixed: &sys::iox2sd_publish_subscribe_config) -> Self {
         StaticConfig {
-            max_subscribers: defaults.max_subscribers,
-            max_publishers: defaults.max_publishers,
-            max_nodes: defaults.max_nodes,
-            history_size: defaults.publisher_history_size,
-            subscriber_max_buffer_size: defaults.subscriber_max_buffer_size,
-            subscriber_max_borrowed_samples: defaults.subscriber_max_borrowed_samples,
-            enable_safe_overflow: defaults.enable_safe_overflow,
+            max_subscribers: fixed.max_subscribers,
+            max_publishers: fixed.max_publishers,
+            max_nodes: fixed.max_nodes,
+            history_size: fixed.history_size,
+            subscriber_max_buffer_size: fixed.subscriber_max_buffer_size,
+            subscriber_max_borrowed_samples: fixed.subscriber_max_borrowed_samples,
+            enable_safe_overflow: fixed.enable_safe_overflow,
             message_type_details: MessageTypeDetails::default(),
         }
     }

@@ -10,7 +10,8 @@
 
 use super::message_type_details::MessageTypeDetails;
 use crate::config::Config;
-use crate::library;
+use crate::library::{self, Settings};
+use crate::sys;
 
 /// What is fixed of a request-response service.
 ///
@@ -62,18 +63,22 @@ impl StaticConfig {
     /// assert!(!fixed.request_message_type_details.has_alignments());
     /// ```
     pub fn new(config: &Config) -> Self {
-        let defaults = &config.defaults.request_response;
+        Self::of(&config.defaults.request_response.fixed().request_response)
+    }
+
+    /// What the library says is fixed, with the default type details.
+    pub(crate) fn of(fixed: &sys::iox2sd_request_response_config) -> Self {
         StaticConfig {
-            enable_safe_overflow_for_requests: defaults.enable_safe_overflow_for_requests,
-            enable_safe_overflow_for_responses: defaults.enable_safe_overflow_for_responses,
-            enable_fire_and_forget_requests: defaults.enable_fire_and_forget_requests,
-            max_active_requests_per_client: defaults.max_active_requests_per_client,
-            max_loaned_requests: defaults.max_loaned_requests,
-            max_response_buffer_size: defaults.max_response_buffer_size,
-            max_servers: defaults.max_servers,
-            max_clients: defaults.max_clients,
-            max_nodes: defaults.max_nodes,
-            max_borrowed_responses_per_pending_response: defaults
+            enable_safe_overflow_for_requests: fixed.enable_safe_overflow_for_requests,
+            enable_safe_overflow_for_responses: fixed.enable_safe_overflow_for_responses,
+            enable_fire_and_forget_requests: fixed.enable_fire_and_forget_requests,
+            max_active_requests_per_client: fixed.max_active_requests_per_client,
+            max_loaned_requests: fixed.max_loaned_requests,
+            max_response_buffer_size: fixed.max_response_buffer_size,
+            max_servers: fixed.max_servers,
+            max_clients: fixed.max_clients,
+            max_nodes: fixed.max_nodes,
+            max_borrowed_responses_per_pending_response: fixed
                 .max_borrowed_responses_per_pending_response,
             request_message_type_details: MessageTypeDetails::default(),
             response_message_type_details: MessageTypeDetails::default(),
