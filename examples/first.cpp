@@ -67,7 +67,7 @@ void live(Service& service) {
     for (const PublisherDetails& each : service.list_publishers().value()) {
         std::cout << "there is the publisher: " << each.publisher_id << '\n';
     }
-    const Removal death = service.remove_dead_node_id(node).value();
+    const DeadNodeRemoval death = service.remove_dead_node_id(node).value();
     std::cout << "died with " << death.first << " publishers, " << death.second << " subscribers\n";
     std::cout << "the service is "
               << (death.state == DeregisterNodeState::NoMoreOwners ? "locked" : "open") << '\n';
