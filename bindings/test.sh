@@ -312,7 +312,8 @@ if has cargo; then
             run "each public item of the crate has an example" rust/check_examples \
                 "$work/rust/doc/iox2sd"
         fi
-    if has_cargo clippy; then run "cargo clippy" crate clippy --all-targets -- --deny warnings; fi
+    if has_cargo clippy; then run "cargo clippy" crate clippy --all-targets -- --deny warnings
+    run "cargo clippy, pedantic" crate clippy --lib --examples -- --deny warnings --deny clippy::pedantic; fi
     if has_cargo fmt; then run "cargo fmt" cargo fmt --check --manifest-path rust/Cargo.toml; fi
     run "cargo package, and tests of what it packs" packaged
 fi

@@ -45,7 +45,7 @@ use messaging_pattern::MessagingPattern;
 /// assert_eq!((service.name(), service.unique_service_id()), (&name, id));
 /// # Ok::<(), Box<dyn std::error::Error>>(())
 /// ```
-#[derive(Clone, Debug, PartialEq, Eq)]
+#[derive(Clone, Debug, PartialEq, Eq, Hash)]
 pub struct StaticConfig {
     service_hash: ServiceHash,
     service_name: ServiceName,
@@ -71,7 +71,7 @@ macro_rules! of_pattern {
             Self::describe(
                 service_name,
                 unique_service_id,
-                MessagingPattern::$variant(settings),
+                &MessagingPattern::$variant(settings),
             )
         }
 
@@ -157,7 +157,11 @@ impl StaticConfig {
         /// The description of a request-response service with the defaults of a configuration and
         /// without attributes.
         ///
+        /// # Errors
+        ///
         /// Refused as [`ServiceHash::new`] is for the name and the pattern.
+        ///
+        /// # Examples
         ///
         /// ```
         /// use iox2sd::config::Config;
@@ -177,7 +181,11 @@ impl StaticConfig {
         /// The description of an event service with the defaults of a configuration and
         /// without attributes.
         ///
+        /// # Errors
+        ///
         /// Refused as [`ServiceHash::new`] is for the name and the pattern.
+        ///
+        /// # Examples
         ///
         /// ```
         /// use iox2sd::config::Config;
@@ -197,7 +205,11 @@ impl StaticConfig {
         /// The description of a publish-subscribe service with the defaults of a configuration and
         /// without attributes.
         ///
+        /// # Errors
+        ///
         /// Refused as [`ServiceHash::new`] is for the name and the pattern.
+        ///
+        /// # Examples
         ///
         /// ```
         /// use iox2sd::config::Config;
@@ -217,7 +229,11 @@ impl StaticConfig {
         /// The description of a blackboard service with the defaults of a configuration and
         /// without attributes.
         ///
+        /// # Errors
+        ///
         /// Refused as [`ServiceHash::new`] is for the name and the pattern.
+        ///
+        /// # Examples
         ///
         /// ```
         /// use iox2sd::config::Config;
@@ -235,14 +251,14 @@ impl StaticConfig {
     fn describe(
         service_name: &ServiceName,
         unique_service_id: UniqueServiceId,
-        messaging_pattern: MessagingPattern,
+        messaging_pattern: &MessagingPattern,
     ) -> Result<Self, ServiceHashError> {
         Ok(StaticConfig {
             service_hash: ServiceHash::new(service_name, messaging_pattern.kind())?,
             service_name: *service_name,
             unique_service_id,
             attributes: AttributeSet::new(),
-            messaging_pattern,
+            messaging_pattern: *messaging_pattern,
         })
     }
 
@@ -262,6 +278,7 @@ impl StaticConfig {
     /// assert_eq!(service.attributes(), specifier.attributes());
     /// # Ok::<(), Box<dyn std::error::Error>>(())
     /// ```
+    #[must_use]
     pub fn with_attributes(self, attributes: &AttributeSet) -> Self {
         StaticConfig {
             attributes: attributes.clone(),
@@ -281,6 +298,7 @@ impl StaticConfig {
     /// assert!(service.attributes().is_empty());
     /// # Ok::<(), Box<dyn std::error::Error>>(())
     /// ```
+    #[must_use]
     pub fn attributes(&self) -> &AttributeSet {
         &self.attributes
     }
@@ -299,6 +317,7 @@ impl StaticConfig {
     /// assert_eq!(service.service_hash(), &ServiceHash::new(&name, MessagingPattern::Event)?);
     /// # Ok::<(), Box<dyn std::error::Error>>(())
     /// ```
+    #[must_use]
     pub fn service_hash(&self) -> &ServiceHash {
         &self.service_hash
     }
@@ -315,6 +334,7 @@ impl StaticConfig {
     /// assert_eq!(service.unique_service_id(), id);
     /// # Ok::<(), Box<dyn std::error::Error>>(())
     /// ```
+    #[must_use]
     pub fn unique_service_id(&self) -> UniqueServiceId {
         self.unique_service_id
     }
@@ -331,6 +351,7 @@ impl StaticConfig {
     /// assert_eq!(service.name(), "front");
     /// # Ok::<(), Box<dyn std::error::Error>>(())
     /// ```
+    #[must_use]
     pub fn name(&self) -> &ServiceName {
         &self.service_name
     }
@@ -347,6 +368,7 @@ impl StaticConfig {
     /// assert_eq!(service.messaging_pattern().to_string(), "Event");
     /// # Ok::<(), Box<dyn std::error::Error>>(())
     /// ```
+    #[must_use]
     pub fn messaging_pattern(&self) -> &MessagingPattern {
         &self.messaging_pattern
     }
@@ -365,6 +387,7 @@ impl StaticConfig {
     /// assert!(!events.has_same_messaging_pattern(&board));
     /// # Ok::<(), Box<dyn std::error::Error>>(())
     /// ```
+    #[must_use]
     pub fn has_same_messaging_pattern(&self, rhs: &StaticConfig) -> bool {
         self.messaging_pattern
             .is_same_pattern(&rhs.messaging_pattern)

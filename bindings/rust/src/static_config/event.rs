@@ -74,6 +74,7 @@ impl StaticConfig {
     /// let fixed = StaticConfig::new(&Config::default());
     /// assert_eq!((fixed.max_notifiers, fixed.max_listeners, fixed.max_nodes), (16, 16, 36));
     /// ```
+    #[must_use]
     pub fn new(config: &Config) -> Self {
         let defaults = &config.defaults.event;
         let deadline = |value| Deadline {
@@ -104,6 +105,7 @@ impl StaticConfig {
     /// config.defaults.event.deadline = Some(Duration::from_secs(2));
     /// assert_eq!(StaticConfig::new(&config).deadline(), Some(Duration::from_secs(2)));
     /// ```
+    #[must_use]
     pub fn deadline(&self) -> Option<Duration> {
         self.deadline.map(|deadline| deadline.value)
     }
@@ -118,6 +120,7 @@ impl StaticConfig {
     /// config.defaults.event.max_nodes = 5;
     /// assert_eq!(StaticConfig::new(&config).max_nodes(), 5);
     /// ```
+    #[must_use]
     pub fn max_nodes(&self) -> usize {
         self.max_nodes
     }
@@ -132,6 +135,7 @@ impl StaticConfig {
     /// config.defaults.event.max_notifiers = 5;
     /// assert_eq!(StaticConfig::new(&config).max_notifiers(), 5);
     /// ```
+    #[must_use]
     pub fn max_notifiers(&self) -> usize {
         self.max_notifiers
     }
@@ -146,6 +150,7 @@ impl StaticConfig {
     /// config.defaults.event.max_listeners = 5;
     /// assert_eq!(StaticConfig::new(&config).max_listeners(), 5);
     /// ```
+    #[must_use]
     pub fn max_listeners(&self) -> usize {
         self.max_listeners
     }
@@ -160,6 +165,7 @@ impl StaticConfig {
     /// config.defaults.event.event_id_max_value = 5;
     /// assert_eq!(StaticConfig::new(&config).event_id_max_value(), 5);
     /// ```
+    #[must_use]
     pub fn event_id_max_value(&self) -> usize {
         self.event_id_max_value
     }
