@@ -95,7 +95,7 @@ class Choice(enum.Enum):
 
 
 @cache
-def _setters(kind: Any) -> "tuple[Any, ...]":
+def setters(kind: Any) -> "tuple[Any, ...]":
     """What sets each field of a class, whatever it forbids."""
     return tuple(getattr(kind, field.name).__set__ for field in fields(kind))
 
@@ -106,7 +106,7 @@ _Kind = TypeVar("_Kind")
 def unchecked(kind: "type[_Kind]", values: "Iterable[object]") -> _Kind:
     """A value with these fields, which the library answered, and which are not checked again."""
     made = object.__new__(kind)
-    for set_field, value in zip(_setters(kind), values):
+    for set_field, value in zip(setters(kind), values):
         set_field(made, value)
     return made
 
@@ -119,7 +119,8 @@ class Checked:
     __slots__ = ()
 
     def __post_init__(self) -> None:
-        for name, annotation, end in _checked(type(self)):
+        kind: Any = type(self)
+        for name, annotation, end in _checked(kind):
             value = getattr(self, name)
             if end == 0:
                 if not isinstance(value, annotation):
