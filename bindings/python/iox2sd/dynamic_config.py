@@ -25,6 +25,7 @@ from .details import (
 )
 from .errors import NoService, Refused, check
 from .ids import Role, UniqueNodeId, UniquePortId, maker
+from .static_config import Capacities, StaticConfig
 from .texts import MessagingPattern
 
 _ALL_TICKETS = 2**64 - 1
@@ -50,18 +51,6 @@ class ContainerHandle(Checked):
     def _of(cls, handle: _native.Handle) -> "ContainerHandle":
         values = (handle.service, Role(handle.role), handle.slot, handle.ticket)
         return unchecked(cls, values)
-
-
-@dataclass(frozen=True, slots=True)
-class Capacities(Checked):
-    """For how many nodes and ports at a time a service has room."""
-
-    nodes: Size
-    """Handles of nodes: a node that is registered twice counts twice."""
-    first: Size
-    """Publishers, listeners, servers or readers."""
-    second: Size
-    """Subscribers, notifiers, clients or writers."""
 
 
 class DeregisterNodeState(Choice):
@@ -128,6 +117,15 @@ class DynamicConfig:
             number(tickets, U64, f"{what}.tickets"),
         )
         check(status, f"{what} with {capacities}")
+
+    @classmethod
+    def described(
+        cls, description: StaticConfig, service_number: int, *, tickets: int = _ALL_TICKETS
+    ) -> "DynamicConfig":
+        """A service of the pattern and with the room of a description. Raises `NoMemory`."""
+        instance(description, StaticConfig, f"{cls.__name__}.described")
+        room = description.capacities
+        return cls(description.messaging_pattern, service_number, room, tickets)
 
     @classmethod
     def publish_subscribe(

@@ -4,7 +4,7 @@ import functools
 import struct
 from collections.abc import Callable
 from dataclasses import dataclass
-from typing import TypeVar, Union
+from typing import Any, TypeVar, Union, cast
 
 from . import _native
 from ._arguments import U32, Checked, Choice, setters, shown, unchecked, utf8
@@ -167,7 +167,7 @@ class UniqueServiceId(UniqueId):
 def maker(kind: "type[_Id]") -> "Callable[[int, int, int, int], _Id]":
     """What makes an id of four parts that the library answered, which are not checked again."""
     new = object.__new__
-    set_process, set_seconds, set_nanoseconds, set_counter = setters(kind)
+    set_process, set_seconds, set_nanoseconds, set_counter = setters(cast(Any, kind))
 
     def made(process: int, seconds: int, nanoseconds: int, counter: int) -> _Id:
         id = new(kind)
