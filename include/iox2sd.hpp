@@ -2305,6 +2305,21 @@ struct Capacities {
     auto fields(F f) const noexcept { return f(nodes, first, second); }
 };
 
+/// The room that a service is described to have.
+inline Capacities capacities(const MessagingPattern& described) noexcept {
+    if (const auto* samples = std::get_if<PublishSubscribeStaticConfig>(&described)) {
+        return {samples->max_nodes, samples->max_publishers, samples->max_subscribers};
+    }
+    if (const auto* events = std::get_if<EventStaticConfig>(&described)) {
+        return {events->max_nodes, events->max_listeners, events->max_notifiers};
+    }
+    if (const auto* requests = std::get_if<RequestResponseStaticConfig>(&described)) {
+        return {requests->max_nodes, requests->max_servers, requests->max_clients};
+    }
+    const auto* board = std::get_if<BlackboardStaticConfig>(&described);
+    return {board->max_nodes, board->max_readers, board->max_writers};
+}
+
 /// The roles of the two kinds of ports of a pattern, that first which is recovered first.
 struct PortRoles {
     Role first;
@@ -2353,6 +2368,12 @@ public:
                                 {capacities.nodes, capacities.first, capacities.second}, tickets);
         if (status != IOX2SD_DONE) return Status{status};
         return made;
+    }
+
+    /// Makes a service of the pattern and with the room that are described. Refusal: `NoMemory`.
+    static Result<Service> create(const MessagingPattern& described, std::uint64_t number,
+                                  std::uint64_t tickets = all_tickets) noexcept {
+        return create(iox2sd::kind(described), number, capacities(described), tickets);
     }
 
     Service() noexcept = default;
