@@ -1949,19 +1949,24 @@ public:
     const MessagingPattern& messaging_pattern() const noexcept { return messaging_pattern_; }
     PatternKind kind() const noexcept { return iox2sd::kind(messaging_pattern_); }
 
-    /// The part that only services of one pattern have; NULL for the other patterns.
-    const PublishSubscribeStaticConfig* publish_subscribe() const noexcept {
+    /// The part that only services of one pattern have, as long as the description is there; NULL for
+    /// the other patterns.
+    const PublishSubscribeStaticConfig* publish_subscribe() const& noexcept {
         return std::get_if<PublishSubscribeStaticConfig>(&messaging_pattern_);
     }
-    const EventStaticConfig* event() const noexcept {
+    const PublishSubscribeStaticConfig* publish_subscribe() const&& = delete;
+    const EventStaticConfig* event() const& noexcept {
         return std::get_if<EventStaticConfig>(&messaging_pattern_);
     }
-    const RequestResponseStaticConfig* request_response() const noexcept {
+    const EventStaticConfig* event() const&& = delete;
+    const RequestResponseStaticConfig* request_response() const& noexcept {
         return std::get_if<RequestResponseStaticConfig>(&messaging_pattern_);
     }
-    const BlackboardStaticConfig* blackboard() const noexcept {
+    const RequestResponseStaticConfig* request_response() const&& = delete;
+    const BlackboardStaticConfig* blackboard() const& noexcept {
         return std::get_if<BlackboardStaticConfig>(&messaging_pattern_);
     }
+    const BlackboardStaticConfig* blackboard() const&& = delete;
 
     template <class F>
     auto fields(F f) const noexcept {

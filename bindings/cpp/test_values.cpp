@@ -219,6 +219,11 @@ constexpr bool views_a_temporary = false;
 template <class T>
 constexpr bool views_a_temporary<T, std::void_t<decltype(std::declval<T>().view())>> = true;
 
+template <class T, class = void>
+constexpr bool points_into_a_temporary = false;
+template <class T>
+constexpr bool points_into_a_temporary<T, std::void_t<decltype(std::declval<T>().event())>> = true;
+
 template <class... Values>
 string streamed(const Values&... values) {
     std::ostringstream out;
@@ -230,6 +235,8 @@ string streamed(const Values&... values) {
 void writing() {
     static_assert(!views_a_temporary<ServiceName> && !views_a_temporary<const Text<32>>);
     static_assert(views_a_temporary<ServiceName&> && views_a_temporary<const Text<32>&>);
+    static_assert(!points_into_a_temporary<StaticConfig>);
+    static_assert(points_into_a_temporary<const StaticConfig&>);
     static_assert(!std::is_convertible_v<ServiceName, std::string_view>);
     static_assert(!std::is_convertible_v<const ServiceName, std::string_view>);
     static_assert(std::is_convertible_v<const ServiceName&, std::string_view>);
