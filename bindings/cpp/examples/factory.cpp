@@ -50,7 +50,7 @@ Result<Publisher> attach_publisher(const PublishSubscribeStaticConfig& config, S
 
 void report(const Result<Publisher>& made) {
     if (!made) {
-        std::cout << "refused: " << text(made.error()) << '\n';
+        std::cout << "refused: " << made.error() << '\n';
         return;
     }
     const DataSegment& segment = made->segment;
