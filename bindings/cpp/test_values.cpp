@@ -2,6 +2,7 @@
 // from outside. The last line is 'N checks, N failed'.
 #include <sys/mman.h>
 
+#include <chrono>
 #include <set>
 #include <sstream>
 #include <string>
@@ -15,9 +16,20 @@ namespace {
 using namespace iox2sd;
 using std::string;
 
+/// In C++20 one operator stands for all of order.
+template <class A, class B>
+bool three_way(const A& less, const B& greater) {
+#ifdef __cpp_lib_three_way_comparison
+    static_assert(std::is_same_v<decltype(less <=> greater), std::strong_ordering>);
+    return (less <=> greater) < 0 && (greater <=> less) > 0 && (less <=> less) == 0;
+#else
+    return less < greater;
+#endif
+}
+
 template <class T>
 bool ordered(const T& less, const T& greater) {
-    return less == less && !(less != less) && less <= less && less >= less && less != greater &&
+    return three_way(less, greater) && less == less && !(less != less) && less <= less && less >= less && less != greater &&
            less < greater && greater > less && less <= greater && greater >= less &&
            !(greater < less) && !(less > greater) && !(less == greater);
 }
@@ -207,6 +219,11 @@ constexpr bool views_a_temporary = false;
 template <class T>
 constexpr bool views_a_temporary<T, std::void_t<decltype(std::declval<T>().view())>> = true;
 
+template <class T, class = void>
+constexpr bool points_into_a_temporary = false;
+template <class T>
+constexpr bool points_into_a_temporary<T, std::void_t<decltype(std::declval<T>().event())>> = true;
+
 template <class... Values>
 string streamed(const Values&... values) {
     std::ostringstream out;
@@ -218,6 +235,8 @@ string streamed(const Values&... values) {
 void writing() {
     static_assert(!views_a_temporary<ServiceName> && !views_a_temporary<const Text<32>>);
     static_assert(views_a_temporary<ServiceName&> && views_a_temporary<const Text<32>&>);
+    static_assert(!points_into_a_temporary<StaticConfig>);
+    static_assert(points_into_a_temporary<const StaticConfig&>);
     static_assert(!std::is_convertible_v<ServiceName, std::string_view>);
     static_assert(!std::is_convertible_v<const ServiceName, std::string_view>);
     static_assert(std::is_convertible_v<const ServiceName&, std::string_view>);
@@ -240,6 +259,8 @@ void comparisons() {
     CHECK(shorter < path("b") && path("b") > shorter && shorter < "b" && "b" > shorter);
     CHECK(shorter >= view && view >= shorter && text <= longer && !(longer < text));
     CHECK(version() != layer_version() && version() < layer_version());
+    CHECK(three_way(shorter, path("b")) && three_way(shorter, string("b")));
+    CHECK(three_way(view, path("b")) && three_way(shorter, path("aa")));
 }
 
 void paths() {
@@ -321,7 +342,7 @@ void sets() {
 
     AttributeSet other;
     CHECK(other.add(key("a"), value("2")) && other.add(key("a"), value("10")));
-    CHECK(other != set && !(set < other) && other < set);
+    CHECK(other != set && !(set < other) && other < set && ordered(other, set));
     CHECK(other.add(key("b"), value("1")) && other.add(key("b"), value("0")) && other == set);
     CHECK(ordered(Attribute(key("a"), value("2")), Attribute(key("b"), value("1"))));
     CHECK(ordered(Attribute(key("a"), value("10")), Attribute(key("a"), value("2"))));
@@ -521,6 +542,54 @@ void validity() {
     CHECK(refused(SettingsField::ClientBackpressureStrategy));
 }
 
+/// The nanoseconds of a span that stands for no time.
+constexpr std::uint32_t none = UINT32_MAX;
+
+/// Whether a span of <chrono> makes this span, and is made of it.
+template <class Span>
+bool crosses(const Span& chrono, const Duration& span) {
+    return Duration(chrono) == span && span.to<Span>() == chrono;
+}
+
+void spans() {
+    using namespace std::chrono;
+    using Days = duration<std::int32_t, std::ratio<86400>>;
+    using Frames = duration<std::uint8_t, std::ratio<1001, 30000>>;
+    CHECK(crosses(nanoseconds(0), Duration()) && crosses(nanoseconds(999999999), {0, 999999999}));
+    CHECK(crosses(nanoseconds::max(), {9223372036, 854775807}));
+    CHECK(crosses(microseconds(2000001), {2, 1000}) && crosses(milliseconds(10), {0, 10000000}));
+    CHECK(crosses(seconds::max(), {INT64_MAX, 0}) && crosses(minutes(3), {180, 0}));
+    CHECK(crosses(Days(INT32_MAX), {std::uint64_t{INT32_MAX} * 86400, 0}));
+    CHECK(Duration(Frames(1)) == Duration(0, 33366666) && Duration(Frames(255)).seconds == 8);
+    // What is beside whole units is cut off.
+    CHECK(Duration(1, 999999999).to<seconds>() == seconds(1));
+    CHECK(Duration(119, 999999999).to<minutes>() == minutes(1));
+    CHECK(Duration(0, 33366667).to<Frames>() == Frames(1));
+    CHECK(Duration(0, 33366666).to<Frames>() == Frames(0));
+    // Spans that are none, and none that a type has no room for.
+    CHECK(Duration(nanoseconds(-1)).nanoseconds == none && Duration(hours(-1)).nanoseconds == none);
+    CHECK(Duration(hours::max()).nanoseconds == none);
+    CHECK(Duration(0, 1000000000).to<nanoseconds>() == Status::BadDuration);
+    CHECK(Duration(9223372036, 854775808).to<nanoseconds>() == Status::TooLarge);
+    CHECK(Duration(UINT64_MAX, 0).to<nanoseconds>() == Status::TooLarge);
+    CHECK(Duration(UINT64_MAX, 0).to<seconds>() == Status::TooLarge);
+    CHECK(Duration(std::uint64_t{1} << 63, 0).to<minutes>() == minutes((INT64_MAX / 60)));
+    CHECK(Duration(8, 541866667).to<Frames>() == Status::TooLarge);
+    CHECK(Duration(8, 541866666).to<Frames>() == Frames(255));
+    static_assert(!std::is_convertible_v<duration<double>, Duration>);
+    static_assert(!std::is_convertible_v<duration<int, std::pico>, Duration>);
+
+    EventSettings e = EventSettings::defaults();
+    e.deadline = milliseconds(1500);
+    CHECK(e.check() && e.deadline == Duration(1, 500000000));
+    e.deadline = milliseconds(-1);
+    CHECK(e.check().error() == SettingsError{Status::BadDuration, SettingsField::Deadline});
+    GlobalSettings g = GlobalSettings::defaults();
+    CHECK(g.creation_timeout.to<milliseconds>() == milliseconds(500));
+    g.creation_timeout = hours(1);
+    CHECK(g.check() && g.creation_timeout.seconds == 3600);
+}
+
 void chunks() {
     PublishSubscribeSettings p = PublishSubscribeSettings::defaults();
     p.max_subscribers = 3;
@@ -703,6 +772,7 @@ int main() {
     layouts();
     settings();
     validity();
+    spans();
     chunks();
     descriptions();
     descriptions_of_the_library();

@@ -4,12 +4,14 @@ The defaults of all fields are those of the library: `EventSettings(max_notifier
 event service gets where nothing but that number is said.
 """
 
-from dataclasses import dataclass
+import enum
+from dataclasses import dataclass, fields
+from datetime import timedelta
 from typing import Any, Optional
 
 from . import _native
 from ._arguments import U32, U64, Checked, Choice, Size, instance, shown
-from .errors import check
+from .errors import OutOfRange, TooLarge, check
 from .messages import counted
 from .texts import Path, lent
 
@@ -53,6 +55,26 @@ class Duration(Checked):
         lent = _native.Duration(self.seconds, self.nanoseconds)
         answer = _native.global_settings_check_at(_native.GlobalSettings(lent), 1)
         check(answer.status, shown(self))
+
+    @classmethod
+    def from_timedelta(cls, span: timedelta) -> "Duration":
+        """The span of a `datetime.timedelta`. Raises `OutOfRange` for a negative one."""
+        what = "Duration.from_timedelta"
+        instance(span, timedelta, what)
+        microseconds = timedelta.__floordiv__(span, timedelta(microseconds=1))
+        if microseconds < 0:
+            raise OutOfRange(f"{what}: expected a span that is not negative, got {shown(span)}")
+        seconds, beside = divmod(microseconds, 10**6)
+        return cls(seconds, 1000 * beside)
+
+    def to_timedelta(self) -> timedelta:
+        """The span as a `datetime.timedelta`, cut to whole microseconds. Raises `TooLarge` for a
+        billion days or more.
+        """
+        try:
+            return timedelta(seconds=self.seconds, microseconds=self.nanoseconds // 1000)
+        except OverflowError:
+            raise TooLarge(f"Duration.to_timedelta of {self}") from None
 
 
 @dataclass(frozen=True, slots=True, order=True)

@@ -213,6 +213,26 @@ _PATTERNS = (
     ),
 )
 
+_PORTS = {
+    MessagingPattern.PUBLISH_SUBSCRIBE: ("max_publishers", "max_subscribers"),
+    MessagingPattern.EVENT: ("max_listeners", "max_notifiers"),
+    MessagingPattern.REQUEST_RESPONSE: ("max_servers", "max_clients"),
+    MessagingPattern.BLACKBOARD: ("max_readers", "max_writers"),
+}
+"""The limits of the two kinds of ports of a pattern."""
+
+
+@dataclass(frozen=True, slots=True)
+class Capacities(Checked):
+    """For how many nodes and ports at a time a service has room."""
+
+    nodes: Size
+    """Handles of nodes: a node that is registered twice counts twice."""
+    first: Size
+    """Publishers, listeners, servers or readers."""
+    second: Size
+    """Subscribers, notifiers, clients or writers."""
+
 
 def _plain(value: Any) -> Any:
     """A field as the library takes it."""
@@ -254,7 +274,7 @@ class StaticConfig(Checked):
     unique_service_id: UniqueServiceId
     pattern_config: PatternStaticConfig
     attributes: AttributeSet = AttributeSet()
-    service_hash: ServiceHash = field(init=False, default=None)  # type: ignore[assignment]
+    service_hash: ServiceHash = field(init=False, repr=False, default=None)  # type: ignore[assignment]
     """The hash text of name and pattern, under which the service's files are found."""
 
     def __post_init__(self) -> None:
@@ -292,6 +312,13 @@ class StaticConfig(Checked):
         """The messaging pattern of the service."""
         config = self.pattern_config
         return next(row[1] for row in _PATTERNS if isinstance(config, row[0]))
+
+    @property
+    def capacities(self) -> Capacities:
+        """The room that the service is described to have."""
+        config = self.pattern_config
+        first, second = (getattr(config, name) for name in _PORTS[self.messaging_pattern])
+        return Capacities(config.max_nodes, first, second)
 
     def has_same_messaging_pattern(self, other: "StaticConfig") -> bool:
         """Whether both services have one messaging pattern."""

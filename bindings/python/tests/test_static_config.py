@@ -1,5 +1,6 @@
 import pickle
 import unittest
+from contextlib import suppress
 from dataclasses import replace
 from typing import Any
 
@@ -51,6 +52,33 @@ class StaticConfigs(unittest.TestCase):
             for other, other_pattern in PATTERNS:
                 same = described.has_same_messaging_pattern(StaticConfig(NAME, ID, other))
                 self.assertEqual(same, pattern is other_pattern)
+
+    def test_a_service_has_the_room_of_its_description(self):
+        samples = PublishSubscribeSettings(max_nodes=1, max_publishers=2, max_subscribers=3)
+        events = EventSettings(max_nodes=4, max_listeners=5, max_notifiers=6)
+        requests = RequestResponseSettings(max_nodes=7, max_servers=8, max_clients=9)
+        boards = BlackboardSettings(max_nodes=10, max_readers=11)
+        key = TypeDetail("Key", 8, 8)
+        for config, room in (
+            (PublishSubscribeStaticConfig.new(details(), samples), (1, 2, 3)),
+            (EventStaticConfig.new(events), (4, 5, 6)),
+            (RequestResponseStaticConfig.new(details(), details(), requests), (7, 8, 9)),
+            (BlackboardStaticConfig.new(key, boards), (10, 11, 1)),
+        ):
+            described = StaticConfig(NAME, ID, config)
+            self.assertEqual(described.capacities, iox2sd.Capacities(*room))
+            with iox2sd.DynamicConfig.described(described, 7, tickets=5) as made:
+                again = iox2sd.DynamicConfig(described.messaging_pattern, 7, described.capacities)
+                with again:
+                    self.assertEqual(repr(made), repr(again))
+                for _ in range(5):
+                    with suppress(iox2sd.OutOfSpace):
+                        made.register_node_id(iox2sd.UniqueNodeId(1, 0, 0, 1))
+                self.assertEqual(made.number_of_nodes, min(5, room[0]))
+                self.assertFalse(made.has_room_for_node)
+        wrong: Any = PATTERNS[0][0]
+        with self.assertRaises(iox2sd.WrongType):
+            iox2sd.DynamicConfig.described(wrong, 7)
 
     def test_settings_are_taken_over(self):
         settings = PublishSubscribeSettings(

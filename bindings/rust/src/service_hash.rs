@@ -63,7 +63,11 @@ pub struct ServiceHash {
 impl ServiceHash {
     /// The hash text of a service's pattern and name, by SHA-1.
     ///
+    /// # Errors
+    ///
     /// Refused with [`ServiceHashError::IllegalText`], which no call was ever seen to be.
+    ///
+    /// # Examples
     ///
     /// ```
     /// use iox2sd::messaging_pattern::MessagingPattern;
@@ -98,7 +102,8 @@ impl ServiceHash {
     /// use iox2sd::service_hash::ServiceHash;
     /// assert_eq!(ServiceHash::max_number_of_characters(), 64);
     /// ```
-    pub fn max_number_of_characters() -> usize {
+    #[must_use]
+    pub const fn max_number_of_characters() -> usize {
         RestrictedFileName::capacity()
     }
 
@@ -112,6 +117,7 @@ impl ServiceHash {
     /// assert_eq!(hash.as_str(), hash.to_string());
     /// # Ok::<(), Box<dyn std::error::Error>>(())
     /// ```
+    #[must_use]
     pub fn as_str(&self) -> &str {
         self.text.as_str()
     }

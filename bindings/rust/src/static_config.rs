@@ -46,7 +46,7 @@ use messaging_pattern::MessagingPattern;
 /// assert_eq!((service.name(), service.unique_service_id()), (&name, id));
 /// # Ok::<(), Box<dyn std::error::Error>>(())
 /// ```
-#[derive(Clone, Debug, PartialEq, Eq)]
+#[derive(Clone, Debug, PartialEq, Eq, Hash)]
 pub struct StaticConfig {
     service_hash: ServiceHash,
     service_name: ServiceName,
@@ -165,7 +165,11 @@ impl StaticConfig {
         /// The description of a request-response service with the defaults of a configuration and
         /// without attributes.
         ///
+        /// # Errors
+        ///
         /// Refused as [`ServiceHash::new`] is for the name and the pattern.
+        ///
+        /// # Examples
         ///
         /// ```
         /// use iox2sd::config::Config;
@@ -185,7 +189,11 @@ impl StaticConfig {
         /// The description of an event service with the defaults of a configuration and
         /// without attributes.
         ///
+        /// # Errors
+        ///
         /// Refused as [`ServiceHash::new`] is for the name and the pattern.
+        ///
+        /// # Examples
         ///
         /// ```
         /// use iox2sd::config::Config;
@@ -205,7 +213,11 @@ impl StaticConfig {
         /// The description of a publish-subscribe service with the defaults of a configuration and
         /// without attributes.
         ///
+        /// # Errors
+        ///
         /// Refused as [`ServiceHash::new`] is for the name and the pattern.
+        ///
+        /// # Examples
         ///
         /// ```
         /// use iox2sd::config::Config;
@@ -225,7 +237,11 @@ impl StaticConfig {
         /// The description of a blackboard service with the defaults of a configuration and
         /// without attributes.
         ///
+        /// # Errors
+        ///
         /// Refused as [`ServiceHash::new`] is for the name and the pattern.
+        ///
+        /// # Examples
         ///
         /// ```
         /// use iox2sd::config::Config;
@@ -256,6 +272,7 @@ impl StaticConfig {
     /// assert_eq!(service.attributes(), specifier.attributes());
     /// # Ok::<(), Box<dyn std::error::Error>>(())
     /// ```
+    #[must_use]
     pub fn with_attributes(self, attributes: &AttributeSet) -> Self {
         StaticConfig {
             attributes: attributes.clone(),
@@ -275,6 +292,7 @@ impl StaticConfig {
     /// assert!(service.attributes().is_empty());
     /// # Ok::<(), Box<dyn std::error::Error>>(())
     /// ```
+    #[must_use]
     pub fn attributes(&self) -> &AttributeSet {
         &self.attributes
     }
@@ -293,6 +311,7 @@ impl StaticConfig {
     /// assert_eq!(service.service_hash(), &ServiceHash::new(&name, MessagingPattern::Event)?);
     /// # Ok::<(), Box<dyn std::error::Error>>(())
     /// ```
+    #[must_use]
     pub fn service_hash(&self) -> &ServiceHash {
         &self.service_hash
     }
@@ -309,6 +328,7 @@ impl StaticConfig {
     /// assert_eq!(service.unique_service_id(), id);
     /// # Ok::<(), Box<dyn std::error::Error>>(())
     /// ```
+    #[must_use]
     pub fn unique_service_id(&self) -> UniqueServiceId {
         self.unique_service_id
     }
@@ -325,6 +345,7 @@ impl StaticConfig {
     /// assert_eq!(service.name(), "front");
     /// # Ok::<(), Box<dyn std::error::Error>>(())
     /// ```
+    #[must_use]
     pub fn name(&self) -> &ServiceName {
         &self.service_name
     }
@@ -341,6 +362,7 @@ impl StaticConfig {
     /// assert_eq!(service.messaging_pattern().to_string(), "Event");
     /// # Ok::<(), Box<dyn std::error::Error>>(())
     /// ```
+    #[must_use]
     pub fn messaging_pattern(&self) -> &MessagingPattern {
         &self.messaging_pattern
     }
@@ -359,6 +381,7 @@ impl StaticConfig {
     /// assert!(!events.has_same_messaging_pattern(&board));
     /// # Ok::<(), Box<dyn std::error::Error>>(())
     /// ```
+    #[must_use]
     pub fn has_same_messaging_pattern(&self, rhs: &StaticConfig) -> bool {
         self.messaging_pattern
             .is_same_pattern(&rhs.messaging_pattern)

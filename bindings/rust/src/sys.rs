@@ -567,10 +567,6 @@ extern "C" {
         capacity: usize,
     ) -> iox2sd_text_answer;
 
-    pub fn iox2sd_attributes_check_at(
-        pairs: *const iox2sd_attribute,
-        length: usize,
-    ) -> iox2sd_place_answer;
     pub fn iox2sd_attributes_sort_at(
         pairs: *mut iox2sd_attribute,
         length: usize,

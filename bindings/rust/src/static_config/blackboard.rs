@@ -45,6 +45,7 @@ impl StaticConfig {
     /// let fixed = StaticConfig::new(&Config::default());
     /// assert_eq!((fixed.max_readers, fixed.max_writers, fixed.max_nodes), (8, 1, 20));
     /// ```
+    #[must_use]
     pub fn new(config: &Config) -> Self {
         Self::of(&config.defaults.blackboard.fixed().blackboard)
     }
@@ -69,6 +70,7 @@ impl StaticConfig {
     /// config.defaults.blackboard.max_nodes = 5;
     /// assert_eq!(StaticConfig::new(&config).max_nodes(), 5);
     /// ```
+    #[must_use]
     pub fn max_nodes(&self) -> usize {
         self.max_nodes
     }
@@ -83,6 +85,7 @@ impl StaticConfig {
     /// config.defaults.blackboard.max_readers = 5;
     /// assert_eq!(StaticConfig::new(&config).max_readers(), 5);
     /// ```
+    #[must_use]
     pub fn max_readers(&self) -> usize {
         self.max_readers
     }
@@ -100,6 +103,7 @@ impl StaticConfig {
     /// assert_eq!(fixed.type_details().size(), 8);
     /// # Ok::<(), Box<dyn std::error::Error>>(())
     /// ```
+    #[must_use]
     pub fn type_details(&self) -> &TypeDetail {
         &self.type_details
     }

@@ -76,6 +76,7 @@ impl StaticConfig {
     /// let fixed = StaticConfig::new(&Config::default());
     /// assert_eq!((fixed.max_notifiers, fixed.max_listeners, fixed.max_nodes), (16, 16, 36));
     /// ```
+    #[must_use]
     pub fn new(config: &Config) -> Self {
         Self::of(&config.defaults.event.fixed().event)
     }
@@ -111,6 +112,7 @@ impl StaticConfig {
     /// config.defaults.event.deadline = Some(Duration::from_secs(2));
     /// assert_eq!(StaticConfig::new(&config).deadline(), Some(Duration::from_secs(2)));
     /// ```
+    #[must_use]
     pub fn deadline(&self) -> Option<Duration> {
         self.deadline.map(|deadline| deadline.value)
     }
@@ -125,6 +127,7 @@ impl StaticConfig {
     /// config.defaults.event.max_nodes = 5;
     /// assert_eq!(StaticConfig::new(&config).max_nodes(), 5);
     /// ```
+    #[must_use]
     pub fn max_nodes(&self) -> usize {
         self.max_nodes
     }
@@ -139,6 +142,7 @@ impl StaticConfig {
     /// config.defaults.event.max_notifiers = 5;
     /// assert_eq!(StaticConfig::new(&config).max_notifiers(), 5);
     /// ```
+    #[must_use]
     pub fn max_notifiers(&self) -> usize {
         self.max_notifiers
     }
@@ -153,6 +157,7 @@ impl StaticConfig {
     /// config.defaults.event.max_listeners = 5;
     /// assert_eq!(StaticConfig::new(&config).max_listeners(), 5);
     /// ```
+    #[must_use]
     pub fn max_listeners(&self) -> usize {
         self.max_listeners
     }
@@ -167,6 +172,7 @@ impl StaticConfig {
     /// config.defaults.event.event_id_max_value = 5;
     /// assert_eq!(StaticConfig::new(&config).event_id_max_value(), 5);
     /// ```
+    #[must_use]
     pub fn event_id_max_value(&self) -> usize {
         self.event_id_max_value
     }

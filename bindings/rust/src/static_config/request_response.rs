@@ -62,6 +62,7 @@ impl StaticConfig {
     /// assert_eq!((fixed.max_servers, fixed.max_clients, fixed.max_nodes), (2, 8, 20));
     /// assert!(!fixed.request_message_type_details.has_alignments());
     /// ```
+    #[must_use]
     pub fn new(config: &Config) -> Self {
         Self::of(&config.defaults.request_response.fixed().request_response)
     }
@@ -95,11 +96,12 @@ impl StaticConfig {
     /// let service = StaticConfig::new(&Config::default());
     /// assert_eq!(service.required_amount_of_chunks_per_client_data_segment(2), Some(18));
     /// ```
+    #[must_use]
     pub fn required_amount_of_chunks_per_client_data_segment(
         &self,
         client_max_loaned_data: usize,
     ) -> Option<usize> {
-        library::chunks(library::client_chunks(
+        library::chunks(&library::client_chunks(
             self.max_servers,
             self.max_active_requests_per_client,
             client_max_loaned_data,
@@ -116,11 +118,12 @@ impl StaticConfig {
     /// let service = StaticConfig::new(&Config::default());
     /// assert_eq!(service.required_amount_of_chunks_per_server_data_segment(2), Some(384));
     /// ```
+    #[must_use]
     pub fn required_amount_of_chunks_per_server_data_segment(
         &self,
         max_loaned_responses_per_request: usize,
     ) -> Option<usize> {
-        library::chunks(library::server_chunks(
+        library::chunks(&library::server_chunks(
             self.max_clients,
             self.max_active_requests_per_client,
             self.max_response_buffer_size,
@@ -142,6 +145,7 @@ impl StaticConfig {
     /// assert_eq!(fixed.request_message_type_details(), &details);
     /// # Ok::<(), iox2sd::static_config::message_type_details::TypeDetailError>(())
     /// ```
+    #[must_use]
     pub fn request_message_type_details(&self) -> &MessageTypeDetails {
         &self.request_message_type_details
     }
@@ -159,6 +163,7 @@ impl StaticConfig {
     /// assert_eq!(fixed.response_message_type_details(), &details);
     /// # Ok::<(), iox2sd::static_config::message_type_details::TypeDetailError>(())
     /// ```
+    #[must_use]
     pub fn response_message_type_details(&self) -> &MessageTypeDetails {
         &self.response_message_type_details
     }
@@ -174,6 +179,7 @@ impl StaticConfig {
     /// config.defaults.request_response.enable_safe_overflow_for_requests = false;
     /// assert!(!StaticConfig::new(&config).has_safe_overflow_for_requests());
     /// ```
+    #[must_use]
     pub fn has_safe_overflow_for_requests(&self) -> bool {
         self.enable_safe_overflow_for_requests
     }
@@ -189,6 +195,7 @@ impl StaticConfig {
     /// config.defaults.request_response.enable_safe_overflow_for_responses = false;
     /// assert!(!StaticConfig::new(&config).has_safe_overflow_for_responses());
     /// ```
+    #[must_use]
     pub fn has_safe_overflow_for_responses(&self) -> bool {
         self.enable_safe_overflow_for_responses
     }
@@ -204,6 +211,7 @@ impl StaticConfig {
     /// config.defaults.request_response.enable_fire_and_forget_requests = false;
     /// assert!(!StaticConfig::new(&config).does_support_fire_and_forget_requests());
     /// ```
+    #[must_use]
     pub fn does_support_fire_and_forget_requests(&self) -> bool {
         self.enable_fire_and_forget_requests
     }
@@ -218,6 +226,7 @@ impl StaticConfig {
     /// config.defaults.request_response.max_borrowed_responses_per_pending_response = 5;
     /// assert_eq!(StaticConfig::new(&config).max_borrowed_responses_per_pending_response(), 5);
     /// ```
+    #[must_use]
     pub fn max_borrowed_responses_per_pending_response(&self) -> usize {
         self.max_borrowed_responses_per_pending_response
     }
@@ -232,6 +241,7 @@ impl StaticConfig {
     /// config.defaults.request_response.max_active_requests_per_client = 5;
     /// assert_eq!(StaticConfig::new(&config).max_active_requests_per_client(), 5);
     /// ```
+    #[must_use]
     pub fn max_active_requests_per_client(&self) -> usize {
         self.max_active_requests_per_client
     }
@@ -246,6 +256,7 @@ impl StaticConfig {
     /// config.defaults.request_response.max_response_buffer_size = 5;
     /// assert_eq!(StaticConfig::new(&config).max_response_buffer_size(), 5);
     /// ```
+    #[must_use]
     pub fn max_response_buffer_size(&self) -> usize {
         self.max_response_buffer_size
     }
@@ -260,6 +271,7 @@ impl StaticConfig {
     /// config.defaults.request_response.max_loaned_requests = 5;
     /// assert_eq!(StaticConfig::new(&config).max_loaned_requests(), 5);
     /// ```
+    #[must_use]
     pub fn max_loaned_requests(&self) -> usize {
         self.max_loaned_requests
     }
@@ -274,6 +286,7 @@ impl StaticConfig {
     /// config.defaults.request_response.max_servers = 5;
     /// assert_eq!(StaticConfig::new(&config).max_servers(), 5);
     /// ```
+    #[must_use]
     pub fn max_servers(&self) -> usize {
         self.max_servers
     }
@@ -288,6 +301,7 @@ impl StaticConfig {
     /// config.defaults.request_response.max_clients = 5;
     /// assert_eq!(StaticConfig::new(&config).max_clients(), 5);
     /// ```
+    #[must_use]
     pub fn max_clients(&self) -> usize {
         self.max_clients
     }
@@ -302,6 +316,7 @@ impl StaticConfig {
     /// config.defaults.request_response.max_nodes = 5;
     /// assert_eq!(StaticConfig::new(&config).max_nodes(), 5);
     /// ```
+    #[must_use]
     pub fn max_nodes(&self) -> usize {
         self.max_nodes
     }
