@@ -27,7 +27,7 @@ versioned() { sed "s/@VERSION@/$version/g" "install/$1.in" | install -m 644 /dev
 include=$prefix/include lib=$prefix/lib share=$prefix/share/iox2sd
 cmake=$lib/cmake/iox2sd
 install -d "$include" "$lib/pkgconfig" "$cmake"
-install -m 644 ../include/iox2sd*.h ../include/iox2sd.hpp "$include"
+install -m 644 ../include/iox2sd*.h ../include/iox2sd*.hpp "$include"
 install -m 644 out/libiox2sd.a "$lib"
 install -m 755 out/libiox2sd.so.0 "$lib"
 ln -sf libiox2sd.so.0 "$lib/libiox2sd.so"

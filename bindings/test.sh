@@ -124,7 +124,30 @@ for name in {global,publish_subscribe,event,request_response}_{defaults,settings
     blackboard_defaults; do
     wrapped_settings+=,--wrap=iox2sd_$name
 done
+# Whether a compiler's standard library has <format>.
+has_format() {
+    has "$1" || return 1
+    echo '#include <format>' | "$1" -std=c++20 -fsyntax-only -x c++ - 2> "$work/log" ||
+        { echo "not found: <format> of $1"; return 1; }
+}
+
+# What an include of the header costs, in kilobytes of the compiler's memory.
+include_costs() {
+    local most=$1 taken
+    taken=$(/usr/bin/time -f %M "${@:2}" -fsyntax-only -x c++ ../include/iox2sd.hpp 2>&1) &&
+        echo "$taken kB, at most $most" && [ "$taken" -le "$most" ]
+}
+
+if has g++ && has /usr/bin/time; then
+    run "an include of iox2sd.hpp takes at most 100 MB" include_costs 102400 g++ -std=c++17
+fi
 for compiler in g++ clang++; do
+    for standard in c++17 c++20 c++2b; do
+        run "$compiler -std=$standard has no warning about iox2sd.hpp" "$compiler" \
+            -std=$standard "${warnings[@]}" -Wconversion -Wshadow -fsyntax-only -I../include \
+            -x c++ ../include/iox2sd.hpp
+    done
+    if has_format "$compiler"; then runs "$compiler" iox2sd cpp/test_format.cpp -std=c++20; fi
     runs "$compiler" iox2sd cpp/test_enumerators.cpp -std=c++17
     runs "$compiler" iox2sd cpp/test_fields.cpp -std=c++17 "$wrapped_settings"
     caller "$compiler" iox2sd c/test_values.cpp -std=c++11
@@ -289,7 +312,8 @@ if has cargo; then
             run "each public item of the crate has an example" rust/check_examples \
                 "$work/rust/doc/iox2sd"
         fi
-    if has_cargo clippy; then run "cargo clippy" crate clippy --all-targets -- --deny warnings; fi
+    if has_cargo clippy; then run "cargo clippy" crate clippy --all-targets -- --deny warnings
+    run "cargo clippy, pedantic" crate clippy --lib --examples -- --deny warnings --deny clippy::pedantic; fi
     if has_cargo fmt; then run "cargo fmt" cargo fmt --check --manifest-path rust/Cargo.toml; fi
     run "cargo package, and tests of what it packs" packaged
 fi

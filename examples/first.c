@@ -58,7 +58,12 @@ static void describe(const char *name, const iox2sd_publish_subscribe_settings *
                out);
     printf("room: %zu nodes, %zu publishers, %zu subscribers\n", settings->max_nodes,
            settings->max_publishers, settings->max_subscribers);
-    printf("samples: %zu\n", iox2sd_samples_of(settings).count);
+    printf("samples: %zu\n",
+           iox2sd_required_amount_of_samples_per_data_segment(
+               settings->max_subscribers, settings->subscriber_max_buffer_size,
+               settings->subscriber_max_borrowed_samples, settings->publisher_history_size,
+               settings->publisher_max_loaned_samples)
+               .count);
     for (size_t i = 0; i < number_of_attributes; i++) {
         const iox2sd_attribute *each = &attributes[i];
         printf("attribute: %.*s = %.*s\n", (int)each->key_length, (const char *)each->key,

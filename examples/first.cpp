@@ -94,9 +94,6 @@ int main() {
             .value();
     describe(description, settings.publisher_max_loaned_samples);
     verify(description, verifier);
-    Service service =
-        Service::create(description.kind(), 7,
-                        {settings.max_nodes, settings.max_publishers, settings.max_subscribers})
-            .value();
+    Service service = Service::create(description.messaging_pattern(), 7).value();
     live(service);
 }

@@ -112,12 +112,7 @@ def main() -> None:
     description = StaticConfig(name, UniqueServiceId(1, 0, 0, 1), config, attributes)
     describe(description, config, settings.publisher_max_loaned_samples)
     verify(description.attributes, config.message_type_details)
-    with DynamicConfig.publish_subscribe(
-        7,
-        max_nodes=config.max_nodes,
-        max_publishers=config.max_publishers,
-        max_subscribers=config.max_subscribers,
-    ) as service:
+    with DynamicConfig.described(description, 7) as service:
         live(service)
 
 

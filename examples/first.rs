@@ -6,8 +6,7 @@
 use iox2sd::attribute::{AttributeKey, AttributeVerificationError};
 use iox2sd::config::DataSegmentType;
 use iox2sd::dynamic_config::{
-    publish_subscribe, DeregisterNodeState, DynamicConfig, MessagingPatternSettings,
-    PortCleanupAction, PublisherDetails,
+    DeregisterNodeState, DynamicConfig, PortCleanupAction, PublisherDetails,
 };
 use iox2sd::identifiers::{UniqueNodeId, UniquePortId, UniquePublisherId, UniqueServiceId};
 use iox2sd::prelude::*;
@@ -105,10 +104,9 @@ fn live(service: &mut DynamicConfig) -> Result<(), Box<dyn Error>> {
     for each in service.nodes() {
         println!("there is the node: {each}");
     }
-    service.publish_subscribe().list_publishers(|details| {
+    for details in service.publish_subscribe().publishers() {
         println!("there is the publisher: {}", details.publisher_id);
-        CallbackProgression::Continue
-    });
+    }
     let (mut publishers, mut subscribers) = (0, 0);
     let state = service.remove_dead_node_id(&node_id, |port| {
         match port {
@@ -145,12 +143,8 @@ fn main() -> Result<(), Box<dyn Error>> {
             .publisher_max_loaned_samples,
     )?;
     verify(&description)?;
-    let config = description.publish_subscribe();
-    let room = publish_subscribe::DynamicConfigSettings {
-        number_of_publishers: config.max_publishers(),
-        number_of_subscribers: config.max_subscribers(),
-    };
-    let room = MessagingPatternSettings::PublishSubscribe(room);
-    let mut service = DynamicConfig::new(&room, config.max_nodes(), 7)?;
+    let room = description.messaging_pattern().into();
+    let max_nodes = description.publish_subscribe().max_nodes();
+    let mut service = DynamicConfig::new(&room, max_nodes, 7)?;
     live(&mut service)
 }

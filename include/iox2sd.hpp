@@ -24,24 +24,24 @@
 #error "iox2sd.hpp wants C++17"
 #endif
 
-#include <algorithm>
-#include <array>
 #include <cstddef>
 #include <cstdint>
 #include <cstdio>
 #include <cstdlib>
-#include <functional>
+#include <cstring>
 #include <initializer_list>
 #include <iosfwd>
-#include <iterator>
-#include <memory>
+#include <limits>
 #include <new>
 #include <optional>
 #include <string_view>
-#include <tuple>
 #include <type_traits>
 #include <utility>
 #include <variant>
+
+#if __cplusplus >= 202002L
+#include <compare>
+#endif
 
 #include "iox2sd.h"
 #include "iox2sd_script.h"
@@ -121,9 +121,53 @@ constexpr Status status_of(const Error& error) noexcept {
     return error.status;
 }
 
-/// Whether a type is compared field by field: it lists its fields by `fields()`.
+/// Takes the fields of a value, and makes nothing of them.
+struct Ignore {
+    template <class... Fields>
+    void operator()(const Fields&...) const noexcept {}
+};
+
+/// Where a type is compared field by field: its `fields` hands all of them to a function.
 template <class T>
-using IfFields = std::void_t<decltype(std::declval<const T&>().fields())>;
+using IfFields = decltype(std::declval<const T&>().fields(Ignore()));
+
+/// Whether all fields of two values are equal.
+template <class T>
+bool same(const T& a, const T& b) noexcept {
+    return a.fields([&b](const auto&... as) {
+        return b.fields([&](const auto&... bs) { return (... && (as == bs)); });
+    });
+}
+
+/// Below 0, 0 or above 0 where the first field of `a` that differs is less, none is, or greater.
+template <class T>
+int order(const T& a, const T& b) noexcept {
+    return a.fields([&b](const auto&... as) {
+        return b.fields([&](const auto&... bs) {
+            int found = 0;
+            static_cast<void>(
+                (... || ((found = as < bs ? -1 : int{bs < as}) != 0)));
+            return found;
+        });
+    });
+}
+
+/// Whether two rows of items are equal, item by item.
+template <class T>
+bool same_items(const T* a, std::size_t size_of_a, const T* b, std::size_t size_of_b) noexcept {
+    if (size_of_a != size_of_b) return false;
+    for (std::size_t i = 0; i < size_of_a; ++i) {
+        if (!(a[i] == b[i])) return false;
+    }
+    return true;
+}
+
+/// Copies items that are copied as their bytes.
+template <class T>
+void copy_items(const T* from, std::size_t size, T* to) noexcept {
+    static_assert(std::is_trivially_copyable_v<T>);
+    if (size != 0) std::memcpy(static_cast<void*>(to), from, size * sizeof(T));
+}
 
 /// Prints what was refused, and ends the program.
 [[noreturn]] inline void no_value(Status status) noexcept;
@@ -134,7 +178,7 @@ using IfFields = std::void_t<decltype(std::declval<const T&>().fields())>;
 /// differs.
 template <class T, class = detail::IfFields<T>>
 bool operator==(const T& a, const T& b) noexcept {
-    return a.fields() == b.fields();
+    return detail::same(a, b);
 }
 template <class T, class = detail::IfFields<T>>
 bool operator!=(const T& a, const T& b) noexcept {
@@ -142,7 +186,7 @@ bool operator!=(const T& a, const T& b) noexcept {
 }
 template <class T, class = detail::IfFields<T>>
 bool operator<(const T& a, const T& b) noexcept {
-    return a.fields() < b.fields();
+    return detail::order(a, b) < 0;
 }
 template <class T, class = detail::IfFields<T>>
 bool operator>(const T& a, const T& b) noexcept {
@@ -156,6 +200,12 @@ template <class T, class = detail::IfFields<T>>
 bool operator>=(const T& a, const T& b) noexcept {
     return !(a < b);
 }
+#ifdef __cpp_lib_three_way_comparison
+template <class T, class = detail::IfFields<T>>
+std::strong_ordering operator<=>(const T& a, const T& b) noexcept {
+    return detail::order(a, b) <=> 0;
+}
+#endif
 
 template <class T, class E = Status>
 class Result;
@@ -175,6 +225,96 @@ auto transformed(F&& f, Value&&... value) noexcept {
     }
 }
 
+/// How a value or an error is copied: as its bytes, by its own functions, or not at all.
+enum class Copied { AsBytes, ByItself, Never };
+
+template <class T, class E>
+inline constexpr Copied copied =
+    std::is_trivially_copyable_v<T> && std::is_trivially_copyable_v<E> ? Copied::AsBytes
+    : std::is_copy_constructible_v<T>                                  ? Copied::ByItself
+                                                                       : Copied::Never;
+
+/// A value or an error. The kinds that most results have are not left to `std::variant`, which
+/// takes long to compile.
+template <class T, class E, Copied = copied<T, E>>
+class Either {
+public:
+    explicit Either(T&& value) noexcept : state_(std::in_place_index<0>, std::move(value)) {}
+    explicit Either(E&& error) noexcept : state_(std::in_place_index<1>, std::move(error)) {}
+
+    bool has_value() const noexcept { return state_.index() == 0; }
+    T& value() noexcept { return *std::get_if<0>(&state_); }
+    const T& value() const noexcept { return *std::get_if<0>(&state_); }
+    const E& error() const noexcept { return *std::get_if<1>(&state_); }
+
+private:
+    std::variant<T, E> state_;
+};
+
+template <class T, class E>
+class Either<T, E, Copied::AsBytes> {
+public:
+    explicit Either(T&& value) noexcept : value_(std::move(value)), has_value_(true) {}
+    explicit Either(E&& error) noexcept : error_(std::move(error)), has_value_(false) {}
+
+    bool has_value() const noexcept { return has_value_; }
+    T& value() noexcept { return value_; }
+    const T& value() const noexcept { return value_; }
+    const E& error() const noexcept { return error_; }
+
+private:
+    union {
+        T value_;
+        E error_;
+    };
+    bool has_value_;
+};
+
+template <class T, class E>
+class Either<T, E, Copied::Never> {
+public:
+    explicit Either(T&& value) noexcept : value_(std::move(value)), has_value_(true) {}
+    explicit Either(E&& error) noexcept : error_(std::move(error)), has_value_(false) {}
+    Either(Either&& other) noexcept { take(other); }
+    Either& operator=(Either&& other) noexcept {
+        if (this != &other) {
+            end();
+            take(other);
+        }
+        return *this;
+    }
+    ~Either() { end(); }
+
+    bool has_value() const noexcept { return has_value_; }
+    T& value() noexcept { return value_; }
+    const T& value() const noexcept { return value_; }
+    const E& error() const noexcept { return error_; }
+
+private:
+    void take(Either& other) noexcept {
+        has_value_ = other.has_value_;
+        if (has_value_) {
+            ::new (static_cast<void*>(&value_)) T(std::move(other.value_));
+        } else {
+            ::new (static_cast<void*>(&error_)) E(std::move(other.error_));
+        }
+    }
+
+    void end() noexcept {
+        if (has_value_) {
+            value_.~T();
+        } else {
+            error_.~E();
+        }
+    }
+
+    union {
+        T value_;
+        E error_;
+    };
+    bool has_value_;
+};
+
 }  // namespace detail
 
 /// A value, or the error for which there is none: a `Status`, or a struct with a `status`.
@@ -184,10 +324,10 @@ public:
     using value_type = T;
     using error_type = E;
 
-    Result(T value) noexcept : state_(std::in_place_index<0>, std::move(value)) {}
-    Result(E error) noexcept : state_(std::in_place_index<1>, std::move(error)) {}
+    Result(T value) noexcept : state_(std::move(value)) {}
+    Result(E error) noexcept : state_(std::move(error)) {}
 
-    bool has_value() const noexcept { return state_.index() == 0; }
+    bool has_value() const noexcept { return state_.has_value(); }
     /// Whether there is a value. A `Result<bool>` has no such conversion: it would be true for the
     /// answer `false`. Ask `has_value`, or take the answer by `*`.
     template <class U = T, class = std::enable_if_t<!std::is_same_v<U, bool>>>
@@ -197,7 +337,7 @@ public:
 
     /// `Status::Done` where there is a value, and the status of the error otherwise.
     Status status() const noexcept {
-        return has_value() ? Status::Done : detail::status_of(*std::get_if<1>(&state_));
+        return has_value() ? Status::Done : detail::status_of(state_.error());
     }
 
     /// The value, by itself where the result is a temporary. Where there is none the program prints
@@ -245,27 +385,27 @@ public:
 
     /// The error. Where there is none the program is aborted.
     const E& error() const noexcept {
-        const E* found = std::get_if<1>(&state_);
-        if (found == nullptr) std::abort();
-        return *found;
+        if (has_value()) std::abort();
+        return state_.error();
     }
 
     /// Results are equal where both have equal values, or both equal errors. A value or an error is
     /// compared as the result that it makes.
     friend bool operator==(const Result& a, const Result& b) noexcept {
-        return a.state_ == b.state_;
+        if (a.has_value() != b.has_value()) return false;
+        return a.has_value() ? a.state_.value() == b.state_.value()
+                             : a.state_.error() == b.state_.error();
     }
     friend bool operator!=(const Result& a, const Result& b) noexcept { return !(a == b); }
 
 private:
     template <class Self>
     static auto& the_value(Self& self) noexcept {
-        auto* found = std::get_if<0>(&self.state_);
-        if (found == nullptr) detail::no_value(self.status());
-        return *found;
+        if (!self.has_value()) detail::no_value(self.status());
+        return self.state_.value();
     }
 
-    std::variant<T, E> state_;
+    detail::Either<T, E> state_;
 };
 
 /// That something was done, or the error for which it was not.
@@ -332,13 +472,12 @@ inline Result<void> result(std::uint32_t status) noexcept {
 
 namespace detail {
 
-template <class Iterator, class = void>
-inline constexpr bool is_forward = false;
-template <class Iterator>
-inline constexpr bool is_forward<
-    Iterator, std::void_t<typename std::iterator_traits<Iterator>::iterator_category>> =
-    std::is_base_of_v<std::forward_iterator_tag,
-                      typename std::iterator_traits<Iterator>::iterator_category>;
+/// Whether a range says how many items it has.
+template <class Range, class = void>
+inline constexpr bool is_sized = false;
+template <class Range>
+inline constexpr bool is_sized<Range, std::void_t<decltype(std::size(std::declval<Range&>()))>> =
+    true;
 
 }  // namespace detail
 
@@ -355,68 +494,80 @@ public:
 
     List() noexcept = default;
     List(List&& other) noexcept
-        : items_(std::move(other.items_)), size_(std::exchange(other.size_, 0)) {}
+        : items_(std::exchange(other.items_, nullptr)), size_(std::exchange(other.size_, 0)) {}
     List& operator=(List&& other) noexcept {
-        items_ = std::move(other.items_);
-        size_ = std::exchange(other.size_, 0);
+        List taken(std::move(other));
+        std::swap(items_, taken.items_);
+        std::swap(size_, taken.size_);
         return *this;
     }
+    ~List() { ::operator delete(items_); }
 
     /// What a function makes of each of `count` items. Refusal: `NoMemory`.
     template <class From, class Make>
     static Result<List> of(const From* items, std::size_t count, Make make) noexcept {
-        return of_range(items, items + count, make);
+        return made_of(items, items + count, count, make);
     }
 
-    /// What a function makes of each item from `first` to before `last`. Memory is taken once where
-    /// the items can be counted first. Refusal: `NoMemory`.
-    template <class First, class Last, class Make>
-    static Result<List> of_range(First first, Last last, Make make) noexcept {
+    /// What a function makes of each item of a range, which is read once. Memory is taken once where
+    /// the range says its size. Refusal: `NoMemory`.
+    template <class Range, class Make>
+    static Result<List> of_range(Range& range, Make make) noexcept {
+        using std::begin, std::end;
+        std::size_t size = 0;
+        if constexpr (detail::is_sized<Range>) size = std::size(range);
+        return made_of(begin(range), end(range), size, make);
+    }
+
+    /// The items that a call of the C headers writes into a buffer, where it says first how many
+    /// there are. Refusals: those of the call; `NoMemory`.
+    template <class Call>
+    static Result<List> written_by(Call call) noexcept {
         List made;
-        std::size_t room = counted(first, last);
+        const iox2sd_count_answer needed = call(nullptr, 0);
+        if (needed.status == IOX2SD_DONE) return made;
+        if (needed.status != IOX2SD_BUFFER_TOO_SHORT) return Status{needed.status};
+        if (!made.move_to(needed.count)) return Status::NoMemory;
+        const iox2sd_count_answer found = call(made.items_, needed.count);
+        if (found.status != IOX2SD_DONE) return Status{found.status};
+        made.size_ = found.count;
+        return made;
+    }
+
+    std::size_t size() const noexcept { return size_; }
+    bool empty() const noexcept { return size_ == 0; }
+    const T* data() const& noexcept { return items_; }
+    const T* data() const&& = delete;
+    const T* begin() const noexcept { return items_; }
+    const T* end() const noexcept { return items_ + size_; }
+    const T* cbegin() const noexcept { return begin(); }
+    const T* cend() const noexcept { return end(); }
+    /// The item at an index below `size()`, and the first and the last of a list that is not empty.
+    const T& operator[](std::size_t index) const noexcept { return items_[index]; }
+    const T& front() const noexcept { return items_[0]; }
+    const T& back() const noexcept { return items_[size_ - 1]; }
+
+    friend bool operator==(const List& a, const List& b) noexcept {
+        return detail::same_items(a.items_, a.size_, b.items_, b.size_);
+    }
+    friend bool operator!=(const List& a, const List& b) noexcept { return !(a == b); }
+
+private:
+    /// What a function makes of the items from `first` to before `last`, of which there are `room`
+    /// where that is known.
+    template <class First, class Last, class Make>
+    static Result<List> made_of(First first, Last last, std::size_t room, Make make) noexcept {
+        List made;
         if (room != 0 && !made.move_to(room)) return Status::NoMemory;
         for (; first != last; ++first) {
             if (made.size_ == room) {
                 room = room == 0 ? 16 : 2 * room;
                 if (!made.move_to(room)) return Status::NoMemory;
             }
-            ::new (made.items_.get() + made.size_) T(make(*first));
+            ::new (made.items_ + made.size_) T(make(*first));
             ++made.size_;
         }
         return made;
-    }
-
-    std::size_t size() const noexcept { return size_; }
-    bool empty() const noexcept { return size_ == 0; }
-    const T* data() const& noexcept { return items_.get(); }
-    const T* data() const&& = delete;
-    const T* begin() const noexcept { return items_.get(); }
-    const T* end() const noexcept { return items_.get() + size_; }
-    const T* cbegin() const noexcept { return begin(); }
-    const T* cend() const noexcept { return end(); }
-    /// The item at an index below `size()`, and the first and the last of a list that is not empty.
-    const T& operator[](std::size_t index) const noexcept { return items_.get()[index]; }
-    const T& front() const noexcept { return items_.get()[0]; }
-    const T& back() const noexcept { return items_.get()[size_ - 1]; }
-
-    friend bool operator==(const List& a, const List& b) noexcept {
-        return std::equal(a.begin(), a.end(), b.begin(), b.end());
-    }
-    friend bool operator!=(const List& a, const List& b) noexcept { return !(a == b); }
-
-private:
-    struct Free {
-        void operator()(T* place) const noexcept { ::operator delete(place); }
-    };
-
-    /// How many items a range has, where it can be read twice; 0 otherwise.
-    template <class First, class Last>
-    static std::size_t counted(First first, Last last) noexcept {
-        std::size_t count = 0;
-        if constexpr (detail::is_forward<First>) {
-            for (; first != last; ++first) ++count;
-        }
-        return count;
     }
 
     /// Moves the items to a place that has room for so many: whether there was one.
@@ -424,12 +575,12 @@ private:
         if (room > SIZE_MAX / sizeof(T)) return false;
         T* const place = static_cast<T*>(::operator new(room * sizeof(T), std::nothrow));
         if (place == nullptr) return false;
-        std::uninitialized_copy(begin(), end(), place);
-        items_.reset(place);
+        detail::copy_items(items_, size_, place);
+        ::operator delete(std::exchange(items_, place));
         return true;
     }
 
-    std::unique_ptr<T, Free> items_;
+    T* items_ = nullptr;
     std::size_t size_ = 0;
 };
 
@@ -476,6 +627,12 @@ template <class A, class B, class = detail::IfTexts<A, B>>
 bool operator>=(const A& a, const B& b) noexcept {
     return !(a < b);
 }
+#ifdef __cpp_lib_three_way_comparison
+template <class A, class B, class = detail::IfTexts<A, B>>
+std::strong_ordering operator<=>(const A& a, const B& b) noexcept {
+    return std::string_view(a).compare(std::string_view(b)) <=> 0;
+}
+#endif
 
 /// A text of at most `Capacity` bytes, which it holds itself.
 template <std::size_t Capacity>
@@ -488,7 +645,7 @@ public:
     template <class Write>
     static Result<Text> written_by(Write write) noexcept {
         Text text;
-        const iox2sd_text_answer answer = write(text.bytes_.data(), Capacity);
+        const iox2sd_text_answer answer = write(text.bytes_, Capacity);
         if (answer.status != IOX2SD_DONE) return Status{answer.status};
         text.length_ = answer.length;
         return text;
@@ -497,7 +654,7 @@ public:
     /// A view lasts as long as the text. That of a temporary does not compile; a copy is made by
     /// `std::string(text)`, and a text is written by `<<`.
     std::string_view view() const& noexcept {
-        return {reinterpret_cast<const char*>(bytes_.data()), length_};
+        return {reinterpret_cast<const char*>(bytes_), length_};
     }
     std::string_view view() const&& = delete;
     operator std::string_view() const& noexcept { return view(); }
@@ -510,11 +667,11 @@ protected:
     /// A text that a check has found to be short enough.
     explicit Text(std::string_view text) noexcept : length_(text.size()) {
         if (text.size() > Capacity) std::abort();
-        std::copy(text.begin(), text.end(), bytes_.begin());
+        detail::copy_items(detail::bytes(text), text.size(), bytes_);
     }
 
 private:
-    std::array<std::uint8_t, Capacity> bytes_{};
+    std::uint8_t bytes_[Capacity]{};
     std::size_t length_ = 0;
 };
 
@@ -560,7 +717,8 @@ struct TextError {
     /// The byte that is illegal, or the greatest length; 0 where the status speaks of no place.
     std::size_t at = 0;
 
-    auto fields() const noexcept { return std::tie(status, at); }
+    template <class F>
+    auto fields(F f) const noexcept { return f(status, at); }
 };
 
 /// A text that a check of the library lets through.
@@ -719,8 +877,9 @@ public:
     }
 
 private:
-    explicit ServiceHash(const Text<64>& text) noexcept
-        : RestrictedFileName(text, detail::FromLibrary{}) {}
+    friend class StaticConfig;
+
+    explicit ServiceHash(std::string_view text) noexcept : RestrictedFileName(text) {}
 };
 
 // ---- Ids ----
@@ -762,6 +921,11 @@ public:
     friend bool operator>(const UniqueId& a, const UniqueId& b) noexcept { return b < a; }
     friend bool operator<=(const UniqueId& a, const UniqueId& b) noexcept { return !(b < a); }
     friend bool operator>=(const UniqueId& a, const UniqueId& b) noexcept { return !(a < b); }
+#ifdef __cpp_lib_three_way_comparison
+    friend std::strong_ordering operator<=>(const UniqueId& a, const UniqueId& b) noexcept {
+        return (a < b ? -1 : int{b < a}) <=> 0;
+    }
+#endif
 
 private:
     iox2sd_id parts_;
@@ -836,7 +1000,8 @@ public:
     Text<32> text() const noexcept { return UniqueServiceId(parts_).text(); }
 
     /// Ids of ports are ordered by their roles, and then by their numbers.
-    auto fields() const noexcept { return std::tuple(role_, UniqueServiceId(parts_)); }
+    template <class F>
+    auto fields(F f) const noexcept { return f(role_, UniqueServiceId(parts_)); }
 
 private:
     Role role_;
@@ -862,7 +1027,8 @@ public:
     const AttributeValue& value() const noexcept { return value_; }
 
     /// Attributes are ordered by the bytes of their keys, and then of their values.
-    auto fields() const noexcept { return std::tie(key_, value_); }
+    template <class F>
+    auto fields(F f) const noexcept { return f(key_, value_); }
 
 private:
     friend class AttributeSet;
@@ -904,7 +1070,7 @@ public:
         if (answer.status != IOX2SD_DONE) return Status{answer.status};
         std::size_t place = 0;
         while (pairs.items[place].key != detail::bytes(added.key())) ++place;
-        std::copy_backward(items_ + place, items_ + size_, items_ + size_ + 1);
+        for (std::size_t i = size_; i > place; --i) items_[i] = items_[i - 1];
         items_[place] = added;
         ++size_;
         return {};
@@ -936,13 +1102,14 @@ public:
 
     /// Sets are equal where they have the same pairs as often.
     friend bool operator==(const AttributeSet& a, const AttributeSet& b) noexcept {
-        return std::equal(a.begin(), a.end(), b.begin(), b.end());
+        return detail::same_items(a.items_, a.size_, b.items_, b.size_);
     }
     friend bool operator!=(const AttributeSet& a, const AttributeSet& b) noexcept {
         return !(a == b);
     }
+    /// They are ordered by the first pair that differs; a set that another one begins with is less.
     friend bool operator<(const AttributeSet& a, const AttributeSet& b) noexcept {
-        return std::lexicographical_compare(a.begin(), a.end(), b.begin(), b.end());
+        return order(a, b) < 0;
     }
     friend bool operator>(const AttributeSet& a, const AttributeSet& b) noexcept { return b < a; }
     friend bool operator<=(const AttributeSet& a, const AttributeSet& b) noexcept {
@@ -951,9 +1118,21 @@ public:
     friend bool operator>=(const AttributeSet& a, const AttributeSet& b) noexcept {
         return !(a < b);
     }
+#ifdef __cpp_lib_three_way_comparison
+    friend std::strong_ordering operator<=>(const AttributeSet& a, const AttributeSet& b) noexcept {
+        return order(a, b) <=> 0;
+    }
+#endif
 
 private:
     friend class AttributeVerifier;
+    static int order(const AttributeSet& a, const AttributeSet& b) noexcept {
+        for (std::size_t i = 0; i < a.size_ && i < b.size_; ++i) {
+            if (const int found = detail::order(a.items_[i], b.items_[i])) return found;
+        }
+        return a.size_ < b.size_ ? -1 : int{b.size_ < a.size_};
+    }
+
     detail::Pairs as_pairs() const noexcept {
         detail::Pairs pairs;
         for (const Attribute& attribute : *this) pairs.push(attribute);
@@ -972,7 +1151,8 @@ struct AttributeVerificationError {
     /// The value that was required, where a pair is missing.
     std::optional<AttributeValue> value;
 
-    auto fields() const noexcept { return std::tie(status, key, value); }
+    template <class F>
+    auto fields(F f) const noexcept { return f(status, key, value); }
 };
 
 /// What an opener requires of the attributes of a service: pairs and keys, at most sixteen
@@ -1030,9 +1210,8 @@ public:
     /// Verifiers are equal where they require the same pairs as often, and the same keys in the
     /// same order.
     friend bool operator==(const AttributeVerifier& a, const AttributeVerifier& b) noexcept {
-        const KeyRange one = a.required_keys(), other = b.required_keys();
         return a.required_ == b.required_ &&
-               std::equal(one.begin(), one.end(), other.begin(), other.end());
+               detail::same_items(a.keys_, a.number_of_keys_, b.keys_, b.number_of_keys_);
     }
     friend bool operator!=(const AttributeVerifier& a, const AttributeVerifier& b) noexcept {
         return !(a == b);
@@ -1095,9 +1274,8 @@ public:
                                      std::size_t size, std::size_t alignment) noexcept {
         const iox2sd_type_detail detail{detail::bytes(type_name), type_name.size(),
                                         static_cast<std::uint32_t>(variant), size, alignment};
-        const iox2sd_message_details each{detail, detail, detail};
-        const iox2sd_part_answer answer = iox2sd_message_is_compatible_to(&each, &each);
-        if (answer.status != IOX2SD_DONE) return Status{answer.status};
+        const std::uint32_t status = iox2sd_type_detail_check(&detail);
+        if (status != IOX2SD_DONE) return Status{status};
         return TypeDetail(variant, TypeName(type_name), size, alignment);
     }
 
@@ -1113,7 +1291,8 @@ public:
     std::size_t size() const noexcept { return size_; }
     std::size_t alignment() const noexcept { return alignment_; }
 
-    auto fields() const noexcept { return std::tie(variant_, type_name_, size_, alignment_); }
+    template <class F>
+    auto fields(F f) const noexcept { return f(variant_, type_name_, size_, alignment_); }
 
     /// The type as the C header takes it, which lasts as long as this one.
     iox2sd_type_detail as_c() const noexcept {
@@ -1141,7 +1320,8 @@ struct Layout {
     std::size_t size;       ///< At most 2^63 - 1.
     std::size_t alignment;  ///< The number of which the message's place is to be a multiple.
 
-    auto fields() const noexcept { return std::tie(size, alignment); }
+    template <class F>
+    auto fields(F f) const noexcept { return f(size, alignment); }
 };
 
 /// The places of two parts of a message. They are numbers: nothing is read there.
@@ -1149,7 +1329,8 @@ struct MessagePlaces {
     std::size_t user_header;
     std::size_t payload;
 
-    auto fields() const noexcept { return std::tie(user_header, payload); }
+    template <class F>
+    auto fields(F f) const noexcept { return f(user_header, payload); }
 };
 
 /// Why an opener may not use the messages of a service: `OtherName`, `OtherVariant`, `OtherSize`,
@@ -1158,7 +1339,8 @@ struct IncompatibleTypes {
     Status status;
     MessagePart part;
 
-    auto fields() const noexcept { return std::tie(status, part); }
+    template <class F>
+    auto fields(F f) const noexcept { return f(status, part); }
 };
 
 /// The parts of a message, which lie one after another.
@@ -1167,7 +1349,8 @@ struct MessageTypeDetails {
     TypeDetail user_header;
     TypeDetail payload;
 
-    auto fields() const noexcept { return std::tie(header, user_header, payload); }
+    template <class F>
+    auto fields(F f) const noexcept { return f(header, user_header, payload); }
 
     /// The room for a message whose payload has so many elements. All parts lie in it, apart and
     /// aligned, for the service and for every compatible opener.
@@ -1218,19 +1401,66 @@ enum class AllocationStrategy : std::uint32_t {
     Static = IOX2SD_STATIC,            ///< It does not grow.
 };
 
+namespace detail {
+
+/// Where a type is a `std::chrono::duration` of whole numbers, in steps from a nanosecond to years.
+/// It is told by its members: `<chrono>` takes long to compile, and is left to those who use it.
+template <class Span>
+using IfSpan =
+    std::enable_if_t<std::is_integral_v<typename Span::rep> &&
+                     (Span::period::den <= 1000000000) && (Span::period::num <= 1000000000)>;
+
+}  // namespace detail
+
 /// A span of time.
 struct Duration {
-    std::uint64_t seconds;
-    std::uint32_t nanoseconds;  ///< Beside the seconds, below 1,000,000,000.
+    std::uint64_t seconds = 0;
+    std::uint32_t nanoseconds = 0;  ///< Beside the seconds, below 1,000,000,000.
 
-    auto fields() const noexcept { return std::tie(seconds, nanoseconds); }
+    constexpr Duration() noexcept = default;
+    constexpr Duration(std::uint64_t seconds_, std::uint32_t nanoseconds_) noexcept
+        : seconds(seconds_), nanoseconds(nanoseconds_) {}
+
+    /// A `std::chrono::duration` of whole numbers, cut to whole nanoseconds: `deadline = 10ms`.
+    /// A negative one, and one of 2^64 seconds or more, has nanoseconds that no check lets through.
+    template <class Span, class = detail::IfSpan<Span>>
+    constexpr Duration(const Span& span) noexcept : nanoseconds(UINT32_MAX) {
+        constexpr std::uint64_t num = Span::period::num, den = Span::period::den;
+        if constexpr (std::is_signed_v<typename Span::rep>) {
+            if (span.count() < 0) return;
+        }
+        const auto count = static_cast<std::uint64_t>(span.count());
+        // The parts of a second that stand beside whole periods of `num` seconds.
+        const std::uint64_t whole = count / den, parts = count % den * num;
+        if (whole > (UINT64_MAX - parts / den) / num) return;
+        seconds = whole * num + parts / den;
+        nanoseconds = static_cast<std::uint32_t>(parts % den * 1000000000 / den);
+    }
+
+    /// The span as a `std::chrono::duration` of whole numbers, cut to whole ones. Refusals:
+    /// `BadDuration` of nanoseconds of 1,000,000,000 or more; `TooLarge`, past the type's range.
+    template <class Span, class = detail::IfSpan<Span>>
+    constexpr Result<Span> to() const noexcept {
+        using Count = typename Span::rep;
+        constexpr std::uint64_t num = Span::period::num, den = Span::period::den;
+        constexpr auto most = static_cast<std::uint64_t>(std::numeric_limits<Count>::max());
+        if (nanoseconds >= 1000000000) return Status::BadDuration;
+        const std::uint64_t parts = seconds % num * den + nanoseconds * den / 1000000000;
+        const std::uint64_t whole = seconds / num;
+        if (parts / num > most || whole > (most - parts / num) / den) return Status::TooLarge;
+        return Span(static_cast<Count>(whole * den + parts / num));
+    }
+
+    template <class F>
+    auto fields(F f) const noexcept { return f(seconds, nanoseconds); }
 };
 
 /// The number of an event.
 struct EventId {
     std::size_t value;
 
-    auto fields() const noexcept { return std::tie(value); }
+    template <class F>
+    auto fields(F f) const noexcept { return f(value); }
 };
 
 /// The fields of settings that may be invalid.
@@ -1251,7 +1481,8 @@ struct SettingsError {
     Status status;
     SettingsField field;
 
-    auto fields() const noexcept { return std::tie(status, field); }
+    template <class F>
+    auto fields(F f) const noexcept { return f(status, field); }
 };
 
 namespace detail {
@@ -1297,9 +1528,10 @@ struct GlobalSettings {
     bool cleanup_dead_nodes_on_creation;
     bool cleanup_dead_nodes_on_destruction;
 
-    auto fields() const noexcept {
-        return std::tie(creation_timeout, cleanup_dead_nodes_on_open,
-                        cleanup_dead_nodes_on_creation, cleanup_dead_nodes_on_destruction);
+    template <class F>
+    auto fields(F f) const noexcept {
+        return f(creation_timeout, cleanup_dead_nodes_on_open, cleanup_dead_nodes_on_creation,
+                 cleanup_dead_nodes_on_destruction);
     }
 
     /// Those that a system has where nothing else is said.
@@ -1335,11 +1567,12 @@ struct PublishSubscribeSettings {
     AllocationStrategy publisher_allocation_strategy;
     bool enable_safe_overflow;  ///< Whether a new sample takes the oldest one's place.
 
-    auto fields() const noexcept {
-        return std::tie(max_subscribers, max_publishers, max_nodes, subscriber_max_buffer_size,
-                        subscriber_max_borrowed_samples, publisher_max_loaned_samples,
-                        publisher_history_size, subscriber_expired_connection_buffer,
-                        backpressure_strategy, publisher_allocation_strategy, enable_safe_overflow);
+    template <class F>
+    auto fields(F f) const noexcept {
+        return f(max_subscribers, max_publishers, max_nodes, subscriber_max_buffer_size,
+                 subscriber_max_borrowed_samples, publisher_max_loaned_samples,
+                 publisher_history_size, subscriber_expired_connection_buffer,
+                 backpressure_strategy, publisher_allocation_strategy, enable_safe_overflow);
     }
 
     /// Those that a service gets where nothing else is said.
@@ -1360,18 +1593,23 @@ struct PublishSubscribeSettings {
 
     /// Whether all fields are valid.
     Result<void, SettingsError> check() const noexcept {
-        const iox2sd_publish_subscribe_settings c{max_subscribers,
-                                                  max_publishers,
-                                                  max_nodes,
-                                                  subscriber_max_buffer_size,
-                                                  subscriber_max_borrowed_samples,
-                                                  publisher_max_loaned_samples,
-                                                  publisher_history_size,
-                                                  subscriber_expired_connection_buffer,
-                                                  detail::number(backpressure_strategy),
-                                                  detail::number(publisher_allocation_strategy),
-                                                  enable_safe_overflow};
+        const iox2sd_publish_subscribe_settings c = as_c();
         return detail::valid(iox2sd_publish_subscribe_settings_check(&c));
+    }
+
+    /// The settings as the C header takes them.
+    iox2sd_publish_subscribe_settings as_c() const noexcept {
+        return {max_subscribers,
+                max_publishers,
+                max_nodes,
+                subscriber_max_buffer_size,
+                subscriber_max_borrowed_samples,
+                publisher_max_loaned_samples,
+                publisher_history_size,
+                subscriber_expired_connection_buffer,
+                detail::number(backpressure_strategy),
+                detail::number(publisher_allocation_strategy),
+                enable_safe_overflow};
     }
 };
 
@@ -1386,9 +1624,10 @@ struct EventSettings {
     std::optional<EventId> notifier_dropped_event;
     std::optional<EventId> notifier_dead_event;
 
-    auto fields() const noexcept {
-        return std::tie(max_listeners, max_notifiers, max_nodes, event_id_max_value, deadline,
-                        notifier_created_event, notifier_dropped_event, notifier_dead_event);
+    template <class F>
+    auto fields(F f) const noexcept {
+        return f(max_listeners, max_notifiers, max_nodes, event_id_max_value, deadline,
+                 notifier_created_event, notifier_dropped_event, notifier_dead_event);
     }
 
     /// Those that a service gets where nothing else is said.
@@ -1406,15 +1645,20 @@ struct EventSettings {
 
     /// Whether all fields are valid.
     Result<void, SettingsError> check() const noexcept {
-        const iox2sd_event_settings c{max_listeners,
-                                      max_notifiers,
-                                      max_nodes,
-                                      event_id_max_value,
-                                      detail::as_c(deadline),
-                                      detail::as_c(notifier_created_event),
-                                      detail::as_c(notifier_dropped_event),
-                                      detail::as_c(notifier_dead_event)};
+        const iox2sd_event_settings c = as_c();
         return detail::valid(iox2sd_event_settings_check(&c));
+    }
+
+    /// The settings as the C header takes them.
+    iox2sd_event_settings as_c() const noexcept {
+        return {max_listeners,
+                max_notifiers,
+                max_nodes,
+                event_id_max_value,
+                detail::as_c(deadline),
+                detail::as_c(notifier_created_event),
+                detail::as_c(notifier_dropped_event),
+                detail::as_c(notifier_dead_event)};
     }
 };
 
@@ -1438,15 +1682,16 @@ struct RequestResponseSettings {
     bool enable_safe_overflow_for_responses;
     bool enable_fire_and_forget_requests;  ///< Whether a request may go without a response.
 
-    auto fields() const noexcept {
-        return std::tie(max_active_requests_per_client, max_response_buffer_size, max_servers,
-                        max_clients, max_nodes, max_borrowed_responses_per_pending_response,
-                        max_loaned_requests, server_max_loaned_responses_per_request,
-                        client_expired_connection_buffer, server_expired_connection_buffer,
-                        client_backpressure_strategy, server_backpressure_strategy,
-                        client_allocation_strategy, server_allocation_strategy,
-                        enable_safe_overflow_for_requests, enable_safe_overflow_for_responses,
-                        enable_fire_and_forget_requests);
+    template <class F>
+    auto fields(F f) const noexcept {
+        return f(max_active_requests_per_client, max_response_buffer_size, max_servers,
+                 max_clients, max_nodes, max_borrowed_responses_per_pending_response,
+                 max_loaned_requests, server_max_loaned_responses_per_request,
+                 client_expired_connection_buffer, server_expired_connection_buffer,
+                 client_backpressure_strategy, server_backpressure_strategy,
+                 client_allocation_strategy, server_allocation_strategy,
+                 enable_safe_overflow_for_requests, enable_safe_overflow_for_responses,
+                 enable_fire_and_forget_requests);
     }
 
     /// Those that a service gets where nothing else is said.
@@ -1473,24 +1718,29 @@ struct RequestResponseSettings {
 
     /// Whether all fields are valid.
     Result<void, SettingsError> check() const noexcept {
-        const iox2sd_request_response_settings c{max_active_requests_per_client,
-                                                 max_response_buffer_size,
-                                                 max_servers,
-                                                 max_clients,
-                                                 max_nodes,
-                                                 max_borrowed_responses_per_pending_response,
-                                                 max_loaned_requests,
-                                                 server_max_loaned_responses_per_request,
-                                                 client_expired_connection_buffer,
-                                                 server_expired_connection_buffer,
-                                                 detail::number(client_backpressure_strategy),
-                                                 detail::number(server_backpressure_strategy),
-                                                 detail::number(client_allocation_strategy),
-                                                 detail::number(server_allocation_strategy),
-                                                 enable_safe_overflow_for_requests,
-                                                 enable_safe_overflow_for_responses,
-                                                 enable_fire_and_forget_requests};
+        const iox2sd_request_response_settings c = as_c();
         return detail::valid(iox2sd_request_response_settings_check(&c));
+    }
+
+    /// The settings as the C header takes them.
+    iox2sd_request_response_settings as_c() const noexcept {
+        return {max_active_requests_per_client,
+                max_response_buffer_size,
+                max_servers,
+                max_clients,
+                max_nodes,
+                max_borrowed_responses_per_pending_response,
+                max_loaned_requests,
+                server_max_loaned_responses_per_request,
+                client_expired_connection_buffer,
+                server_expired_connection_buffer,
+                detail::number(client_backpressure_strategy),
+                detail::number(server_backpressure_strategy),
+                detail::number(client_allocation_strategy),
+                detail::number(server_allocation_strategy),
+                enable_safe_overflow_for_requests,
+                enable_safe_overflow_for_responses,
+                enable_fire_and_forget_requests};
     }
 };
 
@@ -1499,13 +1749,17 @@ struct BlackboardSettings {
     std::size_t max_readers;  ///< How many may be attached at once; so is the next.
     std::size_t max_nodes;
 
-    auto fields() const noexcept { return std::tie(max_readers, max_nodes); }
+    template <class F>
+    auto fields(F f) const noexcept { return f(max_readers, max_nodes); }
 
     /// Those that a service gets where nothing else is said.
     static BlackboardSettings defaults() noexcept {
         const iox2sd_blackboard_settings c = iox2sd_blackboard_defaults();
         return {c.max_readers, c.max_nodes};
     }
+
+    /// The settings as the C header takes them.
+    iox2sd_blackboard_settings as_c() const noexcept { return {max_readers, max_nodes}; }
 };
 
 /// The texts of the configuration.
@@ -1587,10 +1841,11 @@ struct PublishSubscribeStaticConfig {
           enable_safe_overflow(settings.enable_safe_overflow),
           message_type_details(details) {}
 
-    auto fields() const noexcept {
-        return std::tie(max_subscribers, max_publishers, max_nodes, history_size,
-                        subscriber_max_buffer_size, subscriber_max_borrowed_samples,
-                        enable_safe_overflow, message_type_details);
+    template <class F>
+    auto fields(F f) const noexcept {
+        return f(max_subscribers, max_publishers, max_nodes, history_size,
+                 subscriber_max_buffer_size, subscriber_max_borrowed_samples,
+                 enable_safe_overflow, message_type_details);
     }
 
     /// The greatest number of one publisher's samples that can be in use at once, where it may have
@@ -1639,12 +1894,13 @@ struct RequestResponseStaticConfig {
           request_message_type_details(request),
           response_message_type_details(response) {}
 
-    auto fields() const noexcept {
-        return std::tie(enable_safe_overflow_for_requests, enable_safe_overflow_for_responses,
-                        enable_fire_and_forget_requests, max_active_requests_per_client,
-                        max_loaned_requests, max_response_buffer_size, max_servers, max_clients,
-                        max_nodes, max_borrowed_responses_per_pending_response,
-                        request_message_type_details, response_message_type_details);
+    template <class F>
+    auto fields(F f) const noexcept {
+        return f(enable_safe_overflow_for_requests, enable_safe_overflow_for_responses,
+                 enable_fire_and_forget_requests, max_active_requests_per_client,
+                 max_loaned_requests, max_response_buffer_size, max_servers, max_clients,
+                 max_nodes, max_borrowed_responses_per_pending_response,
+                 request_message_type_details, response_message_type_details);
     }
 
     /// The greatest number of one client's requests that can be in use at once, where it may have
@@ -1677,9 +1933,8 @@ struct BlackboardStaticConfig {
     BlackboardStaticConfig(const BlackboardSettings& settings, const TypeDetail& key) noexcept
         : max_readers(settings.max_readers), max_nodes(settings.max_nodes), type_details(key) {}
 
-    auto fields() const noexcept {
-        return std::tie(max_readers, max_writers, max_nodes, type_details);
-    }
+    template <class F>
+    auto fields(F f) const noexcept { return f(max_readers, max_writers, max_nodes, type_details); }
 };
 
 /// The description of a service of one of the patterns.
@@ -1693,16 +1948,113 @@ inline PatternKind kind(const MessagingPattern& pattern) noexcept {
     return kinds[pattern.index()];
 }
 
+namespace detail {
+
+/// What the library makes of the settings with which a pattern's part is made. In the part stands
+/// then what it says, beside the types.
+inline iox2sd_field_answer describe(PublishSubscribeStaticConfig& part, const ServiceName& name,
+                                    const iox2sd_id& id, iox2sd_description& made) noexcept {
+    PublishSubscribeSettings settings = PublishSubscribeSettings::defaults();
+    settings.max_subscribers = part.max_subscribers;
+    settings.max_publishers = part.max_publishers;
+    settings.max_nodes = part.max_nodes;
+    settings.publisher_history_size = part.history_size;
+    settings.subscriber_max_buffer_size = part.subscriber_max_buffer_size;
+    settings.subscriber_max_borrowed_samples = part.subscriber_max_borrowed_samples;
+    settings.enable_safe_overflow = part.enable_safe_overflow;
+    const iox2sd_publish_subscribe_settings given = settings.as_c();
+    const iox2sd_field_answer answer =
+        iox2sd_describe_publish_subscribe(&given, bytes(name), name.size(), true, id, &made);
+    const iox2sd_publish_subscribe_config& c = made.publish_subscribe;
+    part.max_subscribers = c.max_subscribers;
+    part.max_publishers = c.max_publishers;
+    part.max_nodes = c.max_nodes;
+    part.history_size = c.history_size;
+    part.subscriber_max_buffer_size = c.subscriber_max_buffer_size;
+    part.subscriber_max_borrowed_samples = c.subscriber_max_borrowed_samples;
+    part.enable_safe_overflow = c.enable_safe_overflow;
+    return answer;
+}
+
+inline iox2sd_field_answer describe(EventStaticConfig& part, const ServiceName& name,
+                                    const iox2sd_id& id, iox2sd_description& made) noexcept {
+    const iox2sd_event_settings given = part.as_c();
+    const iox2sd_field_answer answer =
+        iox2sd_describe_event(&given, bytes(name), name.size(), true, id, &made);
+    const iox2sd_event_config& c = made.event;
+    part = {c.max_listeners,
+            c.max_notifiers,
+            c.max_nodes,
+            c.event_id_max_value,
+            from_c(c.deadline),
+            from_c(c.notifier_created_event),
+            from_c(c.notifier_dropped_event),
+            from_c(c.notifier_dead_event)};
+    return answer;
+}
+
+inline iox2sd_field_answer describe(RequestResponseStaticConfig& part, const ServiceName& name,
+                                    const iox2sd_id& id, iox2sd_description& made) noexcept {
+    RequestResponseSettings settings = RequestResponseSettings::defaults();
+    settings.enable_safe_overflow_for_requests = part.enable_safe_overflow_for_requests;
+    settings.enable_safe_overflow_for_responses = part.enable_safe_overflow_for_responses;
+    settings.enable_fire_and_forget_requests = part.enable_fire_and_forget_requests;
+    settings.max_active_requests_per_client = part.max_active_requests_per_client;
+    settings.max_loaned_requests = part.max_loaned_requests;
+    settings.max_response_buffer_size = part.max_response_buffer_size;
+    settings.max_servers = part.max_servers;
+    settings.max_clients = part.max_clients;
+    settings.max_nodes = part.max_nodes;
+    settings.max_borrowed_responses_per_pending_response =
+        part.max_borrowed_responses_per_pending_response;
+    const iox2sd_request_response_settings given = settings.as_c();
+    const iox2sd_field_answer answer =
+        iox2sd_describe_request_response(&given, bytes(name), name.size(), true, id, &made);
+    const iox2sd_request_response_config& c = made.request_response;
+    part.enable_safe_overflow_for_requests = c.enable_safe_overflow_for_requests;
+    part.enable_safe_overflow_for_responses = c.enable_safe_overflow_for_responses;
+    part.enable_fire_and_forget_requests = c.enable_fire_and_forget_requests;
+    part.max_active_requests_per_client = c.max_active_requests_per_client;
+    part.max_loaned_requests = c.max_loaned_requests;
+    part.max_response_buffer_size = c.max_response_buffer_size;
+    part.max_servers = c.max_servers;
+    part.max_clients = c.max_clients;
+    part.max_nodes = c.max_nodes;
+    part.max_borrowed_responses_per_pending_response =
+        c.max_borrowed_responses_per_pending_response;
+    return answer;
+}
+
+inline iox2sd_field_answer describe(BlackboardStaticConfig& part, const ServiceName& name,
+                                    const iox2sd_id& id, iox2sd_description& made) noexcept {
+    const iox2sd_blackboard_settings given{part.max_readers, part.max_nodes};
+    const iox2sd_field_answer answer =
+        iox2sd_describe_blackboard(&given, bytes(name), name.size(), true, id, &made);
+    part.max_readers = made.blackboard.max_readers;
+    part.max_writers = made.blackboard.max_writers;
+    part.max_nodes = made.blackboard.max_nodes;
+    return answer;
+}
+
+}  // namespace detail
+
 /// The description of a service: what its maker fixes, and what an opener verifies.
 class StaticConfig {
 public:
-    /// Refusal: `IllegalHash`, which was never seen.
+    /// What the library makes of the name, the id and the pattern's part, with these attributes and
+    /// the part's types. A blackboard has one writer, whatever the part says.
+    /// Refusals: `BadDuration` of a deadline; `IllegalHash`, which was never seen.
     static Result<StaticConfig> create(const ServiceName& name, const UniqueServiceId& id,
                                        const AttributeSet& attributes,
                                        const MessagingPattern& pattern) noexcept {
-        const Result<ServiceHash> hash = ServiceHash::create(name, iox2sd::kind(pattern));
-        if (!hash) return hash.error();
-        return StaticConfig(*hash, name, id, attributes, pattern);
+        MessagingPattern described = pattern;
+        iox2sd_description made{};
+        const iox2sd_field_answer answer = std::visit(
+            [&](auto& part) { return detail::describe(part, name, id.parts(), made); }, described);
+        if (answer.status != IOX2SD_DONE) return Status{answer.status};
+        const char* hash = reinterpret_cast<const char*>(made.hash);
+        return StaticConfig(ServiceHash(std::string_view(hash, made.hash_length)), name, id,
+                            attributes, described);
     }
 
     const ServiceHash& service_hash() const noexcept { return service_hash_; }
@@ -1712,22 +2064,28 @@ public:
     const MessagingPattern& messaging_pattern() const noexcept { return messaging_pattern_; }
     PatternKind kind() const noexcept { return iox2sd::kind(messaging_pattern_); }
 
-    /// The part that only services of one pattern have; NULL for the other patterns.
-    const PublishSubscribeStaticConfig* publish_subscribe() const noexcept {
+    /// The part that only services of one pattern have, as long as the description is there; NULL for
+    /// the other patterns.
+    const PublishSubscribeStaticConfig* publish_subscribe() const& noexcept {
         return std::get_if<PublishSubscribeStaticConfig>(&messaging_pattern_);
     }
-    const EventStaticConfig* event() const noexcept {
+    const PublishSubscribeStaticConfig* publish_subscribe() const&& = delete;
+    const EventStaticConfig* event() const& noexcept {
         return std::get_if<EventStaticConfig>(&messaging_pattern_);
     }
-    const RequestResponseStaticConfig* request_response() const noexcept {
+    const EventStaticConfig* event() const&& = delete;
+    const RequestResponseStaticConfig* request_response() const& noexcept {
         return std::get_if<RequestResponseStaticConfig>(&messaging_pattern_);
     }
-    const BlackboardStaticConfig* blackboard() const noexcept {
+    const RequestResponseStaticConfig* request_response() const&& = delete;
+    const BlackboardStaticConfig* blackboard() const& noexcept {
         return std::get_if<BlackboardStaticConfig>(&messaging_pattern_);
     }
+    const BlackboardStaticConfig* blackboard() const&& = delete;
 
-    auto fields() const noexcept {
-        return std::tie(service_hash_, name_, unique_service_id_, attributes_, messaging_pattern_);
+    template <class F>
+    auto fields(F f) const noexcept {
+        return f(service_hash_, name_, unique_service_id_, attributes_, messaging_pattern_);
     }
 
 private:
@@ -1765,7 +2123,9 @@ inline iox2sd_port_details port(Role role, const iox2sd_id& id, const UniqueNode
     return made;
 }
 
-inline UniqueNodeId node_of(const iox2sd_port_details& port) noexcept { return {port.node, FromLibrary{}}; }
+inline UniqueNodeId node_id(const iox2sd_id& id) noexcept { return {id, FromLibrary{}}; }
+
+inline UniqueNodeId node_of(const iox2sd_port_details& port) noexcept { return node_id(port.node); }
 
 }  // namespace detail
 
@@ -1779,9 +2139,10 @@ struct PublisherDetails {
     DataSegmentType data_segment_type = DataSegmentType::Static;
     std::uint8_t max_number_of_segments = 0;
 
-    auto fields() const noexcept {
-        return std::tie(publisher_id, node_id, number_of_samples, max_slice_len, data_segment_type,
-                        max_number_of_segments);
+    template <class F>
+    auto fields(F f) const noexcept {
+        return f(publisher_id, node_id, number_of_samples, max_slice_len, data_segment_type,
+                 max_number_of_segments);
     }
     UniquePortId port_id() const noexcept { return publisher_id; }
 
@@ -1810,7 +2171,8 @@ struct SubscriberDetails {
     UniqueNodeId node_id;
     std::size_t buffer_size = 0;
 
-    auto fields() const noexcept { return std::tie(subscriber_id, node_id, buffer_size); }
+    template <class F>
+    auto fields(F f) const noexcept { return f(subscriber_id, node_id, buffer_size); }
     UniquePortId port_id() const noexcept { return subscriber_id; }
 
     static SubscriberDetails from_c(const iox2sd_port_details& c) noexcept {
@@ -1829,7 +2191,8 @@ struct NotifierDetails {
     UniqueNotifierId notifier_id;
     UniqueNodeId node_id;
 
-    auto fields() const noexcept { return std::tie(notifier_id, node_id); }
+    template <class F>
+    auto fields(F f) const noexcept { return f(notifier_id, node_id); }
     UniquePortId port_id() const noexcept { return notifier_id; }
 
     static NotifierDetails from_c(const iox2sd_port_details& c) noexcept {
@@ -1844,7 +2207,8 @@ struct ListenerDetails {
     UniqueListenerId listener_id;
     UniqueNodeId node_id;
 
-    auto fields() const noexcept { return std::tie(listener_id, node_id); }
+    template <class F>
+    auto fields(F f) const noexcept { return f(listener_id, node_id); }
     UniquePortId port_id() const noexcept { return listener_id; }
 
     static ListenerDetails from_c(const iox2sd_port_details& c) noexcept {
@@ -1864,9 +2228,10 @@ struct ClientDetails {
     DataSegmentType data_segment_type = DataSegmentType::Static;
     std::uint8_t max_number_of_segments = 0;
 
-    auto fields() const noexcept {
-        return std::tie(client_id, node_id, number_of_requests, response_buffer_size, max_slice_len,
-                        data_segment_type, max_number_of_segments);
+    template <class F>
+    auto fields(F f) const noexcept {
+        return f(client_id, node_id, number_of_requests, response_buffer_size, max_slice_len,
+                 data_segment_type, max_number_of_segments);
     }
     UniquePortId port_id() const noexcept { return client_id; }
 
@@ -1897,9 +2262,10 @@ struct ServerDetails {
     DataSegmentType data_segment_type = DataSegmentType::Static;
     std::uint8_t max_number_of_segments = 0;
 
-    auto fields() const noexcept {
-        return std::tie(server_id, node_id, request_buffer_size, number_of_responses, max_slice_len,
-                        data_segment_type, max_number_of_segments);
+    template <class F>
+    auto fields(F f) const noexcept {
+        return f(server_id, node_id, request_buffer_size, number_of_responses, max_slice_len,
+                 data_segment_type, max_number_of_segments);
     }
     UniquePortId port_id() const noexcept { return server_id; }
 
@@ -1925,7 +2291,8 @@ struct ReaderDetails {
     UniqueReaderId reader_id;
     UniqueNodeId node_id;
 
-    auto fields() const noexcept { return std::tie(reader_id, node_id); }
+    template <class F>
+    auto fields(F f) const noexcept { return f(reader_id, node_id); }
     UniquePortId port_id() const noexcept { return reader_id; }
 
     static ReaderDetails from_c(const iox2sd_port_details& c) noexcept {
@@ -1940,7 +2307,8 @@ struct WriterDetails {
     UniqueWriterId writer_id;
     UniqueNodeId node_id;
 
-    auto fields() const noexcept { return std::tie(writer_id, node_id); }
+    template <class F>
+    auto fields(F f) const noexcept { return f(writer_id, node_id); }
     UniquePortId port_id() const noexcept { return writer_id; }
 
     static WriterDetails from_c(const iox2sd_port_details& c) noexcept {
@@ -1956,21 +2324,52 @@ using PortDetails =
 
 namespace detail {
 
-/// `std::visit`, which has no way to throw where no alternative's copy throws.
+/// What a visitor makes of a port, as `std::visit` does for a longer time of compilation.
 template <class Visitor>
 auto visit(Visitor visitor, const PortDetails& details) noexcept {
-    return std::visit(visitor, details);
+    switch (details.index()) {
+        case 0:
+            return visitor(*std::get_if<0>(&details));
+        case 1:
+            return visitor(*std::get_if<1>(&details));
+        case 2:
+            return visitor(*std::get_if<2>(&details));
+        case 3:
+            return visitor(*std::get_if<3>(&details));
+        case 4:
+            return visitor(*std::get_if<4>(&details));
+        case 5:
+            return visitor(*std::get_if<5>(&details));
+        case 6:
+            return visitor(*std::get_if<6>(&details));
+        default:
+            static_assert(std::variant_size_v<PortDetails> == 8);
+            return visitor(*std::get_if<7>(&details));
+    }
 }
 
-template <std::size_t Index = 0>
-PortDetails port_details(const iox2sd_port_details& c) noexcept {
-    if constexpr (Index == std::variant_size_v<PortDetails>) {
-        std::abort();  // The library lists ports of the eight kinds alone.
-    } else {
-        using Details = std::variant_alternative_t<Index, PortDetails>;
-        if (Role{c.role} == Details::role) return Details::from_c(c);
-        return port_details<Index + 1>(c);
+inline PortDetails port_details(const iox2sd_port_details& c) noexcept {
+    switch (Role{c.role}) {
+        case Role::Publisher:
+            return PublisherDetails::from_c(c);
+        case Role::Subscriber:
+            return SubscriberDetails::from_c(c);
+        case Role::Notifier:
+            return NotifierDetails::from_c(c);
+        case Role::Listener:
+            return ListenerDetails::from_c(c);
+        case Role::Client:
+            return ClientDetails::from_c(c);
+        case Role::Server:
+            return ServerDetails::from_c(c);
+        case Role::Reader:
+            return ReaderDetails::from_c(c);
+        case Role::Writer:
+            return WriterDetails::from_c(c);
+        case Role::Node:
+            break;
     }
+    std::abort();  // The library lists ports of the eight kinds alone.
 }
 
 inline iox2sd_port_details as_c(const PortDetails& details) noexcept {
@@ -2005,7 +2404,8 @@ struct ContainerHandle {
     std::size_t slot = 0;
     std::uint64_t ticket = 0;  ///< How many entries of its kind had been given before.
 
-    auto fields() const noexcept { return std::tie(service, role, slot, ticket); }
+    template <class F>
+    auto fields(F f) const noexcept { return f(service, role, slot, ticket); }
 
     static ContainerHandle from_c(const iox2sd_handle& c) noexcept {
         return {c.service, Role{c.role}, c.slot, c.ticket};
@@ -2021,15 +2421,32 @@ struct Capacities {
     std::size_t first;   ///< For publishers, listeners, servers or readers.
     std::size_t second;  ///< For subscribers, notifiers, clients or writers.
 
-    auto fields() const noexcept { return std::tie(nodes, first, second); }
+    template <class F>
+    auto fields(F f) const noexcept { return f(nodes, first, second); }
 };
+
+/// The room that a service is described to have.
+inline Capacities capacities(const MessagingPattern& described) noexcept {
+    if (const auto* samples = std::get_if<PublishSubscribeStaticConfig>(&described)) {
+        return {samples->max_nodes, samples->max_publishers, samples->max_subscribers};
+    }
+    if (const auto* events = std::get_if<EventStaticConfig>(&described)) {
+        return {events->max_nodes, events->max_listeners, events->max_notifiers};
+    }
+    if (const auto* requests = std::get_if<RequestResponseStaticConfig>(&described)) {
+        return {requests->max_nodes, requests->max_servers, requests->max_clients};
+    }
+    const auto* board = std::get_if<BlackboardStaticConfig>(&described);
+    return {board->max_nodes, board->max_readers, board->max_writers};
+}
 
 /// The roles of the two kinds of ports of a pattern, that first which is recovered first.
 struct PortRoles {
     Role first;
     Role second;
 
-    auto fields() const noexcept { return std::tie(first, second); }
+    template <class F>
+    auto fields(F f) const noexcept { return f(first, second); }
 };
 
 /// Whether a service has nodes left.
@@ -2044,7 +2461,8 @@ struct DeadNodeRemoval {
     std::size_t first;   ///< How many publishers, listeners, servers or readers went.
     std::size_t second;  ///< How many subscribers, notifiers, clients or writers went.
 
-    auto fields() const noexcept { return std::tie(state, first, second); }
+    template <class F>
+    auto fields(F f) const noexcept { return f(state, first, second); }
 };
 
 /// Who is attached to a service: nodes and ports of its pattern, and what it has room for.
@@ -2070,6 +2488,12 @@ public:
                                 {capacities.nodes, capacities.first, capacities.second}, tickets);
         if (status != IOX2SD_DONE) return Status{status};
         return made;
+    }
+
+    /// Makes a service of the pattern and with the room that are described. Refusal: `NoMemory`.
+    static Result<Service> create(const MessagingPattern& described, std::uint64_t number,
+                                  std::uint64_t tickets = all_tickets) noexcept {
+        return create(iox2sd::kind(described), number, capacities(described), tickets);
     }
 
     Service() noexcept = default;
@@ -2114,16 +2538,15 @@ public:
     }
 
     /// Removes those ports of a dead node whose ids are not among `kept`: any range of ids of ports,
-    /// which is read once or, where it can be, counted first.
+    /// which is read once.
     /// The numbers of ids are looked at and not their roles: a listener that is kept keeps the
     /// notifier of the same number too, though their `UniquePortId`s are not equal.
     /// Where none of its ports is left, the node goes too, with all its handles.
     /// Refusal: `NoMemory`, before `NoService`; never where nothing is to be kept.
     template <class Range>
     Result<DeadNodeRemoval> remove_dead_node_id(const UniqueNodeId& dead, Range&& kept) noexcept {
-        using std::begin, std::end;
         const auto ids = List<iox2sd_id>::of_range(
-            begin(kept), end(kept), [](const UniquePortId& port) { return port.parts(); });
+            kept, [](const UniquePortId& port) { return port.parts(); });
         if (!ids) return ids.error();
         const iox2sd_dead_node_removal answer =
             iox2sd_remove_dead_node_id(&place_, dead.parts(), ids->data(), ids->size());
@@ -2210,31 +2633,27 @@ public:
 
     /// The ids of the nodes by rising slot, one for each handle. Refusal: `NoMemory`.
     Result<List<UniqueNodeId>> nodes() const noexcept {
-        return listed<iox2sd_id>(
-            [this](iox2sd_id* out, std::size_t capacity) {
+        const auto ids =
+            List<iox2sd_id>::written_by([this](iox2sd_id* out, std::size_t capacity) {
                 return iox2sd_nodes(&place_, out, capacity);
-            },
-            [](const iox2sd_id& id) { return UniqueNodeId(id, detail::FromLibrary{}); });
+            });
+        return listed(ids, detail::node_id);
     }
 
     /// The ports of a role by rising slot.
     /// Refusals: `UnknownRole`; `RoleNotInPattern`, also for `Role::Node`; `NoMemory`.
     Result<List<PortDetails>> ports(Role role) const noexcept {
-        return listed<iox2sd_port_details>(
-            [this, role](iox2sd_port_details* out, std::size_t capacity) {
-                return iox2sd_ports(&place_, number(role), out, capacity);
-            },
-            detail::port_details<>);
+        return listed(ports_as_c(role), detail::port_details);
     }
 
     /// The ports of a node, with exactly this id, those of the first role first, by rising slot.
     /// Refusals: `TooLarge` for more than 2^64 - 1 ports; `NoMemory`.
     Result<List<PortDetails>> ports_of(const UniqueNodeId& node) const noexcept {
-        return listed<iox2sd_port_details>(
-            [this, &node](iox2sd_port_details* out, std::size_t capacity) {
+        const auto ports =
+            PortsAsC::written_by([this, &node](iox2sd_port_details* out, std::size_t capacity) {
                 return iox2sd_ports_of(&place_, node.parts(), out, capacity);
-            },
-            detail::port_details<>);
+            });
+        return listed(ports, detail::port_details);
     }
 
     /// The ports of one kind by rising slot. Refusals: `RoleNotInPattern`; `NoMemory`.
@@ -2275,28 +2694,24 @@ private:
                                             : DeregisterNodeState::HasOwners;
     }
 
-    /// What a call lists, where it says first how much there is.
-    template <class C, class Call, class Make>
-    static auto listed(Call call, Make make) noexcept
-        -> Result<List<decltype(make(std::declval<const C&>()))>> {
-        using Made = List<decltype(make(std::declval<const C&>()))>;
-        const iox2sd_count_answer needed = call(nullptr, 0);
-        if (needed.status == IOX2SD_DONE) return Made();
-        if (needed.status != IOX2SD_BUFFER_TOO_SHORT) return Status{needed.status};
-        const std::unique_ptr<C[]> out(new (std::nothrow) C[needed.count]);
-        if (out == nullptr) return Status::NoMemory;
-        const iox2sd_count_answer found = call(out.get(), needed.count);
-        if (found.status != IOX2SD_DONE) return Status{found.status};
-        return Made::of(out.get(), found.count, make);
+    using PortsAsC = List<iox2sd_port_details>;
+
+    Result<PortsAsC> ports_as_c(Role role) const noexcept {
+        return PortsAsC::written_by([this, role](iox2sd_port_details* out, std::size_t capacity) {
+            return iox2sd_ports(&place_, number(role), out, capacity);
+        });
+    }
+
+    /// What a function makes of each item of a list.
+    template <class Made, class C>
+    static Result<List<Made>> listed(const Result<List<C>>& found, Made make(const C&)) noexcept {
+        if (!found) return found.error();
+        return List<Made>::of(found->begin(), found->size(), make);
     }
 
     template <class Details>
     Result<List<Details>> ports_as() const noexcept {
-        return listed<iox2sd_port_details>(
-            [this](iox2sd_port_details* out, std::size_t capacity) {
-                return iox2sd_ports(&place_, number(Details::role), out, capacity);
-            },
-            Details::from_c);
+        return listed(ports_as_c(Details::role), Details::from_c);
     }
 
     /// Frees what the place holds; `NoService` where it holds none, which is as good.
@@ -2324,18 +2739,15 @@ struct ScriptRun {
 
 /// Runs a whole script, a service and the commands on it as text (docs/SCRIPT.md).
 inline ScriptRun run_script(std::string_view script) noexcept {
-    const auto run = [script](std::uint8_t* out, std::size_t capacity) {
-        return iox2sd_script_run(detail::bytes(script), script.size(), out, capacity);
-    };
-    const iox2sd_script_answer needed = run(nullptr, 0);
-    if (needed.status != IOX2SD_BUFFER_TOO_SHORT) {
-        return {Status{needed.status}, needed.line, List<char>()};
-    }
-    const std::unique_ptr<std::uint8_t[]> out(new (std::nothrow) std::uint8_t[needed.length]);
-    if (out == nullptr) return {Status::NoMemory, 0, List<char>()};
-    const iox2sd_script_answer answer = run(out.get(), needed.length);
-    auto output = List<char>::of(out.get(), answer.length,
-                                 [](std::uint8_t byte) { return static_cast<char>(byte); });
+    iox2sd_script_answer answer{};
+    auto output = List<char>::written_by([&](char* out, std::size_t capacity) {
+        auto* const bytes = reinterpret_cast<std::uint8_t*>(out);
+        answer = iox2sd_script_run(detail::bytes(script), script.size(), bytes, capacity);
+        const bool has_ended = answer.status == IOX2SD_BAD_LINE ||
+                               (out != nullptr && answer.status == IOX2SD_NO_MEMORY);
+        return iox2sd_count_answer{has_ended ? std::uint32_t{IOX2SD_DONE} : answer.status,
+                                   answer.length};
+    });
     if (!output) return {output.error(), 0, List<char>()};
     return {Status{answer.status}, answer.line, std::move(output).value()};
 }
@@ -2376,7 +2788,7 @@ struct Hasher {
     }
     template <class T>
     auto value(const T& value) noexcept -> IfFields<T> {
-        std::apply([this](const auto&... field) { (this->value(field), ...); }, value.fields());
+        value.fields([this](const auto&... field) { (this->value(field), ...); });
     }
     template <class T>
     auto value(const T& value) noexcept

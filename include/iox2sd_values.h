@@ -233,10 +233,18 @@ typedef struct iox2sd_part_answer {
 } iox2sd_part_answer;
 
 /* The functions that end in `_at` take a pointer and a count of 0 for NULL or 1; call those below them. */
+uint32_t iox2sd_type_detail_check_at(const iox2sd_type_detail *detail, size_t count);
 iox2sd_layout_answer iox2sd_message_sample_layout_at(const iox2sd_message_details *details, size_t count, size_t elements);
 iox2sd_places_answer iox2sd_message_places_at(const iox2sd_message_details *details, size_t count, size_t header);
 iox2sd_part_answer iox2sd_message_is_compatible_to_at(const iox2sd_message_details *opener, size_t opener_count,
                                                 const iox2sd_message_details *service, size_t service_count);
+
+/* Whether the type of a part of a message is valid.
+ * Errors: IOX2SD_NULL; IOX2SD_UNKNOWN_VARIANT; IOX2SD_NOT_UTF8, IOX2SD_TOO_LONG and
+ * IOX2SD_ILLEGAL_BYTE of its name; IOX2SD_BAD_ALIGNMENT. */
+static inline uint32_t iox2sd_type_detail_check(const iox2sd_type_detail *detail) {
+    return iox2sd_type_detail_check_at(detail, detail != NULL);
+}
 
 /* The layout of a message whose payload has so many elements. All parts lie in it, apart and aligned, for the service and
  * for every compatible opener. Names and variants are ignored.
@@ -263,19 +271,20 @@ static inline iox2sd_part_answer iox2sd_message_is_compatible_to(const iox2sd_me
     return iox2sd_message_is_compatible_to_at(opener, opener != NULL, service, service != NULL);
 }
 
-/* The greatest number of one publisher's samples that can be in use at once. Error: IOX2SD_TOO_LARGE past 2^64 - 1. */
-iox2sd_count_answer iox2sd_required_amount_of_samples_per_data_segment(size_t max_subscribers, size_t subscriber_max_buffer_size,
-                                            size_t subscriber_max_borrowed_samples, size_t history_size,
-                                            size_t loaned_samples);
-
-/* The greatest number of one client's requests that can be in use at once. Error: IOX2SD_TOO_LARGE past 2^64 - 1. */
-iox2sd_count_answer iox2sd_required_amount_of_chunks_per_client_data_segment(size_t max_servers, size_t max_active_requests_per_client,
-                                         size_t loaned_requests);
-
-/* The greatest number of one server's responses that can be in use at once. Error: IOX2SD_TOO_LARGE past 2^64 - 1. */
-iox2sd_count_answer iox2sd_required_amount_of_chunks_per_server_data_segment(size_t max_clients, size_t max_active_requests_per_client,
-                                         size_t max_response_buffer_size,
-                                         size_t max_borrowed_responses_per_pending_response, size_t loaned_responses);
+/* How many chunks the data segment of a port needs: the greatest number of one publisher's samples,
+ * one client's requests or one server's responses that can be in use at once. The numbers are the
+ * fields of these names of the settings or of the config of a description, and how many the port
+ * may have loaned at once to be written (a server, for each request): publisher_max_loaned_samples,
+ * max_loaned_requests or server_max_loaned_responses_per_request of the settings, or another number.
+ * Error: IOX2SD_TOO_LARGE past 2^64 - 1. */
+iox2sd_count_answer iox2sd_required_amount_of_samples_per_data_segment(
+    size_t max_subscribers, size_t subscriber_max_buffer_size,
+    size_t subscriber_max_borrowed_samples, size_t history_size, size_t loaned_samples);
+iox2sd_count_answer iox2sd_required_amount_of_chunks_per_client_data_segment(
+    size_t max_servers, size_t max_active_requests_per_client, size_t loaned_requests);
+iox2sd_count_answer iox2sd_required_amount_of_chunks_per_server_data_segment(
+    size_t max_clients, size_t max_active_requests_per_client, size_t max_response_buffer_size,
+    size_t max_borrowed_responses_per_pending_response, size_t loaned_responses);
 
 /* ---- Settings ---- */
 
@@ -435,23 +444,6 @@ iox2sd_request_response_settings_check(const iox2sd_request_response_settings *s
     return iox2sd_request_response_settings_check_at(settings, settings != NULL);
 }
 
-/* The functions that end in `_at` take a pointer and a count of 0 for NULL or 1; call those below them. */
-iox2sd_count_answer iox2sd_samples_of_at(const iox2sd_publish_subscribe_settings *settings, size_t count);
-iox2sd_count_answer iox2sd_requests_of_at(const iox2sd_request_response_settings *settings, size_t count);
-iox2sd_count_answer iox2sd_responses_of_at(const iox2sd_request_response_settings *settings, size_t count);
-
-/* The greatest number of one publisher's samples, one client's requests and one server's responses that can be in use at
- * once, in a service with these settings. Errors: IOX2SD_NULL; IOX2SD_TOO_LARGE past 2^64 - 1. */
-static inline iox2sd_count_answer iox2sd_samples_of(const iox2sd_publish_subscribe_settings *settings) {
-    return iox2sd_samples_of_at(settings, settings != NULL);
-}
-static inline iox2sd_count_answer iox2sd_requests_of(const iox2sd_request_response_settings *settings) {
-    return iox2sd_requests_of_at(settings, settings != NULL);
-}
-static inline iox2sd_count_answer iox2sd_responses_of(const iox2sd_request_response_settings *settings) {
-    return iox2sd_responses_of_at(settings, settings != NULL);
-}
-
 /* The texts of the configuration. */
 enum {
     IOX2SD_ROOT_PATH = 0,         /* The path below which everything else lies. */
@@ -550,137 +542,54 @@ typedef struct iox2sd_description {
 } iox2sd_description;
 
 /* Functions that end in `_at` take a pointer and a count of 0 for NULL or 1; call those below. */
-iox2sd_field_answer
-iox2sd_describe_publish_subscribe_at(const iox2sd_publish_subscribe_settings *settings,
-    size_t count, const uint8_t *name, size_t length, iox2sd_id id,
-    iox2sd_description *out, size_t out_count);
-iox2sd_field_answer
-iox2sd_describe_internal_publish_subscribe_at(const iox2sd_publish_subscribe_settings *settings,
-    size_t count, const uint8_t *name, size_t length, iox2sd_id id,
-    iox2sd_description *out, size_t out_count);
-iox2sd_field_answer
-iox2sd_describe_event_at(const iox2sd_event_settings *settings,
-    size_t count, const uint8_t *name, size_t length, iox2sd_id id,
-    iox2sd_description *out, size_t out_count);
-iox2sd_field_answer
-iox2sd_describe_internal_event_at(const iox2sd_event_settings *settings,
-    size_t count, const uint8_t *name, size_t length, iox2sd_id id,
-    iox2sd_description *out, size_t out_count);
-iox2sd_field_answer
-iox2sd_describe_request_response_at(const iox2sd_request_response_settings *settings,
-    size_t count, const uint8_t *name, size_t length, iox2sd_id id,
-    iox2sd_description *out, size_t out_count);
-iox2sd_field_answer
-iox2sd_describe_internal_request_response_at(const iox2sd_request_response_settings *settings,
-    size_t count, const uint8_t *name, size_t length, iox2sd_id id,
-    iox2sd_description *out, size_t out_count);
-iox2sd_field_answer
-iox2sd_describe_blackboard_at(const iox2sd_blackboard_settings *settings,
-    size_t count, const uint8_t *name, size_t length, iox2sd_id id,
-    iox2sd_description *out, size_t out_count);
-iox2sd_field_answer
-iox2sd_describe_internal_blackboard_at(const iox2sd_blackboard_settings *settings,
-    size_t count, const uint8_t *name, size_t length, iox2sd_id id,
-    iox2sd_description *out, size_t out_count);
-iox2sd_flag_answer iox2sd_has_same_messaging_pattern_at(const iox2sd_description *left,
-                                                        size_t left_count,
-                                                        const iox2sd_description *right,
-                                                        size_t right_count);
-iox2sd_count_answer iox2sd_samples_of_config_at(const iox2sd_publish_subscribe_config *config,
-                                                size_t count, size_t loaned_samples);
-iox2sd_count_answer iox2sd_requests_of_config_at(const iox2sd_request_response_config *config,
-                                                 size_t count, size_t loaned_requests);
-iox2sd_count_answer iox2sd_responses_of_config_at(const iox2sd_request_response_config *config,
-                                                  size_t count, size_t loaned_responses);
+iox2sd_field_answer iox2sd_describe_publish_subscribe_at(
+    const iox2sd_publish_subscribe_settings *settings, size_t count, const uint8_t *name,
+    size_t length, bool internal, iox2sd_id id, iox2sd_description *out, size_t out_count);
+iox2sd_field_answer iox2sd_describe_event_at(
+    const iox2sd_event_settings *settings, size_t count, const uint8_t *name,
+    size_t length, bool internal, iox2sd_id id, iox2sd_description *out, size_t out_count);
+iox2sd_field_answer iox2sd_describe_request_response_at(
+    const iox2sd_request_response_settings *settings, size_t count, const uint8_t *name,
+    size_t length, bool internal, iox2sd_id id, iox2sd_description *out, size_t out_count);
+iox2sd_field_answer iox2sd_describe_blackboard_at(
+    const iox2sd_blackboard_settings *settings, size_t count, const uint8_t *name,
+    size_t length, bool internal, iox2sd_id id, iox2sd_description *out, size_t out_count);
 
-/* Fills a description from a service's settings, its name, which a user gives, and its id. The hash
- * text is that of iox2sd_hash_text.
+/* Fills a description from a service's settings, its name and its id. Where `internal` is true, the
+ * name may be one of the system's own. The hash text is that of iox2sd_internal_hash_text, which for
+ * a name that a user may give is that of iox2sd_hash_text.
  * Errors, with which the place is as it was: IOX2SD_NULL, of the settings or the place;
- * IOX2SD_NOT_UTF8; IOX2SD_BAD_SERVICE_NAME, of which iox2sd_service_name_check has the reason;
- * IOX2SD_UNKNOWN_STRATEGY or IOX2SD_BAD_DURATION with the field, as the checks of settings answer;
- * IOX2SD_ILLEGAL_HASH. */
-static inline iox2sd_field_answer
-iox2sd_describe_publish_subscribe(const iox2sd_publish_subscribe_settings *settings,
-                                  const uint8_t *name, size_t length, iox2sd_id id,
-                                  iox2sd_description *out) {
+ * IOX2SD_NOT_UTF8; IOX2SD_BAD_SERVICE_NAME, of which iox2sd_service_name_check has the reason, or
+ * iox2sd_internal_service_name_check where `internal` is true; IOX2SD_UNKNOWN_STRATEGY or
+ * IOX2SD_BAD_DURATION with the field, as the checks of settings answer; IOX2SD_ILLEGAL_HASH. */
+static inline iox2sd_field_answer iox2sd_describe_publish_subscribe(
+    const iox2sd_publish_subscribe_settings *settings, const uint8_t *name, size_t length,
+    bool internal, iox2sd_id id, iox2sd_description *out) {
     return iox2sd_describe_publish_subscribe_at(settings, settings != NULL, name, length,
-                                                id, out, out != NULL);
+                                  internal, id, out, out != NULL);
 }
-static inline iox2sd_field_answer
-iox2sd_describe_event(const iox2sd_event_settings *settings,
-                      const uint8_t *name, size_t length, iox2sd_id id,
-                      iox2sd_description *out) {
+static inline iox2sd_field_answer iox2sd_describe_event(
+    const iox2sd_event_settings *settings, const uint8_t *name, size_t length,
+    bool internal, iox2sd_id id, iox2sd_description *out) {
     return iox2sd_describe_event_at(settings, settings != NULL, name, length,
-                                    id, out, out != NULL);
+                                  internal, id, out, out != NULL);
 }
-static inline iox2sd_field_answer
-iox2sd_describe_request_response(const iox2sd_request_response_settings *settings,
-                                 const uint8_t *name, size_t length, iox2sd_id id,
-                                 iox2sd_description *out) {
+static inline iox2sd_field_answer iox2sd_describe_request_response(
+    const iox2sd_request_response_settings *settings, const uint8_t *name, size_t length,
+    bool internal, iox2sd_id id, iox2sd_description *out) {
     return iox2sd_describe_request_response_at(settings, settings != NULL, name, length,
-                                               id, out, out != NULL);
+                                  internal, id, out, out != NULL);
 }
-static inline iox2sd_field_answer
-iox2sd_describe_blackboard(const iox2sd_blackboard_settings *settings,
-                           const uint8_t *name, size_t length, iox2sd_id id,
-                           iox2sd_description *out) {
+static inline iox2sd_field_answer iox2sd_describe_blackboard(
+    const iox2sd_blackboard_settings *settings, const uint8_t *name, size_t length,
+    bool internal, iox2sd_id id, iox2sd_description *out) {
     return iox2sd_describe_blackboard_at(settings, settings != NULL, name, length,
-                                         id, out, out != NULL);
+                                  internal, id, out, out != NULL);
 }
 
-/* The same for a name that may be one of the system's own. */
-static inline iox2sd_field_answer
-iox2sd_describe_internal_publish_subscribe(const iox2sd_publish_subscribe_settings *settings,
-                                           const uint8_t *name, size_t length, iox2sd_id id,
-                                           iox2sd_description *out) {
-    return iox2sd_describe_internal_publish_subscribe_at(settings, settings != NULL, name, length,
-                                                         id, out, out != NULL);
-}
-static inline iox2sd_field_answer
-iox2sd_describe_internal_event(const iox2sd_event_settings *settings,
-                               const uint8_t *name, size_t length, iox2sd_id id,
-                               iox2sd_description *out) {
-    return iox2sd_describe_internal_event_at(settings, settings != NULL, name, length,
-                                             id, out, out != NULL);
-}
-static inline iox2sd_field_answer
-iox2sd_describe_internal_request_response(const iox2sd_request_response_settings *settings,
-                                          const uint8_t *name, size_t length, iox2sd_id id,
-                                          iox2sd_description *out) {
-    return iox2sd_describe_internal_request_response_at(settings, settings != NULL, name, length,
-                                                        id, out, out != NULL);
-}
-static inline iox2sd_field_answer
-iox2sd_describe_internal_blackboard(const iox2sd_blackboard_settings *settings,
-                                    const uint8_t *name, size_t length, iox2sd_id id,
-                                    iox2sd_description *out) {
-    return iox2sd_describe_internal_blackboard_at(settings, settings != NULL, name, length,
-                                                  id, out, out != NULL);
-}
-
-/* Whether two services have one messaging pattern, whatever is fixed beside it.
- * Errors: IOX2SD_NULL; IOX2SD_UNKNOWN_PATTERN, of either. */
-static inline iox2sd_flag_answer
-iox2sd_has_same_messaging_pattern(const iox2sd_description *left, const iox2sd_description *right) {
-    return iox2sd_has_same_messaging_pattern_at(left, left != NULL, right, right != NULL);
-}
-
-/* The greatest number of one publisher's samples, one client's requests and one server's responses
- * that can be in use at once, where a description has this config and the port loans up to so many
- * of them (a server, for each request) to be written.
- * Errors: IOX2SD_NULL; IOX2SD_TOO_LARGE past 2^64 - 1. */
-static inline iox2sd_count_answer
-iox2sd_samples_of_config(const iox2sd_publish_subscribe_config *config, size_t loaned_samples) {
-    return iox2sd_samples_of_config_at(config, config != NULL, loaned_samples);
-}
-static inline iox2sd_count_answer
-iox2sd_requests_of_config(const iox2sd_request_response_config *config, size_t loaned_requests) {
-    return iox2sd_requests_of_config_at(config, config != NULL, loaned_requests);
-}
-static inline iox2sd_count_answer
-iox2sd_responses_of_config(const iox2sd_request_response_config *config, size_t loaned_responses) {
-    return iox2sd_responses_of_config_at(config, config != NULL, loaned_responses);
-}
+/* Whether two numbers are those of one messaging pattern, as those of two descriptions.
+ * Error: IOX2SD_UNKNOWN_PATTERN, of either. */
+iox2sd_flag_answer iox2sd_has_same_messaging_pattern(uint32_t left, uint32_t right);
 
 /* ---- Versions ---- */
 

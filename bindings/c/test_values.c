@@ -344,6 +344,35 @@ static void compatible(void) {
     CHECK(is_part(iox2sd_message_is_compatible_to(&opener, &service), IOX2SD_UNKNOWN_VARIANT, 0, IOX2SD_USER_HEADER));
 }
 
+/* Each cause, over those that are reported later. */
+static void type_details(void) {
+    char name[257];
+    iox2sd_type_detail type = type_of("u64", SIZE_MAX, (size_t)1 << 63);
+    memset(name, 'x', sizeof name);
+    CHECK(iox2sd_type_detail_check(&type) == IOX2SD_DONE);
+    type = type_of("", 0, 1);
+    type.variant = IOX2SD_DYNAMIC;
+    CHECK(iox2sd_type_detail_check(&type) == IOX2SD_DONE);
+    type.name = bytes(name);
+    type.name_length = 256;
+    CHECK(iox2sd_type_detail_check(&type) == IOX2SD_DONE);
+    type.alignment = 0;
+    CHECK(iox2sd_type_detail_check(&type) == IOX2SD_BAD_ALIGNMENT);
+    type.alignment = 3;
+    CHECK(iox2sd_type_detail_check(&type) == IOX2SD_BAD_ALIGNMENT);
+    name[255] = 0;
+    CHECK(iox2sd_type_detail_check(&type) == IOX2SD_ILLEGAL_BYTE);
+    type.name_length = 257;
+    CHECK(iox2sd_type_detail_check(&type) == IOX2SD_TOO_LONG);
+    name[0] = (char)0xFF;
+    CHECK(iox2sd_type_detail_check(&type) == IOX2SD_NOT_UTF8);
+    type.variant = 2;
+    CHECK(iox2sd_type_detail_check(&type) == IOX2SD_UNKNOWN_VARIANT);
+    type.variant = UINT32_MAX;
+    CHECK(iox2sd_type_detail_check(&type) == IOX2SD_UNKNOWN_VARIANT);
+    CHECK(iox2sd_type_detail_check(NULL) == IOX2SD_NULL);
+}
+
 static void chunks(void) {
     const size_t most = SIZE_MAX;
     CHECK(is_count(iox2sd_required_amount_of_samples_per_data_segment(3, 5, 7, 11, 13), IOX2SD_DONE, 3 * (5 + 7) + 11 + 13));
@@ -443,34 +472,6 @@ static void request_response_settings(void) {
     CHECK(is_field(iox2sd_request_response_settings_check(NULL), IOX2SD_NULL, 0));
 }
 
-static void chunks_of(void) {
-    iox2sd_publish_subscribe_settings p = iox2sd_publish_subscribe_defaults();
-    iox2sd_request_response_settings r = iox2sd_request_response_defaults();
-    p.max_subscribers = 3;
-    p.subscriber_max_buffer_size = 5;
-    p.subscriber_max_borrowed_samples = 7;
-    p.publisher_history_size = 11;
-    p.publisher_max_loaned_samples = 13;
-    CHECK(is_count(iox2sd_samples_of(&p), IOX2SD_DONE, 3 * (5 + 7) + 11 + 13));
-    p.max_subscribers = SIZE_MAX;
-    CHECK(is_count(iox2sd_samples_of(&p), IOX2SD_TOO_LARGE, 0));
-    CHECK(is_count(iox2sd_samples_of(NULL), IOX2SD_NULL, 0));
-    r.max_servers = 3;
-    r.max_clients = 17;
-    r.max_active_requests_per_client = 5;
-    r.max_response_buffer_size = 7;
-    r.max_borrowed_responses_per_pending_response = 11;
-    r.max_loaned_requests = 13;
-    r.server_max_loaned_responses_per_request = 19;
-    CHECK(is_count(iox2sd_requests_of(&r), IOX2SD_DONE, 3 * 2 * 5 + 13));
-    CHECK(is_count(iox2sd_responses_of(&r), IOX2SD_DONE, 17 * 2 * 5 * (7 + 11 + 19)));
-    r.max_active_requests_per_client = SIZE_MAX;
-    CHECK(is_count(iox2sd_requests_of(&r), IOX2SD_TOO_LARGE, 0));
-    CHECK(is_count(iox2sd_responses_of(&r), IOX2SD_TOO_LARGE, 0));
-    CHECK(is_count(iox2sd_requests_of(NULL), IOX2SD_NULL, 0));
-    CHECK(is_count(iox2sd_responses_of(NULL), IOX2SD_NULL, 0));
-}
-
 typedef iox2sd_text_answer (*teller)(uint8_t *out, size_t capacity);
 
 /* Whether the call tells this text, into a buffer of its length alone. */
@@ -549,7 +550,7 @@ static void describe_publish_subscribe(void) {
     s.publisher_history_size = 11;
     s.subscriber_max_buffer_size = 13;
     s.subscriber_max_borrowed_samples = 17;
-    CHECK(is_field(iox2sd_describe_publish_subscribe(&s, bytes("a/b"), 3, some_id, &d), IOX2SD_DONE,
+    CHECK(is_field(iox2sd_describe_publish_subscribe(&s, bytes("a/b"), 3, false, some_id, &d), IOX2SD_DONE,
                    0));
     CHECK(describes(&d, IOX2SD_PUBLISH_SUBSCRIBE, "a/b"));
     CHECK(c->max_subscribers == 3 && c->max_publishers == 5 && c->max_nodes == 7);
@@ -557,11 +558,8 @@ static void describe_publish_subscribe(void) {
     CHECK(c->subscriber_max_borrowed_samples == 17 && c->enable_safe_overflow);
     CHECK(d.event.max_nodes == 0 && !d.event.deadline.is_some && d.request_response.max_nodes == 0);
     CHECK(!d.request_response.enable_fire_and_forget_requests && d.blackboard.max_writers == 0);
-    CHECK(is_count(iox2sd_samples_of_config(c, 19), IOX2SD_DONE, 3 * (13 + 17) + 11 + 19));
-    CHECK(is_count(iox2sd_samples_of_config(c, SIZE_MAX), IOX2SD_TOO_LARGE, 0));
-    CHECK(is_count(iox2sd_samples_of_config(NULL, 19), IOX2SD_NULL, 0));
     CHECK(
-        is_field(iox2sd_describe_internal_publish_subscribe(&s, bytes("iox2://a"), 8, some_id, &d),
+        is_field(iox2sd_describe_publish_subscribe(&s, bytes("iox2://a"), 8, true, some_id, &d),
                  IOX2SD_DONE, 0));
     CHECK(describes(&d, IOX2SD_PUBLISH_SUBSCRIBE, "iox2://a"));
 }
@@ -573,17 +571,17 @@ static void describe_refusals(void) {
     memset(&d, 0xAA, sizeof d);
     memset(&before, 0xAA, sizeof before);
     s.publisher_allocation_strategy = 3;
-    CHECK(is_field(iox2sd_describe_publish_subscribe(NULL, bytes("\xff"), 1, some_id, &d),
+    CHECK(is_field(iox2sd_describe_publish_subscribe(NULL, bytes("\xff"), 1, false, some_id, &d),
                    IOX2SD_NULL, 0));
-    CHECK(is_field(iox2sd_describe_publish_subscribe(&s, bytes("\xff"), 1, some_id, NULL),
+    CHECK(is_field(iox2sd_describe_publish_subscribe(&s, bytes("\xff"), 1, false, some_id, NULL),
                    IOX2SD_NULL, 0));
-    CHECK(is_field(iox2sd_describe_publish_subscribe(&s, bytes("\xff"), 1, some_id, &d),
+    CHECK(is_field(iox2sd_describe_publish_subscribe(&s, bytes("\xff"), 1, false, some_id, &d),
                    IOX2SD_NOT_UTF8, 0));
-    CHECK(is_field(iox2sd_describe_publish_subscribe(&s, bytes("iox2://a"), 8, some_id, &d),
+    CHECK(is_field(iox2sd_describe_publish_subscribe(&s, bytes("iox2://a"), 8, false, some_id, &d),
                    IOX2SD_BAD_SERVICE_NAME, 0));
-    CHECK(is_field(iox2sd_describe_internal_publish_subscribe(&s, NULL, 0, some_id, &d),
+    CHECK(is_field(iox2sd_describe_publish_subscribe(&s, NULL, 0, true, some_id, &d),
                    IOX2SD_BAD_SERVICE_NAME, 0));
-    CHECK(is_field(iox2sd_describe_publish_subscribe(&s, bytes("a"), 1, some_id, &d),
+    CHECK(is_field(iox2sd_describe_publish_subscribe(&s, bytes("a"), 1, false, some_id, &d),
                    IOX2SD_UNKNOWN_STRATEGY, IOX2SD_PUBLISHER_ALLOCATION_STRATEGY));
     CHECK(memcmp(&d, &before, sizeof d) == 0);
 }
@@ -600,7 +598,7 @@ static void describe_event(void) {
     s.notifier_dropped_event = dropped;
     s.max_listeners = 3;
     s.max_notifiers = 7;
-    CHECK(is_field(iox2sd_describe_event(&s, with_byte(0, 'y'), 255, some_id, &d), IOX2SD_DONE, 0));
+    CHECK(is_field(iox2sd_describe_event(&s, with_byte(0, 'y'), 255, false, some_id, &d), IOX2SD_DONE, 0));
     CHECK(d.name_length == 255 && memcmp(d.name, with_byte(0, 'y'), 255) == 0 && d.name[255] == 0);
     CHECK(d.pattern == IOX2SD_EVENT && is_unset(&d.publish_subscribe)
           && d.blackboard.max_nodes == 0);
@@ -611,14 +609,14 @@ static void describe_event(void) {
     CHECK(c->notifier_dropped_event.is_some && c->notifier_dropped_event.number == 6);
     CHECK(!c->notifier_dead_event.is_some);
     s.deadline.nanoseconds = 1000000000;
-    CHECK(is_field(iox2sd_describe_internal_event(&s, bytes("iox2://a"), 8, some_id, &d),
+    CHECK(is_field(iox2sd_describe_event(&s, bytes("iox2://a"), 8, true, some_id, &d),
                    IOX2SD_BAD_DURATION, IOX2SD_DEADLINE));
     s.deadline.is_some = false;
-    CHECK(is_field(iox2sd_describe_internal_event(&s, bytes("iox2://a"), 8, some_id, &d),
+    CHECK(is_field(iox2sd_describe_event(&s, bytes("iox2://a"), 8, true, some_id, &d),
                    IOX2SD_DONE, 0));
     CHECK(describes(&d, IOX2SD_EVENT, "iox2://a") && !c->deadline.is_some
           && c->deadline.nanoseconds == 0);
-    CHECK(is_field(iox2sd_describe_event(&s, bytes("iox2://a"), 8, some_id, &d),
+    CHECK(is_field(iox2sd_describe_event(&s, bytes("iox2://a"), 8, false, some_id, &d),
                    IOX2SD_BAD_SERVICE_NAME, 0));
 }
 
@@ -636,24 +634,18 @@ static void describe_request_response(void) {
     s.max_borrowed_responses_per_pending_response = 19;
     s.enable_safe_overflow_for_requests = false;
     CHECK(
-        is_field(iox2sd_describe_request_response(&s, bytes("a"), 1, some_id, &d), IOX2SD_DONE, 0));
+        is_field(iox2sd_describe_request_response(&s, bytes("a"), 1, false, some_id, &d), IOX2SD_DONE, 0));
     CHECK(describes(&d, IOX2SD_REQUEST_RESPONSE, "a") && is_unset(&d.publish_subscribe));
     CHECK(c->max_active_requests_per_client == 3 && c->max_loaned_requests == 5);
     CHECK(c->max_response_buffer_size == 7 && c->max_servers == 11 && c->max_clients == 13);
     CHECK(c->max_nodes == 17 && c->max_borrowed_responses_per_pending_response == 19);
     CHECK(!c->enable_safe_overflow_for_requests && c->enable_safe_overflow_for_responses);
     CHECK(c->enable_fire_and_forget_requests);
-    CHECK(is_count(iox2sd_requests_of_config(c, 23), IOX2SD_DONE, 11 * 2 * 3 + 23));
-    CHECK(is_count(iox2sd_responses_of_config(c, 23), IOX2SD_DONE, 13 * 2 * 3 * (7 + 19 + 23)));
-    CHECK(is_count(iox2sd_requests_of_config(c, SIZE_MAX), IOX2SD_TOO_LARGE, 0));
-    CHECK(is_count(iox2sd_responses_of_config(c, SIZE_MAX), IOX2SD_TOO_LARGE, 0));
-    CHECK(is_count(iox2sd_requests_of_config(NULL, 23), IOX2SD_NULL, 0));
-    CHECK(is_count(iox2sd_responses_of_config(NULL, 23), IOX2SD_NULL, 0));
-    CHECK(is_field(iox2sd_describe_internal_request_response(&s, bytes("iox2://a"), 8, some_id, &d),
+    CHECK(is_field(iox2sd_describe_request_response(&s, bytes("iox2://a"), 8, true, some_id, &d),
                    IOX2SD_DONE, 0));
     CHECK(describes(&d, IOX2SD_REQUEST_RESPONSE, "iox2://a"));
     s.server_backpressure_strategy = 2;
-    CHECK(is_field(iox2sd_describe_request_response(&s, bytes("a"), 1, some_id, &d),
+    CHECK(is_field(iox2sd_describe_request_response(&s, bytes("a"), 1, false, some_id, &d),
                    IOX2SD_UNKNOWN_STRATEGY, IOX2SD_SERVER_BACKPRESSURE_STRATEGY));
 }
 
@@ -661,13 +653,13 @@ static void describe_blackboard(void) {
     const iox2sd_blackboard_settings s = {3, 5};
     iox2sd_description d;
     memset(&d, 0xAA, sizeof d);
-    CHECK(is_field(iox2sd_describe_blackboard(&s, bytes("a"), 1, some_id, &d), IOX2SD_DONE, 0));
+    CHECK(is_field(iox2sd_describe_blackboard(&s, bytes("a"), 1, false, some_id, &d), IOX2SD_DONE, 0));
     CHECK(describes(&d, IOX2SD_BLACKBOARD, "a") && is_unset(&d.publish_subscribe));
     CHECK(d.blackboard.max_readers == 3 && d.blackboard.max_writers == 1
           && d.blackboard.max_nodes == 5);
-    CHECK(is_field(iox2sd_describe_blackboard(&s, bytes("iox2://a"), 8, some_id, &d),
+    CHECK(is_field(iox2sd_describe_blackboard(&s, bytes("iox2://a"), 8, false, some_id, &d),
                    IOX2SD_BAD_SERVICE_NAME, 0));
-    CHECK(is_field(iox2sd_describe_internal_blackboard(&s, bytes("iox2://a"), 8, some_id, &d),
+    CHECK(is_field(iox2sd_describe_blackboard(&s, bytes("iox2://a"), 8, true, some_id, &d),
                    IOX2SD_DONE, 0));
     CHECK(describes(&d, IOX2SD_BLACKBOARD, "iox2://a"));
 }
@@ -677,19 +669,17 @@ static bool is_flag(iox2sd_flag_answer answer, uint32_t status, bool yes) {
 }
 
 static void same_patterns(void) {
-    static iox2sd_description left, right;
-    for (left.pattern = 0; left.pattern < 4; left.pattern++) {
-        for (right.pattern = 0; right.pattern < 4; right.pattern++) {
-            CHECK(is_flag(iox2sd_has_same_messaging_pattern(&left, &right), IOX2SD_DONE,
-                          left.pattern == right.pattern));
+    uint32_t left, right;
+    for (left = 0; left < 4; left++) {
+        for (right = 0; right < 4; right++) {
+            CHECK(is_flag(iox2sd_has_same_messaging_pattern(left, right), IOX2SD_DONE,
+                          left == right));
         }
-        CHECK(is_flag(iox2sd_has_same_messaging_pattern(&left, &right), IOX2SD_UNKNOWN_PATTERN,
-                      false));
-        CHECK(is_flag(iox2sd_has_same_messaging_pattern(&right, &left), IOX2SD_UNKNOWN_PATTERN,
+        CHECK(is_flag(iox2sd_has_same_messaging_pattern(left, 4), IOX2SD_UNKNOWN_PATTERN, false));
+        CHECK(is_flag(iox2sd_has_same_messaging_pattern(UINT32_MAX, left), IOX2SD_UNKNOWN_PATTERN,
                       false));
     }
-    CHECK(is_flag(iox2sd_has_same_messaging_pattern(&left, NULL), IOX2SD_NULL, false));
-    CHECK(is_flag(iox2sd_has_same_messaging_pattern(NULL, &left), IOX2SD_NULL, false));
+    CHECK(is_flag(iox2sd_has_same_messaging_pattern(4, 4), IOX2SD_UNKNOWN_PATTERN, false));
 }
 
 int main(void) {
@@ -700,13 +690,13 @@ int main(void) {
     requirements();
     layouts();
     compatible();
+    type_details();
     chunks();
     settings();
     global_settings();
     publish_subscribe_settings();
     event_settings();
     request_response_settings();
-    chunks_of();
     files();
     describe_publish_subscribe();
     describe_refusals();

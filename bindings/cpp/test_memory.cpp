@@ -37,7 +37,7 @@ Status without(int request, Call call) {
     }
 }
 
-/// Each call that lists takes memory twice. The service is as it was.
+/// Each call that lists takes memory twice, and a script once. The service is as it was.
 void lists() {
     Service service = Service::create(PatternKind::Event, 7, {2, 2, 2}).value();
     const UniqueNodeId node = UniqueNodeId::create(1, 2, 3, 4).value();
@@ -51,11 +51,12 @@ void lists() {
         CHECK(refused([&] { return service.ports(Role::Listener); }));
         CHECK(refused([&] { return service.ports_of(node); }));
         CHECK(refused([&] { return service.list_listeners(); }));
-        CHECK(refused([&] { return run_script("service event 7 1 2 2\nregister 1.0.0.1\n"); }));
         CHECK(!refused([&] { return service.list_notifiers(); }));
         CHECK(service.nodes()->size() == 1 && (*service.list_listeners())[0] == listener);
     }
     CHECK(without(2, [&] { return service.nodes(); }) == Status::Done);
+    const auto run = [] { return run_script("service event 7 1 2 2\nregister 1.0.0.1\n"); };
+    CHECK(without(0, run) == Status::NoMemory && without(1, run) == Status::Done);
 }
 
 /// A death takes memory once where there are ports to keep, and else none.

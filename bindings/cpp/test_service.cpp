@@ -387,21 +387,66 @@ void threads() {
 /// Sixteen threads ask one service at once, by calls that are `const`.
 void questions_at_once() {
     Service made = make(PatternKind::Event, {2, 1, 1});
-    CHECK(made.register_node_id(a) && made.register_node_id(b));
+    const ContainerHandle node = made.register_node_id(a).value();
+    CHECK(made.register_node_id(b));
+    const ListenerDetails listener{UniqueListenerId(1, 2, 3, 5), a};
+    const ContainerHandle port = made.attach(listener).value();
     const Service& service = made;
+    const std::uint64_t number = service.service_number().value();
     bool good[16] = {};
     std::vector<std::thread> running;
     for (bool& each : good) {
-        running.emplace_back([&service, &each] {
+        running.emplace_back([&service, &each, &node, &port, &listener, number] {
             each = true;
             for (int i = 0; i < 200; ++i) {
-                each = each && lists(service.nodes(), a, b) && *service.max_nodes() == 2 &&
-                       !*service.is_locked() && service.ports(Role::Listener)->empty();
+                each = each && *service.kind() == PatternKind::Event &&
+                       *service.service_number() == number &&
+                       *service.port_roles() == PortRoles{Role::Listener, Role::Notifier} &&
+                       *service.has_role(Role::Notifier) && !*service.is_locked();
+                each = each && *service.number_of_nodes() == 2 && *service.max_nodes() == 2 &&
+                       !*service.has_room_for_node() && *service.node(node) == a;
+                each = each && *service.count_ports(Role::Listener) == 1 &&
+                       *service.max_ports(Role::Notifier) == 1 &&
+                       *service.has_room(Role::Notifier) && !*service.has_room(Role::Listener);
+                each = each && *service.port(port) == PortDetails(listener) &&
+                       lists(service.nodes(), a, b) && service.ports_of(b)->empty() &&
+                       lists(service.ports(Role::Listener), PortDetails(listener)) &&
+                       lists(service.ports_of(a), PortDetails(listener)) &&
+                       lists(service.list_listeners(), listener);
             }
         });
     }
     for (std::thread& each : running) each.join();
     for (bool each : good) CHECK(each);
+}
+
+/// A service is made of a description: with its pattern, its room and so many tickets.
+void described_services() {
+    const TypeDetail type = TypeDetail::create(TypeVariant::FixedSize, "t", 4, 2).value();
+    const MessageTypeDetails types{type, type, type};
+    PublishSubscribeSettings samples = PublishSubscribeSettings::defaults();
+    samples.max_nodes = 1, samples.max_publishers = 2, samples.max_subscribers = 3;
+    EventSettings events = EventSettings::defaults();
+    events.max_nodes = 4, events.max_listeners = 5, events.max_notifiers = 6;
+    RequestResponseSettings requests = RequestResponseSettings::defaults();
+    requests.max_nodes = 7, requests.max_servers = 8, requests.max_clients = 9;
+    const BlackboardSettings boards{10, 11};
+    const auto made = [](const MessagingPattern& pattern, const Capacities& room) {
+        CHECK(capacities(pattern) == room);
+        const Service service = Service::create(pattern, 12, 1).value();
+        const PortRoles roles = service.port_roles().value();
+        CHECK(service.kind() == kind(pattern) && service.service_number() == std::uint64_t{12});
+        CHECK(service.max_nodes() == room.nodes && service.max_ports(roles.first) == room.first);
+        CHECK(service.max_ports(roles.second) == room.second && *service.has_room_for_node());
+    };
+    made(PublishSubscribeStaticConfig(samples, types), {1, 2, 3});
+    made(events, {4, 5, 6});
+    made(RequestResponseStaticConfig(requests, types, types), {7, 8, 9});
+    made(BlackboardStaticConfig(boards, type), {11, 10, 1});
+    Service ticketed = Service::create(events, 0, 1).value();
+    CHECK(ticketed.register_node_id(a) && !*ticketed.has_room_for_node());
+    events.max_nodes = SIZE_MAX;
+    CHECK(Service::create(events, 0).status() == Status::NoMemory);
 }
 
 /// A handle that nobody gave stands for nothing, in a service with the number 0 too.
@@ -430,6 +475,7 @@ int main() {
     moved_lists();
     scripts();
     threads();
+    described_services();
     questions_at_once();
     handles_of_nothing();
     return end_of_checks();

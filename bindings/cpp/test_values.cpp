@@ -2,6 +2,7 @@
 // from outside. The last line is 'N checks, N failed'.
 #include <sys/mman.h>
 
+#include <chrono>
 #include <set>
 #include <sstream>
 #include <string>
@@ -15,9 +16,20 @@ namespace {
 using namespace iox2sd;
 using std::string;
 
+/// In C++20 one operator stands for all of order.
+template <class A, class B>
+bool three_way(const A& less, const B& greater) {
+#ifdef __cpp_lib_three_way_comparison
+    static_assert(std::is_same_v<decltype(less <=> greater), std::strong_ordering>);
+    return (less <=> greater) < 0 && (greater <=> less) > 0 && (less <=> less) == 0;
+#else
+    return less < greater;
+#endif
+}
+
 template <class T>
 bool ordered(const T& less, const T& greater) {
-    return less == less && !(less != less) && less <= less && less >= less && less != greater &&
+    return three_way(less, greater) && less == less && !(less != less) && less <= less && less >= less && less != greater &&
            less < greater && greater > less && less <= greater && greater >= less &&
            !(greater < less) && !(less > greater) && !(less == greater);
 }
@@ -207,6 +219,11 @@ constexpr bool views_a_temporary = false;
 template <class T>
 constexpr bool views_a_temporary<T, std::void_t<decltype(std::declval<T>().view())>> = true;
 
+template <class T, class = void>
+constexpr bool points_into_a_temporary = false;
+template <class T>
+constexpr bool points_into_a_temporary<T, std::void_t<decltype(std::declval<T>().event())>> = true;
+
 template <class... Values>
 string streamed(const Values&... values) {
     std::ostringstream out;
@@ -218,6 +235,8 @@ string streamed(const Values&... values) {
 void writing() {
     static_assert(!views_a_temporary<ServiceName> && !views_a_temporary<const Text<32>>);
     static_assert(views_a_temporary<ServiceName&> && views_a_temporary<const Text<32>&>);
+    static_assert(!points_into_a_temporary<StaticConfig>);
+    static_assert(points_into_a_temporary<const StaticConfig&>);
     static_assert(!std::is_convertible_v<ServiceName, std::string_view>);
     static_assert(!std::is_convertible_v<const ServiceName, std::string_view>);
     static_assert(std::is_convertible_v<const ServiceName&, std::string_view>);
@@ -240,6 +259,8 @@ void comparisons() {
     CHECK(shorter < path("b") && path("b") > shorter && shorter < "b" && "b" > shorter);
     CHECK(shorter >= view && view >= shorter && text <= longer && !(longer < text));
     CHECK(version() != layer_version() && version() < layer_version());
+    CHECK(three_way(shorter, path("b")) && three_way(shorter, string("b")));
+    CHECK(three_way(view, path("b")) && three_way(shorter, path("aa")));
 }
 
 void paths() {
@@ -321,7 +342,7 @@ void sets() {
 
     AttributeSet other;
     CHECK(other.add(key("a"), value("2")) && other.add(key("a"), value("10")));
-    CHECK(other != set && !(set < other) && other < set);
+    CHECK(other != set && !(set < other) && other < set && ordered(other, set));
     CHECK(other.add(key("b"), value("1")) && other.add(key("b"), value("0")) && other == set);
     CHECK(ordered(Attribute(key("a"), value("2")), Attribute(key("b"), value("1"))));
     CHECK(ordered(Attribute(key("a"), value("10")), Attribute(key("a"), value("2"))));
@@ -521,6 +542,54 @@ void validity() {
     CHECK(refused(SettingsField::ClientBackpressureStrategy));
 }
 
+/// The nanoseconds of a span that stands for no time.
+constexpr std::uint32_t none = UINT32_MAX;
+
+/// Whether a span of <chrono> makes this span, and is made of it.
+template <class Span>
+bool crosses(const Span& chrono, const Duration& span) {
+    return Duration(chrono) == span && span.to<Span>() == chrono;
+}
+
+void spans() {
+    using namespace std::chrono;
+    using Days = duration<std::int32_t, std::ratio<86400>>;
+    using Frames = duration<std::uint8_t, std::ratio<1001, 30000>>;
+    CHECK(crosses(nanoseconds(0), Duration()) && crosses(nanoseconds(999999999), {0, 999999999}));
+    CHECK(crosses(nanoseconds::max(), {9223372036, 854775807}));
+    CHECK(crosses(microseconds(2000001), {2, 1000}) && crosses(milliseconds(10), {0, 10000000}));
+    CHECK(crosses(seconds::max(), {INT64_MAX, 0}) && crosses(minutes(3), {180, 0}));
+    CHECK(crosses(Days(INT32_MAX), {std::uint64_t{INT32_MAX} * 86400, 0}));
+    CHECK(Duration(Frames(1)) == Duration(0, 33366666) && Duration(Frames(255)).seconds == 8);
+    // What is beside whole units is cut off.
+    CHECK(Duration(1, 999999999).to<seconds>() == seconds(1));
+    CHECK(Duration(119, 999999999).to<minutes>() == minutes(1));
+    CHECK(Duration(0, 33366667).to<Frames>() == Frames(1));
+    CHECK(Duration(0, 33366666).to<Frames>() == Frames(0));
+    // Spans that are none, and none that a type has no room for.
+    CHECK(Duration(nanoseconds(-1)).nanoseconds == none && Duration(hours(-1)).nanoseconds == none);
+    CHECK(Duration(hours::max()).nanoseconds == none);
+    CHECK(Duration(0, 1000000000).to<nanoseconds>() == Status::BadDuration);
+    CHECK(Duration(9223372036, 854775808).to<nanoseconds>() == Status::TooLarge);
+    CHECK(Duration(UINT64_MAX, 0).to<nanoseconds>() == Status::TooLarge);
+    CHECK(Duration(UINT64_MAX, 0).to<seconds>() == Status::TooLarge);
+    CHECK(Duration(std::uint64_t{1} << 63, 0).to<minutes>() == minutes((INT64_MAX / 60)));
+    CHECK(Duration(8, 541866667).to<Frames>() == Status::TooLarge);
+    CHECK(Duration(8, 541866666).to<Frames>() == Frames(255));
+    static_assert(!std::is_convertible_v<duration<double>, Duration>);
+    static_assert(!std::is_convertible_v<duration<int, std::pico>, Duration>);
+
+    EventSettings e = EventSettings::defaults();
+    e.deadline = milliseconds(1500);
+    CHECK(e.check() && e.deadline == Duration(1, 500000000));
+    e.deadline = milliseconds(-1);
+    CHECK(e.check().error() == SettingsError{Status::BadDuration, SettingsField::Deadline});
+    GlobalSettings g = GlobalSettings::defaults();
+    CHECK(g.creation_timeout.to<milliseconds>() == milliseconds(500));
+    g.creation_timeout = hours(1);
+    CHECK(g.check() && g.creation_timeout.seconds == 3600);
+}
+
 void chunks() {
     PublishSubscribeSettings p = PublishSubscribeSettings::defaults();
     p.max_subscribers = 3;
@@ -594,8 +663,21 @@ void descriptions() {
 template <class Settings, class Describe>
 iox2sd_description described(const Settings& settings, Describe describe) {
     iox2sd_description made{};
-    CHECK(describe(&settings, reinterpret_cast<const std::uint8_t*>("a"), 1, iox2sd_id{}, &made)
+    CHECK(describe(&settings, reinterpret_cast<const std::uint8_t*>("a"), 1, false, iox2sd_id{},
+                   &made)
               .status == IOX2SD_DONE);
+    return made;
+}
+
+/// The description with this part, which is to show the part as it was given.
+template <class Part>
+StaticConfig shown(const Part& part) {
+    const StaticConfig made =
+        StaticConfig::create(ServiceName::create("a").value(), UniqueServiceId(1, 2, 3, 4),
+                             AttributeSet(), part)
+            .value();
+    CHECK(made.messaging_pattern() == MessagingPattern(part));
+    CHECK(made.service_hash() == ServiceHash::create(made.name(), made.kind()).value());
     return made;
 }
 
@@ -610,20 +692,29 @@ void descriptions_of_the_library() {
     p.publisher_history_size = 14, p.subscriber_max_buffer_size = 15;
     p.subscriber_max_borrowed_samples = 16, p.enable_safe_overflow = false;
     const auto& a = described(ps, iox2sd_describe_publish_subscribe).publish_subscribe;
-    const PublishSubscribeStaticConfig b(p, details(8, 8));
+    const StaticConfig of_p = shown(PublishSubscribeStaticConfig(p, details(8, 8)));
+    const PublishSubscribeStaticConfig& b = *of_p.publish_subscribe();
     CHECK(b.max_subscribers == a.max_subscribers && b.max_publishers == a.max_publishers);
     CHECK(b.max_nodes == a.max_nodes && b.history_size == a.history_size);
     CHECK(b.subscriber_max_buffer_size == a.subscriber_max_buffer_size);
     CHECK(b.subscriber_max_borrowed_samples == a.subscriber_max_borrowed_samples);
     CHECK(b.enable_safe_overflow == a.enable_safe_overflow);
-    CHECK(b.required_amount_of_samples_per_data_segment(3).value() ==
-          iox2sd_samples_of_config(&a, 3).count);
 
     iox2sd_event_settings es = iox2sd_event_defaults();
     es.max_listeners = 21, es.max_notifiers = 22, es.max_nodes = 23, es.event_id_max_value = 24;
     EventStaticConfig q = EventSettings::defaults();
     q.max_listeners = 21, q.max_notifiers = 22, q.max_nodes = 23, q.event_id_max_value = 24;
     const auto& c = described(es, iox2sd_describe_event).event;
+    const StaticConfig of_q = shown(q);
+    CHECK(*of_q.event() == q);
+    q.deadline = Duration{1, 999999999};
+    q.notifier_created_event = EventId{25}, q.notifier_dropped_event = EventId{26};
+    q.notifier_dead_event = EventId{27};
+    shown(q);
+    q.deadline->nanoseconds = 1000000000;
+    CHECK(StaticConfig::create(of_q.name(), of_q.unique_service_id(), of_q.attributes(), q)
+              .status() == Status::BadDuration);
+    q = *of_q.event();
     CHECK(q.max_listeners == c.max_listeners && q.max_notifiers == c.max_notifiers);
     CHECK(q.max_nodes == c.max_nodes && q.event_id_max_value == c.event_id_max_value);
     CHECK(q.deadline.has_value() == c.deadline.is_some);
@@ -642,7 +733,9 @@ void descriptions_of_the_library() {
     r.max_borrowed_responses_per_pending_response = 37;
     r.enable_safe_overflow_for_requests = r.enable_fire_and_forget_requests = false;
     const auto& d = described(rs, iox2sd_describe_request_response).request_response;
-    const RequestResponseStaticConfig e(r, details(8, 8), details(16, 8));
+    const StaticConfig of_r =
+        shown(RequestResponseStaticConfig(r, details(8, 8), details(16, 8)));
+    const RequestResponseStaticConfig& e = *of_r.request_response();
     CHECK(e.max_active_requests_per_client == d.max_active_requests_per_client);
     CHECK(e.max_loaned_requests == d.max_loaned_requests && e.max_nodes == d.max_nodes);
     CHECK(e.max_response_buffer_size == d.max_response_buffer_size);
@@ -652,14 +745,12 @@ void descriptions_of_the_library() {
     CHECK(e.enable_safe_overflow_for_requests == d.enable_safe_overflow_for_requests);
     CHECK(e.enable_safe_overflow_for_responses == d.enable_safe_overflow_for_responses);
     CHECK(e.enable_fire_and_forget_requests == d.enable_fire_and_forget_requests);
-    CHECK(e.required_amount_of_chunks_per_client_data_segment(3).value() ==
-          iox2sd_requests_of_config(&d, 3).count);
-    CHECK(e.required_amount_of_chunks_per_server_data_segment(3).value() ==
-          iox2sd_responses_of_config(&d, 3).count);
 
     const iox2sd_blackboard_settings bs = {41, 42};
     const auto& f = described(bs, iox2sd_describe_blackboard).blackboard;
-    const BlackboardStaticConfig g(BlackboardSettings{41, 42}, type("u8", 1, 1));
+    const StaticConfig of_g =
+        shown(BlackboardStaticConfig(BlackboardSettings{41, 42}, type("u8", 1, 1)));
+    const BlackboardStaticConfig& g = *of_g.blackboard();
     CHECK(g.max_readers == f.max_readers && g.max_writers == f.max_writers);
     CHECK(g.max_nodes == f.max_nodes);
 }
@@ -681,6 +772,7 @@ int main() {
     layouts();
     settings();
     validity();
+    spans();
     chunks();
     descriptions();
     descriptions_of_the_library();

@@ -378,7 +378,7 @@ struct SayField {
 
 template <class Settings>
 void say_fields(Answer& out, const Settings& settings) {
-    std::apply([&](const auto&... fields) { (SayField{out}(fields), ...); }, settings.fields());
+    settings.fields([&](const auto&... fields) { (SayField{out}(fields), ...); });
 }
 
 void defaults(Line& in, Answer& out) {

@@ -40,17 +40,17 @@ Result<DataSegment> data_segment(const PublishSubscribeStaticConfig& config, std
 Result<Publisher> attach_publisher(const PublishSubscribeStaticConfig& config, Service& service,
                                    const UniquePublisherId& id, const UniqueNodeId& node,
                                    std::size_t loans, std::size_t elements) {
-    const Result<DataSegment> segment = data_segment(config, loans, elements);
-    if (!segment) return segment.error();
-    const auto handle = service.attach(
-        PublisherDetails{id, node, segment->blocks, elements, DataSegmentType::Static, 1});
-    if (!handle) return handle.error();
-    return Publisher{*handle, *segment};
+    return data_segment(config, loans, elements).and_then([&](const DataSegment& segment) {
+        const PublisherDetails details{id, node, segment.blocks, elements,
+                                       DataSegmentType::Static, 1};
+        return service.attach(details).transform(
+            [&](const ContainerHandle& handle) { return Publisher{handle, segment}; });
+    });
 }
 
 void report(const Result<Publisher>& made) {
     if (!made) {
-        std::cout << "refused: " << text(made.error()) << '\n';
+        std::cout << "refused: " << made.error() << '\n';
         return;
     }
     const DataSegment& segment = made->segment;
@@ -67,10 +67,7 @@ int main() {
         TypeDetail::create(TypeVariant::FixedSize, "UserHeader", 4, 4).value(),
         TypeDetail::create(TypeVariant::Dynamic, "Payload", 8, 8).value()};
     const PublishSubscribeStaticConfig config(PublishSubscribeSettings::defaults(), types);
-    Service service =
-        Service::create(PatternKind::PublishSubscribe, 7,
-                        {config.max_nodes, config.max_publishers, config.max_subscribers})
-            .value();
+    Service service = Service::create(config, 7).value();
     const UniqueNodeId node = UniqueNodeId::create(1, 0, 0, 1).value();
     if (!service.register_node_id(node)) return 1;
     const std::size_t loans = PublishSubscribeSettings::defaults().publisher_max_loaned_samples;

@@ -12,9 +12,7 @@
 int main() {
     using namespace iox2sd;
     // Room for one node, two listeners and two notifiers; 7 is the service's number.
-    Result<Service> made = Service::create(PatternKind::Event, 7, {1, 2, 2});
-    if (!made) return 1;
-    Service service = std::move(made).value();
+    Service service = Service::create(PatternKind::Event, 7, {1, 2, 2}).value();
 
     const UniqueNodeId one = UniqueNodeId::create(1, 0, 0, 1).value();
     const UniqueNodeId two = UniqueNodeId::create(2, 0, 0, 2).value();
@@ -22,11 +20,11 @@ int main() {
     std::cout << "slot " << handle.slot << ", ticket " << handle.ticket << '\n';
 
     const Result<ContainerHandle> late = service.register_node_id(two);
-    if (!late) std::cout << text(late.error()) << '\n';
+    if (!late) std::cout << late.error() << '\n';
     for (const UniqueNodeId& node : service.nodes().value()) {
         std::cout << node << '\n';
     }
 
     const Result<DeregisterNodeState> left = service.deregister_node_id(handle);
-    if (left && *left == DeregisterNodeState::NoMoreOwners) std::cout << "the service is locked\n";
+    if (left == DeregisterNodeState::NoMoreOwners) std::cout << "the service is locked\n";
 }

@@ -19,7 +19,7 @@ void remove(Service& service, const UniqueNodeId& dead, const std::vector<Unique
     const Result<DeadNodeRemoval> removal = service.remove_dead_node_id(dead, kept);
     std::cout << "dead " << dead << ": ";
     if (!removal) {
-        std::cout << text(removal.error()) << '\n';
+        std::cout << removal.error() << '\n';
         return;
     }
     std::cout << removal->first << " publishers, " << removal->second << " subscribers went, "
@@ -43,5 +43,5 @@ int main() {
     remove(service, camera, {read});
     remove(service, camera, {});
     remove(service, lidar, {});
-    std::cout << "a late node: " << text(service.register_node_id(camera).status()) << '\n';
+    std::cout << "a late node: " << service.register_node_id(camera).status() << '\n';
 }

@@ -6,21 +6,18 @@ from iox2sd import (
     AttributeSet,
     AttributeValue,
     AttributeVerifier,
-    DefaultText,
     FileName,
     FilePath,
+    GlobalConfig,
     Incompatible,
     MessageTypeDetails,
     MissingPair,
-    Path,
     PublishSubscribeSettings,
     PublishSubscribeStaticConfig,
     ServiceName,
     StaticConfig,
     TypeDetail,
     UniqueServiceId,
-    default_text,
-    service_dir,
 )
 
 HEADER = TypeDetail("Header", size=40, alignment=8)
@@ -43,13 +40,11 @@ def create() -> StaticConfig:
     return StaticConfig(name, UniqueServiceId(17, 1000, 0, 1), pattern, attributes)
 
 
-def static_config_file(service: StaticConfig) -> FilePath:
+def static_config_file(config: GlobalConfig, service: StaticConfig) -> FilePath:
     """Where the description of the service is stored."""
-    directory = service_dir(Path(default_text(DefaultText.ROOT_PATH)))
-    prefix = default_text(DefaultText.PREFIX)
-    suffix = default_text(DefaultText.STATIC_CONFIG_STORAGE_SUFFIX)
-    file = FileName(f"{prefix}{service.service_hash}{suffix}")
-    return FilePath.from_path_and_file(directory, file)
+    suffix = config.service.static_config_storage_suffix
+    file = FileName(f"{config.prefix}{service.service_hash}{suffix}")
+    return FilePath.from_path_and_file(config.service_dir(), file)
 
 
 def open_service(
@@ -69,7 +64,8 @@ def main() -> None:
     service = create()
     pattern = service.pattern_config
     assert isinstance(pattern, PublishSubscribeStaticConfig)
-    print(service.name, service.unique_service_id, static_config_file(service))
+    file = static_config_file(GlobalConfig(), service)
+    print(service.name, service.unique_service_id, file)
     layout = pattern.message_type_details.sample_layout(1)
     samples = pattern.required_amount_of_samples_per_data_segment(publisher_max_loaned_samples=2)
     print(f"{samples} samples of {layout.size} bytes, aligned to {layout.alignment}")

@@ -14,8 +14,12 @@ whose text says what was wrong and where. Each rule is the library's; this packa
 it is given, or refuses it.
 """
 
+from dataclasses import is_dataclass
+
 from . import _native
+from ._arguments import readable
 from .attributes import Attribute, AttributeSet, AttributeSpecifier, AttributeVerifier
+from .config import Config, Defaults, GlobalConfig, NodeConfig, ServiceConfig
 from .details import (
     ClientDetails,
     DataSegmentType,
@@ -29,7 +33,6 @@ from .details import (
     WriterDetails,
 )
 from .dynamic_config import (
-    Capacities,
     ContainerHandle,
     DeadNodeRemoval,
     DeregisterNodeState,
@@ -106,6 +109,7 @@ from .settings import (
 )
 from .static_config import (
     BlackboardStaticConfig,
+    Capacities,
     EventStaticConfig,
     PatternStaticConfig,
     PublishSubscribeStaticConfig,
@@ -124,6 +128,9 @@ from .texts import (
     ServiceHash,
     ServiceName,
 )
+
+for _kind in [kind for kind in globals().values() if is_dataclass(kind)]:
+    readable(_kind)
 
 __version__: str = _native.written(_native.version)[1]
 """The version of the library."""
@@ -147,10 +154,12 @@ __all__ = [
     "BlackboardStaticConfig",
     "Capacities",
     "ClientDetails",
+    "Config",
     "ContainerHandle",
     "DataSegmentType",
     "DeadNodeRemoval",
     "default_text",
+    "Defaults",
     "DefaultText",
     "DeregisterNodeState",
     "Duration",
@@ -163,6 +172,7 @@ __all__ = [
     "FileName",
     "FilePath",
     "ForeignHandle",
+    "GlobalConfig",
     "GlobalSettings",
     "GreaterAlignment",
     "HasService",
@@ -179,6 +189,7 @@ __all__ = [
     "MissingKey",
     "MissingPair",
     "node_dir",
+    "NodeConfig",
     "NodeNotRegistered",
     "NoFileName",
     "NoIdText",
@@ -212,6 +223,7 @@ __all__ = [
     "run_script",
     "ServerDetails",
     "service_dir",
+    "ServiceConfig",
     "ServiceHash",
     "ServiceName",
     "StaticConfig",

@@ -1,11 +1,14 @@
 """What an argument is to be before it is handed to the library: whole, and of its type."""
 
+import ast
 import ctypes
 import enum
+import inspect
+import textwrap
 from collections.abc import Iterable
 from dataclasses import fields
 from functools import cache
-from typing import Annotated, Any, TypeVar, get_args, get_origin
+from typing import Annotated, Any, TypeVar, cast, get_args, get_origin
 
 from .errors import NotUtf8, OutOfRange, WrongType
 
@@ -95,7 +98,7 @@ class Choice(enum.Enum):
 
 
 @cache
-def _setters(kind: Any) -> "tuple[Any, ...]":
+def setters(kind: Any) -> "tuple[Any, ...]":
     """What sets each field of a class, whatever it forbids."""
     return tuple(getattr(kind, field.name).__set__ for field in fields(kind))
 
@@ -106,9 +109,43 @@ _Kind = TypeVar("_Kind")
 def unchecked(kind: "type[_Kind]", values: "Iterable[object]") -> _Kind:
     """A value with these fields, which the library answered, and which are not checked again."""
     made = object.__new__(kind)
-    for set_field, value in zip(_setters(kind), values):
+    for set_field, value in zip(setters(cast(Any, kind)), values):
         set_field(made, value)
     return made
+
+
+class _FieldTexts(dict[str, str]):
+    """The slots of a class with what `help` prints of each: the text that stands below a field in
+    the source, which is read when it is asked for.
+    """
+
+    def __init__(self, kind: Any) -> None:
+        super().__init__((name, "") for name in vars(kind)["__slots__"])
+        self._kind = kind
+
+    def __getitem__(self, name: str) -> str:
+        try:
+            source = textwrap.dedent(inspect.getsource(self._kind))
+        except OSError:  # There is no source.
+            return ""
+        lines = cast(ast.ClassDef, ast.parse(source).body[0]).body
+        for field, text in zip(lines, lines[1:]):
+            is_field = isinstance(field, ast.AnnAssign) and ast.unparse(field.target) == name
+            if is_field and isinstance(text, ast.Expr):
+                return inspect.cleandoc(ast.literal_eval(text.value))
+        return ""
+
+
+def readable(kind: Any) -> None:
+    """Lets `help` print a dataclass of this package as it reads: its integers as `int`, and what its
+    fields are.
+    """
+    for part in kind.__mro__:
+        if issubclass(part, Checked) and "__init__" in vars(part):
+            hints = part.__init__.__annotations__
+            for name, hint in hints.items():
+                hints[name] = int if get_origin(hint) is Annotated else hint
+            part.__slots__ = _FieldTexts(part)
 
 
 class Checked:
@@ -119,7 +156,8 @@ class Checked:
     __slots__ = ()
 
     def __post_init__(self) -> None:
-        for name, annotation, end in _checked(type(self)):
+        kind: Any = type(self)
+        for name, annotation, end in _checked(kind):
             value = getattr(self, name)
             if end == 0:
                 if not isinstance(value, annotation):

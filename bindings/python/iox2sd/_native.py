@@ -11,7 +11,17 @@ wait for. A script alone may take long; it shares nothing, and lets other thread
 import ctypes
 import os
 import struct
-from ctypes import POINTER, c_bool, c_char_p, c_size_t, c_uint8, c_uint32, c_uint64, c_void_p
+from ctypes import (
+    POINTER,
+    c_bool,
+    c_char,
+    c_char_p,
+    c_size_t,
+    c_uint8,
+    c_uint32,
+    c_uint64,
+    c_void_p,
+)
 from pathlib import Path
 from typing import Any
 
@@ -259,6 +269,69 @@ class BlackboardSettings(ctypes.Structure):
     _fields_ = [("max_readers", c_size_t), ("max_nodes", c_size_t)]
 
 
+class PublishSubscribeConfig(ctypes.Structure):
+    _fields_ = [
+        ("max_subscribers", c_size_t),
+        ("max_publishers", c_size_t),
+        ("max_nodes", c_size_t),
+        ("history_size", c_size_t),
+        ("subscriber_max_buffer_size", c_size_t),
+        ("subscriber_max_borrowed_samples", c_size_t),
+        ("enable_safe_overflow", c_bool),
+    ]
+
+
+class EventConfig(ctypes.Structure):
+    _fields_ = [
+        ("max_notifiers", c_size_t),
+        ("max_listeners", c_size_t),
+        ("max_nodes", c_size_t),
+        ("event_id_max_value", c_size_t),
+        ("deadline", OptionalDuration),
+        ("notifier_created_event", OptionalEventId),
+        ("notifier_dropped_event", OptionalEventId),
+        ("notifier_dead_event", OptionalEventId),
+    ]
+
+
+class RequestResponseConfig(ctypes.Structure):
+    _fields_ = [
+        ("max_active_requests_per_client", c_size_t),
+        ("max_loaned_requests", c_size_t),
+        ("max_response_buffer_size", c_size_t),
+        ("max_servers", c_size_t),
+        ("max_clients", c_size_t),
+        ("max_nodes", c_size_t),
+        ("max_borrowed_responses_per_pending_response", c_size_t),
+        ("enable_safe_overflow_for_requests", c_bool),
+        ("enable_safe_overflow_for_responses", c_bool),
+        ("enable_fire_and_forget_requests", c_bool),
+    ]
+
+
+class BlackboardConfig(ctypes.Structure):
+    _fields_ = [
+        ("max_readers", c_size_t),
+        ("max_writers", c_size_t),
+        ("max_nodes", c_size_t),
+    ]
+
+
+class Description(ctypes.Structure):
+    _fields_ = [
+        ("name", c_char * 256),
+        ("name_length", c_size_t),
+        ("id", Id),
+        ("hash", c_char * 64),
+        ("hash_length", c_size_t),
+        ("pattern", c_uint32),
+        ("publish_subscribe", PublishSubscribeConfig),
+        ("event", EventConfig),
+        ("request_response", RequestResponseConfig),
+        ("blackboard", BlackboardConfig),
+    ]
+
+
 _library = _load()
 
 
@@ -277,6 +350,7 @@ _OUT = (POINTER(c_uint8), c_size_t)
 _SERVICE = (POINTER(Service), c_size_t)
 _PAIRS = (POINTER(Attribute), c_size_t)
 _DETAILS = (POINTER(MessageDetails), c_size_t)
+_DESCRIBED = (c_size_t, *_TEXT, c_bool, Id, POINTER(Description), c_size_t)
 
 abi = _export("abi", c_uint32)
 status_text = _export("status_text", TextAnswer, c_uint32, *_OUT)
@@ -356,6 +430,7 @@ attributes_verify_at = _export(
     "attributes_verify_at", PlaceAnswer, *_PAIRS, *_PAIRS, POINTER(Key), c_size_t
 )
 
+type_detail_check_at = _export("type_detail_check_at", c_uint32, POINTER(TypeDetail), c_size_t)
 message_sample_layout_at = _export(
     "message_sample_layout_at", LayoutAnswer, *_DETAILS, c_size_t
 )
@@ -385,14 +460,17 @@ request_response_defaults = _export(
     "request_response_defaults", RequestResponseSettings
 )
 blackboard_defaults = _export("blackboard_defaults", BlackboardSettings)
-samples_of_at = _export(
-    "samples_of_at", CountAnswer, POINTER(PublishSubscribeSettings), c_size_t
+describe_publish_subscribe_at = _export(
+    "describe_publish_subscribe_at", FieldAnswer, POINTER(PublishSubscribeSettings), *_DESCRIBED
 )
-requests_of_at = _export(
-    "requests_of_at", CountAnswer, POINTER(RequestResponseSettings), c_size_t
+describe_event_at = _export(
+    "describe_event_at", FieldAnswer, POINTER(EventSettings), *_DESCRIBED
 )
-responses_of_at = _export(
-    "responses_of_at", CountAnswer, POINTER(RequestResponseSettings), c_size_t
+describe_request_response_at = _export(
+    "describe_request_response_at", FieldAnswer, POINTER(RequestResponseSettings), *_DESCRIBED
+)
+describe_blackboard_at = _export(
+    "describe_blackboard_at", FieldAnswer, POINTER(BlackboardSettings), *_DESCRIBED
 )
 default_text = _export("default_text", TextAnswer, c_uint32, *_OUT)
 service_dir = _export("service_dir", TextAnswer, *_TEXT, *_OUT)

@@ -5,7 +5,7 @@ from dataclasses import dataclass
 from typing import Any, overload
 
 from . import _native
-from ._arguments import Checked, Size, instance, items, number, shown
+from ._arguments import Checked, Size, instance, items, number, shown, unchecked
 from .errors import MissingKey, TooManyRequired, check
 from .texts import AttributeKey, AttributeValue, lent
 
@@ -117,6 +117,20 @@ class AttributeSpecifier(Checked):
         return AttributeSpecifier(AttributeSet((*self.attributes, Attribute(key, value))))
 
 
+def _room() -> int:
+    """How many pairs and keys may be required together, as the library says where there are more."""
+    length = 1
+    while True:
+        keys = (_native.Key * length)(*[_native.Key(*lent("a"))] * length)
+        answer = _native.attributes_verify_at(*_pairs(()), *_pairs(()), keys, length)
+        if answer.status == TooManyRequired.status:
+            return int(answer.at)
+        length *= 2
+
+
+_ROOM = _room()
+
+
 @dataclass(frozen=True, slots=True)
 class AttributeVerifier:
     """What an opener requires of the attributes of a service: pairs, and keys with any value. All
@@ -143,7 +157,11 @@ class AttributeVerifier:
 
     def require_key(self, key: AttributeKey) -> "AttributeVerifier":
         """A verifier that requires a key too. Raises `TooManyRequired`."""
-        return AttributeVerifier(self.required_attributes, (*self.required_keys, key))
+        instance(key, AttributeKey, "AttributeVerifier.required_keys")
+        keys = (*self.required_keys, key)
+        if len(self.required_attributes) + len(keys) > _ROOM:
+            return AttributeVerifier(self.required_attributes, keys)
+        return unchecked(AttributeVerifier, (self.required_attributes, keys))
 
     def verify_requirements(self, attributes: AttributeSet) -> None:
         """Raises `MissingPair` of the least required pair that the set lacks, with its place in

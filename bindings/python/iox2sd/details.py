@@ -1,10 +1,11 @@
 """What ports report of themselves."""
 
+from collections.abc import Callable, Iterable
 from dataclasses import dataclass, fields
-from typing import Any, ClassVar, Union
+from typing import Any, ClassVar, NamedTuple, Union
 
 from . import _native
-from ._arguments import U8, Checked, Choice, Size, unchecked
+from ._arguments import U8, Checked, Choice, Size, setters
 from .ids import (
     Role,
     UniqueClientId,
@@ -17,6 +18,7 @@ from .ids import (
     UniqueServerId,
     UniqueSubscriberId,
     UniqueWriterId,
+    maker,
 )
 
 
@@ -168,31 +170,61 @@ _SEGMENTS = {segment.value: segment for segment in DataSegmentType}
 _COLUMNS = {name: at for at, (name, *_) in enumerate(_native.PortDetails._fields_[3:], 9)}
 """Where the fields after the ids stand in a row."""
 
+_SEGMENT = _COLUMNS["data_segment"]
 
-def _plan(kind: Any) -> "tuple[Any, Any, tuple[int, ...], int | None]":
-    """The class of a kind of ports, that of its ids, where its other fields stand in a row, and
-    where among these the data segment is.
-    """
+
+class _Plan(NamedTuple):
+    """How the details of one kind of ports are made of a row."""
+
+    kind: Any
+    port_id: Callable[[int, int, int, int], Any]
+    set_port_id: Any
+    set_node_id: Any
+    numbers: "tuple[tuple[Any, int], ...]"
+    """What sets each number after the ids, and where it stands in a row."""
+    set_segment: Any
+    """What sets the type of the data segment, where there is one."""
+
+
+def _plan(kind: Any) -> _Plan:
     port_id, _, *others = fields(kind)
+    set_port_id, set_node_id, *set_others = setters(kind)
     names = [field.name.removesuffix("_type") for field in others]
-    segment = names.index("data_segment") if "data_segment" in names else None
-    return kind, port_id.type, tuple(_COLUMNS[name] for name in names), segment
+    sets = dict(zip(names, set_others))
+    set_segment = sets.pop("data_segment", None)
+    numbers = tuple((set_field, _COLUMNS[name]) for name, set_field in sets.items())
+    return _Plan(kind, maker(port_id.type), set_port_id, set_node_id, numbers, set_segment)
 
 
 _PLANS = {kind.role.value: _plan(kind) for kind in PortDetails.__args__}  # type: ignore[attr-defined]
+_node_id = maker(UniqueNodeId)
 
 
-def details_of_row(row: "tuple[int, ...]") -> PortDetails:
-    """The details of a port of the library, as `_native.PORT` reads it."""
-    kind, id_kind, columns, segment = _PLANS[row[0]]
-    values: "list[Any]" = [row[column] for column in columns]
-    if segment is not None:
-        values[segment] = _SEGMENTS[values[segment]]
-    ids = (unchecked(id_kind, row[1:5]), unchecked(UniqueNodeId, row[5:9]))
-    details: PortDetails = unchecked(kind, (*ids, *values))
-    return details
+def details_of_rows(rows: "Iterable[tuple[int, ...]]") -> "tuple[PortDetails, ...]":
+    """The details of ports of the library, each as `_native.PORT` reads it. They are not checked
+    again, and those of one node share its id.
+    """
+    new = object.__new__
+    nodes: "dict[tuple[int, ...], UniqueNodeId]" = {}
+    listed = []
+    for row in rows:
+        kind, port_id, set_port_id, set_node_id, numbers, set_segment = _PLANS[row[0]]
+        parts = row[5:9]
+        node_id = nodes.get(parts)
+        if node_id is None:
+            node_id = nodes[parts] = _node_id(*parts)
+        made = new(kind)
+        set_port_id(made, port_id(*row[1:5]))
+        set_node_id(made, node_id)
+        for set_field, column in numbers:
+            set_field(made, row[column])
+        if set_segment is not None:
+            set_segment(made, _SEGMENTS[row[_SEGMENT]])
+        listed.append(made)
+    return tuple(listed)
 
 
 def details_of(port: _native.PortDetails) -> PortDetails:
     """The details of a port of the library."""
-    return details_of_row(_native.PORT.unpack(bytes(port)))
+    (details,) = details_of_rows([_native.PORT.unpack(bytes(port))])
+    return details

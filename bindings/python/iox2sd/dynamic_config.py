@@ -21,11 +21,15 @@ from .details import (
     SubscriberDetails,
     WriterDetails,
     details_of,
-    details_of_row,
+    details_of_rows,
 )
 from .errors import NoService, Refused, check
-from .ids import Role, UniqueNodeId, UniquePortId
+from .ids import Role, UniqueNodeId, UniquePortId, maker
+from .static_config import Capacities, StaticConfig
 from .texts import MessagingPattern
+
+_ALL_TICKETS = 2**64 - 1
+_node_id = maker(UniqueNodeId)
 
 
 @dataclass(frozen=True, slots=True)
@@ -47,18 +51,6 @@ class ContainerHandle(Checked):
     def _of(cls, handle: _native.Handle) -> "ContainerHandle":
         values = (handle.service, Role(handle.role), handle.slot, handle.ticket)
         return unchecked(cls, values)
-
-
-@dataclass(frozen=True, slots=True)
-class Capacities(Checked):
-    """For how many nodes and ports at a time a service has room."""
-
-    nodes: Size
-    """Handles of nodes: a node that is registered twice counts twice."""
-    first: Size
-    """Publishers, listeners, servers or readers."""
-    second: Size
-    """Subscribers, notifiers, clients or writers."""
 
 
 class DeregisterNodeState(Choice):
@@ -106,7 +98,7 @@ class DynamicConfig:
         messaging_pattern: MessagingPattern,
         service_number: int,
         capacities: Capacities,
-        tickets: int = 2**64 - 1,
+        tickets: int = _ALL_TICKETS,
     ) -> None:
         """A service with nothing attached. `service_number` is in each of its handles. Each
         registering takes one of `tickets` tickets, and each attaching one of as many for its kind
@@ -127,36 +119,69 @@ class DynamicConfig:
         check(status, f"{what} with {capacities}")
 
     @classmethod
+    def described(
+        cls, description: StaticConfig, service_number: int, *, tickets: int = _ALL_TICKETS
+    ) -> "DynamicConfig":
+        """A service of the pattern and with the room of a description. Raises `NoMemory`."""
+        instance(description, StaticConfig, f"{cls.__name__}.described")
+        room = description.capacities
+        return cls(description.messaging_pattern, service_number, room, tickets)
+
+    @classmethod
     def publish_subscribe(
-        cls, service_number: int, *, max_nodes: int, max_publishers: int, max_subscribers: int
+        cls,
+        service_number: int,
+        *,
+        max_nodes: int,
+        max_publishers: int,
+        max_subscribers: int,
+        tickets: int = _ALL_TICKETS,
     ) -> "DynamicConfig":
         """A publish-subscribe service. Raises `NoMemory`."""
         room = Capacities(max_nodes, max_publishers, max_subscribers)
-        return cls(MessagingPattern.PUBLISH_SUBSCRIBE, service_number, room)
+        return cls(MessagingPattern.PUBLISH_SUBSCRIBE, service_number, room, tickets)
 
     @classmethod
     def event(
-        cls, service_number: int, *, max_nodes: int, max_listeners: int, max_notifiers: int
+        cls,
+        service_number: int,
+        *,
+        max_nodes: int,
+        max_listeners: int,
+        max_notifiers: int,
+        tickets: int = _ALL_TICKETS,
     ) -> "DynamicConfig":
         """An event service. Raises `NoMemory`."""
         room = Capacities(max_nodes, max_listeners, max_notifiers)
-        return cls(MessagingPattern.EVENT, service_number, room)
+        return cls(MessagingPattern.EVENT, service_number, room, tickets)
 
     @classmethod
     def request_response(
-        cls, service_number: int, *, max_nodes: int, max_servers: int, max_clients: int
+        cls,
+        service_number: int,
+        *,
+        max_nodes: int,
+        max_servers: int,
+        max_clients: int,
+        tickets: int = _ALL_TICKETS,
     ) -> "DynamicConfig":
         """A request-response service. Raises `NoMemory`."""
         room = Capacities(max_nodes, max_servers, max_clients)
-        return cls(MessagingPattern.REQUEST_RESPONSE, service_number, room)
+        return cls(MessagingPattern.REQUEST_RESPONSE, service_number, room, tickets)
 
     @classmethod
     def blackboard(
-        cls, service_number: int, *, max_nodes: int, max_readers: int, max_writers: int
+        cls,
+        service_number: int,
+        *,
+        max_nodes: int,
+        max_readers: int,
+        max_writers: int,
+        tickets: int = _ALL_TICKETS,
     ) -> "DynamicConfig":
         """A blackboard service. Raises `NoMemory`."""
         room = Capacities(max_nodes, max_readers, max_writers)
-        return cls(MessagingPattern.BLACKBOARD, service_number, room)
+        return cls(MessagingPattern.BLACKBOARD, service_number, room, tickets)
 
     # ---- Changes ----
 
@@ -337,14 +362,14 @@ class DynamicConfig:
     def list_node_ids(self) -> "tuple[UniqueNodeId, ...]":
         """The nodes by rising slot, one for each handle."""
         rows = self._rows("list_node_ids", _native.Id, _native.ID, _native.nodes_at)
-        return tuple(unchecked(UniqueNodeId, row) for row in rows)
+        return tuple(_node_id(*row) for row in rows)
 
     def list_ports(self, role: Role) -> "tuple[PortDetails, ...]":
         """The ports of a role by rising slot. Raises `RoleNotInPattern`."""
         instance(role, Role, "list_ports")
         what = f"list ports, {role}"
         rows = self._rows(what, _native.PortDetails, _native.PORT, _native.ports_at, role.value)
-        return tuple(map(details_of_row, rows))
+        return details_of_rows(rows)
 
     def ports_of(self, node_id: UniqueNodeId) -> "tuple[PortDetails, ...]":
         """The ports of a node: those of the first kind by rising slot, then those of the second.
@@ -354,7 +379,7 @@ class DynamicConfig:
         what = f"ports of {node_id}"
         lent = node_id._lent()
         rows = self._rows(what, _native.PortDetails, _native.PORT, _native.ports_of_at, lent)
-        return tuple(map(details_of_row, rows))
+        return details_of_rows(rows)
 
     def list_publishers(self) -> "tuple[PublisherDetails, ...]":
         """The publishers by rising slot. Raises `RoleNotInPattern`; so do the next seven."""

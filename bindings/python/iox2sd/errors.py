@@ -118,6 +118,7 @@ class TooMany(Refused, ValueError):
     """There are more pairs than a set has room for; `at` is the first one too many."""
 
     status = 18
+    at: int
 
 
 class Empty(Refused, ValueError):
@@ -136,6 +137,7 @@ class IllegalByte(Refused, ValueError):
     """A byte may not stand in the text; `at` is the place of the first one."""
 
     status = 42
+    at: int
 
 
 class NoFileName(Refused, ValueError):
@@ -166,18 +168,21 @@ class TooManyRequired(Refused, ValueError):
     """More pairs and keys are required than a set has room for; `at` is the first one too many."""
 
     status = 53
+    at: int
 
 
 class MissingPair(Refused):
     """The set lacks a required pair, the one at `at`."""
 
     status = 54
+    at: int
 
 
 class MissingKey(Refused):
     """The set has no pair with a required key, the one at `at`."""
 
     status = 55
+    at: int
 
 
 class BadAlignment(Refused, ValueError):

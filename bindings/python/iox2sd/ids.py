@@ -2,14 +2,18 @@
 
 import functools
 import struct
+from collections.abc import Callable
 from dataclasses import dataclass
-from typing import TypeVar, Union
+from typing import Any, TypeVar, Union, cast
 
 from . import _native
-from ._arguments import U32, Checked, Choice, shown, unchecked, utf8
+from ._arguments import U32, Checked, Choice, setters, shown, unchecked, utf8
 from .errors import NoIdText, NoNode, OutOfRange, WrongType
 
 _Id = TypeVar("_Id", bound="UniqueId")
+
+_PARTS = struct.Struct(">4I")
+"""The four parts of an id as the bytes of its value."""
 
 
 class Role(Choice):
@@ -47,7 +51,8 @@ class UniqueId(Checked):
     @property
     def value(self) -> int:
         """process * 2^96 + seconds * 2^64 + nanoseconds * 2^32 + counter."""
-        return int(str(self), 16)
+        parts = (self.process, self.seconds, self.nanoseconds, self.counter)
+        return int.from_bytes(_PARTS.pack(*parts), "big")
 
     def __str__(self) -> str:
         return _native.written(_native.id_text, self._lent())[1]
@@ -73,7 +78,7 @@ class UniqueId(Checked):
         plain = int.__index__(value)
         if not 0 <= plain < 1 << 128:
             raise OutOfRange(f"{what}: expected 0 to 2^128 - 1, got {shown(plain)}")
-        return cls(*struct.unpack(">4I", plain.to_bytes(16, "big")))
+        return cls(*_PARTS.unpack(plain.to_bytes(_PARTS.size, "big")))
 
     @classmethod
     def from_text(cls: "type[_Id]", text: str) -> _Id:
@@ -157,6 +162,22 @@ class UniqueServiceId(UniqueId):
     """The id of a service."""
 
     __slots__ = ()
+
+
+def maker(kind: "type[_Id]") -> "Callable[[int, int, int, int], _Id]":
+    """What makes an id of four parts that the library answered, which are not checked again."""
+    new = object.__new__
+    set_process, set_seconds, set_nanoseconds, set_counter = setters(cast(Any, kind))
+
+    def made(process: int, seconds: int, nanoseconds: int, counter: int) -> _Id:
+        id = new(kind)
+        set_process(id, process)
+        set_seconds(id, seconds)
+        set_nanoseconds(id, nanoseconds)
+        set_counter(id, counter)
+        return id
+
+    return made
 
 
 UniquePortId = Union[

@@ -37,8 +37,7 @@ class TypeDetail(Checked):
         Checked.__post_init__(self)
         name = utf8(self.type_name, "TypeDetail.type_name").decode()
         object.__setattr__(self, "type_name", name)
-        details = _native.MessageDetails(*[self._lent()] * 3)
-        check(_native.message_is_compatible_to_at(details, 1, details, 1).status, shown(self))
+        check(_native.type_detail_check_at(self._lent(), 1), shown(self))
 
     def _lent(self) -> _native.TypeDetail:
         return _native.TypeDetail(

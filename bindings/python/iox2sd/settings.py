@@ -6,11 +6,12 @@ event service gets where nothing but that number is said.
 
 import enum
 from dataclasses import dataclass, fields
+from datetime import timedelta
 from typing import Any, Optional
 
 from . import _native
 from ._arguments import U32, U64, Checked, Choice, Size, instance, shown
-from .errors import check
+from .errors import OutOfRange, TooLarge, check
 from .messages import counted
 from .texts import Path, lent
 
@@ -55,6 +56,26 @@ class Duration(Checked):
         answer = _native.global_settings_check_at(_native.GlobalSettings(lent), 1)
         check(answer.status, shown(self))
 
+    @classmethod
+    def from_timedelta(cls, span: timedelta) -> "Duration":
+        """The span of a `datetime.timedelta`. Raises `OutOfRange` for a negative one."""
+        what = "Duration.from_timedelta"
+        instance(span, timedelta, what)
+        microseconds = timedelta.__floordiv__(span, timedelta(microseconds=1))
+        if microseconds < 0:
+            raise OutOfRange(f"{what}: expected a span that is not negative, got {shown(span)}")
+        seconds, beside = divmod(microseconds, 10**6)
+        return cls(seconds, 1000 * beside)
+
+    def to_timedelta(self) -> timedelta:
+        """The span as a `datetime.timedelta`, cut to whole microseconds. Raises `TooLarge` for a
+        billion days or more.
+        """
+        try:
+            return timedelta(seconds=self.seconds, microseconds=self.nanoseconds // 1000)
+        except OverflowError:
+            raise TooLarge(f"Duration.to_timedelta of {self}") from None
+
 
 @dataclass(frozen=True, slots=True, order=True)
 class EventId(Checked):
@@ -63,15 +84,11 @@ class EventId(Checked):
     value: Size
 
 
-def _plain(value: Any) -> Any:
-    return value.value if isinstance(value, enum.Enum) else value
-
-
-def _event_id(given: _native.OptionalEventId) -> "EventId | None":
+def event_id(given: _native.OptionalEventId) -> "EventId | None":
     return EventId(given.number) if given.is_some else None
 
 
-def _deadline(given: _native.OptionalDuration) -> "Duration | None":
+def deadline(given: _native.OptionalDuration) -> "Duration | None":
     return Duration(given.seconds, given.nanoseconds) if given.is_some else None
 
 
@@ -124,7 +141,13 @@ class PublishSubscribeSettings(Checked):
         """The greatest number of one publisher's samples that can be in use at once. Raises
         `TooLarge` past 2^64 - 1.
         """
-        answer = _native.samples_of_at(_lent(self, _native.PublishSubscribeSettings), 1)
+        answer = _native.required_amount_of_samples_per_data_segment(
+            self.max_subscribers,
+            self.subscriber_max_buffer_size,
+            self.subscriber_max_borrowed_samples,
+            self.publisher_history_size,
+            self.publisher_max_loaned_samples,
+        )
         return counted("samples of PublishSubscribeSettings", answer)
 
 
@@ -138,13 +161,13 @@ class EventSettings(Checked):
     max_nodes: Size = _event.max_nodes
     event_id_max_value: Size = _event.event_id_max_value
     """The greatest number of an event."""
-    deadline: Optional[Duration] = _deadline(_event.deadline)
+    deadline: Optional[Duration] = deadline(_event.deadline)
     """The longest time between two events, if there is one."""
-    notifier_created_event: Optional[EventId] = _event_id(_event.notifier_created_event)
+    notifier_created_event: Optional[EventId] = event_id(_event.notifier_created_event)
     """The event that a new notifier sends, if any."""
-    notifier_dropped_event: Optional[EventId] = _event_id(_event.notifier_dropped_event)
+    notifier_dropped_event: Optional[EventId] = event_id(_event.notifier_dropped_event)
     """The event that a notifier sends when it goes, if any."""
-    notifier_dead_event: Optional[EventId] = _event_id(_event.notifier_dead_event)
+    notifier_dead_event: Optional[EventId] = event_id(_event.notifier_dead_event)
     """The event that is sent when a notifier's node has died, if any."""
 
 
@@ -195,14 +218,22 @@ class RequestResponseSettings(Checked):
         """The greatest number of one client's requests that can be in use at once. Raises
         `TooLarge` past 2^64 - 1.
         """
-        answer = _native.requests_of_at(_lent(self, _native.RequestResponseSettings), 1)
+        answer = _native.required_amount_of_chunks_per_client_data_segment(
+            self.max_servers, self.max_active_requests_per_client, self.max_loaned_requests
+        )
         return counted("requests of RequestResponseSettings", answer)
 
     def required_amount_of_chunks_per_server_data_segment(self) -> int:
         """The greatest number of one server's responses that can be in use at once. Raises
         `TooLarge` past 2^64 - 1.
         """
-        answer = _native.responses_of_at(_lent(self, _native.RequestResponseSettings), 1)
+        answer = _native.required_amount_of_chunks_per_server_data_segment(
+            self.max_clients,
+            self.max_active_requests_per_client,
+            self.max_response_buffer_size,
+            self.max_borrowed_responses_per_pending_response,
+            self.server_max_loaned_responses_per_request,
+        )
         return counted("responses of RequestResponseSettings", answer)
 
 
@@ -213,10 +244,6 @@ class BlackboardSettings(Checked):
     max_readers: Size = _blackboard.max_readers
     """How many may be attached at once; so is the next."""
     max_nodes: Size = _blackboard.max_nodes
-
-
-def _lent(settings: Any, kind: Any) -> Any:
-    return kind(**{f.name: _plain(getattr(settings, f.name)) for f in fields(settings)})
 
 
 class DefaultText(Choice):

@@ -1,12 +1,13 @@
 """What a service is: its name, id, attributes, limits and message types."""
 
-from dataclasses import dataclass, field, fields
-from typing import Union
+from dataclasses import dataclass, field, fields, replace
+from typing import Any, Union
 
 from . import _native
-from ._arguments import Checked, Size, instance, number
+from ._arguments import Checked, Size, instance, number, shown
 from .attributes import AttributeSet
 from .ids import UniqueServiceId
+from .errors import check
 from .messages import MessageTypeDetails, TypeDetail, counted
 from .settings import (
     BlackboardSettings,
@@ -15,8 +16,10 @@ from .settings import (
     EventSettings,
     PublishSubscribeSettings,
     RequestResponseSettings,
+    deadline,
+    event_id,
 )
-from .texts import MessagingPattern, ServiceHash, ServiceName
+from .texts import InternalServiceName, MessagingPattern, ServiceHash, ServiceName, lent
 
 
 @dataclass(frozen=True, slots=True, kw_only=True)
@@ -184,36 +187,138 @@ PatternStaticConfig = Union[
 """What a service of any pattern is."""
 
 _PATTERNS = (
-    (PublishSubscribeStaticConfig, MessagingPattern.PUBLISH_SUBSCRIBE),
-    (EventStaticConfig, MessagingPattern.EVENT),
-    (RequestResponseStaticConfig, MessagingPattern.REQUEST_RESPONSE),
-    (BlackboardStaticConfig, MessagingPattern.BLACKBOARD),
+    (
+        PublishSubscribeStaticConfig,
+        MessagingPattern.PUBLISH_SUBSCRIBE,
+        _native.PublishSubscribeSettings,
+        _native.describe_publish_subscribe_at,
+    ),
+    (
+        EventStaticConfig,
+        MessagingPattern.EVENT,
+        _native.EventSettings,
+        _native.describe_event_at,
+    ),
+    (
+        RequestResponseStaticConfig,
+        MessagingPattern.REQUEST_RESPONSE,
+        _native.RequestResponseSettings,
+        _native.describe_request_response_at,
+    ),
+    (
+        BlackboardStaticConfig,
+        MessagingPattern.BLACKBOARD,
+        _native.BlackboardSettings,
+        _native.describe_blackboard_at,
+    ),
 )
+
+_PORTS = {
+    MessagingPattern.PUBLISH_SUBSCRIBE: ("max_publishers", "max_subscribers"),
+    MessagingPattern.EVENT: ("max_listeners", "max_notifiers"),
+    MessagingPattern.REQUEST_RESPONSE: ("max_servers", "max_clients"),
+    MessagingPattern.BLACKBOARD: ("max_readers", "max_writers"),
+}
+"""The limits of the two kinds of ports of a pattern."""
+
+
+@dataclass(frozen=True, slots=True)
+class Capacities(Checked):
+    """For how many nodes and ports at a time a service has room."""
+
+    nodes: Size
+    """Handles of nodes: a node that is registered twice counts twice."""
+    first: Size
+    """Publishers, listeners, servers or readers."""
+    second: Size
+    """Subscribers, notifiers, clients or writers."""
+
+
+def _plain(value: Any) -> Any:
+    """A field as the library takes it."""
+    if isinstance(value, Duration):
+        return _native.OptionalDuration(value.seconds, value.nanoseconds, True)
+    if isinstance(value, EventId):
+        return _native.OptionalEventId(value.value, True)
+    return value
+
+
+def _read(value: Any) -> Any:
+    """A field that the library answered."""
+    if isinstance(value, _native.OptionalDuration):
+        return deadline(value)
+    if isinstance(value, _native.OptionalEventId):
+        return event_id(value)
+    return value
+
+
+def _settings(config: Any, kind: Any) -> Any:
+    """The settings of a service of which this is fixed; others are 0."""
+    made = kind()
+    for one in fields(config):
+        name = "publisher_history_size" if one.name == "history_size" else one.name
+        value = getattr(config, one.name)
+        if hasattr(made, name) and value is not None:
+            setattr(made, name, _plain(value))
+    return made
 
 
 @dataclass(frozen=True, slots=True)
 class StaticConfig(Checked):
-    """The description of a service, which does not change while the service lives."""
+    """The description of a service, which does not change while the service lives: what the library
+    makes of the name, the id and the settings. A blackboard has one writer, whatever its config
+    says.
+    """
 
     name: ServiceName
     unique_service_id: UniqueServiceId
     pattern_config: PatternStaticConfig
     attributes: AttributeSet = AttributeSet()
-    service_hash: ServiceHash = field(init=False, default=None)  # type: ignore[assignment]
+    service_hash: ServiceHash = field(init=False, repr=False, default=None)  # type: ignore[assignment]
     """The hash text of name and pattern, under which the service's files are found."""
 
     def __post_init__(self) -> None:
         instance(self.name, ServiceName, "StaticConfig.name")
         instance(self.pattern_config, PatternStaticConfig, "StaticConfig.pattern_config")
-        service_hash = ServiceHash.new(self.name, self.messaging_pattern)
-        object.__setattr__(self, "service_hash", service_hash)
+        instance(self.unique_service_id, UniqueServiceId, "StaticConfig.unique_service_id")
+        made = self._described()
+        object.__setattr__(self, "service_hash", ServiceHash(made.hash.decode()))
+        part = getattr(made, self.messaging_pattern.name.lower())
+        config = self.pattern_config
+        fixed = {one.name for one in fields(config) if hasattr(part, one.name)}
+        values = {name: _read(getattr(part, name)) for name in fixed}
+        if any(getattr(config, name) != value for name, value in values.items()):
+            object.__setattr__(self, "pattern_config", replace(config, **values))
         Checked.__post_init__(self)
+
+    def _described(self) -> _native.Description:
+        """What the library makes of the name, the id and the settings."""
+        config, made = self.pattern_config, _native.Description()
+        kind, describe = next(row[2:] for row in _PATTERNS if isinstance(config, row[0]))
+        answer = describe(
+            _settings(config, kind),
+            1,
+            *lent(self.name),
+            isinstance(self.name, InternalServiceName),
+            self.unique_service_id._lent(),
+            made,
+            1,
+        )
+        check(answer.status, f"description of {shown(self.name)}")
+        return made
 
     @property
     def messaging_pattern(self) -> MessagingPattern:
         """The messaging pattern of the service."""
         config = self.pattern_config
-        return next(pattern for kind, pattern in _PATTERNS if isinstance(config, kind))
+        return next(row[1] for row in _PATTERNS if isinstance(config, row[0]))
+
+    @property
+    def capacities(self) -> Capacities:
+        """The room that the service is described to have."""
+        config = self.pattern_config
+        first, second = (getattr(config, name) for name in _PORTS[self.messaging_pattern])
+        return Capacities(config.max_nodes, first, second)
 
     def has_same_messaging_pattern(self, other: "StaticConfig") -> bool:
         """Whether both services have one messaging pattern."""

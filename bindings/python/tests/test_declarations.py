@@ -40,9 +40,7 @@ NO_CLASS = {
 
 NOT_CALLED = {
     r"(publish_subscribe|event|request_response)_settings_check_at": "their fields are valid",
-    r"describe_\w+_at": "StaticConfig is made of values that are valid",
-    r"has_same_messaging_pattern_at": "patterns are members of an enum",
-    r"(samples|requests|responses)_of_config_at": "chunks are counted from numbers",
+    r"has_same_messaging_pattern": "patterns are members of an enum",
 }
 """The exports that the package has no use for."""
 

@@ -129,6 +129,32 @@ def calls(made: DynamicConfig, handle: ContainerHandle) -> "list[Any]":
 
 
 class Patterns(unittest.TestCase):
+    def test_the_tickets_of_each_factory(self):
+        for make in (
+            lambda **tickets: DynamicConfig.publish_subscribe(
+                7, max_nodes=9, max_publishers=9, max_subscribers=9, **tickets
+            ),
+            lambda **tickets: DynamicConfig.event(
+                7, max_nodes=9, max_listeners=9, max_notifiers=9, **tickets
+            ),
+            lambda **tickets: DynamicConfig.request_response(
+                7, max_nodes=9, max_servers=9, max_clients=9, **tickets
+            ),
+            lambda **tickets: DynamicConfig.blackboard(
+                7, max_nodes=9, max_readers=9, max_writers=9, **tickets
+            ),
+        ):
+            with make(tickets=2) as made, make() as other:
+                made.register_node_id(NODE)
+                made.deregister_node_id(made.register_node_id(NODE))
+                with self.assertRaises(iox2sd.OutOfSpace):
+                    made.register_node_id(NODE)
+                for _ in range(9):
+                    other.register_node_id(NODE)
+                self.assertEqual((made.number_of_nodes, other.number_of_nodes), (1, 9))
+            with self.assertRaises(iox2sd.OutOfRange):
+                make(tickets=2**64)
+
     def test_each_pattern(self):
         for pattern, first, second in PATTERNS:
             with DynamicConfig(pattern, MOST, Capacities(1, 2, 3)) as made:

@@ -51,6 +51,11 @@ VALUES: "list[Any]" = [
     iox2sd.EventSettings(deadline=iox2sd.Duration(1, 2), notifier_dead_event=iox2sd.EventId(3)),
     iox2sd.RequestResponseSettings(),
     iox2sd.BlackboardSettings(),
+    iox2sd.ServiceConfig(),
+    iox2sd.NodeConfig(),
+    iox2sd.GlobalConfig(),
+    iox2sd.Defaults(),
+    iox2sd.Config(),
     iox2sd.PublishSubscribeStaticConfig.new(MESSAGE),
     iox2sd.EventStaticConfig.new(),
     iox2sd.RequestResponseStaticConfig.new(MESSAGE, MESSAGE),
@@ -85,6 +90,8 @@ def changed(value: Any) -> "list[Any]":
         return [OTHER_TYPE]
     if isinstance(value, iox2sd.EventStaticConfig):
         return [dataclasses.replace(value, max_nodes=1), iox2sd.BlackboardStaticConfig.new(TYPE)]
+    if isinstance(value, iox2sd.EventSettings):
+        return [dataclasses.replace(value, max_nodes=1)]
     if isinstance(value, iox2sd.MessageTypeDetails):
         return [dataclasses.replace(value, payload=OTHER_TYPE)]
     return [
@@ -161,9 +168,8 @@ class Fields(unittest.TestCase):
         ]
         self.assertGreater(len(enums), 40)
         for value in [*VALUES, *enums]:
-            if not isinstance(value, iox2sd.StaticConfig):  # It shows its hash text, too.
-                again = eval(repr(value), vars(iox2sd))
-                self.assertEqual((again, type(again)), (value, type(value)))
+            again = eval(repr(value), vars(iox2sd))
+            self.assertEqual((again, type(again)), (value, type(value)))
 
     def test_kinds_differ(self):
         for place, one in enumerate(VALUES):

@@ -1,4 +1,5 @@
 import unittest
+from datetime import timedelta
 from typing import Any
 
 import iox2sd
@@ -17,6 +18,33 @@ from iox2sd import (
 )
 
 MOST = 2**64 - 1
+
+
+class Spans(unittest.TestCase):
+    def test_spans_of_the_standard_library(self):
+        for span, seconds, nanoseconds in (
+            (timedelta(), 0, 0),
+            (timedelta(microseconds=1), 0, 1000),
+            (timedelta(milliseconds=1500), 1, 500_000_000),
+            (timedelta(microseconds=2**53 + 1), 9007199254, 740993000),
+            (timedelta.max, 86399999999999, 999_999_000),
+        ):
+            made = Duration.from_timedelta(span)
+            self.assertEqual(made, Duration(seconds, nanoseconds))
+            self.assertEqual(made.to_timedelta(), span)
+        self.assertEqual(Duration(0, 1999).to_timedelta(), timedelta(microseconds=1))
+
+    def test_spans_that_are_none(self):
+        with self.assertRaises(iox2sd.OutOfRange):
+            Duration.from_timedelta(timedelta(microseconds=-1))
+        wrong: Any
+        for wrong in (5, None, "1", Duration(1)):
+            with self.assertRaises(iox2sd.WrongType) as caught:
+                Duration.from_timedelta(wrong)
+            self.assertIn("expected timedelta", str(caught.exception))
+        for seconds in (86400000000000, MOST):
+            with self.assertRaises(iox2sd.TooLarge):
+                Duration(seconds).to_timedelta()
 
 
 class Defaults(unittest.TestCase):

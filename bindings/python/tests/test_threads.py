@@ -96,6 +96,36 @@ class Threads(unittest.TestCase):
             self.assertEqual(run([made.close] * THREADS), [])
             self.assertTrue(made.closed)
 
+    def test_sixteen_threads_ask_one_service(self):
+        made = DynamicConfig.publish_subscribe(
+            7, max_nodes=3, max_publishers=2, max_subscribers=1, tickets=9
+        )
+        nodes = [made.register_node_id(node(number)) for number in (1, 2)]
+        ports = [made.attach(publisher(number, node(1))) for number in (3, 4)]
+
+        def answers() -> "list[object]":
+            roles = made.port_roles
+            return [
+                *(made.messaging_pattern, made.service_number, roles, made.is_locked, repr(made)),
+                *(made.number_of_nodes, made.max_nodes, made.has_room_for_node, made.closed),
+                *(made.list_node_ids(), made.ports_of(node(1)), made.ports_of(node(2))),
+                *(made.node(handle) for handle in nodes),
+                *(made.port(handle) for handle in ports),
+                *(made.has_role(role) for role in iox2sd.Role),
+                *((made.count_ports(role), made.max_ports(role)) for role in roles),
+                *((made.has_room(role), made.list_ports(role)) for role in roles),
+            ]
+
+        wanted = answers()
+        self.assertIn((publisher(3, node(1)), publisher(4, node(1))), wanted)
+
+        def ask():
+            for _ in range(20):
+                self.assertEqual(answers(), wanted)
+
+        self.assertEqual(run([ask] * THREADS), [])
+        made.close()
+
     def test_sixteen_threads_have_a_service_each(self):
         def keep(number: int):
             for _ in range(100):

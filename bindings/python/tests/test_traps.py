@@ -270,7 +270,7 @@ class Calls(unittest.TestCase):
             made.close()
             closed.set()
 
-        with mock.patch.object(_native, "register_at", waits):
+        with mock.patch.object(_native, "register_node_id_at", waits):
             self.joined(
                 threading.Thread(target=register, daemon=True),
                 threading.Thread(target=close, daemon=True),

@@ -7,7 +7,7 @@
 
 use iox2sd::attribute::AttributeSet;
 use iox2sd::container::ContainerHandle;
-use iox2sd::dynamic_config::{publish_subscribe, DynamicConfig, MessagingPatternSettings};
+use iox2sd::dynamic_config::DynamicConfig;
 use iox2sd::identifiers::{UniqueNodeId, UniqueServiceId};
 use iox2sd::prelude::*;
 use iox2sd::static_config::message_type_details::{MessageTypeDetails, TypeVariant};
@@ -34,21 +34,16 @@ struct Opener {
 /// The description of a service with the default limits, and the service with room for as many.
 fn create(
     name: &ServiceName,
-    types: MessageTypeDetails,
+    types: &MessageTypeDetails,
     attributes: &AttributeSet,
 ) -> Result<(StaticConfig, DynamicConfig), Box<dyn Error>> {
     let id = UniqueServiceId::new(1, 0, 0, 1);
     let mut description = StaticConfig::new_publish_subscribe(name, &Config::default(), id)?
         .with_attributes(attributes);
-    description.publish_subscribe_mut().message_type_details = types;
+    description.publish_subscribe_mut().message_type_details = *types;
 
-    let limits = description.publish_subscribe();
-    let room = publish_subscribe::DynamicConfigSettings {
-        number_of_publishers: limits.max_publishers(),
-        number_of_subscribers: limits.max_subscribers(),
-    };
-    let settings = MessagingPatternSettings::PublishSubscribe(room);
-    let service = DynamicConfig::new(&settings, limits.max_nodes(), 1)?;
+    let room = description.messaging_pattern().into();
+    let service = DynamicConfig::new(&room, description.publish_subscribe().max_nodes(), 1)?;
     Ok((description, service))
 }
 
@@ -76,7 +71,7 @@ fn main() -> Result<(), Box<dyn Error>> {
     let specifier = AttributeSpecifier::new().define(&site, &"north".try_into()?)?;
     let types = MessageTypeDetails::from::<Header, u32, [f32; 3]>(TypeVariant::Dynamic)?;
     let name = ServiceName::new("lidar/front")?;
-    let (description, mut service) = create(&name, types, specifier.attributes())?;
+    let (description, mut service) = create(&name, &types, specifier.attributes())?;
     println!(
         "{} has the hash text {}",
         description.name(),

@@ -2,12 +2,9 @@
 #![forbid(unsafe_code)]
 
 use iox2sd::config::DataSegmentType;
-use iox2sd::dynamic_config::{
-    request_response, ClientDetails, DynamicConfig, MessagingPatternSettings, PortDetails,
-    ServerDetails,
-};
+use iox2sd::dynamic_config::{ClientDetails, DynamicConfig, PortDetails, ServerDetails};
 use iox2sd::identifiers::{UniqueClientId, UniqueNodeId, UniqueServerId, UniqueServiceId};
-use iox2sd::paths::{FileName, FilePath};
+use iox2sd::paths::FilePath;
 use iox2sd::prelude::*;
 use iox2sd::static_config::StaticConfig;
 use std::collections::BTreeMap;
@@ -18,7 +15,7 @@ fn description_file(config: &Config, service: &StaticConfig) -> Result<FilePath,
     let global = &config.global;
     let (prefix, hash) = (&global.prefix, service.service_hash());
     let suffix = &global.service.static_config_storage_suffix;
-    let name = FileName::try_from(format!("{prefix}{hash}{suffix}").as_str())?;
+    let name = format!("{prefix}{hash}{suffix}").parse()?;
     Ok(FilePath::from_path_and_file(&global.service_dir()?, &name)?)
 }
 
@@ -41,12 +38,8 @@ fn main() -> Result<(), Box<dyn Error>> {
     );
 
     let limits = description.request_response();
-    let room = request_response::DynamicConfigSettings {
-        number_of_servers: limits.max_servers(),
-        number_of_clients: limits.max_clients(),
-    };
-    let settings = MessagingPatternSettings::RequestResponse(room);
-    let mut service = DynamicConfig::new(&settings, limits.max_nodes(), 1)?;
+    let room = description.messaging_pattern().into();
+    let mut service = DynamicConfig::new(&room, limits.max_nodes(), 1)?;
     let server_node = UniqueNodeId::new(3, 0, 0, 1).ok_or("the id of no node")?;
     let client_node = UniqueNodeId::new(2, 0, 0, 1).ok_or("the id of no node")?;
     service.register_node_id(server_node)?;
@@ -80,13 +73,12 @@ fn main() -> Result<(), Box<dyn Error>> {
             println!("    {} {}", port.role(), port.port_id());
         }
     }
-    service.request_response().list_servers(|server| {
+    for server in service.request_response().servers() {
         println!(
             "{} has {} responses",
             server.server_id, server.number_of_responses
         );
-        CallbackProgression::Continue
-    });
+    }
     assert_eq!(roster(&service).len(), 2);
     Ok(())
 }

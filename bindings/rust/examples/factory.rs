@@ -3,9 +3,8 @@
 
 use iox2sd::config::DataSegmentType;
 use iox2sd::container::{ContainerHandle, Role};
-use iox2sd::dynamic_config::{
-    publish_subscribe, DynamicConfig, MessagingPatternSettings, PublisherDetails,
-};
+use iox2sd::dynamic_config::publish_subscribe::{DynamicConfigSettings, PublisherDetails};
+use iox2sd::dynamic_config::DynamicConfig;
 use iox2sd::identifiers::{UniqueNodeId, UniquePublisherId};
 use iox2sd::prelude::*;
 use iox2sd::static_config::message_type_details::{MessageTypeDetails, TypeVariant};
@@ -47,12 +46,8 @@ fn main() -> Result<(), Box<dyn Error>> {
     let mut description = StaticConfig::new(&Config::default());
     description.message_type_details =
         MessageTypeDetails::from::<u64, u32, [f32; 3]>(TypeVariant::Dynamic)?;
-    let room = publish_subscribe::DynamicConfigSettings {
-        number_of_publishers: description.max_publishers(),
-        number_of_subscribers: description.max_subscribers(),
-    };
-    let settings = MessagingPatternSettings::PublishSubscribe(room);
-    let mut service = DynamicConfig::new(&settings, description.max_nodes(), 1)?;
+    let room = DynamicConfigSettings::from(&description);
+    let mut service = DynamicConfig::new(&room.into(), description.max_nodes(), 1)?;
     let node = UniqueNodeId::new(2, 0, 0, 1).ok_or("the id of no node")?;
     service.register_node_id(node)?;
 

@@ -1,6 +1,6 @@
 #![forbid(unsafe_code)]
 
-use iox2sd::dynamic_config::{event, DynamicConfig, ListenerDetails, MessagingPatternSettings};
+use iox2sd::dynamic_config::{event, DynamicConfig, ListenerDetails};
 use iox2sd::identifiers::{UniqueListenerId, UniqueNodeId};
 use iox2sd::prelude::*;
 
@@ -11,7 +11,7 @@ fn main() -> Result<(), Box<dyn std::error::Error>> {
         number_of_notifiers: 2,
     };
     // Room for one node; the number of the service is 7.
-    let mut service = DynamicConfig::new(&MessagingPatternSettings::Event(room), 1, 7)?;
+    let mut service = DynamicConfig::new(&room.into(), 1, 7)?;
 
     let node_id = UniqueNodeId::new(1, 0, 0, 1).ok_or("the id of no node")?;
     let node = service.register_node_id(node_id)?;
@@ -19,10 +19,9 @@ fn main() -> Result<(), Box<dyn std::error::Error>> {
         listener_id: UniqueListenerId::new(1, 0, 0, 2),
         node_id,
     })?;
-    service.event().list_listeners(|listener| {
+    for listener in service.event().listeners() {
         println!("{name} has the listener {}", listener.listener_id);
-        CallbackProgression::Continue
-    });
+    }
 
     let refused = service.deregister_node_id(node).unwrap_err();
     println!("{refused}");

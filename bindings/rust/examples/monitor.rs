@@ -3,8 +3,7 @@
 #![forbid(unsafe_code)]
 
 use iox2sd::dynamic_config::{
-    event, DeregisterNodeState, DynamicConfig, ListenerDetails, MessagingPatternSettings,
-    NotifierDetails, PortCleanupAction,
+    event, DeregisterNodeState, DynamicConfig, ListenerDetails, NotifierDetails, PortCleanupAction,
 };
 use iox2sd::identifiers::{UniqueListenerId, UniqueNodeId, UniqueNotifierId, UniquePortId};
 use std::error::Error;
@@ -38,7 +37,7 @@ fn main() -> Result<(), Box<dyn Error>> {
         number_of_listeners: 4,
         number_of_notifiers: 4,
     };
-    let mut service = DynamicConfig::new(&MessagingPatternSettings::Event(room), 4, 7)?;
+    let mut service = DynamicConfig::new(&room.into(), 4, 7)?;
     let nodes = [1, 2].map(|process| UniqueNodeId::new(process, 0, 0, 1));
     let nodes: Vec<_> = nodes.into_iter().flatten().collect();
     for node_id in &nodes {
@@ -54,8 +53,8 @@ fn main() -> Result<(), Box<dyn Error>> {
         })?;
     }
 
-    let busy = UniquePortId::Notifier(UniqueNotifierId::new(2, 0, 0, 3));
-    let state = remove_dead_nodes(&mut service, &nodes, &[busy]);
+    let busy = UniqueNotifierId::new(2, 0, 0, 3);
+    let state = remove_dead_nodes(&mut service, &nodes, &[busy.into()]);
     println!("{state:?}: {} node left", service.number_of_nodes());
     assert_eq!(state, DeregisterNodeState::HasOwners);
 

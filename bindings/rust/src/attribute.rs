@@ -41,7 +41,7 @@ kind! {
     /// assert!(SemanticString::<AttributeKeyContent>::new(b"").is_err());
     /// # Ok::<(), iox2sd::semantic_string::SemanticStringError>(())
     /// ```
-    AttributeKeyContent: check_attribute_key
+    AttributeKeyContent: check_attribute_key, ATTRIBUTE_KEY
 }
 
 kind! {
@@ -55,7 +55,7 @@ kind! {
     /// assert!(SemanticString::<AttributeValueContent>::new(b"\0").is_err());
     /// # Ok::<(), iox2sd::semantic_string::SemanticStringError>(())
     /// ```
-    AttributeValueContent: check_attribute_value
+    AttributeValueContent: check_attribute_value, ATTRIBUTE_VALUE
 }
 
 /// The key of an attribute.
@@ -109,6 +109,7 @@ impl Attribute {
     /// assert_eq!(set[0], Attribute::new(&site, &north));
     /// # Ok::<(), Box<dyn std::error::Error>>(())
     /// ```
+    #[must_use]
     pub fn new(key: &AttributeKey, value: &AttributeValue) -> Self {
         Attribute {
             key: *key,
@@ -125,6 +126,7 @@ impl Attribute {
     /// assert_eq!(attribute.key(), "site");
     /// # Ok::<(), iox2sd::semantic_string::SemanticStringError>(())
     /// ```
+    #[must_use]
     pub fn key(&self) -> &AttributeKey {
         &self.key
     }
@@ -138,6 +140,7 @@ impl Attribute {
     /// assert_eq!(attribute.value(), "north");
     /// # Ok::<(), iox2sd::semantic_string::SemanticStringError>(())
     /// ```
+    #[must_use]
     pub fn value(&self) -> &AttributeValue {
         &self.value
     }

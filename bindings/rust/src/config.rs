@@ -34,7 +34,7 @@ use crate::sys;
 /// assert_eq!(config.global.prefix, "iox2_");
 /// assert_eq!(config.defaults.event.max_nodes, 36);
 /// ```
-#[derive(Clone, Debug, Default, PartialEq, Eq)]
+#[derive(Clone, Debug, Default, PartialEq, Eq, Hash)]
 pub struct Config {
     /// The settings that all services and nodes of one system share.
     pub global: Global,
@@ -51,7 +51,7 @@ pub struct Config {
 /// assert_eq!(defaults.publish_subscribe.max_subscribers, 8);
 /// assert_eq!(defaults.blackboard.max_readers, 8);
 /// ```
-#[derive(Clone, Debug, Default, PartialEq, Eq)]
+#[derive(Clone, Debug, Default, PartialEq, Eq, Hash)]
 pub struct Defaults {
     /// Those of publish-subscribe services.
     pub publish_subscribe: PublishSubscribe,
@@ -70,6 +70,7 @@ impl Config {
     /// use iox2sd::config::Config;
     /// assert_eq!(Config::default_config_file_name(), "iceoryx2.toml");
     /// ```
+    #[must_use]
     pub fn default_config_file_name() -> FileName {
         default_text(sys::IOX2SD_CONFIG_FILE_NAME)
     }
@@ -80,6 +81,7 @@ impl Config {
     /// use iox2sd::config::Config;
     /// assert_eq!(Config::default_config_file_path(), "config/iceoryx2.toml");
     /// ```
+    #[must_use]
     pub fn default_config_file_path() -> FilePath {
         default_text(sys::IOX2SD_CONFIG_FILE_PATH)
     }
@@ -90,6 +92,7 @@ impl Config {
     /// use iox2sd::config::Config;
     /// assert_eq!(Config::relative_config_path(), "iceoryx2");
     /// ```
+    #[must_use]
     pub fn relative_config_path() -> Path {
         default_text(sys::IOX2SD_RELATIVE_CONFIG_PATH)
     }
@@ -100,6 +103,7 @@ impl Config {
     /// use iox2sd::config::Config;
     /// assert_eq!(Config::default_user_config_file_path(), "iceoryx2/iceoryx2.toml");
     /// ```
+    #[must_use]
     pub fn default_user_config_file_path() -> FilePath {
         default_text(sys::IOX2SD_USER_CONFIG_FILE_PATH)
     }

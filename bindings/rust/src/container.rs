@@ -101,6 +101,7 @@ impl ContainerHandle {
     /// assert_eq!(handle, ContainerHandle::from_parts(7, Role::Node, 0, 3));
     /// assert_ne!(handle, ContainerHandle::from_parts(7, Role::Node, 0, 4));
     /// ```
+    #[must_use]
     pub fn from_parts(service: u64, role: Role, slot: usize, ticket: u64) -> Self {
         ContainerHandle {
             service,
@@ -116,6 +117,7 @@ impl ContainerHandle {
     /// use iox2sd::container::{ContainerHandle, Role};
     /// assert_eq!(ContainerHandle::from_parts(7, Role::Node, 0, 3).service(), 7);
     /// ```
+    #[must_use]
     pub fn service(&self) -> u64 {
         self.service
     }
@@ -126,6 +128,7 @@ impl ContainerHandle {
     /// use iox2sd::container::{ContainerHandle, Role};
     /// assert_eq!(ContainerHandle::from_parts(7, Role::Writer, 0, 3).role(), Role::Writer);
     /// ```
+    #[must_use]
     pub fn role(&self) -> Role {
         self.role
     }
@@ -136,6 +139,7 @@ impl ContainerHandle {
     /// use iox2sd::container::{ContainerHandle, Role};
     /// assert_eq!(ContainerHandle::from_parts(7, Role::Node, 2, 3).slot(), 2);
     /// ```
+    #[must_use]
     pub fn slot(&self) -> usize {
         self.slot
     }
@@ -146,6 +150,7 @@ impl ContainerHandle {
     /// use iox2sd::container::{ContainerHandle, Role};
     /// assert_eq!(ContainerHandle::from_parts(7, Role::Node, 2, 3).ticket(), 3);
     /// ```
+    #[must_use]
     pub fn ticket(&self) -> u64 {
         self.ticket
     }

@@ -42,6 +42,7 @@ impl ProcessId {
     /// use iox2sd::identifiers::ProcessId;
     /// assert_ne!(ProcessId::new(17), ProcessId::new(18));
     /// ```
+    #[must_use]
     pub fn new(value: u32) -> Self {
         ProcessId { value }
     }
@@ -52,6 +53,7 @@ impl ProcessId {
     /// use iox2sd::identifiers::ProcessId;
     /// assert_eq!(ProcessId::new(17).value(), 17);
     /// ```
+    #[must_use]
     pub fn value(&self) -> u32 {
         self.value
     }
@@ -89,6 +91,7 @@ impl Time {
     /// let time = Time::new(u64::MAX, u32::MAX);
     /// assert_eq!((time.seconds(), time.nanoseconds()), (u64::MAX, u32::MAX));
     /// ```
+    #[must_use]
     pub fn new(seconds: u64, nanoseconds: u32) -> Self {
         Time {
             seconds,
@@ -102,6 +105,7 @@ impl Time {
     /// use iox2sd::identifiers::Time;
     /// assert_eq!(Time::new(1000, 5).seconds(), 1000);
     /// ```
+    #[must_use]
     pub fn seconds(&self) -> u64 {
         self.seconds
     }
@@ -112,6 +116,7 @@ impl Time {
     /// use iox2sd::identifiers::Time;
     /// assert_eq!(Time::new(1000, 5).nanoseconds(), 5);
     /// ```
+    #[must_use]
     pub fn nanoseconds(&self) -> u32 {
         self.nanoseconds
     }
@@ -296,6 +301,7 @@ impl UniqueNodeId {
     /// assert!(UniqueNodeId::new(0, 2, 3, 4).is_some());
     /// assert_eq!(UniqueNodeId::new(0, 2, 3, 0), None);
     /// ```
+    #[must_use]
     pub fn new(process: u32, seconds: u32, nanoseconds: u32, counter: u32) -> Option<Self> {
         let parts = sys::iox2sd_id {
             process,
@@ -321,6 +327,7 @@ impl UniqueNodeId {
     /// assert_eq!(one.owner_id(), (1 << 32) + 4);
     /// assert_eq!(one.owner_id(), later.owner_id());
     /// ```
+    #[must_use]
     pub fn owner_id(&self) -> u64 {
         library::id_owner(self.parts)
     }
@@ -403,6 +410,7 @@ impl UniquePortId {
     /// let id = UniqueWriterId::new(1, 2, 3, 4);
     /// assert_eq!(UniquePortId::Writer(id).value(), id.value());
     /// ```
+    #[must_use]
     pub fn value(&self) -> u128 {
         value(self.parts())
     }
@@ -455,7 +463,15 @@ impl Error for IdError {}
 const RADIX: u32 = 16;
 
 fn value(parts: sys::iox2sd_id) -> u128 {
-    u128::from_str_radix(&text(parts), RADIX).expect("the text of an id is a hexadecimal number")
+    let each = [
+        parts.process,
+        parts.seconds,
+        parts.nanoseconds,
+        parts.counter,
+    ];
+    let base = u128::from(u32::MAX) + 1;
+    let next = |value, part| value * base + u128::from(part);
+    each.into_iter().fold(0, next)
 }
 
 /// The four parts of a value, from the highest bits on.

@@ -60,6 +60,7 @@ mod callback_progression;
 mod display;
 #[allow(unsafe_code)]
 mod library;
+mod limits;
 #[allow(missing_debug_implementations)]
 mod sys;
 mod text;
@@ -86,6 +87,7 @@ pub mod service {
 /// ```
 /// assert_eq!(iox2sd::version().split('.').count(), 3);
 /// ```
+#[must_use]
 pub fn version() -> String {
     library::version().unwrap_or_else(|status| library::unexpected(status))
 }
@@ -95,6 +97,7 @@ pub fn version() -> String {
 /// ```
 /// assert_eq!(iox2sd::layer_version(), "0.9.3");
 /// ```
+#[must_use]
 pub fn layer_version() -> String {
     library::layer_version().unwrap_or_else(|status| library::unexpected(status))
 }

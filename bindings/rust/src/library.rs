@@ -3,12 +3,12 @@
 //! A call answers `Err` with the status where the library reports a refusal.
 
 mod attributes;
+mod descriptions;
 mod messages;
 mod service;
 
-pub(crate) use attributes::{
-    attribute_capacity, attribute_value, attribute_values, sorted, verify, Missing,
-};
+pub(crate) use attributes::{attribute_value, attribute_values, sorted, verify, Missing};
+pub(crate) use descriptions::Settings;
 pub(crate) use messages::{check_type, check_type_name, compatible, layout, places};
 pub(crate) use service::Service;
 
@@ -29,7 +29,7 @@ pub(crate) fn unexpected(status: u32) -> ! {
 }
 
 /// The choice with this number. Ends the program at a number that the header excludes.
-pub(crate) fn choice<T: Copy, N: PartialEq + std::fmt::Display>(
+pub(crate) fn choice<T: Copy, N: Copy + PartialEq + std::fmt::Display>(
     choices: &[T],
     number: impl Fn(T) -> N,
     wanted: N,
@@ -152,24 +152,11 @@ values! {
 }
 
 /// A count of chunks, or `None` where it passes its range.
-pub(crate) fn chunks(answer: sys::iox2sd_count_answer) -> Option<usize> {
+pub(crate) fn chunks(answer: &sys::iox2sd_count_answer) -> Option<usize> {
     match answer.status {
         sys::IOX2SD_DONE => Some(answer.count),
         sys::IOX2SD_TOO_LARGE => None,
         other => unexpected(other),
-    }
-}
-
-/// The greatest length of the texts that a check takes, which it reports of each longer one.
-pub(crate) fn greatest_length(check: impl Fn(&[u8]) -> sys::iox2sd_place_answer) -> usize {
-    let mut text = vec![b'a'];
-    loop {
-        let answer = check(&text);
-        match answer.status {
-            sys::IOX2SD_TOO_LONG => return answer.at,
-            sys::IOX2SD_DONE => text.resize(2 * text.len(), b'a'),
-            other => unexpected(other),
-        }
     }
 }
 

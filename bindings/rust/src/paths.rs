@@ -13,6 +13,8 @@
 use crate::library;
 use crate::semantic_string::kind::kind;
 use crate::semantic_string::{SemanticString, SemanticStringError};
+use crate::service_hash::ServiceHash;
+use std::ffi::OsStr;
 
 kind! {
     /// What a path allows: every byte from 1 to 127, and none at all.
@@ -24,7 +26,7 @@ kind! {
     /// assert!(SemanticString::<PathContent>::new(b"").is_ok());
     /// assert!(SemanticString::<PathContent>::new(b"a\0b").is_err());
     /// ```
-    PathContent: check_path
+    PathContent: check_path, PATH
 }
 
 kind! {
@@ -37,7 +39,7 @@ kind! {
     /// assert!(SemanticString::<FileNameContent>::new(b"iceoryx2.toml").is_ok());
     /// assert!(SemanticString::<FileNameContent>::new(b"..").is_err());
     /// ```
-    FileNameContent: check_file_name
+    FileNameContent: check_file_name, FILE_NAME
 }
 
 kind! {
@@ -51,7 +53,7 @@ kind! {
     /// assert!(SemanticString::<FilePathContent>::new(b"/tmp/iceoryx2.toml").is_ok());
     /// assert!(SemanticString::<FilePathContent>::new(b"/tmp/").is_err());
     /// ```
-    FilePathContent: check_file_path
+    FilePathContent: check_file_path, FILE_PATH
 }
 
 kind! {
@@ -65,7 +67,7 @@ kind! {
     /// assert!(SemanticString::<RestrictedFileNameContent>::new(b"Tqyt8mlaP0suuV").is_ok());
     /// assert!(SemanticString::<RestrictedFileNameContent>::new(b"Tqyt8/mlaP0suuV").is_err());
     /// ```
-    RestrictedFileNameContent: check_restricted_name
+    RestrictedFileNameContent: check_restricted_name, RESTRICTED_FILE_NAME
 }
 
 /// A path, which may be empty.
@@ -112,8 +114,12 @@ impl Path {
     /// Joins an entry to the path, with one `/` between them unless the path is empty or ends in
     /// `/`.
     ///
+    /// # Errors
+    ///
     /// Refused with [`ExceedsMaximumLength`](SemanticStringError::ExceedsMaximumLength) where that
     /// would be longer than a path may be, and then the path stays as it was.
+    ///
+    /// # Examples
     ///
     /// ```
     /// use iox2sd::paths::Path;
@@ -131,10 +137,30 @@ impl Path {
 }
 
 impl FilePath {
+    /// The name of the file: what follows the last `/`, or all where there is none.
+    ///
+    /// ```
+    /// use iox2sd::paths::FilePath;
+    ///
+    /// assert_eq!(FilePath::new(b"/tmp/iceoryx2.toml")?.file_name(), "iceoryx2.toml");
+    /// assert_eq!(FilePath::new(b"iceoryx2.toml")?.file_name(), "iceoryx2.toml");
+    /// # Ok::<(), iox2sd::semantic_string::SemanticStringError>(())
+    /// ```
+    #[must_use]
+    pub fn file_name(&self) -> FileName {
+        let path: &std::path::Path = self.as_ref();
+        let name = path.file_name().and_then(OsStr::to_str);
+        FileName::of_legal(name.unwrap_or(self.as_str()))
+    }
+
     /// The path of a file in a directory, joined as by [`Path::add_path_entry`].
+    ///
+    /// # Errors
     ///
     /// Refused with [`ExceedsMaximumLength`](SemanticStringError::ExceedsMaximumLength) where it
     /// would be longer than a path may be.
+    ///
+    /// # Examples
     ///
     /// ```
     /// use iox2sd::paths::{FileName, FilePath, Path};
@@ -149,3 +175,36 @@ impl FilePath {
         Ok(Self::of_legal(&joined.map_err(SemanticStringError::of)?))
     }
 }
+
+impl From<RestrictedFileName> for FileName {
+    fn from(name: RestrictedFileName) -> Self {
+        FileName::of_legal(name.as_str())
+    }
+}
+
+impl From<ServiceHash> for FileName {
+    fn from(hash: ServiceHash) -> Self {
+        FileName::of_legal(hash.as_str())
+    }
+}
+
+impl From<ServiceHash> for RestrictedFileName {
+    fn from(hash: ServiceHash) -> Self {
+        RestrictedFileName::of_legal(hash.as_str())
+    }
+}
+
+/// Lends paths and names of files as those of the standard library.
+macro_rules! lent_as_path {
+    ($($name:ident)*) => {
+        $(
+            impl AsRef<std::path::Path> for $name {
+                fn as_ref(&self) -> &std::path::Path {
+                    std::path::Path::new(self.as_str())
+                }
+            }
+        )*
+    };
+}
+
+lent_as_path!(Path FileName FilePath RestrictedFileName);

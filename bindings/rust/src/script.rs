@@ -1,5 +1,5 @@
 //! Scripts: a service and the commands on it as lines of text, for runs that can be written down
-//! and compared. `docs/SCRIPT.md` of service_descriptions has all lines and replies.
+//! and compared. `docs/SCRIPT.md` of `service_descriptions` has all lines and replies.
 //!
 //! ```
 //! let replies = iox2sd::script::run("service event 7 1 2 2\nregister 1.0.0.1\nderegister 0\n")?;
@@ -20,7 +20,7 @@ use std::fmt;
 /// let refused = script::run("service event 7 1 2 2\nregister nobody\n").unwrap_err();
 /// assert_eq!(refused.to_string(), "bad line 2");
 /// ```
-#[derive(Clone, Debug, PartialEq, Eq)]
+#[derive(Clone, Debug, PartialEq, Eq, Hash)]
 pub enum ScriptError {
     /// A line has no meaning at its place, or no newline.
     BadLine {
@@ -46,7 +46,11 @@ impl Error for ScriptError {}
 
 /// Runs a script, and answers its reply lines.
 ///
+/// # Errors
+///
 /// Refused at the first line that is not valid, and where memory is refused.
+///
+/// # Examples
 ///
 /// ```
 /// use iox2sd::script::{self, ScriptError};

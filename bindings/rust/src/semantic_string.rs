@@ -99,12 +99,13 @@ pub(crate) mod kind {
         fn check(text: &[u8]) -> Result<(), u32>;
 
         #[doc(hidden)]
-        fn capacity() -> usize;
+        const CAPACITY: usize;
     }
 
-    /// Defines a kind by the check that the library makes.
+    /// Defines a kind by the check that the library makes, and by the most bytes that it lets
+    /// through.
     macro_rules! kind {
-        ($(#[$documentation:meta])* $name:ident: $check:ident) => {
+        ($(#[$documentation:meta])* $name:ident: $check:ident, $capacity:ident) => {
             $(#[$documentation])*
             #[derive(Clone, Copy, Debug)]
             pub enum $name {}
@@ -114,9 +115,7 @@ pub(crate) mod kind {
                     $crate::semantic_string::kind::legal($crate::library::$check(text).status)
                 }
 
-                fn capacity() -> usize {
-                    $crate::library::greatest_length($crate::library::$check)
-                }
+                const CAPACITY: usize = $crate::limits::$capacity;
             }
         };
     }
@@ -150,12 +149,16 @@ pub struct SemanticString<C: Content> {
 impl<C: Content> SemanticString<C> {
     /// The semantic string of these bytes.
     ///
+    /// # Errors
+    ///
     /// Refused are, in this order, no byte at all where the kind does not allow that
     /// ([`InvalidContent`](SemanticStringError::InvalidContent)), more bytes than
     /// [`capacity`](Self::capacity)
     /// ([`ExceedsMaximumLength`](SemanticStringError::ExceedsMaximumLength)), and another content
     /// that is not allowed: a byte that is not from 1 to 127, or what the kind forbids
     /// ([`InvalidContent`](SemanticStringError::InvalidContent)).
+    ///
+    /// # Examples
     ///
     /// ```
     /// use iox2sd::attribute::AttributeValue;
@@ -188,6 +191,7 @@ impl<C: Content> SemanticString<C> {
     /// assert_eq!(AttributeKey::new(b"site")?.as_str(), "site");
     /// # Ok::<(), iox2sd::semantic_string::SemanticStringError>(())
     /// ```
+    #[must_use]
     pub fn as_str(&self) -> &str {
         self.text.as_str()
     }
@@ -199,6 +203,7 @@ impl<C: Content> SemanticString<C> {
     /// assert_eq!(AttributeKey::new(b"site")?.as_bytes(), b"site");
     /// # Ok::<(), iox2sd::semantic_string::SemanticStringError>(())
     /// ```
+    #[must_use]
     pub fn as_bytes(&self) -> &[u8] {
         self.as_str().as_bytes()
     }
@@ -210,6 +215,7 @@ impl<C: Content> SemanticString<C> {
     /// assert_eq!(AttributeKey::new(b"site")?.len(), 4);
     /// # Ok::<(), iox2sd::semantic_string::SemanticStringError>(())
     /// ```
+    #[must_use]
     pub fn len(&self) -> usize {
         self.as_bytes().len()
     }
@@ -223,6 +229,7 @@ impl<C: Content> SemanticString<C> {
     /// assert!(!Path::new(b"/")?.is_empty());
     /// # Ok::<(), iox2sd::semantic_string::SemanticStringError>(())
     /// ```
+    #[must_use]
     pub fn is_empty(&self) -> bool {
         self.as_bytes().is_empty()
     }
@@ -233,8 +240,9 @@ impl<C: Content> SemanticString<C> {
     /// use iox2sd::attribute::AttributeKey;
     /// assert_eq!(AttributeKey::capacity(), 64);
     /// ```
-    pub fn capacity() -> usize {
-        C::capacity()
+    #[must_use]
+    pub const fn capacity() -> usize {
+        C::CAPACITY
     }
 }
 
@@ -277,6 +285,15 @@ impl<C: Content> TryFrom<&str> for SemanticString<C> {
 
     /// As [`SemanticString::new`] of the text's bytes.
     fn try_from(text: &str) -> Result<Self, SemanticStringError> {
+        Self::new(text.as_bytes())
+    }
+}
+
+impl<C: Content> TryFrom<String> for SemanticString<C> {
+    type Error = SemanticStringError;
+
+    /// As of a `&str`.
+    fn try_from(text: String) -> Result<Self, SemanticStringError> {
         Self::new(text.as_bytes())
     }
 }

@@ -33,6 +33,15 @@ pub enum ServiceHashError {
 
 error_by_path!(ServiceHashError);
 
+impl ServiceHashError {
+    pub(crate) fn of(status: u32) -> Self {
+        match status {
+            sys::IOX2SD_ILLEGAL_HASH => ServiceHashError::IllegalText,
+            other => library::unexpected(other),
+        }
+    }
+}
+
 /// The hash text of a service, under which its files are found: the name of a file. Hash texts are
 /// compared by their bytes.
 ///
@@ -54,7 +63,11 @@ pub struct ServiceHash {
 impl ServiceHash {
     /// The hash text of a service's pattern and name, by SHA-1.
     ///
+    /// # Errors
+    ///
     /// Refused with [`ServiceHashError::IllegalText`], which no call was ever seen to be.
+    ///
+    /// # Examples
     ///
     /// ```
     /// use iox2sd::messaging_pattern::MessagingPattern;
@@ -71,8 +84,15 @@ impl ServiceHash {
             Ok(text) => Ok(ServiceHash {
                 text: RestrictedFileName::of_legal(&text),
             }),
-            Err(sys::IOX2SD_ILLEGAL_HASH) => Err(ServiceHashError::IllegalText),
-            Err(other) => library::unexpected(other),
+            Err(refusal) => Err(ServiceHashError::of(refusal)),
+        }
+    }
+
+    /// The hash text of a description that the library made.
+    pub(crate) fn of(made: &sys::iox2sd_description) -> Self {
+        let text = std::str::from_utf8(&made.hash[..made.hash_length]);
+        ServiceHash {
+            text: RestrictedFileName::of_legal(text.expect("the library writes texts")),
         }
     }
 
@@ -82,7 +102,8 @@ impl ServiceHash {
     /// use iox2sd::service_hash::ServiceHash;
     /// assert_eq!(ServiceHash::max_number_of_characters(), 64);
     /// ```
-    pub fn max_number_of_characters() -> usize {
+    #[must_use]
+    pub const fn max_number_of_characters() -> usize {
         RestrictedFileName::capacity()
     }
 
@@ -96,6 +117,7 @@ impl ServiceHash {
     /// assert_eq!(hash.as_str(), hash.to_string());
     /// # Ok::<(), Box<dyn std::error::Error>>(())
     /// ```
+    #[must_use]
     pub fn as_str(&self) -> &str {
         self.text.as_str()
     }

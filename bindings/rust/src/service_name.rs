@@ -10,10 +10,22 @@
 
 use crate::display::error_by_path;
 use crate::library;
+use crate::limits;
 use crate::sys;
 use crate::text::{shown_as_text, Text};
 use std::ops::Deref;
 use std::str::FromStr;
+
+/// What the names of the system's own services begin with.
+///
+/// ```
+/// use iox2sd::service_name::{ServiceName, INTERNAL_SERVICE_PREFIX};
+///
+/// assert!(ServiceName::has_iox2_prefix(INTERNAL_SERVICE_PREFIX));
+/// assert_eq!(ServiceName::internal_new_prefixed("")?, INTERNAL_SERVICE_PREFIX);
+/// # Ok::<(), iox2sd::service_name::ServiceNameError>(())
+/// ```
+pub const INTERNAL_SERVICE_PREFIX: &str = limits::INTERNAL_SERVICE_PREFIX;
 
 /// Why a text is no service name.
 ///
@@ -68,10 +80,14 @@ pub struct ServiceName {
 impl ServiceName {
     /// A name that a user gives.
     ///
+    /// # Errors
+    ///
     /// Refused are, in this order, a name that begins with the prefix of the system's own services
     /// and the empty one ([`InvalidContent`](ServiceNameError::InvalidContent)), too many bytes
     /// ([`ExceedsMaximumLength`](ServiceNameError::ExceedsMaximumLength)), and a byte that is not
     /// from 1 to 127 ([`InvalidContent`](ServiceNameError::InvalidContent)).
+    ///
+    /// # Examples
     ///
     /// ```
     /// use iox2sd::service_name::{ServiceName, ServiceNameError};
@@ -88,7 +104,11 @@ impl ServiceName {
 
     /// A name that may be that of one of the system's own services.
     ///
+    /// # Errors
+    ///
     /// Refused as by [`ServiceName::new`], but for the prefix.
+    ///
+    /// # Examples
     ///
     /// ```
     /// use iox2sd::service_name::{ServiceName, ServiceNameError};
@@ -103,7 +123,11 @@ impl ServiceName {
 
     /// The name of one of the system's own services: the prefix and `name`, which may be empty.
     ///
+    /// # Errors
+    ///
     /// Refused as by [`ServiceName::internal_new`] of both together.
+    ///
+    /// # Examples
     ///
     /// ```
     /// use iox2sd::service_name::ServiceName;
@@ -135,6 +159,7 @@ impl ServiceName {
     /// assert_eq!(ServiceName::new("lidar/front")?.as_str(), "lidar/front");
     /// # Ok::<(), iox2sd::service_name::ServiceNameError>(())
     /// ```
+    #[must_use]
     pub fn as_str(&self) -> &str {
         self.text.as_str()
     }
@@ -147,6 +172,7 @@ impl ServiceName {
     /// assert!(ServiceName::has_iox2_prefix("iox2://discovery"));
     /// assert!(!ServiceName::has_iox2_prefix("discovery"));
     /// ```
+    #[must_use]
     pub fn has_iox2_prefix(name: &str) -> bool {
         library::has_internal_prefix(name)
     }
@@ -157,8 +183,9 @@ impl ServiceName {
     /// use iox2sd::service_name::ServiceName;
     /// assert_eq!(ServiceName::max_len(), 255);
     /// ```
-    pub fn max_len() -> usize {
-        library::greatest_length(library::check_internal_service_name)
+    #[must_use]
+    pub const fn max_len() -> usize {
+        limits::SERVICE_NAME
     }
 }
 

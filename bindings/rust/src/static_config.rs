@@ -27,6 +27,7 @@ pub mod request_response;
 use crate::attribute::AttributeSet;
 use crate::config::Config;
 use crate::identifiers::UniqueServiceId;
+use crate::library::Settings;
 use crate::service_hash::{ServiceHash, ServiceHashError};
 use crate::service_name::ServiceName;
 use messaging_pattern::MessagingPattern;
@@ -45,7 +46,7 @@ use messaging_pattern::MessagingPattern;
 /// assert_eq!((service.name(), service.unique_service_id()), (&name, id));
 /// # Ok::<(), Box<dyn std::error::Error>>(())
 /// ```
-#[derive(Clone, Debug, PartialEq, Eq)]
+#[derive(Clone, Debug, PartialEq, Eq, Hash)]
 pub struct StaticConfig {
     service_hash: ServiceHash,
     service_name: ServiceName,
@@ -67,12 +68,19 @@ macro_rules! of_pattern {
             config: &Config,
             unique_service_id: UniqueServiceId,
         ) -> Result<Self, ServiceHashError> {
-            let settings = $module::StaticConfig::new(config);
-            Self::describe(
-                service_name,
-                unique_service_id,
-                MessagingPattern::$variant(settings),
-            )
+            let settings = &config.defaults.$module;
+            match settings.describe(service_name, unique_service_id.parts) {
+                Ok(made) => Ok(StaticConfig {
+                    service_hash: ServiceHash::of(&made),
+                    service_name: *service_name,
+                    unique_service_id,
+                    attributes: AttributeSet::new(),
+                    messaging_pattern: MessagingPattern::$variant($module::StaticConfig::of(
+                        &made.$module,
+                    )),
+                }),
+                Err(refusal) => Err(ServiceHashError::of(refusal)),
+            }
         }
 
         #[doc = concat!("Whether it is ", $kind, " service.")]
@@ -157,7 +165,11 @@ impl StaticConfig {
         /// The description of a request-response service with the defaults of a configuration and
         /// without attributes.
         ///
+        /// # Errors
+        ///
         /// Refused as [`ServiceHash::new`] is for the name and the pattern.
+        ///
+        /// # Examples
         ///
         /// ```
         /// use iox2sd::config::Config;
@@ -177,7 +189,11 @@ impl StaticConfig {
         /// The description of an event service with the defaults of a configuration and
         /// without attributes.
         ///
+        /// # Errors
+        ///
         /// Refused as [`ServiceHash::new`] is for the name and the pattern.
+        ///
+        /// # Examples
         ///
         /// ```
         /// use iox2sd::config::Config;
@@ -197,7 +213,11 @@ impl StaticConfig {
         /// The description of a publish-subscribe service with the defaults of a configuration and
         /// without attributes.
         ///
+        /// # Errors
+        ///
         /// Refused as [`ServiceHash::new`] is for the name and the pattern.
+        ///
+        /// # Examples
         ///
         /// ```
         /// use iox2sd::config::Config;
@@ -217,7 +237,11 @@ impl StaticConfig {
         /// The description of a blackboard service with the defaults of a configuration and
         /// without attributes.
         ///
+        /// # Errors
+        ///
         /// Refused as [`ServiceHash::new`] is for the name and the pattern.
+        ///
+        /// # Examples
         ///
         /// ```
         /// use iox2sd::config::Config;
@@ -230,20 +254,6 @@ impl StaticConfig {
         /// # Ok::<(), Box<dyn std::error::Error>>(())
         /// ```
         new_blackboard
-    }
-
-    fn describe(
-        service_name: &ServiceName,
-        unique_service_id: UniqueServiceId,
-        messaging_pattern: MessagingPattern,
-    ) -> Result<Self, ServiceHashError> {
-        Ok(StaticConfig {
-            service_hash: ServiceHash::new(service_name, messaging_pattern.kind())?,
-            service_name: *service_name,
-            unique_service_id,
-            attributes: AttributeSet::new(),
-            messaging_pattern,
-        })
     }
 
     /// The same service with these attributes in place of those that it had.
@@ -262,6 +272,7 @@ impl StaticConfig {
     /// assert_eq!(service.attributes(), specifier.attributes());
     /// # Ok::<(), Box<dyn std::error::Error>>(())
     /// ```
+    #[must_use]
     pub fn with_attributes(self, attributes: &AttributeSet) -> Self {
         StaticConfig {
             attributes: attributes.clone(),
@@ -281,6 +292,7 @@ impl StaticConfig {
     /// assert!(service.attributes().is_empty());
     /// # Ok::<(), Box<dyn std::error::Error>>(())
     /// ```
+    #[must_use]
     pub fn attributes(&self) -> &AttributeSet {
         &self.attributes
     }
@@ -299,6 +311,7 @@ impl StaticConfig {
     /// assert_eq!(service.service_hash(), &ServiceHash::new(&name, MessagingPattern::Event)?);
     /// # Ok::<(), Box<dyn std::error::Error>>(())
     /// ```
+    #[must_use]
     pub fn service_hash(&self) -> &ServiceHash {
         &self.service_hash
     }
@@ -315,6 +328,7 @@ impl StaticConfig {
     /// assert_eq!(service.unique_service_id(), id);
     /// # Ok::<(), Box<dyn std::error::Error>>(())
     /// ```
+    #[must_use]
     pub fn unique_service_id(&self) -> UniqueServiceId {
         self.unique_service_id
     }
@@ -331,6 +345,7 @@ impl StaticConfig {
     /// assert_eq!(service.name(), "front");
     /// # Ok::<(), Box<dyn std::error::Error>>(())
     /// ```
+    #[must_use]
     pub fn name(&self) -> &ServiceName {
         &self.service_name
     }
@@ -347,6 +362,7 @@ impl StaticConfig {
     /// assert_eq!(service.messaging_pattern().to_string(), "Event");
     /// # Ok::<(), Box<dyn std::error::Error>>(())
     /// ```
+    #[must_use]
     pub fn messaging_pattern(&self) -> &MessagingPattern {
         &self.messaging_pattern
     }
@@ -365,6 +381,7 @@ impl StaticConfig {
     /// assert!(!events.has_same_messaging_pattern(&board));
     /// # Ok::<(), Box<dyn std::error::Error>>(())
     /// ```
+    #[must_use]
     pub fn has_same_messaging_pattern(&self, rhs: &StaticConfig) -> bool {
         self.messaging_pattern
             .is_same_pattern(&rhs.messaging_pattern)

@@ -339,6 +339,70 @@ pub struct iox2sd_blackboard_settings {
     pub max_nodes: usize,
 }
 
+#[repr(C)]
+pub struct iox2sd_field_answer {
+    pub status: u32,
+    pub field: u32,
+}
+
+#[repr(C)]
+pub struct iox2sd_publish_subscribe_config {
+    pub max_subscribers: usize,
+    pub max_publishers: usize,
+    pub max_nodes: usize,
+    pub history_size: usize,
+    pub subscriber_max_buffer_size: usize,
+    pub subscriber_max_borrowed_samples: usize,
+    pub enable_safe_overflow: bool,
+}
+
+#[repr(C)]
+pub struct iox2sd_event_config {
+    pub max_notifiers: usize,
+    pub max_listeners: usize,
+    pub max_nodes: usize,
+    pub event_id_max_value: usize,
+    pub deadline: iox2sd_optional_duration,
+    pub notifier_created_event: iox2sd_optional_event_id,
+    pub notifier_dropped_event: iox2sd_optional_event_id,
+    pub notifier_dead_event: iox2sd_optional_event_id,
+}
+
+#[repr(C)]
+pub struct iox2sd_request_response_config {
+    pub max_active_requests_per_client: usize,
+    pub max_loaned_requests: usize,
+    pub max_response_buffer_size: usize,
+    pub max_servers: usize,
+    pub max_clients: usize,
+    pub max_nodes: usize,
+    pub max_borrowed_responses_per_pending_response: usize,
+    pub enable_safe_overflow_for_requests: bool,
+    pub enable_safe_overflow_for_responses: bool,
+    pub enable_fire_and_forget_requests: bool,
+}
+
+#[repr(C)]
+pub struct iox2sd_blackboard_config {
+    pub max_readers: usize,
+    pub max_writers: usize,
+    pub max_nodes: usize,
+}
+
+#[repr(C)]
+pub struct iox2sd_description {
+    pub name: [u8; 256],
+    pub name_length: usize,
+    pub id: iox2sd_id,
+    pub hash: [u8; 64],
+    pub hash_length: usize,
+    pub pattern: u32,
+    pub publish_subscribe: iox2sd_publish_subscribe_config,
+    pub event: iox2sd_event_config,
+    pub request_response: iox2sd_request_response_config,
+    pub blackboard: iox2sd_blackboard_config,
+}
+
 extern "C" {
     pub fn iox2sd_status_text(status: u32, out: *mut u8, capacity: usize) -> iox2sd_text_answer;
     pub fn iox2sd_version(out: *mut u8, capacity: usize) -> iox2sd_text_answer;
@@ -503,10 +567,6 @@ extern "C" {
         capacity: usize,
     ) -> iox2sd_text_answer;
 
-    pub fn iox2sd_attributes_check_at(
-        pairs: *const iox2sd_attribute,
-        length: usize,
-    ) -> iox2sd_place_answer;
     pub fn iox2sd_attributes_sort_at(
         pairs: *mut iox2sd_attribute,
         length: usize,
@@ -535,6 +595,7 @@ extern "C" {
         keys_length: usize,
     ) -> iox2sd_place_answer;
 
+    pub fn iox2sd_type_detail_check_at(detail: *const iox2sd_type_detail, count: usize) -> u32;
     pub fn iox2sd_message_sample_layout_at(
         details: *const iox2sd_message_details,
         count: usize,
@@ -576,5 +637,45 @@ extern "C" {
     pub fn iox2sd_event_defaults() -> iox2sd_event_settings;
     pub fn iox2sd_request_response_defaults() -> iox2sd_request_response_settings;
     pub fn iox2sd_blackboard_defaults() -> iox2sd_blackboard_settings;
+    pub fn iox2sd_describe_publish_subscribe_at(
+        settings: *const iox2sd_publish_subscribe_settings,
+        count: usize,
+        name: *const u8,
+        length: usize,
+        internal: bool,
+        id: iox2sd_id,
+        out: *mut iox2sd_description,
+        out_count: usize,
+    ) -> iox2sd_field_answer;
+    pub fn iox2sd_describe_event_at(
+        settings: *const iox2sd_event_settings,
+        count: usize,
+        name: *const u8,
+        length: usize,
+        internal: bool,
+        id: iox2sd_id,
+        out: *mut iox2sd_description,
+        out_count: usize,
+    ) -> iox2sd_field_answer;
+    pub fn iox2sd_describe_request_response_at(
+        settings: *const iox2sd_request_response_settings,
+        count: usize,
+        name: *const u8,
+        length: usize,
+        internal: bool,
+        id: iox2sd_id,
+        out: *mut iox2sd_description,
+        out_count: usize,
+    ) -> iox2sd_field_answer;
+    pub fn iox2sd_describe_blackboard_at(
+        settings: *const iox2sd_blackboard_settings,
+        count: usize,
+        name: *const u8,
+        length: usize,
+        internal: bool,
+        id: iox2sd_id,
+        out: *mut iox2sd_description,
+        out_count: usize,
+    ) -> iox2sd_field_answer;
     pub fn iox2sd_default_text(which: u32, out: *mut u8, capacity: usize) -> iox2sd_text_answer;
 }

@@ -27,7 +27,7 @@ impl Text {
         bytes[..text.len()].copy_from_slice(text.as_bytes());
         Text {
             bytes,
-            length: text.len() as u16,
+            length: u16::try_from(text.len()).expect("there is room for the text"),
         }
     }
 

@@ -45,7 +45,9 @@ fn without_comments(header: &str) -> String {
 fn parts(list: &str, separator: char) -> String {
     let part = |part: &str| {
         let end = part.rfind([' ', '*']).unwrap() + 1;
-        format!("{}: {}", &part[end..], part[..end].trim_end())
+        let (name, kind) = (&part[end..], part[..end].trim_end());
+        let (name, length) = name.split_at(name.find('[').unwrap_or(name.len()));
+        format!("{name}: {kind}{length}")
     };
     let parts: Vec<_> = list
         .split(separator)
@@ -112,6 +114,9 @@ fn in_c(rust: &str) -> String {
     }
     if let Some(target) = rust.strip_prefix("*mut ") {
         return format!("{}*", in_c(target));
+    }
+    if let Some((item, length)) = rust.strip_prefix('[').and_then(|rest| rest.split_once(';')) {
+        return format!("{}[{length}", in_c(item));
     }
     let name = match rust {
         "u8" => "uint8_t",

@@ -295,7 +295,7 @@ fn a_getter_for_another_pattern_panics() {
 #[should_panic(expected = "the pattern is Blackboard, not RequestResponse")]
 fn a_getter_of_a_pattern_for_another_one_panics() {
     let [.., blackboard] = descriptions(&Config::default());
-    blackboard.messaging_pattern().request_response();
+    let _ = blackboard.messaging_pattern().request_response();
 }
 
 #[test]

@@ -19,14 +19,17 @@ fn sources(folder: &Path) -> Vec<PathBuf> {
     files
 }
 
-/// The lines of code of all sources but the declarations, without comments and pages, each with its
-/// file.
+/// The one file of limits, which is compared with the library.
+const LIMITS: &str = "limits.rs";
+
+/// The lines of code of all sources but the declarations and the limits, without comments and pages,
+/// each with its file.
 fn code() -> Vec<(String, String)> {
     let folder = Path::new(env!("CARGO_MANIFEST_DIR")).join("src");
     let mut lines = Vec::new();
     for file in sources(&folder) {
         let name = file.strip_prefix(&folder).unwrap().display().to_string();
-        if name == "sys.rs" {
+        if name == "sys.rs" || name == LIMITS {
             continue;
         }
         for line in fs::read_to_string(&file).unwrap().lines() {
@@ -64,6 +67,31 @@ fn no_limit_stands_in_the_code() {
     for limit in ["isize::MAX", "checked_", "wrapping_", "saturating_"] {
         assert_eq!(places(limit), Vec::<String>::new(), "{limit}");
     }
+}
+
+/// The limits are constants, each of which a test compares with what the library answers.
+#[test]
+fn each_limit_is_compared_with_the_library() {
+    let folder = Path::new(env!("CARGO_MANIFEST_DIR"));
+    let limits = fs::read_to_string(folder.join("src").join(LIMITS)).unwrap();
+    let is_code = |line: &&str| !line.is_empty() && !line.starts_with("//");
+    let mut names = Vec::new();
+    for line in limits.lines().filter(is_code) {
+        let constant = line.strip_prefix("pub(crate) const ").unwrap();
+        names.push(constant.split(':').next().unwrap());
+    }
+    let compared = [
+        "ATTRIBUTES",
+        "ATTRIBUTE_KEY",
+        "ATTRIBUTE_VALUE",
+        "PATH",
+        "FILE_NAME",
+        "FILE_PATH",
+        "RESTRICTED_FILE_NAME",
+        "SERVICE_NAME",
+        "INTERNAL_SERVICE_PREFIX",
+    ];
+    assert_eq!(names, compared);
 }
 
 #[test]

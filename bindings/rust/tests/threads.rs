@@ -4,6 +4,7 @@
 mod common;
 
 use common::{node, ports_of_kind, service, KINDS};
+use iox2sd::container::{ContainerHandle, Role};
 use iox2sd::dynamic_config::{DeregisterNodeState, DynamicConfig};
 use std::sync::mpsc::channel;
 use std::sync::{Arc, Mutex};
@@ -67,10 +68,26 @@ fn a_service_moves_from_thread_to_thread() {
 fn answers(service: &DynamicConfig) -> String {
     let nodes: Vec<_> = service.nodes().collect();
     let ports = service.ports_of(&node(1));
+    let roles = Role::ALL.map(|role| {
+        let ports: Option<Vec<_>> = service.ports(role).map(Iterator::collect);
+        let room = (service.has_room(role), service.max_ports(role));
+        (
+            service.has_role(role),
+            service.count_ports(role),
+            room,
+            ports,
+        )
+    });
+    let handles = Role::ALL.map(|role| {
+        let first = ContainerHandle::from_parts(service.service_number(), role, 0, 0);
+        (service.node(first), service.port(first))
+    });
     format!(
-        "{:?} {} {} {} {nodes:?} {ports:?} {:?}",
+        "{service:?} {:?} {:?} {} {} {} {} {nodes:?} {ports:?} {:?} {roles:?} {handles:?}",
         service.kind(),
+        service.port_roles(),
         service.number_of_nodes(),
+        service.max_nodes(),
         service.has_room_for_node(),
         service.is_locked(),
         service.ports_of(&node(2)),
@@ -86,6 +103,7 @@ fn sixteen_threads_ask_one_service_at_once() {
             service.attach(port).unwrap();
         }
         let wanted = answers(&service);
+        assert!(wanted.contains("Some("), "{wanted}");
         thread::scope(|threads| {
             for _ in 0..16 {
                 threads.spawn(|| (0..200).for_each(|_| assert_eq!(answers(&service), wanted)));

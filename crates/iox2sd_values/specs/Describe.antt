@@ -1,5 +1,5 @@
 -- Descriptions of services, from their names and settings.
-use Rattle.std.specs.Prelude.{◌≡◌, ℕ, List, [], ◌∷◌, Result, Ok, Err}
+use Rattle.std.specs.Prelude.{◌≡◌, ℕ, Bool, List, [], ◌∷◌, Result, Ok, Err}
 use Rattle.iox2_config.specs.Hashing.{sha1_text}
 use Rattle.iox2_config.specs.declared.hash.service_hash.ServiceHashError.{ServiceHashError}
 use Rattle.iox2_config.specs.declared.hash.service_hash.ServiceHashError.TheVariants.{IllegalText}
@@ -11,7 +11,7 @@ use Rattle.iox2_static.specs.RequestResponse.{request_response_of}
 use Rattle.iox2_static.specs.declared.static_config.messaging_pattern.MessagingPattern.{MessagingPattern}
 use Rattle.iox2_static.specs.declared.static_config.messaging_pattern.MessagingPattern.TheVariants as pattern
 use Rattle.iox2sd_values.specs.Descriptions.{number_of, told_description}
-use Rattle.iox2sd_values.specs.Names.{ReadsName, ReadsInternalName}
+use Rattle.iox2sd_values.specs.Names.{ReadsAnyName}
 use Rattle.iox2sd_values.specs.ReadSettings.{field_answer, no_field, ReadsPublishSubscribe, ReadsEvent, ReadsRequestResponse, ReadsBlackboard}
 use Rattle.iox2sd_values.specs.declared.describe.Refusal.{Refusal}
 use Rattle.iox2sd_values.specs.declared.describe.Refusal.TheVariants as refusal
@@ -87,51 +87,14 @@ Fills (place ∷ rest) (Ok d) id answer new =
 Fills (place ∷ rest) (Err r) id answer new =
     (answer ≡ refusal_answer r) × (new ≡ place ∷ rest)
 
--- the same, where there are settings
-abbrev pub FillsBy : {S : Type 0}
-    → (Result (List ℕ) Status → S → ℕ → Result Description Refusal → Type 0) → List S
-    → Result (List ℕ) Status → Id → List ServiceDescription → FieldAnswer
-    → List ServiceDescription → Type 0
-FillsBy Makes [] name id old answer new = (answer ≡ no_field status.Null) × (new ≡ old)
-FillsBy Makes (s ∷ others) name id old answer new =
-    (made : Result Description Refusal) × Makes name s (number_of id) made
+-- the same, where there are settings: the name is read first, which may be one of the system's own
+-- where the flag says so
+abbrev pub FillsNamed : {S : Type 0}
+    → (Result (List ℕ) Status → S → ℕ → Result Description Refusal → Type 0) → List S → Bool
+    → List ℕ → Id → List ServiceDescription → FieldAnswer → List ServiceDescription → Type 0
+FillsNamed Makes [] internal bytes id old answer new =
+    (answer ≡ no_field status.Null) × (new ≡ old)
+FillsNamed Makes (s ∷ others) internal bytes id old answer new =
+    (name : Result (List ℕ) Status) × ReadsAnyName internal bytes name
+    × (made : Result Description Refusal) × Makes name s (number_of id) made
     × Fills old made id answer new
-
--- of a publish-subscribe service
-abbrev pub FillsPublishSubscribe : List PublishSubscribeSettings → Result (List ℕ) Status → Id
-    → List ServiceDescription → FieldAnswer → List ServiceDescription → Type 0
-FillsPublishSubscribe settings name id old answer new =
-    FillsBy MakesPublishSubscribe settings name id old answer new
-
--- of an event service
-abbrev pub FillsEvent : List EventSettings → Result (List ℕ) Status → Id
-    → List ServiceDescription → FieldAnswer → List ServiceDescription → Type 0
-FillsEvent settings name id old answer new = FillsBy MakesEvent settings name id old answer new
-
--- of a request-response service
-abbrev pub FillsRequestResponse : List RequestResponseSettings → Result (List ℕ) Status → Id
-    → List ServiceDescription → FieldAnswer → List ServiceDescription → Type 0
-FillsRequestResponse settings name id old answer new =
-    FillsBy MakesRequestResponse settings name id old answer new
-
--- of a blackboard service
-abbrev pub FillsBlackboard : List BlackboardSettings → Result (List ℕ) Status → Id
-    → List ServiceDescription → FieldAnswer → List ServiceDescription → Type 0
-FillsBlackboard settings name id old answer new =
-    FillsBy MakesBlackboard settings name id old answer new
-
--- the same, where the name is read as one that a user gives
-abbrev pub WithUserName :
-    (Result (List ℕ) Status → Id → List ServiceDescription → FieldAnswer
-    → List ServiceDescription → Type 0)
-    → List ℕ → Id → List ServiceDescription → FieldAnswer → List ServiceDescription → Type 0
-WithUserName Rest bytes id old answer new =
-    (name : Result (List ℕ) Status) × ReadsName bytes name × Rest name id old answer new
-
--- where it is read as one that may be one of the system's own
-abbrev pub WithInternalName :
-    (Result (List ℕ) Status → Id → List ServiceDescription → FieldAnswer
-    → List ServiceDescription → Type 0)
-    → List ℕ → Id → List ServiceDescription → FieldAnswer → List ServiceDescription → Type 0
-WithInternalName Rest bytes id old answer new =
-    (name : Result (List ℕ) Status) × ReadsInternalName bytes name × Rest name id old answer new

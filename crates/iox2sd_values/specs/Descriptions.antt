@@ -1,5 +1,5 @@
 -- What is fixed of a service, as plain values.
-use Rattle.std.specs.Prelude.{◌≡◌, ◌↔◌, ℕ, false, IsTrue, List, [], ◌∷◌, Option, Some, None, length}
+use Rattle.std.specs.Prelude.{◌≡◌, ◌↔◌, ℕ, false, IsTrue, Option, Some, None, length}
 use Rattle.iox2_config.specs.Hashing.{ReadsPattern, pattern_number}
 use Rattle.iox2_config.specs.declared.hash.input.PatternKind.{PatternKind}
 use Rattle.iox2_ids.specs.Packing.{packed}
@@ -128,11 +128,3 @@ abbrev pub ComparesPatterns : ℕ → ℕ → FlagAnswer → Type 0
 ComparesPatterns left right answer =
     (l r : Option PatternKind) × ReadsPattern left l × ReadsPattern right r
     × ComparesKinds l r answer
-
--- the same of two descriptions, where both are given
-abbrev pub ComparesDescriptions : List ServiceDescription → List ServiceDescription → FlagAnswer
-    → Type 0
-ComparesDescriptions [] rights answer = answer ≡ flag_answer status.Null false
-ComparesDescriptions (left ∷ lefts) [] answer = answer ≡ flag_answer status.Null false
-ComparesDescriptions (left ∷ lefts) (right ∷ rights) answer =
-    ComparesPatterns left.pattern right.pattern answer

@@ -1,5 +1,5 @@
 -- What a caller says of the parts of a message.
-use Rattle.std.specs.Prelude.{◌≡◌, ◌≢◌, ℕ, [], Option, Some, None, Result, Ok, Err, IsTrue, IsUtf8}
+use Rattle.std.specs.Prelude.{◌≡◌, ◌≢◌, ℕ, List, [], ◌∷◌, Option, Some, None, Result, Ok, Err, IsTrue, IsUtf8}
 use Rattle.std.specs.Int.{is_power_of_two}
 use Rattle.iox2_config.specs.TypeDetails.{detail, message, MakesDetail}
 use Rattle.iox2_config.specs.TypeDetailParts.{TypeDetailParts}
@@ -8,6 +8,7 @@ use Rattle.iox2_config.specs.declared.types.type_detail.TypeDetailError.TheVaria
 use Rattle.iox2_config.specs.declared.types.type_detail.TypeVariant.{TypeVariant}
 use Rattle.iox2_config.specs.declared.types.type_detail.TypeVariant.TheVariants.{FixedSize, Dynamic}
 use Rattle.iox2_texts.specs.declared.bounded.StringModificationError.TheVariants.{InsertWouldExceedCapacity, InvalidCharacter}
+use Rattle.iox2sd_values.specs.Status.{code, end_code}
 use Rattle.iox2sd_values.specs.declared.details.Details.{Details}
 use Rattle.iox2sd_values.specs.declared.details.Fault.{Fault}
 use Rattle.iox2sd_values.specs.declared.details.Part.{Part}
@@ -53,6 +54,12 @@ ReadsPart part (Err status.BadAlignment) = WithVariant part
     (λ variant. IsUtf8 part.name.now
     × MakesDetail (part_facts part variant) (Err AlignmentNotPowerOfTwo))
 ReadsPart part (Err _) = ⊥
+
+-- whether the type of a part is valid, where there is a part
+abbrev pub ChecksPart : List Part → ℕ → Type 0
+ChecksPart [] answer = answer ≡ code status.Null
+ChecksPart (part ∷ others) answer =
+    (made : Result TypeDetailParts Status) × ReadsPart part made × (answer ≡ end_code made)
 
 -- the parts before the one that is wrong are types
 abbrev pub FailsIn : Details → Which → Status → Type 0

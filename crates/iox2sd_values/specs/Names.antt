@@ -1,5 +1,5 @@
 -- The names of services, and their hash texts.
-use Rattle.std.specs.Prelude.{◌≡◌, ℕ, List, ◌++◌, Some, None, Result, Ok, Err, IsUtf8}
+use Rattle.std.specs.Prelude.{◌≡◌, ℕ, Bool, false, true, List, ◌++◌, Some, None, Result, Ok, Err, IsUtf8}
 use lib.Chars.{codes}
 use Rattle.iox2_config.specs.Hashing.{ReadsPattern, hash_input, sha1_text}
 use Rattle.iox2_config.specs.declared.hash.input.PatternKind.{PatternKind}
@@ -28,6 +28,11 @@ ReadsName bytes made = ReadsBy MakesPublicName bytes made
 -- of a name that may be one of the system's own
 abbrev pub ReadsInternalName : List ℕ → Result (List ℕ) Status → Type 0
 ReadsInternalName bytes made = ReadsBy MakesServiceName bytes made
+
+-- of a name that may be one of the system's own where the flag says so
+abbrev pub ReadsAnyName : Bool → List ℕ → Result (List ℕ) Status → Type 0
+ReadsAnyName false bytes made = ReadsName bytes made
+ReadsAnyName true bytes made = ReadsInternalName bytes made
 
 -- what making the system's own name that ends in the bytes answers
 abbrev pub Prefixes : List ℕ → Result (List ℕ) Status → Type 0

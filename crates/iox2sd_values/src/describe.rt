@@ -1,13 +1,11 @@
 //! Descriptions of services, from their names and settings.
 ghost use Rattle.std.specs.Prelude.{◌≡◌};
-ghost use Rattle.iox2sd_values.specs.Describe.{refusal_answer, Fills, WithUserName, WithInternalName};
+ghost use Rattle.iox2sd_values.specs.Describe.{refusal_answer, Fills, FillsNamed};
 ghost use Rattle.iox2sd_values.specs.Describe.{MakesPublishSubscribe, MakesEvent};
 ghost use Rattle.iox2sd_values.specs.Describe.{MakesRequestResponse, MakesBlackboard};
-ghost use Rattle.iox2sd_values.specs.Describe.{FillsPublishSubscribe, FillsEvent};
-ghost use Rattle.iox2sd_values.specs.Describe.{FillsRequestResponse, FillsBlackboard};
 
 use super::descriptions::{Id, ServiceDescription, told_description};
-use super::names::{internal_service_name, service_name};
+use super::names::any_service_name;
 use super::read_settings::{
     Field, FieldAnswer, no_field, read_blackboard, read_event, read_publish_subscribe,
     read_request_response,
@@ -97,56 +95,34 @@ fn make_publish_subscribe(
     }
 }
 
-/// Fills the first struct with the description of a publish-subscribe service, where there are
-/// settings.
-fn fill_publish_subscribe(
-    name: Result<ServiceName, Status>,
-    settings: &[PublishSubscribeSettings],
-    id: Id,
-    out: &mut [ServiceDescription],
-) -> FieldAnswer
-    ensures { FillsPublishSubscribe settings.now name id out.old result out.new }
-{
-    match settings {
-        [] => no_field(Status::Null),
-        [settings, ..] => fill(
-            make_publish_subscribe(name, settings, id.of_service()),
-            id,
-            out,
-        ),
-    }
-}
-
-/// Describes a publish-subscribe service that has a user's name.
+/// Describes a publish-subscribe service. Its name may be one of the system's own where `internal`
+/// is true, and is one that a user gives where it is false.
 ///
-/// Errors, in this order: NULL (`Null`); a name that is no UTF-8 (`NotUtf8`); one that
-/// `iox2sd_service_name_check` refuses (`BadServiceName`); settings that
-/// `iox2sd_publish_subscribe_settings_check_at` refuses, with the same cause and field; and a hash
-/// text that cannot be the name of a file (`IllegalHash`). Then the struct is as it was.
+/// Refused are, in this order, NULL (`Null`); a name that is not UTF-8 (`NotUtf8`); one that
+/// `iox2sd_service_name_check`, or `iox2sd_internal_service_name_check` where `internal` is true,
+/// refuses (`BadServiceName`); settings that `iox2sd_publish_subscribe_settings_check_at` refuses,
+/// for the same cause and field; and a hash text that cannot be the name of a file
+/// (`IllegalHash`). Then the place is as it was.
 #[unsafe(no_mangle)]
 pub extern "C" fn iox2sd_describe_publish_subscribe_at(
     settings: &[PublishSubscribeSettings],
     name: &[u8],
+    internal: bool,
     id: Id,
     out: &mut [ServiceDescription],
 ) -> FieldAnswer
-    ensures { WithUserName (FillsPublishSubscribe settings.now) name.now id out.old result out.new }
-{
-    fill_publish_subscribe(service_name(name), settings, id, out)
-}
-
-/// As `iox2sd_describe_publish_subscribe_at`, for a name that may be one of the system's own.
-#[unsafe(no_mangle)]
-pub extern "C" fn iox2sd_describe_internal_publish_subscribe_at(
-    settings: &[PublishSubscribeSettings],
-    name: &[u8],
-    id: Id,
-    out: &mut [ServiceDescription],
-) -> FieldAnswer
-    ensures { WithInternalName (FillsPublishSubscribe settings.now) name.now id
+    ensures { FillsNamed MakesPublishSubscribe settings.now internal name.now id
         out.old result out.new }
 {
-    fill_publish_subscribe(internal_service_name(name), settings, id, out)
+    let [settings, ..] = settings else {
+        return no_field(Status::Null);
+    };
+    let name = any_service_name(name, internal);
+    fill(
+        make_publish_subscribe(name, settings, id.of_service()),
+        id,
+        out,
+    )
 }
 
 /// The description of an event service.
@@ -167,46 +143,23 @@ fn make_event(
     }
 }
 
-/// Fills the first struct with the description of an event service, where there are settings.
-fn fill_event(
-    name: Result<ServiceName, Status>,
-    settings: &[EventSettings],
-    id: Id,
-    out: &mut [ServiceDescription],
-) -> FieldAnswer
-    ensures { FillsEvent settings.now name id out.old result out.new }
-{
-    match settings {
-        [] => no_field(Status::Null),
-        [settings, ..] => fill(make_event(name, settings, id.of_service()), id, out),
-    }
-}
-
-/// Describes an event service that has a user's name.
-/// Refused as that of a publish-subscribe service is.
+/// Describes an event service. Names are read, and calls refused, as of a publish-subscribe
+/// service.
 #[unsafe(no_mangle)]
 pub extern "C" fn iox2sd_describe_event_at(
     settings: &[EventSettings],
     name: &[u8],
+    internal: bool,
     id: Id,
     out: &mut [ServiceDescription],
 ) -> FieldAnswer
-    ensures { WithUserName (FillsEvent settings.now) name.now id out.old result out.new }
+    ensures { FillsNamed MakesEvent settings.now internal name.now id out.old result out.new }
 {
-    fill_event(service_name(name), settings, id, out)
-}
-
-/// As `iox2sd_describe_event_at`, for a name that may be one of the system's own.
-#[unsafe(no_mangle)]
-pub extern "C" fn iox2sd_describe_internal_event_at(
-    settings: &[EventSettings],
-    name: &[u8],
-    id: Id,
-    out: &mut [ServiceDescription],
-) -> FieldAnswer
-    ensures { WithInternalName (FillsEvent settings.now) name.now id out.old result out.new }
-{
-    fill_event(internal_service_name(name), settings, id, out)
+    let [settings, ..] = settings else {
+        return no_field(Status::Null);
+    };
+    let name = any_service_name(name, internal);
+    fill(make_event(name, settings, id.of_service()), id, out)
 }
 
 /// The description of a request-response service.
@@ -227,52 +180,28 @@ fn make_request_response(
     }
 }
 
-/// Fills the first struct with the description of a request-response service, where there are
-/// settings.
-fn fill_request_response(
-    name: Result<ServiceName, Status>,
-    settings: &[RequestResponseSettings],
-    id: Id,
-    out: &mut [ServiceDescription],
-) -> FieldAnswer
-    ensures { FillsRequestResponse settings.now name id out.old result out.new }
-{
-    match settings {
-        [] => no_field(Status::Null),
-        [settings, ..] => fill(
-            make_request_response(name, settings, id.of_service()),
-            id,
-            out,
-        ),
-    }
-}
-
-/// Describes a request-response service that has a user's name.
-/// Refused as that of a publish-subscribe service is.
+/// Describes a request-response service. Names are read, and calls refused, as of a
+/// publish-subscribe service.
 #[unsafe(no_mangle)]
 pub extern "C" fn iox2sd_describe_request_response_at(
     settings: &[RequestResponseSettings],
     name: &[u8],
+    internal: bool,
     id: Id,
     out: &mut [ServiceDescription],
 ) -> FieldAnswer
-    ensures { WithUserName (FillsRequestResponse settings.now) name.now id out.old result out.new }
-{
-    fill_request_response(service_name(name), settings, id, out)
-}
-
-/// As `iox2sd_describe_request_response_at`, for a name that may be one of the system's own.
-#[unsafe(no_mangle)]
-pub extern "C" fn iox2sd_describe_internal_request_response_at(
-    settings: &[RequestResponseSettings],
-    name: &[u8],
-    id: Id,
-    out: &mut [ServiceDescription],
-) -> FieldAnswer
-    ensures { WithInternalName (FillsRequestResponse settings.now) name.now id
+    ensures { FillsNamed MakesRequestResponse settings.now internal name.now id
         out.old result out.new }
 {
-    fill_request_response(internal_service_name(name), settings, id, out)
+    let [settings, ..] = settings else {
+        return no_field(Status::Null);
+    };
+    let name = any_service_name(name, internal);
+    fill(
+        make_request_response(name, settings, id.of_service()),
+        id,
+        out,
+    )
 }
 
 /// The description of a blackboard service.
@@ -293,45 +222,21 @@ fn make_blackboard(
     }
 }
 
-/// Fills the first struct with the description of a blackboard service, where there are settings.
-fn fill_blackboard(
-    name: Result<ServiceName, Status>,
-    settings: &[BlackboardSettings],
-    id: Id,
-    out: &mut [ServiceDescription],
-) -> FieldAnswer
-    ensures { FillsBlackboard settings.now name id out.old result out.new }
-{
-    match settings {
-        [] => no_field(Status::Null),
-        [settings, ..] => fill(make_blackboard(name, settings, id.of_service()), id, out),
-    }
-}
-
-/// Describes a blackboard service that has a user's name.
-/// Refused as that of a publish-subscribe service is, but for its
-/// settings, which are always valid.
+/// Describes a blackboard service. Names are read, and calls refused, as of a publish-subscribe
+/// service, but for the settings, which are always valid.
 #[unsafe(no_mangle)]
 pub extern "C" fn iox2sd_describe_blackboard_at(
     settings: &[BlackboardSettings],
     name: &[u8],
+    internal: bool,
     id: Id,
     out: &mut [ServiceDescription],
 ) -> FieldAnswer
-    ensures { WithUserName (FillsBlackboard settings.now) name.now id out.old result out.new }
+    ensures { FillsNamed MakesBlackboard settings.now internal name.now id out.old result out.new }
 {
-    fill_blackboard(service_name(name), settings, id, out)
-}
-
-/// As `iox2sd_describe_blackboard_at`, for a name that may be one of the system's own.
-#[unsafe(no_mangle)]
-pub extern "C" fn iox2sd_describe_internal_blackboard_at(
-    settings: &[BlackboardSettings],
-    name: &[u8],
-    id: Id,
-    out: &mut [ServiceDescription],
-) -> FieldAnswer
-    ensures { WithInternalName (FillsBlackboard settings.now) name.now id out.old result out.new }
-{
-    fill_blackboard(internal_service_name(name), settings, id, out)
+    let [settings, ..] = settings else {
+        return no_field(Status::Null);
+    };
+    let name = any_service_name(name, internal);
+    fill(make_blackboard(name, settings, id.of_service()), id, out)
 }

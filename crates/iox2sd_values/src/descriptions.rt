@@ -2,7 +2,7 @@
 ghost use Rattle.std.specs.Prelude.{◌≡◌};
 ghost use Rattle.iox2_config.specs.Hashing.{pattern_number};
 ghost use Rattle.iox2sd_values.specs.Descriptions.{number_of, told_description};
-ghost use Rattle.iox2sd_values.specs.Descriptions.{ComparesPatterns, ComparesDescriptions};
+ghost use Rattle.iox2sd_values.specs.Descriptions.{ComparesPatterns};
 ghost use Rattle.iox2sd_values.specs.Descriptions.{publish_subscribe_config, event_config};
 ghost use Rattle.iox2sd_values.specs.Descriptions.{request_response_config, blackboard_config};
 
@@ -39,7 +39,7 @@ impl Id {
 
 /// What is fixed of a publish-subscribe service, beside the types of its messages.
 #[repr(C)]
-#[derive(Clone, Copy)]
+#[derive(Clone, Copy, Default)]
 pub struct PublishSubscribeConfig {
     /// How many subscribers may be attached at once.
     pub max_subscribers: usize,
@@ -59,7 +59,7 @@ pub struct PublishSubscribeConfig {
 
 /// What is fixed of an event service.
 #[repr(C)]
-#[derive(Clone, Copy)]
+#[derive(Clone, Copy, Default)]
 pub struct EventConfig {
     /// How many notifiers may be attached at once.
     pub max_notifiers: usize,
@@ -81,7 +81,7 @@ pub struct EventConfig {
 
 /// What is fixed of a request-response service, beside the types of its messages.
 #[repr(C)]
-#[derive(Clone, Copy)]
+#[derive(Clone, Copy, Default)]
 pub struct RequestResponseConfig {
     /// How many requests of one client may be open at each server at once.
     pub max_active_requests_per_client: usize,
@@ -107,7 +107,7 @@ pub struct RequestResponseConfig {
 
 /// What is fixed of a blackboard service, beside the type of its keys.
 #[repr(C)]
-#[derive(Clone, Copy)]
+#[derive(Clone, Copy, Default)]
 pub struct BlackboardConfig {
     /// How many readers may be attached at once.
     pub max_readers: usize,
@@ -165,15 +165,7 @@ fn publish_subscribe_config(pattern: &MessagingPattern) -> PublishSubscribeConfi
             subscriber_max_borrowed_samples: config.subscriber_max_borrowed_samples,
             enable_safe_overflow: config.enable_safe_overflow,
         },
-        _ => PublishSubscribeConfig {
-            max_subscribers: 0,
-            max_publishers: 0,
-            max_nodes: 0,
-            history_size: 0,
-            subscriber_max_buffer_size: 0,
-            subscriber_max_borrowed_samples: 0,
-            enable_safe_overflow: false,
-        },
+        _ => PublishSubscribeConfig::default(),
     }
 }
 
@@ -192,16 +184,7 @@ fn event_config(pattern: &MessagingPattern) -> EventConfig
             notifier_dropped_event: event_id_of(config.notifier_dropped_event),
             notifier_dead_event: event_id_of(config.notifier_dead_event),
         },
-        _ => EventConfig {
-            max_notifiers: 0,
-            max_listeners: 0,
-            max_nodes: 0,
-            event_id_max_value: 0,
-            deadline: duration_of(None),
-            notifier_created_event: event_id_of(None),
-            notifier_dropped_event: event_id_of(None),
-            notifier_dead_event: event_id_of(None),
-        },
+        _ => EventConfig::default(),
     }
 }
 
@@ -222,18 +205,7 @@ fn request_response_config(pattern: &MessagingPattern) -> RequestResponseConfig
             enable_safe_overflow_for_responses: config.enable_safe_overflow_for_responses,
             enable_fire_and_forget_requests: config.enable_fire_and_forget_requests,
         },
-        _ => RequestResponseConfig {
-            max_active_requests_per_client: 0,
-            max_loaned_requests: 0,
-            max_response_buffer_size: 0,
-            max_servers: 0,
-            max_clients: 0,
-            max_nodes: 0,
-            max_borrowed_responses_per_pending_response: 0,
-            enable_safe_overflow_for_requests: false,
-            enable_safe_overflow_for_responses: false,
-            enable_fire_and_forget_requests: false,
-        },
+        _ => RequestResponseConfig::default(),
     }
 }
 
@@ -247,11 +219,7 @@ fn blackboard_config(pattern: &MessagingPattern) -> BlackboardConfig
             max_writers: config.max_writers,
             max_nodes: config.max_nodes,
         },
-        _ => BlackboardConfig {
-            max_readers: 0,
-            max_writers: 0,
-            max_nodes: 0,
-        },
+        _ => BlackboardConfig::default(),
     }
 }
 
@@ -276,29 +244,14 @@ pub(super) fn told_description(described: &StaticConfig, id: Id) -> ServiceDescr
     }
 }
 
-/// Whether two numbers are those of one pattern.
-fn compare_patterns(left: u32, right: u32) -> FlagAnswer
+/// Whether two numbers are those of one pattern. Refused is a number that is not that of a pattern
+/// (`UnknownPattern`).
+#[unsafe(no_mangle)]
+pub extern "C" fn iox2sd_has_same_messaging_pattern(left: u32, right: u32) -> FlagAnswer
     ensures { ComparesPatterns left right result }
 {
     match (PatternKind::of_number(left), PatternKind::of_number(right)) {
         (Some(left), Some(right)) => flag(Status::Done, left == right),
         _ => flag(Status::UnknownPattern, false),
-    }
-}
-
-/// Whether two services have one pattern, whatever is fixed beside it.
-///
-/// Refused are, in this order, NULL (`Null`), and a number that is not that of a pattern
-/// (`UnknownPattern`).
-#[unsafe(no_mangle)]
-pub extern "C" fn iox2sd_has_same_messaging_pattern_at(
-    left: &[ServiceDescription],
-    right: &[ServiceDescription],
-) -> FlagAnswer
-    ensures { ComparesDescriptions left.now right.now result }
-{
-    match (left, right) {
-        ([left, ..], [right, ..]) => compare_patterns(left.pattern, right.pattern),
-        _ => flag(Status::Null, false),
     }
 }

@@ -1,7 +1,7 @@
 //! What a caller says of the parts of a message.
 ghost use Rattle.std.specs.Prelude.{◌≡◌};
 ghost use Rattle.iox2sd_values.specs.Details.{ReadsVariant, ReadsPart, ReadsDetails, ShapesPart};
-ghost use Rattle.iox2sd_values.specs.Details.{ShapesDetails};
+ghost use Rattle.iox2sd_values.specs.Details.{ShapesDetails, ChecksPart};
 
 use super::status::Status;
 use iox2_config::types::{MessageTypeDetails, TypeDetail, TypeDetailError, TypeVariant};
@@ -84,6 +84,25 @@ fn read_part(part: &Part<'_>) -> Result<TypeDetail, Status>
             Err(Status::IllegalByte)
         }
         Err(TypeDetailError::AlignmentNotPowerOfTwo) => Err(Status::BadAlignment),
+    }
+}
+
+/// Whether the type of a part of a message is valid.
+///
+/// Refused are, in this order, NULL (`Null`), a number that is not that of a variant
+/// (`UnknownVariant`), a name that is not UTF-8 (`NotUtf8`), has more than 256 bytes (`TooLong`) or
+/// a byte that is not from 1 to 127 (`IllegalByte`), and an alignment that is not a power of two
+/// (`BadAlignment`).
+#[unsafe(no_mangle)]
+pub extern "C" fn iox2sd_type_detail_check_at(part: &[Part<'_>]) -> u32
+    ensures { ChecksPart part.now result }
+{
+    let [part, ..] = part else {
+        return Status::Null.code();
+    };
+    match read_part(part) {
+        Ok(_) => Status::Done.code(),
+        Err(status) => status.code(),
     }
 }
 

@@ -4,7 +4,6 @@
 pub mod answers;
 pub mod attributes;
 pub mod chunks;
-pub mod chunks_of;
 pub mod compatible;
 pub mod describe;
 pub mod descriptions;

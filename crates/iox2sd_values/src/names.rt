@@ -2,7 +2,7 @@
 ghost use Rattle.std.specs.Prelude.{◌≡◌, nat_eq};
 ghost use Rattle.std.specs.List.{starts_with};
 ghost use Rattle.iox2sd_values.specs.Names.{ReadsName, ReadsInternalName, Prefixes, TellsPrefixed};
-ghost use Rattle.iox2sd_values.specs.Names.{HashesName, HashesInternalName, MakesText};
+ghost use Rattle.iox2sd_values.specs.Names.{ReadsAnyName, HashesName, HashesInternalName, MakesText};
 ghost use Rattle.iox2sd_values.specs.Names.{TellsHash, TellsInternalHash};
 ghost use lib.Chars.{codes};
 
@@ -13,7 +13,7 @@ use iox2_texts::service_name::{INTERNAL_SERVICE_PREFIX, ServiceName, ServiceName
 use std::str;
 
 /// The name that a user gives.
-pub(super) fn service_name(text: &[u8]) -> Result<ServiceName, Status>
+fn service_name(text: &[u8]) -> Result<ServiceName, Status>
     ensures { ReadsName text.now result }
 {
     let Ok(text) = str::from_utf8(text) else {
@@ -26,7 +26,7 @@ pub(super) fn service_name(text: &[u8]) -> Result<ServiceName, Status>
 }
 
 /// The name, which may be one of the system's own.
-pub(super) fn internal_service_name(text: &[u8]) -> Result<ServiceName, Status>
+fn internal_service_name(text: &[u8]) -> Result<ServiceName, Status>
     ensures { ReadsInternalName text.now result }
 {
     let Ok(text) = str::from_utf8(text) else {
@@ -35,6 +35,17 @@ pub(super) fn internal_service_name(text: &[u8]) -> Result<ServiceName, Status>
     match ServiceName::internal_new(text) {
         Ok(name) => Ok(name),
         Err(_) => Err(Status::BadServiceName),
+    }
+}
+
+/// The name, which may be one of the system's own where `internal` says so.
+pub(super) fn any_service_name(text: &[u8], internal: bool) -> Result<ServiceName, Status>
+    ensures { ReadsAnyName internal text.now result }
+{
+    if internal {
+        internal_service_name(text)
+    } else {
+        service_name(text)
     }
 }
 

@@ -15,7 +15,7 @@ use std::time::Duration;
 
 /// A span of time, or none.
 #[repr(C)]
-#[derive(Clone, Copy)]
+#[derive(Clone, Copy, Default)]
 pub struct OptionalDuration {
     /// Whole seconds; 0 where there is none.
     pub seconds: u64,
@@ -37,7 +37,7 @@ pub struct PlainDuration {
 
 /// The number of an event, or none.
 #[repr(C)]
-#[derive(Clone, Copy)]
+#[derive(Clone, Copy, Default)]
 pub struct OptionalEventId {
     /// The number; 0 where there is none.
     pub number: usize,
@@ -193,11 +193,7 @@ pub(super) fn duration_of(duration: Option<Duration>) -> OptionalDuration
             nanoseconds: duration.subsec_nanos(),
             is_some: true,
         },
-        None => OptionalDuration {
-            seconds: 0,
-            nanoseconds: 0,
-            is_some: false,
-        },
+        None => OptionalDuration::default(),
     }
 }
 
@@ -210,10 +206,7 @@ pub(super) fn event_id_of(event: Option<usize>) -> OptionalEventId
             number,
             is_some: true,
         },
-        None => OptionalEventId {
-            number: 0,
-            is_some: false,
-        },
+        None => OptionalEventId::default(),
     }
 }
 

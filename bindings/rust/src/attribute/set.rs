@@ -2,10 +2,12 @@ use super::{Attribute, AttributeKey, AttributeValue};
 use crate::callback_progression::visit;
 use crate::display::error_by_path;
 use crate::library;
+use crate::limits;
 use crate::sys;
 use crate::CallbackProgression;
 use std::ops::Deref;
 use std::slice;
+use std::vec;
 
 /// Why an attribute or a key was not added.
 ///
@@ -51,7 +53,7 @@ error_by_path!(AttributeDefinitionError);
 /// );
 /// # Ok::<(), Box<dyn std::error::Error>>(())
 /// ```
-#[derive(Clone, Debug, Default, PartialEq, Eq, Hash)]
+#[derive(Clone, Debug, Default, PartialEq, Eq, PartialOrd, Ord, Hash)]
 pub struct AttributeSet {
     attributes: Vec<Attribute>,
 }
@@ -63,14 +65,19 @@ impl AttributeSet {
     /// use iox2sd::attribute::AttributeSet;
     /// assert!(AttributeSet::new().is_empty());
     /// ```
+    #[must_use]
     pub fn new() -> Self {
         Self::default()
     }
 
     /// Adds an attribute.
     ///
+    /// # Errors
+    ///
     /// Refused where there are [`AttributeSet::capacity`] already, and then the set stays as it
     /// was.
+    ///
+    /// # Examples
     ///
     /// ```
     /// use iox2sd::attribute::AttributeSet;
@@ -105,6 +112,7 @@ impl AttributeSet {
     /// assert_eq!(set.number_of_attributes(), 2);
     /// # Ok::<(), Box<dyn std::error::Error>>(())
     /// ```
+    #[must_use]
     pub fn number_of_attributes(&self) -> usize {
         self.attributes.len()
     }
@@ -115,11 +123,9 @@ impl AttributeSet {
     /// use iox2sd::attribute::AttributeSet;
     /// assert_eq!(AttributeSet::capacity(), 16);
     /// ```
-    pub fn capacity() -> usize {
-        library::attribute_capacity(Attribute::new(
-            &AttributeKey::of_legal("a"),
-            &AttributeValue::of_legal("a"),
-        ))
+    #[must_use]
+    pub const fn capacity() -> usize {
+        limits::ATTRIBUTES
     }
 
     /// How many values a key has.
@@ -134,6 +140,7 @@ impl AttributeSet {
     /// assert_eq!(set.number_of_key_values(&"robot".try_into()?), 0);
     /// # Ok::<(), Box<dyn std::error::Error>>(())
     /// ```
+    #[must_use]
     pub fn number_of_key_values(&self, key: &AttributeKey) -> usize {
         library::attribute_values(self, key).unwrap_or_else(|status| library::unexpected(status))
     }
@@ -216,6 +223,15 @@ impl Deref for AttributeSet {
 
     fn deref(&self) -> &[Attribute] {
         &self.attributes
+    }
+}
+
+impl IntoIterator for AttributeSet {
+    type Item = Attribute;
+    type IntoIter = vec::IntoIter<Attribute>;
+
+    fn into_iter(self) -> Self::IntoIter {
+        self.attributes.into_iter()
     }
 }
 

@@ -11,7 +11,7 @@ use super::{AttributeDefinitionError, AttributeKey, AttributeSet, AttributeValue
 /// assert_eq!(specifier.attributes()[0].key(), "robot");
 /// # Ok::<(), Box<dyn std::error::Error>>(())
 /// ```
-#[derive(Clone, Debug, Default)]
+#[derive(Clone, Debug, Default, PartialEq, Eq, Hash)]
 pub struct AttributeSpecifier {
     attributes: AttributeSet,
 }
@@ -23,13 +23,18 @@ impl AttributeSpecifier {
     /// use iox2sd::attribute::AttributeSpecifier;
     /// assert!(AttributeSpecifier::new().attributes().is_empty());
     /// ```
+    #[must_use]
     pub fn new() -> Self {
         Self::default()
     }
 
     /// Defines a value of a key too. A key may have several.
     ///
+    /// # Errors
+    ///
     /// Refused where there are [`AttributeSet::capacity`] already, and then the specifier is spent.
+    ///
+    /// # Examples
     ///
     /// ```
     /// use iox2sd::attribute::AttributeSpecifier;
@@ -59,6 +64,7 @@ impl AttributeSpecifier {
     /// assert_eq!(AttributeSpecifier::new().define(&site, &north)?.attributes(), &set);
     /// # Ok::<(), Box<dyn std::error::Error>>(())
     /// ```
+    #[must_use]
     pub fn attributes(&self) -> &AttributeSet {
         &self.attributes
     }

@@ -15,7 +15,7 @@ use std::fmt;
 /// assert_eq!(refused.to_string(), text);
 /// # Ok::<(), Box<dyn std::error::Error>>(())
 /// ```
-#[derive(Clone, Debug, PartialEq, Eq)]
+#[derive(Clone, Debug, PartialEq, Eq, Hash)]
 #[allow(clippy::large_enum_variant)] // Texts are copied by value, and none is boxed.
 pub enum AttributeVerificationError {
     /// No attribute has this key, the first of the required keys that lacks one. This is reported
@@ -50,7 +50,7 @@ impl Error for AttributeVerificationError {}
 /// let service = AttributeSet::new();
 /// assert_eq!(AttributeVerifier::new().verify_requirements(&service), Ok(()));
 /// ```
-#[derive(Clone, Debug, Default)]
+#[derive(Clone, Debug, Default, PartialEq, Eq, Hash)]
 pub struct AttributeVerifier {
     attributes: AttributeSet,
     keys: Vec<AttributeKey>,
@@ -65,14 +65,19 @@ impl AttributeVerifier {
     /// let verifier = AttributeVerifier::new();
     /// assert!(verifier.required_attributes().is_empty() && verifier.required_keys().is_empty());
     /// ```
+    #[must_use]
     pub fn new() -> Self {
         Self::default()
     }
 
     /// Requires a pair too. A key may be required with several values.
     ///
+    /// # Errors
+    ///
     /// Refused where pairs and keys are [`AttributeSet::capacity`] together, and then the verifier
     /// is spent.
+    ///
+    /// # Examples
     ///
     /// ```
     /// use iox2sd::attribute::{AttributeDefinitionError, AttributeSet, AttributeVerifier};
@@ -99,8 +104,12 @@ impl AttributeVerifier {
 
     /// Requires a key too, with any value.
     ///
+    /// # Errors
+    ///
     /// Refused where pairs and keys are [`AttributeSet::capacity`] together, and then the verifier
     /// is spent.
+    ///
+    /// # Examples
     ///
     /// ```
     /// use iox2sd::attribute::AttributeVerifier;
@@ -134,6 +143,7 @@ impl AttributeVerifier {
     /// assert_eq!(verifier.required_attributes()[0].value(), "north");
     /// # Ok::<(), Box<dyn std::error::Error>>(())
     /// ```
+    #[must_use]
     pub fn required_attributes(&self) -> &AttributeSet {
         &self.attributes
     }
@@ -149,6 +159,7 @@ impl AttributeVerifier {
     /// assert_eq!(verifier.required_keys(), ["site", "robot"]);
     /// # Ok::<(), Box<dyn std::error::Error>>(())
     /// ```
+    #[must_use]
     pub fn required_keys(&self) -> &[AttributeKey] {
         &self.keys
     }
@@ -156,8 +167,12 @@ impl AttributeVerifier {
     /// Whether the attributes have each required pair, and for each required key some pair with
     /// it. A pair that is required twice is met by one.
     ///
+    /// # Errors
+    ///
     /// Refused with the least required pair that is missing, or else with the first required key
     /// that no pair has.
+    ///
+    /// # Examples
     ///
     /// ```
     /// use iox2sd::attribute::{AttributeSpecifier, AttributeVerificationError, AttributeVerifier};

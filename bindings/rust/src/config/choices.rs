@@ -103,6 +103,7 @@ impl EventId {
     /// use iox2sd::config::EventId;
     /// assert_eq!(EventId::new(9).to_string(), "9");
     /// ```
+    #[must_use]
     pub fn new(value: usize) -> Self {
         EventId { value }
     }
@@ -113,6 +114,7 @@ impl EventId {
     /// use iox2sd::config::EventId;
     /// assert_eq!(EventId::new(usize::MAX).as_value(), usize::MAX);
     /// ```
+    #[must_use]
     pub fn as_value(&self) -> usize {
         self.value
     }

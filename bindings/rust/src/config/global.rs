@@ -3,6 +3,7 @@ use crate::library;
 use crate::paths::{FileName, Path};
 use crate::semantic_string::SemanticStringError;
 use crate::sys;
+use std::sync::OnceLock;
 use std::time::Duration;
 
 /// The settings that all services and nodes of one system share.
@@ -17,7 +18,7 @@ use std::time::Duration;
 /// assert_ne!(global, Global::default());
 /// # Ok::<(), iox2sd::semantic_string::SemanticStringError>(())
 /// ```
-#[derive(Clone, Debug, PartialEq, Eq)]
+#[derive(Clone, Debug, PartialEq, Eq, Hash)]
 pub struct Global {
     root_path: Path,
     /// What the name of each file begins with.
@@ -31,16 +32,60 @@ pub struct Global {
     pub creation_timeout: Duration,
 }
 
-impl Default for Global {
-    fn default() -> Self {
-        let timeout = library::global_defaults().creation_timeout;
+/// The defaults, for which the library is asked once.
+fn defaults() -> &'static Global {
+    static DEFAULTS: OnceLock<Global> = OnceLock::new();
+    DEFAULTS.get_or_init(|| {
+        let settings = library::global_defaults();
+        let timeout = settings.creation_timeout;
         Global {
             root_path: default_text(sys::IOX2SD_ROOT_PATH),
             prefix: default_text(sys::IOX2SD_PREFIX),
-            service: Service::default(),
-            node: Node::default(),
+            service: Service {
+                directory: default_text(sys::IOX2SD_SERVICE_DIRECTORY),
+                data_segment_suffix: default_text(sys::IOX2SD_DATA_SEGMENT_SUFFIX),
+                static_config_storage_suffix: default_text(
+                    sys::IOX2SD_STATIC_CONFIG_STORAGE_SUFFIX,
+                ),
+                dynamic_config_storage_suffix: default_text(
+                    sys::IOX2SD_DYNAMIC_CONFIG_STORAGE_SUFFIX,
+                ),
+                connection_suffix: default_text(sys::IOX2SD_CONNECTION_SUFFIX),
+                event_connection_suffix: default_text(sys::IOX2SD_EVENT_CONNECTION_SUFFIX),
+                blackboard_mgmt_suffix: default_text(sys::IOX2SD_BLACKBOARD_MGMT_SUFFIX),
+                blackboard_data_suffix: default_text(sys::IOX2SD_BLACKBOARD_DATA_SUFFIX),
+                cleanup_dead_nodes_on_open: settings.cleanup_dead_nodes_on_open,
+            },
+            node: Node {
+                directory: default_text(sys::IOX2SD_NODE_DIRECTORY),
+                monitor_suffix: default_text(sys::IOX2SD_MONITOR_SUFFIX),
+                static_config_suffix: default_text(sys::IOX2SD_NODE_STATIC_CONFIG_SUFFIX),
+                service_tag_suffix: default_text(sys::IOX2SD_SERVICE_TAG_SUFFIX),
+                port_tag_suffix: default_text(sys::IOX2SD_PORT_TAG_SUFFIX),
+                global_mgmt_suffix: default_text(sys::IOX2SD_GLOBAL_MGMT_SUFFIX),
+                cleanup_dead_nodes_on_creation: settings.cleanup_dead_nodes_on_creation,
+                cleanup_dead_nodes_on_destruction: settings.cleanup_dead_nodes_on_destruction,
+            },
             creation_timeout: Duration::new(timeout.seconds, timeout.nanoseconds),
         }
+    })
+}
+
+impl Default for Global {
+    fn default() -> Self {
+        defaults().clone()
+    }
+}
+
+impl Default for Service {
+    fn default() -> Self {
+        defaults().service.clone()
+    }
+}
+
+impl Default for Node {
+    fn default() -> Self {
+        defaults().node.clone()
     }
 }
 
@@ -51,6 +96,7 @@ impl Global {
     /// use iox2sd::config::Global;
     /// assert_eq!(Global::default().root_path(), "/tmp/iceoryx2/");
     /// ```
+    #[must_use]
     pub fn root_path(&self) -> &Path {
         &self.root_path
     }
@@ -72,8 +118,12 @@ impl Global {
     /// The directory of services: the root path and `service.directory`, joined as by
     /// [`Path::add_path_entry`].
     ///
+    /// # Errors
+    ///
     /// Refused with [`ExceedsMaximumLength`](SemanticStringError::ExceedsMaximumLength) where it
     /// would be longer than a path may be.
+    ///
+    /// # Examples
     ///
     /// ```
     /// use iox2sd::config::Config;
@@ -88,8 +138,13 @@ impl Global {
         self.below_root(&self.service.directory)
     }
 
-    /// The directory of nodes: the root path and `node.directory`, joined and refused in the same
-    /// way.
+    /// The directory of nodes: the root path and `node.directory`, joined in the same way.
+    ///
+    /// # Errors
+    ///
+    /// Refused as [`service_dir`](Self::service_dir) is.
+    ///
+    /// # Examples
     ///
     /// ```
     /// use iox2sd::config::Config;
@@ -117,7 +172,7 @@ impl Global {
 /// assert_eq!(files.static_config_storage_suffix, ".service");
 /// assert!(files.cleanup_dead_nodes_on_open);
 /// ```
-#[derive(Clone, Debug, PartialEq, Eq)]
+#[derive(Clone, Debug, PartialEq, Eq, Hash)]
 pub struct Service {
     /// The directory of services, below the root path.
     pub directory: Path,
@@ -139,22 +194,6 @@ pub struct Service {
     pub cleanup_dead_nodes_on_open: bool,
 }
 
-impl Default for Service {
-    fn default() -> Self {
-        Service {
-            directory: default_text(sys::IOX2SD_SERVICE_DIRECTORY),
-            data_segment_suffix: default_text(sys::IOX2SD_DATA_SEGMENT_SUFFIX),
-            static_config_storage_suffix: default_text(sys::IOX2SD_STATIC_CONFIG_STORAGE_SUFFIX),
-            dynamic_config_storage_suffix: default_text(sys::IOX2SD_DYNAMIC_CONFIG_STORAGE_SUFFIX),
-            connection_suffix: default_text(sys::IOX2SD_CONNECTION_SUFFIX),
-            event_connection_suffix: default_text(sys::IOX2SD_EVENT_CONNECTION_SUFFIX),
-            blackboard_mgmt_suffix: default_text(sys::IOX2SD_BLACKBOARD_MGMT_SUFFIX),
-            blackboard_data_suffix: default_text(sys::IOX2SD_BLACKBOARD_DATA_SUFFIX),
-            cleanup_dead_nodes_on_open: library::global_defaults().cleanup_dead_nodes_on_open,
-        }
-    }
-}
-
 /// Where the files of nodes lie, and how their names end.
 ///
 /// ```
@@ -165,7 +204,7 @@ impl Default for Service {
 /// assert_eq!(files.static_config_suffix, ".details");
 /// assert!(files.cleanup_dead_nodes_on_creation && files.cleanup_dead_nodes_on_destruction);
 /// ```
-#[derive(Clone, Debug, PartialEq, Eq)]
+#[derive(Clone, Debug, PartialEq, Eq, Hash)]
 pub struct Node {
     /// The directory of nodes, below the root path.
     pub directory: Path,
@@ -183,20 +222,4 @@ pub struct Node {
     pub cleanup_dead_nodes_on_creation: bool,
     /// Whether a node that goes removes what dead nodes left; so by default.
     pub cleanup_dead_nodes_on_destruction: bool,
-}
-
-impl Default for Node {
-    fn default() -> Self {
-        let settings = library::global_defaults();
-        Node {
-            directory: default_text(sys::IOX2SD_NODE_DIRECTORY),
-            monitor_suffix: default_text(sys::IOX2SD_MONITOR_SUFFIX),
-            static_config_suffix: default_text(sys::IOX2SD_NODE_STATIC_CONFIG_SUFFIX),
-            service_tag_suffix: default_text(sys::IOX2SD_SERVICE_TAG_SUFFIX),
-            port_tag_suffix: default_text(sys::IOX2SD_PORT_TAG_SUFFIX),
-            global_mgmt_suffix: default_text(sys::IOX2SD_GLOBAL_MGMT_SUFFIX),
-            cleanup_dead_nodes_on_creation: settings.cleanup_dead_nodes_on_creation,
-            cleanup_dead_nodes_on_destruction: settings.cleanup_dead_nodes_on_destruction,
-        }
-    }
 }

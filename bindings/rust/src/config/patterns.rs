@@ -11,7 +11,7 @@ use std::time::Duration;
 /// let settings = PublishSubscribe { max_publishers: 5, ..Default::default() };
 /// assert_eq!((settings.max_publishers, settings.max_nodes), (5, 20));
 /// ```
-#[derive(Clone, Debug, PartialEq, Eq)]
+#[derive(Clone, Debug, PartialEq, Eq, Hash)]
 pub struct PublishSubscribe {
     /// How many subscribers may be attached at once.
     pub max_subscribers: usize,
@@ -66,7 +66,7 @@ impl Default for PublishSubscribe {
 /// let settings = Event { notifier_dead_event: Some(1), ..Default::default() };
 /// assert_eq!((settings.event_id_max_value, settings.deadline), (255, None));
 /// ```
-#[derive(Clone, Debug, PartialEq, Eq)]
+#[derive(Clone, Debug, PartialEq, Eq, Hash)]
 pub struct Event {
     /// How many listeners may be attached at once.
     pub max_listeners: usize,
@@ -115,7 +115,7 @@ impl Default for Event {
 /// let settings = RequestResonse { max_servers: 1, ..Default::default() };
 /// assert_eq!((settings.max_servers, settings.max_clients), (1, 8));
 /// ```
-#[derive(Clone, Debug, PartialEq, Eq)]
+#[derive(Clone, Debug, PartialEq, Eq, Hash)]
 pub struct RequestResonse {
     /// Whether a new request takes the oldest one's place where a server's buffer is full.
     pub enable_safe_overflow_for_requests: bool,
@@ -192,7 +192,7 @@ impl Default for RequestResonse {
 /// let settings = Blackboard { max_readers: 3, ..Default::default() };
 /// assert_eq!((settings.max_readers, settings.max_nodes), (3, 20));
 /// ```
-#[derive(Clone, Debug, PartialEq, Eq)]
+#[derive(Clone, Debug, PartialEq, Eq, Hash)]
 pub struct Blackboard {
     /// How many readers may be attached at once.
     pub max_readers: usize,

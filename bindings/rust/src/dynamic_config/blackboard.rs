@@ -13,9 +13,12 @@
 //! ```
 
 use super::listing::{self, ports_of_pattern};
-use super::{ReaderDetails, WriterDetails};
+pub use super::{ReaderDetails, WriterDetails};
+
 use crate::callback_progression::visit;
+use crate::config::Config;
 use crate::library::Service;
+use crate::static_config::blackboard::StaticConfig;
 use crate::CallbackProgression;
 use std::fmt;
 use std::vec;
@@ -40,6 +43,23 @@ pub struct DynamicConfigSettings {
     pub number_of_readers: usize,
     /// How many writers there may be at a time.
     pub number_of_writers: usize,
+}
+
+/// As many as a blackboard service has by default.
+impl Default for DynamicConfigSettings {
+    fn default() -> Self {
+        Self::from(&StaticConfig::new(&Config::default()))
+    }
+}
+
+/// As many as a blackboard service is described to have.
+impl From<&StaticConfig> for DynamicConfigSettings {
+    fn from(service: &StaticConfig) -> Self {
+        DynamicConfigSettings {
+            number_of_readers: service.max_readers,
+            number_of_writers: service.max_writers,
+        }
+    }
 }
 
 ports_of_pattern! {

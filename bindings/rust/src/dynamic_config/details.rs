@@ -329,6 +329,7 @@ impl PortDetails {
     /// let port = PortDetails::Reader(ReaderDetails { reader_id, node_id });
     /// assert_eq!(port.role(), Role::Reader);
     /// ```
+    #[must_use]
     pub fn role(&self) -> Role {
         match self {
             PortDetails::Publisher(_) => Role::Publisher,
@@ -353,6 +354,7 @@ impl PortDetails {
     /// let port = PortDetails::Reader(ReaderDetails { reader_id, node_id });
     /// assert_eq!(port.node_id(), node_id);
     /// ```
+    #[must_use]
     pub fn node_id(&self) -> UniqueNodeId {
         UniqueNodeId::of(self.parts().node)
     }
@@ -368,6 +370,7 @@ impl PortDetails {
     /// let port = PortDetails::Reader(ReaderDetails { reader_id, node_id });
     /// assert_eq!(port.port_id(), UniquePortId::Reader(reader_id));
     /// ```
+    #[must_use]
     pub fn port_id(&self) -> UniquePortId {
         match self {
             PortDetails::Publisher(details) => UniquePortId::Publisher(details.publisher_id),

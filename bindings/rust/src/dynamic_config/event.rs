@@ -13,9 +13,12 @@
 //! ```
 
 use super::listing::{self, ports_of_pattern};
-use super::{ListenerDetails, NotifierDetails};
+pub use super::{ListenerDetails, NotifierDetails};
+
 use crate::callback_progression::visit;
+use crate::config::Config;
 use crate::library::Service;
+use crate::static_config::event::StaticConfig;
 use crate::CallbackProgression;
 use std::fmt;
 use std::vec;
@@ -40,6 +43,23 @@ pub struct DynamicConfigSettings {
     pub number_of_listeners: usize,
     /// How many notifiers there may be at a time.
     pub number_of_notifiers: usize,
+}
+
+/// As many as an event service has by default.
+impl Default for DynamicConfigSettings {
+    fn default() -> Self {
+        Self::from(&StaticConfig::new(&Config::default()))
+    }
+}
+
+/// As many as an event service is described to have.
+impl From<&StaticConfig> for DynamicConfigSettings {
+    fn from(service: &StaticConfig) -> Self {
+        DynamicConfigSettings {
+            number_of_listeners: service.max_listeners,
+            number_of_notifiers: service.max_notifiers,
+        }
+    }
 }
 
 ports_of_pattern! {

@@ -13,9 +13,12 @@
 //! ```
 
 use super::listing::{self, ports_of_pattern};
-use super::{PublisherDetails, SubscriberDetails};
+pub use super::{PublisherDetails, SubscriberDetails};
+
 use crate::callback_progression::visit;
+use crate::config::Config;
 use crate::library::Service;
+use crate::static_config::publish_subscribe::StaticConfig;
 use crate::CallbackProgression;
 use std::fmt;
 use std::vec;
@@ -40,6 +43,23 @@ pub struct DynamicConfigSettings {
     pub number_of_publishers: usize,
     /// How many subscribers there may be at a time.
     pub number_of_subscribers: usize,
+}
+
+/// As many as a publish-subscribe service has by default.
+impl Default for DynamicConfigSettings {
+    fn default() -> Self {
+        Self::from(&StaticConfig::new(&Config::default()))
+    }
+}
+
+/// As many as a publish-subscribe service is described to have.
+impl From<&StaticConfig> for DynamicConfigSettings {
+    fn from(service: &StaticConfig) -> Self {
+        DynamicConfigSettings {
+            number_of_publishers: service.max_publishers,
+            number_of_subscribers: service.max_subscribers,
+        }
+    }
 }
 
 ports_of_pattern! {

@@ -13,9 +13,12 @@
 //! ```
 
 use super::listing::{self, ports_of_pattern};
-use super::{ClientDetails, ServerDetails};
+pub use super::{ClientDetails, ServerDetails};
+
 use crate::callback_progression::visit;
+use crate::config::Config;
 use crate::library::Service;
+use crate::static_config::request_response::StaticConfig;
 use crate::CallbackProgression;
 use std::fmt;
 use std::vec;
@@ -40,6 +43,23 @@ pub struct DynamicConfigSettings {
     pub number_of_servers: usize,
     /// How many clients there may be at a time.
     pub number_of_clients: usize,
+}
+
+/// As many as a request-response service has by default.
+impl Default for DynamicConfigSettings {
+    fn default() -> Self {
+        Self::from(&StaticConfig::new(&Config::default()))
+    }
+}
+
+/// As many as a request-response service is described to have.
+impl From<&StaticConfig> for DynamicConfigSettings {
+    fn from(service: &StaticConfig) -> Self {
+        DynamicConfigSettings {
+            number_of_servers: service.max_servers,
+            number_of_clients: service.max_clients,
+        }
+    }
 }
 
 ports_of_pattern! {

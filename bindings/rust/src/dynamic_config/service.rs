@@ -7,6 +7,7 @@ use crate::container::{ContainerHandle, ContainerRemoveError, Role};
 use crate::identifiers::{UniqueNodeId, UniquePortId};
 use crate::library::{self, Service};
 use crate::messaging_pattern::MessagingPattern as Kind;
+use crate::static_config::messaging_pattern::MessagingPattern as Pattern;
 use crate::sys;
 use crate::CallbackProgression;
 use std::fmt;
@@ -45,6 +46,18 @@ macro_rules! settings_of {
             }
         )*
     };
+}
+
+/// The room that a service of the pattern is described to have.
+impl From<&Pattern> for MessagingPatternSettings {
+    fn from(pattern: &Pattern) -> Self {
+        match pattern {
+            Pattern::RequestResponse(service) => Self::RequestResponse(service.into()),
+            Pattern::PublishSubscribe(service) => Self::PublishSubscribe(service.into()),
+            Pattern::Event(service) => Self::Event(service.into()),
+            Pattern::Blackboard(service) => Self::Blackboard(service.into()),
+        }
+    }
 }
 
 settings_of! {
@@ -121,8 +134,12 @@ pub struct DynamicConfig {
 impl DynamicConfig {
     /// A service with this number and nothing attached, with all the tickets that there are.
     ///
+    /// # Errors
+    ///
     /// Refused where there is no memory for so many nodes and ports; no later call takes memory of
     /// the library.
+    ///
+    /// # Examples
     ///
     /// ```
     /// use iox2sd::dynamic_config::{blackboard, AllocError, DynamicConfig};
@@ -148,7 +165,11 @@ impl DynamicConfig {
     /// A service with this number and nothing attached, and with so many tickets for nodes and for
     /// each kind of ports: each registering and each attaching takes one, and none comes back.
     ///
+    /// # Errors
+    ///
     /// Refused as [`DynamicConfig::new`] is.
+    ///
+    /// # Examples
     ///
     /// ```
     /// use iox2sd::dynamic_config::{event, DynamicConfig, MessagingPatternSettings};
@@ -217,8 +238,12 @@ impl DynamicConfig {
 
     /// Registers a node, which may have several handles.
     ///
+    /// # Errors
+    ///
     /// Refused where the service is locked, and else where there are
     /// [`max_nodes`](Self::max_nodes) handles of nodes or no ticket is left.
+    ///
+    /// # Examples
     ///
     /// ```
     /// use iox2sd::dynamic_config::{
@@ -253,8 +278,12 @@ impl DynamicConfig {
     /// Takes out the node with this handle. Where it was the last one, the service is locked for
     /// good.
     ///
+    /// # Errors
+    ///
     /// Refused for each handle that is not that of a node here, and else where it is the only one
     /// of its node and some port has that node.
+    ///
+    /// # Examples
     ///
     /// ```
     /// use iox2sd::dynamic_config::{
@@ -288,9 +317,13 @@ impl DynamicConfig {
 
     /// Attaches a port.
     ///
+    /// # Errors
+    ///
     /// Refused where the pattern has no such ports, else where the service is locked, else where
     /// the port's node is not registered, by its whole id, and else where there is no place or no
     /// ticket for the port.
+    ///
+    /// # Examples
     ///
     /// ```
     /// use iox2sd::dynamic_config::{
@@ -327,7 +360,11 @@ impl DynamicConfig {
 
     /// Releases the port with this handle.
     ///
+    /// # Errors
+    ///
     /// Refused for each handle that is not that of a port here, a node's too.
+    ///
+    /// # Examples
     ///
     /// ```
     /// use iox2sd::container::ContainerRemoveError;
@@ -427,6 +464,7 @@ impl DynamicConfig {
     /// assert_eq!(service.kind(), MessagingPattern::Event);
     /// # Ok::<(), Box<dyn std::error::Error>>(())
     /// ```
+    #[must_use]
     pub fn kind(&self) -> Kind {
         match self.messaging_pattern {
             MessagingPattern::RequestResponse(_) => Kind::RequestResponse,
@@ -447,6 +485,7 @@ impl DynamicConfig {
     /// assert_eq!(service.service_number(), 7);
     /// # Ok::<(), Box<dyn std::error::Error>>(())
     /// ```
+    #[must_use]
     pub fn service_number(&self) -> u64 {
         self.service().number()
     }
@@ -464,6 +503,7 @@ impl DynamicConfig {
     /// assert_eq!(service.port_roles(), (Role::Listener, Role::Notifier));
     /// # Ok::<(), Box<dyn std::error::Error>>(())
     /// ```
+    #[must_use]
     pub fn port_roles(&self) -> (Role, Role) {
         let (first, second) = self.service().roles();
         (Role::of(first), Role::of(second))
@@ -483,6 +523,7 @@ impl DynamicConfig {
     /// assert!(!service.has_role(Role::Reader) && !service.has_role(Role::Node));
     /// # Ok::<(), Box<dyn std::error::Error>>(())
     /// ```
+    #[must_use]
     pub fn has_role(&self, role: Role) -> bool {
         self.service().has_role(role as u64)
     }
@@ -505,6 +546,7 @@ impl DynamicConfig {
     /// assert!(service.is_locked());
     /// # Ok::<(), Box<dyn std::error::Error>>(())
     /// ```
+    #[must_use]
     pub fn is_locked(&self) -> bool {
         self.service().is_locked()
     }
@@ -525,6 +567,7 @@ impl DynamicConfig {
     /// assert_eq!(service.number_of_nodes(), 2);
     /// # Ok::<(), Box<dyn std::error::Error>>(())
     /// ```
+    #[must_use]
     pub fn number_of_nodes(&self) -> usize {
         self.service().number_of_nodes()
     }
@@ -539,6 +582,7 @@ impl DynamicConfig {
     /// assert_eq!(DynamicConfig::new(&settings, 3, 7)?.max_nodes(), 3);
     /// # Ok::<(), Box<dyn std::error::Error>>(())
     /// ```
+    #[must_use]
     pub fn max_nodes(&self) -> usize {
         self.service().max_nodes()
     }
@@ -558,6 +602,7 @@ impl DynamicConfig {
     /// assert!(!service.has_room_for_node());
     /// # Ok::<(), Box<dyn std::error::Error>>(())
     /// ```
+    #[must_use]
     pub fn has_room_for_node(&self) -> bool {
         self.service().has_room_for_node()
     }
@@ -576,6 +621,7 @@ impl DynamicConfig {
     /// assert_eq!(service.count_ports(Role::Reader), None);
     /// # Ok::<(), Box<dyn std::error::Error>>(())
     /// ```
+    #[must_use]
     pub fn count_ports(&self, role: Role) -> Option<usize> {
         self.service().count_ports(role as u64)
     }
@@ -595,6 +641,7 @@ impl DynamicConfig {
     /// assert_eq!(service.max_ports(Role::Reader), None);
     /// # Ok::<(), Box<dyn std::error::Error>>(())
     /// ```
+    #[must_use]
     pub fn max_ports(&self, role: Role) -> Option<usize> {
         self.service().max_ports(role as u64)
     }
@@ -614,6 +661,7 @@ impl DynamicConfig {
     /// assert_eq!(service.has_room(Role::Reader), None);
     /// # Ok::<(), Box<dyn std::error::Error>>(())
     /// ```
+    #[must_use]
     pub fn has_room(&self, role: Role) -> Option<bool> {
         self.service().has_room(role as u64)
     }
@@ -659,6 +707,7 @@ impl DynamicConfig {
     /// assert_eq!(service.port(node), None);
     /// # Ok::<(), Box<dyn std::error::Error>>(())
     /// ```
+    #[must_use]
     pub fn port(&self, handle: ContainerHandle) -> Option<PortDetails> {
         let port = self.service().port(handle.parts())?;
         Some(PortDetails::of(&port))

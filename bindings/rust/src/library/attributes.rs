@@ -1,6 +1,6 @@
 //! Calls on attributes.
 
-use super::{done, text, unexpected};
+use super::{done, text};
 use crate::attribute::{Attribute, AttributeKey};
 use crate::sys;
 
@@ -24,25 +24,11 @@ fn pairs(attributes: &[Attribute]) -> Vec<sys::iox2sd_attribute> {
     attributes.iter().map(pair).collect()
 }
 
-/// How many attributes a set may have: the place of the first one that is too many.
-pub(crate) fn attribute_capacity(attribute: Attribute) -> usize {
-    let mut attributes = vec![attribute];
-    loop {
-        let pairs = pairs(&attributes);
-        // SAFETY: the array is a slice, and its texts are those of attributes that live on.
-        let answer = unsafe { sys::iox2sd_attributes_check_at(pairs.as_ptr(), pairs.len()) };
-        match answer.status {
-            sys::IOX2SD_TOO_MANY => return answer.at,
-            sys::IOX2SD_DONE => attributes.resize(2 * attributes.len(), attribute),
-            other => unexpected(other),
-        }
-    }
-}
-
 /// The attributes of a set in their order.
 pub(crate) fn sorted(attributes: &[Attribute]) -> Result<Vec<Attribute>, u32> {
     let mut pairs = pairs(attributes);
-    // SAFETY: as above; the call moves the elements of the array.
+    // SAFETY: the array is a slice, and its texts are those of attributes that live on. The call moves
+    // its elements.
     let answer = unsafe { sys::iox2sd_attributes_sort_at(pairs.as_mut_ptr(), pairs.len()) };
     done(answer.status)?;
     let of = |pair: &sys::iox2sd_attribute| {

@@ -51,30 +51,21 @@ pub(crate) fn compatible(
     unsafe { sys::iox2sd_message_is_compatible_to_at(&opener, 1, &service, 1) }
 }
 
-/// What is wrong of a type, as the library says of a part of a message.
+/// What is wrong of a type.
 pub(crate) fn check_type(detail: &TypeDetail) -> u32 {
-    let details = MessageTypeDetails {
-        header: *detail,
-        user_header: *detail,
-        payload: *detail,
-    };
-    compatible(&details, &details).status
+    // SAFETY: as above.
+    unsafe { sys::iox2sd_type_detail_check_at(&part(detail), 1) }
 }
 
-/// What is wrong of the name of a type, as the library says of a part of a message.
+/// What is wrong of the name of a type.
 pub(crate) fn check_type_name(name: &str) -> u32 {
-    let part = || sys::iox2sd_type_detail {
+    let part = sys::iox2sd_type_detail {
         name: name.as_ptr(),
         name_length: name.len(),
         variant: sys::IOX2SD_FIXED_SIZE,
         size: 0,
         alignment: 1,
     };
-    let parts = sys::iox2sd_message_details {
-        header: part(),
-        user_header: part(),
-        payload: part(),
-    };
     // SAFETY: as above; the name is a slice.
-    unsafe { sys::iox2sd_message_is_compatible_to_at(&parts, 1, &parts, 1) }.status
+    unsafe { sys::iox2sd_type_detail_check_at(&part, 1) }
 }

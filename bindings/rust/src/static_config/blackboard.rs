@@ -10,6 +10,8 @@
 
 use super::message_type_details::TypeDetail;
 use crate::config::Config;
+use crate::library::Settings;
+use crate::sys;
 
 /// What is fixed of a blackboard service.
 ///
@@ -43,12 +45,17 @@ impl StaticConfig {
     /// let fixed = StaticConfig::new(&Config::default());
     /// assert_eq!((fixed.max_readers, fixed.max_writers, fixed.max_nodes), (8, 1, 20));
     /// ```
+    #[must_use]
     pub fn new(config: &Config) -> Self {
-        let defaults = &config.defaults.blackboard;
+        Self::of(&config.defaults.blackboard.fixed().blackboard)
+    }
+
+    /// What the library says is fixed, with the default type details.
+    pub(crate) fn of(fixed: &sys::iox2sd_blackboard_config) -> Self {
         StaticConfig {
-            max_readers: defaults.max_readers,
-            max_writers: 1,
-            max_nodes: defaults.max_nodes,
+            max_readers: fixed.max_readers,
+            max_writers: fixed.max_writers,
+            max_nodes: fixed.max_nodes,
             type_details: TypeDetail::default(),
         }
     }
@@ -63,6 +70,7 @@ impl StaticConfig {
     /// config.defaults.blackboard.max_nodes = 5;
     /// assert_eq!(StaticConfig::new(&config).max_nodes(), 5);
     /// ```
+    #[must_use]
     pub fn max_nodes(&self) -> usize {
         self.max_nodes
     }
@@ -77,6 +85,7 @@ impl StaticConfig {
     /// config.defaults.blackboard.max_readers = 5;
     /// assert_eq!(StaticConfig::new(&config).max_readers(), 5);
     /// ```
+    #[must_use]
     pub fn max_readers(&self) -> usize {
         self.max_readers
     }
@@ -94,6 +103,7 @@ impl StaticConfig {
     /// assert_eq!(fixed.type_details().size(), 8);
     /// # Ok::<(), Box<dyn std::error::Error>>(())
     /// ```
+    #[must_use]
     pub fn type_details(&self) -> &TypeDetail {
         &self.type_details
     }

@@ -10,6 +10,8 @@
 
 use crate::config::{Config, EventId};
 use crate::identifiers::Time;
+use crate::library::Settings;
+use crate::sys;
 use std::time::Duration;
 
 /// How long listeners wait for a notification before one counts as missed.
@@ -74,21 +76,27 @@ impl StaticConfig {
     /// let fixed = StaticConfig::new(&Config::default());
     /// assert_eq!((fixed.max_notifiers, fixed.max_listeners, fixed.max_nodes), (16, 16, 36));
     /// ```
+    #[must_use]
     pub fn new(config: &Config) -> Self {
-        let defaults = &config.defaults.event;
-        let deadline = |value| Deadline {
+        Self::of(&config.defaults.event.fixed().event)
+    }
+
+    /// What the library says is fixed.
+    pub(crate) fn of(fixed: &sys::iox2sd_event_config) -> Self {
+        let event = |event: &sys::iox2sd_optional_event_id| event.is_some.then_some(event.number);
+        let deadline = || Deadline {
             creation_time: Time::default(),
-            value,
+            value: Duration::new(fixed.deadline.seconds, fixed.deadline.nanoseconds),
         };
         StaticConfig {
-            max_notifiers: defaults.max_notifiers,
-            max_listeners: defaults.max_listeners,
-            max_nodes: defaults.max_nodes,
-            event_id_max_value: defaults.event_id_max_value,
-            deadline: defaults.deadline.map(deadline),
-            notifier_created_event: defaults.notifier_created_event,
-            notifier_dropped_event: defaults.notifier_dropped_event,
-            notifier_dead_event: defaults.notifier_dead_event,
+            max_notifiers: fixed.max_notifiers,
+            max_listeners: fixed.max_listeners,
+            max_nodes: fixed.max_nodes,
+            event_id_max_value: fixed.event_id_max_value,
+            deadline: fixed.deadline.is_some.then(deadline),
+            notifier_created_event: event(&fixed.notifier_created_event),
+            notifier_dropped_event: event(&fixed.notifier_dropped_event),
+            notifier_dead_event: event(&fixed.notifier_dead_event),
         }
     }
 
@@ -104,6 +112,7 @@ impl StaticConfig {
     /// config.defaults.event.deadline = Some(Duration::from_secs(2));
     /// assert_eq!(StaticConfig::new(&config).deadline(), Some(Duration::from_secs(2)));
     /// ```
+    #[must_use]
     pub fn deadline(&self) -> Option<Duration> {
         self.deadline.map(|deadline| deadline.value)
     }
@@ -118,6 +127,7 @@ impl StaticConfig {
     /// config.defaults.event.max_nodes = 5;
     /// assert_eq!(StaticConfig::new(&config).max_nodes(), 5);
     /// ```
+    #[must_use]
     pub fn max_nodes(&self) -> usize {
         self.max_nodes
     }
@@ -132,6 +142,7 @@ impl StaticConfig {
     /// config.defaults.event.max_notifiers = 5;
     /// assert_eq!(StaticConfig::new(&config).max_notifiers(), 5);
     /// ```
+    #[must_use]
     pub fn max_notifiers(&self) -> usize {
         self.max_notifiers
     }
@@ -146,6 +157,7 @@ impl StaticConfig {
     /// config.defaults.event.max_listeners = 5;
     /// assert_eq!(StaticConfig::new(&config).max_listeners(), 5);
     /// ```
+    #[must_use]
     pub fn max_listeners(&self) -> usize {
         self.max_listeners
     }
@@ -160,6 +172,7 @@ impl StaticConfig {
     /// config.defaults.event.event_id_max_value = 5;
     /// assert_eq!(StaticConfig::new(&config).event_id_max_value(), 5);
     /// ```
+    #[must_use]
     pub fn event_id_max_value(&self) -> usize {
         self.event_id_max_value
     }

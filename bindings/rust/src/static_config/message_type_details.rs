@@ -28,6 +28,7 @@ use std::any::type_name;
 use std::error::Error;
 use std::fmt;
 use std::mem::{align_of, size_of};
+use std::str::FromStr;
 
 /// How many values of a type a message has.
 ///
@@ -74,6 +75,7 @@ impl TypeName {
     /// assert_eq!(TypeName::default().as_str(), "");
     /// # Ok::<(), Box<dyn std::error::Error>>(())
     /// ```
+    #[must_use]
     pub fn as_str(&self) -> &str {
         self.text.as_str()
     }
@@ -85,10 +87,30 @@ impl Default for TypeName {
     }
 }
 
+impl TryFrom<String> for TypeName {
+    type Error = StringModificationError;
+
+    /// As of a `&str`.
+    fn try_from(name: String) -> Result<Self, StringModificationError> {
+        Self::try_from(name.as_str())
+    }
+}
+
+impl FromStr for TypeName {
+    type Err = StringModificationError;
+
+    /// As of a `&str`.
+    fn from_str(name: &str) -> Result<Self, StringModificationError> {
+        Self::try_from(name)
+    }
+}
+
 impl TryFrom<&str> for TypeName {
     type Error = StringModificationError;
 
     /// The name of a type, which may be empty.
+    ///
+    /// # Errors
     ///
     /// Refused are more than 256 bytes
     /// ([`InsertWouldExceedCapacity`](StringModificationError::InsertWouldExceedCapacity)), and
@@ -153,8 +175,12 @@ pub struct TypeDetail {
 impl TypeDetail {
     /// The details of the type `T`: what [`type_name`], [`size_of`] and [`align_of`] say.
     ///
+    /// # Errors
+    ///
     /// Refused with [`TypeDetailError::Name`] where the name of `T` is no name of a type here: it
     /// is too long, or not plain ASCII. [`TypeDetail::from_parts`] takes a name of the caller's.
+    ///
+    /// # Examples
     ///
     /// ```
     /// use iox2sd::static_config::message_type_details::{TypeDetail, TypeVariant};
@@ -169,7 +195,11 @@ impl TypeDetail {
 
     /// The details with these parts.
     ///
+    /// # Errors
+    ///
     /// Refused are a name that is none, and then an alignment that is no power of two.
+    ///
+    /// # Examples
     ///
     /// ```
     /// use iox2sd::static_config::message_type_details::{
@@ -212,6 +242,7 @@ impl TypeDetail {
     /// assert_eq!(detail.variant(), TypeVariant::Dynamic);
     /// # Ok::<(), iox2sd::static_config::message_type_details::TypeDetailError>(())
     /// ```
+    #[must_use]
     pub fn variant(&self) -> TypeVariant {
         self.variant
     }
@@ -225,6 +256,7 @@ impl TypeDetail {
     /// assert_eq!(detail.type_name(), &"Point");
     /// # Ok::<(), iox2sd::static_config::message_type_details::TypeDetailError>(())
     /// ```
+    #[must_use]
     pub fn type_name(&self) -> &TypeName {
         &self.type_name
     }
@@ -238,6 +270,7 @@ impl TypeDetail {
     /// assert_eq!(detail.size(), 12);
     /// # Ok::<(), iox2sd::static_config::message_type_details::TypeDetailError>(())
     /// ```
+    #[must_use]
     pub fn size(&self) -> usize {
         self.size
     }
@@ -252,6 +285,7 @@ impl TypeDetail {
     /// assert_eq!(detail.alignment(), 4);
     /// # Ok::<(), iox2sd::static_config::message_type_details::TypeDetailError>(())
     /// ```
+    #[must_use]
     pub fn alignment(&self) -> usize {
         self.alignment
     }
@@ -311,7 +345,11 @@ impl MessageTypeDetails {
     /// The details of a message with one `Header`, one `UserHeader` and so many `Payload` as the
     /// variant says.
     ///
+    /// # Errors
+    ///
     /// Refused as [`TypeDetail::new`] is, of the first part that is.
+    ///
+    /// # Examples
     ///
     /// ```
     /// use iox2sd::static_config::message_type_details::{MessageTypeDetails, TypeVariant};
@@ -341,6 +379,7 @@ impl MessageTypeDetails {
     /// assert!(MessageTypeDetails::from::<u64, (), u8>(TypeVariant::FixedSize)?.has_alignments());
     /// # Ok::<(), iox2sd::static_config::message_type_details::TypeDetailError>(())
     /// ```
+    #[must_use]
     pub fn has_alignments(&self) -> bool {
         library::layout(self, 0) != Err(sys::IOX2SD_BAD_ALIGNMENT)
     }
@@ -355,6 +394,7 @@ impl MessageTypeDetails {
     /// assert!(!details.has_places(usize::MAX));
     /// # Ok::<(), iox2sd::static_config::message_type_details::TypeDetailError>(())
     /// ```
+    #[must_use]
     pub fn has_places(&self, header: usize) -> bool {
         library::places(self, header).is_ok()
     }
@@ -362,8 +402,12 @@ impl MessageTypeDetails {
     /// The place of the user header in a message with its header at the place `header`. Places are
     /// numbers: nothing is read there.
     ///
+    /// # Errors
+    ///
     /// Refused where the details of a part were not given, and where the place of the payload would
     /// pass 2^64 - 1.
+    ///
+    /// # Examples
     ///
     /// ```
     /// use iox2sd::static_config::message_type_details::{
@@ -381,8 +425,13 @@ impl MessageTypeDetails {
         Ok(user_header)
     }
 
-    /// The place of the payload in a message with its header at the place `header`. Refused in the
-    /// same way.
+    /// The place of the payload in a message with its header at the place `header`.
+    ///
+    /// # Errors
+    ///
+    /// Refused as [`user_header_ptr_from_header`](Self::user_header_ptr_from_header) is.
+    ///
+    /// # Examples
     ///
     /// ```
     /// use iox2sd::static_config::message_type_details::{MessageTypeDetails, TypeVariant};
@@ -402,7 +451,11 @@ impl MessageTypeDetails {
     /// and aligned, for the service and for every compatible opener; so they do in rooms that lie
     /// end to end. The room need not be the least.
     ///
+    /// # Errors
+    ///
     /// Refused where the details of a part were not given, and where it would pass 2^63 - 1 bytes.
+    ///
+    /// # Examples
     ///
     /// ```
     /// use iox2sd::static_config::message_type_details::{
@@ -434,6 +487,7 @@ impl MessageTypeDetails {
     /// assert!(!opener.is_compatible_to(&service));
     /// # Ok::<(), iox2sd::static_config::message_type_details::TypeDetailError>(())
     /// ```
+    #[must_use]
     pub fn is_compatible_to(&self, rhs: &Self) -> bool {
         self.check_compatible_to(rhs).is_ok()
     }
@@ -442,8 +496,12 @@ impl MessageTypeDetails {
     /// `rhs`: the headers are equal, and user headers and payloads are equal but for their
     /// alignments, which are at most those of the service.
     ///
+    /// # Errors
+    ///
     /// Refused with the first part that keeps the opener out, and why. Details that were not given
     /// keep everybody out, and that is reported first.
+    ///
+    /// # Examples
     ///
     /// ```
     /// use iox2sd::static_config::message_type_details::{

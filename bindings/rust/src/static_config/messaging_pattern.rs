@@ -61,6 +61,7 @@ impl MessagingPattern {
     /// let pattern = MessagingPattern::Event(StaticConfig::new(&Config::default()));
     /// assert_eq!(pattern.kind(), Kind::Event);
     /// ```
+    #[must_use]
     pub fn kind(&self) -> Kind {
         match self {
             MessagingPattern::RequestResponse(_) => Kind::RequestResponse,
@@ -83,6 +84,7 @@ impl MessagingPattern {
     /// let other = MessagingPattern::Event(StaticConfig::new(&config));
     /// assert!(one.is_same_pattern(&other) && one != other);
     /// ```
+    #[must_use]
     pub fn is_same_pattern(&self, rhs: &MessagingPattern) -> bool {
         self.kind() == rhs.kind()
     }
@@ -101,6 +103,7 @@ impl MessagingPattern {
     /// let fixed = StaticConfig::new(&Config::default());
     /// assert_eq!(MessagingPattern::RequestResponse(fixed).request_response(), &fixed);
     /// ```
+    #[must_use]
     pub fn request_response(&self) -> &request_response::StaticConfig {
         match self {
             MessagingPattern::RequestResponse(config) => config,
@@ -122,6 +125,7 @@ impl MessagingPattern {
     /// let fixed = StaticConfig::new(&Config::default());
     /// assert_eq!(MessagingPattern::PublishSubscribe(fixed).publish_subscribe(), &fixed);
     /// ```
+    #[must_use]
     pub fn publish_subscribe(&self) -> &publish_subscribe::StaticConfig {
         match self {
             MessagingPattern::PublishSubscribe(config) => config,

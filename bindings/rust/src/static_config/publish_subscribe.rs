@@ -10,7 +10,8 @@
 
 use super::message_type_details::MessageTypeDetails;
 use crate::config::Config;
-use crate::library;
+use crate::library::{self, Settings};
+use crate::sys;
 
 /// What is fixed of a publish-subscribe service.
 ///
@@ -53,16 +54,21 @@ impl StaticConfig {
     /// assert_eq!((fixed.max_publishers, fixed.max_subscribers, fixed.max_nodes), (2, 8, 20));
     /// assert!(!fixed.message_type_details.has_alignments());
     /// ```
+    #[must_use]
     pub fn new(config: &Config) -> Self {
-        let defaults = &config.defaults.publish_subscribe;
+        Self::of(&config.defaults.publish_subscribe.fixed().publish_subscribe)
+    }
+
+    /// What the library says is fixed, with the default type details.
+    pub(crate) fn of(fixed: &sys::iox2sd_publish_subscribe_config) -> Self {
         StaticConfig {
-            max_subscribers: defaults.max_subscribers,
-            max_publishers: defaults.max_publishers,
-            max_nodes: defaults.max_nodes,
-            history_size: defaults.publisher_history_size,
-            subscriber_max_buffer_size: defaults.subscriber_max_buffer_size,
-            subscriber_max_borrowed_samples: defaults.subscriber_max_borrowed_samples,
-            enable_safe_overflow: defaults.enable_safe_overflow,
+            max_subscribers: fixed.max_subscribers,
+            max_publishers: fixed.max_publishers,
+            max_nodes: fixed.max_nodes,
+            history_size: fixed.history_size,
+            subscriber_max_buffer_size: fixed.subscriber_max_buffer_size,
+            subscriber_max_borrowed_samples: fixed.subscriber_max_borrowed_samples,
+            enable_safe_overflow: fixed.enable_safe_overflow,
             message_type_details: MessageTypeDetails::default(),
         }
     }
@@ -78,11 +84,12 @@ impl StaticConfig {
     /// assert_eq!(service.required_amount_of_samples_per_data_segment(2), Some(34));
     /// assert_eq!(service.required_amount_of_samples_per_data_segment(usize::MAX), None);
     /// ```
+    #[must_use]
     pub fn required_amount_of_samples_per_data_segment(
         &self,
         publisher_max_loaned_data: usize,
     ) -> Option<usize> {
-        library::chunks(library::publisher_chunks(
+        library::chunks(&library::publisher_chunks(
             self.max_subscribers,
             self.subscriber_max_buffer_size,
             self.subscriber_max_borrowed_samples,
@@ -101,6 +108,7 @@ impl StaticConfig {
     /// config.defaults.publish_subscribe.max_nodes = 5;
     /// assert_eq!(StaticConfig::new(&config).max_nodes(), 5);
     /// ```
+    #[must_use]
     pub fn max_nodes(&self) -> usize {
         self.max_nodes
     }
@@ -115,6 +123,7 @@ impl StaticConfig {
     /// config.defaults.publish_subscribe.max_publishers = 5;
     /// assert_eq!(StaticConfig::new(&config).max_publishers(), 5);
     /// ```
+    #[must_use]
     pub fn max_publishers(&self) -> usize {
         self.max_publishers
     }
@@ -129,6 +138,7 @@ impl StaticConfig {
     /// config.defaults.publish_subscribe.max_subscribers = 5;
     /// assert_eq!(StaticConfig::new(&config).max_subscribers(), 5);
     /// ```
+    #[must_use]
     pub fn max_subscribers(&self) -> usize {
         self.max_subscribers
     }
@@ -143,6 +153,7 @@ impl StaticConfig {
     /// config.defaults.publish_subscribe.publisher_history_size = 5;
     /// assert_eq!(StaticConfig::new(&config).history_size(), 5);
     /// ```
+    #[must_use]
     pub fn history_size(&self) -> usize {
         self.history_size
     }
@@ -157,6 +168,7 @@ impl StaticConfig {
     /// config.defaults.publish_subscribe.subscriber_max_buffer_size = 5;
     /// assert_eq!(StaticConfig::new(&config).subscriber_max_buffer_size(), 5);
     /// ```
+    #[must_use]
     pub fn subscriber_max_buffer_size(&self) -> usize {
         self.subscriber_max_buffer_size
     }
@@ -171,6 +183,7 @@ impl StaticConfig {
     /// config.defaults.publish_subscribe.subscriber_max_borrowed_samples = 5;
     /// assert_eq!(StaticConfig::new(&config).subscriber_max_borrowed_samples(), 5);
     /// ```
+    #[must_use]
     pub fn subscriber_max_borrowed_samples(&self) -> usize {
         self.subscriber_max_borrowed_samples
     }
@@ -186,6 +199,7 @@ impl StaticConfig {
     /// config.defaults.publish_subscribe.enable_safe_overflow = false;
     /// assert!(!StaticConfig::new(&config).has_safe_overflow());
     /// ```
+    #[must_use]
     pub fn has_safe_overflow(&self) -> bool {
         self.enable_safe_overflow
     }
@@ -203,6 +217,7 @@ impl StaticConfig {
     /// assert_eq!(fixed.message_type_details(), &details);
     /// # Ok::<(), iox2sd::static_config::message_type_details::TypeDetailError>(())
     /// ```
+    #[must_use]
     pub fn message_type_details(&self) -> &MessageTypeDetails {
         &self.message_type_details
     }

@@ -10,7 +10,8 @@
 
 use super::message_type_details::MessageTypeDetails;
 use crate::config::Config;
-use crate::library;
+use crate::library::{self, Settings};
+use crate::sys;
 
 /// What is fixed of a request-response service.
 ///
@@ -61,19 +62,24 @@ impl StaticConfig {
     /// assert_eq!((fixed.max_servers, fixed.max_clients, fixed.max_nodes), (2, 8, 20));
     /// assert!(!fixed.request_message_type_details.has_alignments());
     /// ```
+    #[must_use]
     pub fn new(config: &Config) -> Self {
-        let defaults = &config.defaults.request_response;
+        Self::of(&config.defaults.request_response.fixed().request_response)
+    }
+
+    /// What the library says is fixed, with the default type details.
+    pub(crate) fn of(fixed: &sys::iox2sd_request_response_config) -> Self {
         StaticConfig {
-            enable_safe_overflow_for_requests: defaults.enable_safe_overflow_for_requests,
-            enable_safe_overflow_for_responses: defaults.enable_safe_overflow_for_responses,
-            enable_fire_and_forget_requests: defaults.enable_fire_and_forget_requests,
-            max_active_requests_per_client: defaults.max_active_requests_per_client,
-            max_loaned_requests: defaults.max_loaned_requests,
-            max_response_buffer_size: defaults.max_response_buffer_size,
-            max_servers: defaults.max_servers,
-            max_clients: defaults.max_clients,
-            max_nodes: defaults.max_nodes,
-            max_borrowed_responses_per_pending_response: defaults
+            enable_safe_overflow_for_requests: fixed.enable_safe_overflow_for_requests,
+            enable_safe_overflow_for_responses: fixed.enable_safe_overflow_for_responses,
+            enable_fire_and_forget_requests: fixed.enable_fire_and_forget_requests,
+            max_active_requests_per_client: fixed.max_active_requests_per_client,
+            max_loaned_requests: fixed.max_loaned_requests,
+            max_response_buffer_size: fixed.max_response_buffer_size,
+            max_servers: fixed.max_servers,
+            max_clients: fixed.max_clients,
+            max_nodes: fixed.max_nodes,
+            max_borrowed_responses_per_pending_response: fixed
                 .max_borrowed_responses_per_pending_response,
             request_message_type_details: MessageTypeDetails::default(),
             response_message_type_details: MessageTypeDetails::default(),
@@ -90,11 +96,12 @@ impl StaticConfig {
     /// let service = StaticConfig::new(&Config::default());
     /// assert_eq!(service.required_amount_of_chunks_per_client_data_segment(2), Some(18));
     /// ```
+    #[must_use]
     pub fn required_amount_of_chunks_per_client_data_segment(
         &self,
         client_max_loaned_data: usize,
     ) -> Option<usize> {
-        library::chunks(library::client_chunks(
+        library::chunks(&library::client_chunks(
             self.max_servers,
             self.max_active_requests_per_client,
             client_max_loaned_data,
@@ -111,11 +118,12 @@ impl StaticConfig {
     /// let service = StaticConfig::new(&Config::default());
     /// assert_eq!(service.required_amount_of_chunks_per_server_data_segment(2), Some(384));
     /// ```
+    #[must_use]
     pub fn required_amount_of_chunks_per_server_data_segment(
         &self,
         max_loaned_responses_per_request: usize,
     ) -> Option<usize> {
-        library::chunks(library::server_chunks(
+        library::chunks(&library::server_chunks(
             self.max_clients,
             self.max_active_requests_per_client,
             self.max_response_buffer_size,
@@ -137,6 +145,7 @@ impl StaticConfig {
     /// assert_eq!(fixed.request_message_type_details(), &details);
     /// # Ok::<(), iox2sd::static_config::message_type_details::TypeDetailError>(())
     /// ```
+    #[must_use]
     pub fn request_message_type_details(&self) -> &MessageTypeDetails {
         &self.request_message_type_details
     }
@@ -154,6 +163,7 @@ impl StaticConfig {
     /// assert_eq!(fixed.response_message_type_details(), &details);
     /// # Ok::<(), iox2sd::static_config::message_type_details::TypeDetailError>(())
     /// ```
+    #[must_use]
     pub fn response_message_type_details(&self) -> &MessageTypeDetails {
         &self.response_message_type_details
     }
@@ -169,6 +179,7 @@ impl StaticConfig {
     /// config.defaults.request_response.enable_safe_overflow_for_requests = false;
     /// assert!(!StaticConfig::new(&config).has_safe_overflow_for_requests());
     /// ```
+    #[must_use]
     pub fn has_safe_overflow_for_requests(&self) -> bool {
         self.enable_safe_overflow_for_requests
     }
@@ -184,6 +195,7 @@ impl StaticConfig {
     /// config.defaults.request_response.enable_safe_overflow_for_responses = false;
     /// assert!(!StaticConfig::new(&config).has_safe_overflow_for_responses());
     /// ```
+    #[must_use]
     pub fn has_safe_overflow_for_responses(&self) -> bool {
         self.enable_safe_overflow_for_responses
     }
@@ -199,6 +211,7 @@ impl StaticConfig {
     /// config.defaults.request_response.enable_fire_and_forget_requests = false;
     /// assert!(!StaticConfig::new(&config).does_support_fire_and_forget_requests());
     /// ```
+    #[must_use]
     pub fn does_support_fire_and_forget_requests(&self) -> bool {
         self.enable_fire_and_forget_requests
     }
@@ -213,6 +226,7 @@ impl StaticConfig {
     /// config.defaults.request_response.max_borrowed_responses_per_pending_response = 5;
     /// assert_eq!(StaticConfig::new(&config).max_borrowed_responses_per_pending_response(), 5);
     /// ```
+    #[must_use]
     pub fn max_borrowed_responses_per_pending_response(&self) -> usize {
         self.max_borrowed_responses_per_pending_response
     }
@@ -227,6 +241,7 @@ impl StaticConfig {
     /// config.defaults.request_response.max_active_requests_per_client = 5;
     /// assert_eq!(StaticConfig::new(&config).max_active_requests_per_client(), 5);
     /// ```
+    #[must_use]
     pub fn max_active_requests_per_client(&self) -> usize {
         self.max_active_requests_per_client
     }
@@ -241,6 +256,7 @@ impl StaticConfig {
     /// config.defaults.request_response.max_response_buffer_size = 5;
     /// assert_eq!(StaticConfig::new(&config).max_response_buffer_size(), 5);
     /// ```
+    #[must_use]
     pub fn max_response_buffer_size(&self) -> usize {
         self.max_response_buffer_size
     }
@@ -255,6 +271,7 @@ impl StaticConfig {
     /// config.defaults.request_response.max_loaned_requests = 5;
     /// assert_eq!(StaticConfig::new(&config).max_loaned_requests(), 5);
     /// ```
+    #[must_use]
     pub fn max_loaned_requests(&self) -> usize {
         self.max_loaned_requests
     }
@@ -269,6 +286,7 @@ impl StaticConfig {
     /// config.defaults.request_response.max_servers = 5;
     /// assert_eq!(StaticConfig::new(&config).max_servers(), 5);
     /// ```
+    #[must_use]
     pub fn max_servers(&self) -> usize {
         self.max_servers
     }
@@ -283,6 +301,7 @@ impl StaticConfig {
     /// config.defaults.request_response.max_clients = 5;
     /// assert_eq!(StaticConfig::new(&config).max_clients(), 5);
     /// ```
+    #[must_use]
     pub fn max_clients(&self) -> usize {
         self.max_clients
     }
@@ -297,6 +316,7 @@ impl StaticConfig {
     /// config.defaults.request_response.max_nodes = 5;
     /// assert_eq!(StaticConfig::new(&config).max_nodes(), 5);
     /// ```
+    #[must_use]
     pub fn max_nodes(&self) -> usize {
         self.max_nodes
     }

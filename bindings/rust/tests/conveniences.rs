@@ -1,0 +1,266 @@
+//! Conversions, limits and paths of names.
+#![forbid(unsafe_code)]
+
+use iox2sd::attribute::{
+    Attribute, AttributeKey, AttributeSet, AttributeSpecifier, AttributeValue, AttributeVerifier,
+};
+use iox2sd::config::Config;
+use iox2sd::dynamic_config::{
+    blackboard, event, publish_subscribe, request_response, MessagingPatternSettings,
+};
+use iox2sd::identifiers::{UniqueNodeId, UniqueServiceId};
+use iox2sd::messaging_pattern::MessagingPattern;
+use iox2sd::paths::{FileName, FilePath, Path, RestrictedFileName};
+use iox2sd::semantic_string::{Content, SemanticString, SemanticStringError};
+use iox2sd::service::dynamic_config::publish_subscribe::PublisherDetails;
+use iox2sd::service_hash::ServiceHash;
+use iox2sd::service_name::{ServiceName, ServiceNameError, INTERNAL_SERVICE_PREFIX};
+use iox2sd::static_config::message_type_details::TypeName;
+use iox2sd::static_config::StaticConfig;
+use std::any::TypeId;
+use std::collections::hash_map::DefaultHasher;
+use std::collections::{BTreeSet, HashSet};
+use std::error::Error;
+use std::hash::{Hash, Hasher};
+
+fn hash(value: &impl Hash) -> u64 {
+    let mut hasher = DefaultHasher::new();
+    value.hash(&mut hasher);
+    hasher.finish()
+}
+
+/// The capacity of a kind is the greatest length that the library takes.
+fn is_limit<C: Content>(capacity: usize) {
+    assert_eq!(SemanticString::<C>::capacity(), capacity);
+    let text = vec![b'a'; capacity + 1];
+    let longest = SemanticString::<C>::new(&text[1..]);
+    assert_eq!(longest.map(|text| text.len()), Ok(capacity));
+    let refused = SemanticString::<C>::new(&text);
+    assert_eq!(refused, Err(SemanticStringError::ExceedsMaximumLength));
+}
+
+#[test]
+fn limits_are_constants_and_those_of_the_library() {
+    const KEYS: usize = AttributeKey::capacity();
+    const VALUES: usize = AttributeValue::capacity();
+    const PAIRS: usize = AttributeSet::capacity();
+    const NAMES: usize = ServiceName::max_len();
+    const HASHES: usize = ServiceHash::max_number_of_characters();
+    is_limit::<iox2sd::attribute::AttributeKeyContent>(KEYS);
+    is_limit::<iox2sd::attribute::AttributeValueContent>(VALUES);
+    is_limit::<iox2sd::paths::PathContent>(Path::capacity());
+    is_limit::<iox2sd::paths::FileNameContent>(FileName::capacity());
+    is_limit::<iox2sd::paths::FilePathContent>(FilePath::capacity());
+    is_limit::<iox2sd::paths::RestrictedFileNameContent>(HASHES);
+
+    let text = "a".repeat(NAMES + 1);
+    assert!(ServiceName::new(&text[1..]).is_ok());
+    let refused = ServiceName::new(&text);
+    assert_eq!(refused, Err(ServiceNameError::ExceedsMaximumLength));
+
+    let (key, value) = ("k".parse().unwrap(), "v".parse().unwrap());
+    let mut set = AttributeSet::new();
+    for _ in 0..PAIRS {
+        set.add(&key, &value).unwrap();
+    }
+    assert!(set.add(&key, &value).is_err());
+}
+
+#[test]
+fn the_prefix_is_that_of_the_library() {
+    assert!(ServiceName::has_iox2_prefix(INTERNAL_SERVICE_PREFIX));
+    let shorter = &INTERNAL_SERVICE_PREFIX[..INTERNAL_SERVICE_PREFIX.len() - 1];
+    assert!(!ServiceName::has_iox2_prefix(shorter));
+    let empty = ServiceName::internal_new_prefixed("");
+    assert_eq!(empty.unwrap(), INTERNAL_SERVICE_PREFIX);
+}
+
+#[test]
+fn values_of_ids_are_the_numbers_that_they_print() {
+    let parts = [0, 1, 0xffff, 0x8000_0000, u32::MAX];
+    for process in parts {
+        for (seconds, nanoseconds) in parts.into_iter().zip(parts.into_iter().rev()) {
+            for counter in parts {
+                let id = UniqueServiceId::new(process, seconds, nanoseconds, counter);
+                assert_eq!(u128::from_str_radix(&id.to_string(), 16), Ok(id.value()));
+                assert_eq!(UniqueServiceId::try_from(id.value()), Ok(id));
+                assert_eq!(id.to_string().parse(), Ok(id));
+            }
+        }
+    }
+    assert_eq!(UniqueNodeId::new(1, 2, 3, 4).map(|id| id.value()), {
+        Some(0x1_0000_0002_0000_0003_0000_0004)
+    });
+}
+
+#[test]
+fn texts_are_made_of_texts_of_all_kinds() {
+    for text in ["", "a", "a/b", "a\0"] {
+        let wanted = FileName::new(text.as_bytes());
+        assert_eq!(FileName::try_from(text), wanted);
+        assert_eq!(FileName::try_from(text.to_string()), wanted);
+        assert_eq!(text.parse(), wanted);
+        let wanted = TypeName::try_from(text);
+        assert_eq!(TypeName::try_from(text.to_string()), wanted);
+        assert_eq!(text.parse(), wanted);
+    }
+}
+
+#[test]
+fn names_of_files_come_from_hash_texts_and_paths() -> Result<(), Box<dyn Error>> {
+    let hash = ServiceHash::new(&"lidar/front".parse()?, MessagingPattern::Event)?;
+    assert_eq!(FileName::from(hash), FileName::try_from(hash.as_str())?);
+    let restricted = RestrictedFileName::from(hash);
+    assert_eq!(FileName::from(restricted), hash.as_str());
+
+    for (path, name) in [("a", "a"), ("/a", "a"), ("a/b", "b"), ("//a//b.c", "b.c")] {
+        let path: FilePath = path.parse()?;
+        assert_eq!(path.file_name(), name);
+        assert_eq!(path.file_name(), FileName::try_from(name)?);
+        let path: &std::path::Path = path.as_ref();
+        assert_eq!(path.file_name(), Some(name.as_ref()));
+    }
+    let directory = Config::default().global.service_dir()?;
+    let file: FileName = "x.service".parse()?;
+    let directory_path: &std::path::Path = directory.as_ref();
+    let joined = FilePath::from_path_and_file(&directory, &file)?;
+    assert_eq!(
+        directory_path.join(file),
+        AsRef::<std::path::Path>::as_ref(&joined)
+    );
+    Ok(())
+}
+
+#[test]
+fn sets_are_ordered_hashed_and_taken_apart() -> Result<(), Box<dyn Error>> {
+    let pair = |key: &str, value: &str| -> Result<Attribute, SemanticStringError> {
+        Ok(Attribute::new(&key.parse()?, &value.parse()?))
+    };
+    let set = |pairs: &[Attribute]| -> Result<AttributeSet, Box<dyn Error>> {
+        let mut set = AttributeSet::new();
+        for pair in pairs {
+            set.add(pair.key(), pair.value())?;
+        }
+        Ok(set)
+    };
+    let (a, b) = (pair("a", "2")?, pair("b", "1")?);
+    let rising = [set(&[])?, set(&[a])?, set(&[b, a])?, set(&[b])?];
+    assert_eq!(
+        BTreeSet::from(rising.clone())
+            .into_iter()
+            .collect::<Vec<_>>(),
+        rising
+    );
+    assert_eq!(HashSet::from(rising.clone()).len(), rising.len());
+    let taken: Vec<Attribute> = set(&[b, a])?.into_iter().collect();
+    assert_eq!(taken, [a, b]);
+
+    let define = |pair: Attribute| AttributeSpecifier::new().define(pair.key(), pair.value());
+    assert_eq!(define(a)?, define(a)?);
+    assert_ne!(define(a)?, define(b)?);
+    assert_eq!(hash(&define(a)?), hash(&define(a)?));
+    let require = |pair: Attribute| AttributeVerifier::new().require(pair.key(), pair.value());
+    assert_eq!(require(a)?, require(a)?);
+    assert_ne!(require(a)?, require(b)?);
+    assert_ne!(require(a)?, require(a)?.require_key(a.key())?);
+    assert_eq!(hash(&require(a)?), hash(&require(a)?));
+    Ok(())
+}
+
+#[test]
+fn room_is_that_of_descriptions_and_of_defaults() -> Result<(), Box<dyn Error>> {
+    let mut config = Config::default();
+    config.defaults.event.max_listeners = 3;
+    config.defaults.event.max_notifiers = 4;
+    config.defaults.publish_subscribe.max_publishers = 5;
+    config.defaults.publish_subscribe.max_subscribers = 6;
+    config.defaults.request_response.max_servers = 7;
+    config.defaults.request_response.max_clients = 9;
+    config.defaults.blackboard.max_readers = 10;
+    let (name, id) = ("front".parse()?, UniqueServiceId::new(1, 0, 0, 1));
+    let described = |made: StaticConfig| MessagingPatternSettings::from(made.messaging_pattern());
+    assert_eq!(
+        described(StaticConfig::new_event(&name, &config, id)?),
+        MessagingPatternSettings::Event(event::DynamicConfigSettings {
+            number_of_listeners: 3,
+            number_of_notifiers: 4,
+        })
+    );
+    assert_eq!(
+        described(StaticConfig::new_publish_subscribe(&name, &config, id)?),
+        MessagingPatternSettings::PublishSubscribe(publish_subscribe::DynamicConfigSettings {
+            number_of_publishers: 5,
+            number_of_subscribers: 6,
+        })
+    );
+    assert_eq!(
+        described(StaticConfig::new_request_response(&name, &config, id)?),
+        MessagingPatternSettings::RequestResponse(request_response::DynamicConfigSettings {
+            number_of_servers: 7,
+            number_of_clients: 9,
+        })
+    );
+    assert_eq!(
+        described(StaticConfig::new_blackboard(&name, &config, id)?),
+        MessagingPatternSettings::Blackboard(blackboard::DynamicConfigSettings {
+            number_of_readers: 10,
+            number_of_writers: 1,
+        })
+    );
+
+    let defaults = Config::default();
+    assert_eq!(
+        MessagingPatternSettings::from(event::DynamicConfigSettings::default()),
+        described(StaticConfig::new_event(&name, &defaults, id)?)
+    );
+    assert_eq!(
+        MessagingPatternSettings::from(publish_subscribe::DynamicConfigSettings::default()),
+        described(StaticConfig::new_publish_subscribe(&name, &defaults, id)?)
+    );
+    assert_eq!(
+        MessagingPatternSettings::from(request_response::DynamicConfigSettings::default()),
+        described(StaticConfig::new_request_response(&name, &defaults, id)?)
+    );
+    assert_eq!(
+        MessagingPatternSettings::from(blackboard::DynamicConfigSettings::default()),
+        described(StaticConfig::new_blackboard(&name, &defaults, id)?)
+    );
+    Ok(())
+}
+
+/// What is kept of the defaults is as it was when it is asked for again.
+#[test]
+fn defaults_are_not_changed_by_those_who_have_them() -> Result<(), Box<dyn Error>> {
+    let first = Config::default();
+    let mut changed = first.clone();
+    changed.global.prefix = "other_".parse()?;
+    changed.global.service.directory = "others".parse()?;
+    changed.global.node.cleanup_dead_nodes_on_creation = false;
+    assert_ne!(changed, first);
+    assert_ne!(hash(&changed), hash(&first));
+    assert_eq!(Config::default(), first);
+    assert_eq!(hash(&Config::default()), hash(&first));
+    assert_eq!(first.global.service, iox2sd::config::Service::default());
+    assert_eq!(first.global.node, iox2sd::config::Node::default());
+    Ok(())
+}
+
+/// The details of ports stand in the modules of their patterns, as in iceoryx2.
+#[test]
+fn details_stand_in_the_modules_of_their_patterns() {
+    use iox2sd::dynamic_config as all;
+    fn same<A: 'static, B: 'static>() -> bool {
+        TypeId::of::<A>() == TypeId::of::<B>()
+    }
+    assert!(same::<PublisherDetails, all::PublisherDetails>());
+    assert!(same::<
+        publish_subscribe::SubscriberDetails,
+        all::SubscriberDetails,
+    >());
+    assert!(same::<event::ListenerDetails, all::ListenerDetails>());
+    assert!(same::<event::NotifierDetails, all::NotifierDetails>());
+    assert!(same::<request_response::ServerDetails, all::ServerDetails>());
+    assert!(same::<request_response::ClientDetails, all::ClientDetails>());
+    assert!(same::<blackboard::ReaderDetails, all::ReaderDetails>());
+    assert!(same::<blackboard::WriterDetails, all::WriterDetails>());
+}
