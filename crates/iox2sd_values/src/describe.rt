@@ -102,7 +102,7 @@ fn make_publish_subscribe(
 /// `iox2sd_service_name_check`, or `iox2sd_internal_service_name_check` where `internal` is true,
 /// refuses (`BadServiceName`); settings that `iox2sd_publish_subscribe_settings_check_at` refuses,
 /// for the same cause and field; and a hash text that cannot be the name of a file
-/// (`IllegalHash`). Then the place is as it was.
+/// (`IllegalHash`). Then the struct is as it was.
 #[unsafe(no_mangle)]
 pub extern "C" fn iox2sd_describe_publish_subscribe_at(
     settings: &[PublishSubscribeSettings],
