@@ -157,6 +157,42 @@ void results() {
     static_assert(std::is_nothrow_move_constructible_v<List<int>>);
 }
 
+/// Results are copied and moved as their values are: as bytes, by themselves, or moved alone.
+void copies_and_moves() {
+    static_assert(std::is_trivially_copyable_v<Result<int>>);
+    static_assert(std::is_trivially_copyable_v<Result<AttributeKey, TextError>>);
+    static_assert(std::is_copy_constructible_v<Result<string>>);
+    static_assert(!std::is_copy_constructible_v<Result<List<int>>>);
+    static_assert(!std::is_copy_assignable_v<Result<Service>>);
+    const Result<string> text = string(40, 'x'), none = Status::Null;
+    Result<string> copy = text;
+    CHECK(copy == text && copy != none);
+    copy = none;
+    CHECK(copy == none && copy != text);
+
+    const int items[] = {1, 2};
+    const auto listed = [&items] { return List<int>::of(items, 2, [](int n) { return n; }); };
+    Result<List<int>> first = listed(), refused = Status::TooLarge;
+    Result<List<int>> taken = std::move(first);
+    CHECK(taken->size() == 2 && first.has_value() && first->empty());
+    Result<List<int>> error = std::move(refused);
+    CHECK(error == Status::TooLarge);
+    taken = std::move(error);
+    CHECK(taken == Status::TooLarge && taken != listed());
+    taken = listed();
+    CHECK(taken == listed() && taken->back() == 2);
+    auto& same = taken;
+    taken = std::move(same);
+    CHECK(taken == listed());
+    List<int>& list = *taken;
+    List<int>& same_list = list;
+    list = std::move(same_list);
+    CHECK(list.size() == 2 && list.front() == 1);
+    List<int> empty;
+    list = std::move(empty);
+    CHECK(list.empty() && list == List<int>() && taken->empty());
+}
+
 /// What all texts of 1 to `most` bytes share.
 template <class Name>
 void names(std::size_t most) {
@@ -760,6 +796,7 @@ void descriptions_of_the_library() {
 int main() {
     statuses();
     results();
+    copies_and_moves();
     texts();
     writing();
     comparisons();

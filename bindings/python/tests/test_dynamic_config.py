@@ -129,6 +129,21 @@ def calls(made: DynamicConfig, handle: ContainerHandle) -> "list[Any]":
 
 
 class Patterns(unittest.TestCase):
+    def test_a_listing_has_the_node_of_each_port(self):
+        nodes = [UniqueNodeId(process, 1, 2, 3) for process in (1, 2, 1, 3, 2, 1)]
+        wanted = tuple(publisher(place, node) for place, node in enumerate(nodes, 1))
+        with DynamicConfig.publish_subscribe(
+            7, max_nodes=3, max_publishers=6, max_subscribers=0
+        ) as made:
+            for node in set(nodes):
+                made.register_node_id(node)
+            for details in wanted:
+                made.attach(details)
+            self.assertEqual(made.list_publishers(), wanted)
+            for node in set(nodes):
+                of_node = tuple(details for details in wanted if details.node_id == node)
+                self.assertEqual(made.ports_of(node), of_node)
+
     def test_the_tickets_of_each_factory(self):
         for make in (
             lambda **tickets: DynamicConfig.publish_subscribe(

@@ -8,6 +8,8 @@ mod attaching;
 #[cfg(test)]
 mod dead_nodes;
 #[cfg(test)]
+mod debugs;
+#[cfg(test)]
 mod handles;
 #[cfg(test)]
 mod leaving;

@@ -17,3 +17,4 @@ pub mod Stepping
 pub mod Dying
 pub mod DeadSteps
 pub mod Logs
+pub mod Reports

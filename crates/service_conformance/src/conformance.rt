@@ -11,6 +11,6 @@ mod service_check;
 mod sides;
 mod words;
 
-pub use log::{Expected, Refusal, Verdict, check_log};
+pub use log::{Expected, Refusal, Verdict, check_log, check_streams};
 pub use possible::{NextHandle, PossibleReplies};
 pub use run_check::{RunCheck, conforms};

@@ -5,6 +5,8 @@ ghost use Rattle.service_conformance.specs.Logs.{CallsEnd, FirstIsNot, IsNote, J
 ghost use Rattle.service_conformance.specs.Possible.{IsCovered};
 
 mod front;
+mod report;
+mod streams;
 mod verdict;
 
 use super::run_check::RunCheck;
@@ -12,6 +14,7 @@ use front::{after_notes, command_before, words_before};
 use iox2_dynamic::dynamic_config::MessagingPatternSettings;
 use service_descriptions::replay::{Command, service_before};
 use std::alloc::{AllocError, Global};
+pub use streams::check_streams;
 pub use verdict::{Expected, Refusal, Verdict};
 
 /// The report on a reply in this line, with which the check does not go on.
