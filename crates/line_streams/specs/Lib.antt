@@ -1,4 +1,4 @@
--- Promises: how phrases are spelled, and what a failed stream has read or written.
+-- Promises: the texts of phrases, and what a failed stream has read or written.
 pub mod Spelling
 pub mod Streams
 -- Lemmas that the laws of the phrases cite: each is read in one way.
