@@ -3,7 +3,7 @@
 #
 #     bindings/package.sh
 #
-# - iox2sd-VERSION-x86_64-linux-gnu.tar.gz: a prefix with headers, libraries, the two programs, pages
+# - iox2sd-VERSION-x86_64-linux-gnu.tar.gz: a prefix with headers, libraries, the programs, pages
 #   and examples, to be unpacked anywhere;
 # - iox2sd-VERSION-rust.tar.gz: the crate for cargo, with the static library beside it;
 # - a wheel for pip with the shared library in it, and the wrapper's sources;
@@ -20,7 +20,7 @@ SOURCE_DATE_EPOCH=${SOURCE_DATE_EPOCH:-$(git -C "$top" log -1 --format=%ct)}
 export SOURCE_DATE_EPOCH LC_ALL=C TZ=UTC
 umask 022
 version=$(./version)
-programs=(iox2-replay iox2-describe)
+programs=(iox2-replay iox2-describe iox2-conform)
 work=$(mktemp -d)
 trap 'rm -rf "$work"' EXIT
 rm -rf "$dist"
@@ -54,7 +54,7 @@ for each in "${programs[@]}"; do
     install -m 755 "$(program "$each")" "$prefix/bin/$each"
     manual "$each" "$prefix/share/man/man1"
 done
-install -m 644 "$top"/docs/{C,CPP,CALLS,GLOSSARY,SCRIPT,DESCRIBE}.md "$prefix/share/doc/iox2sd"
+install -m 644 "$top"/docs/{C,CPP,CALLS,GLOSSARY,SCRIPT,DESCRIBE,CONFORM,CONFIG}.md "$prefix/share/doc/iox2sd"
 install -m 644 "$top"/examples/*.c "$top"/examples/*.cpp package/Makefile package/CMakeLists.txt \
     "$prefix/share/doc/iox2sd/examples"
 legal "$prefix/share/doc/iox2sd"

@@ -13,8 +13,8 @@ if [ "${1:-}" != inside ]; then
     ./package.sh "$work/dist" > "$work/log" 2>&1 || { cat "$work/log"; exit 1; }
     ./package.sh "$work/again" > "$work/log" 2>&1 || { cat "$work/log"; exit 1; }
     cp -r ../examples test_packages.sh "$work"
-    for program in replay describe; do
-        mkdir "$work/$program" && cp "../crates/iox2_$program"/std* "$work/$program"
+    for program in replay describe conform; do
+        mkdir "$work/$program" && cp "../crates/iox2_$program"/st* "$work/$program"
     done
     rm -rf ../dist && cp -r "$work/dist" ../dist
     # In a mount namespace of its own, an empty folder stands over the repository and the toolchain.
@@ -72,7 +72,11 @@ by_cmake() {
         prints "$work/short" "$work/build/short_cpp" && prints "$work/short" "$work/build/short_c"
 }
 # A program of the archive on its stored run.
-repeats() { "$prefix/bin/iox2-$1" < "$work/$1/stdin" | diff - "$work/$1/stdout"; }
+repeats() {
+    "$prefix/bin/iox2-$1" < "$work/$1/stdin" > "$work/printed"
+    [ $? = "$(cat "$work/$1/status" 2> "$work/log" || echo 0)" ] &&
+        diff "$work/printed" "$work/$1/stdout"
+}
 has_version() { [ "$("$prefix/bin/$1" --version)" = "$1 $version (iceoryx2 0.9.3)" ]; }
 has_manual() { zcat "$prefix/share/man/man1/$1.1.gz" | man -l - | grep -q "$2"; }
 if has gcc; then run "archive: C" c_static; fi
@@ -81,13 +85,13 @@ if has gcc && has pkg-config; then run "archive: pkg-config" by_pkg_config; fi
 if has make && has g++; then run "archive: make" by_make; fi
 if has cmake && has g++; then run "archive: CMake" by_cmake; fi
 refuses_argument() { ! "$prefix/bin/$1" what < /dev/null; }
-for program in replay describe; do
+for program in replay describe conform; do
     run "archive: iox2-$program" repeats $program
     run "archive: iox2-$program --version" has_version iox2-$program
     run "archive: iox2-$program with a bad argument" refuses_argument iox2-$program
 done
 if has man; then
-    for program in iox2-replay iox2-describe; do
+    for program in iox2-replay iox2-describe iox2-conform; do
         run "archive: man $program" has_manual $program "usage: $program"
     done
 fi

@@ -2,7 +2,6 @@
 #![tactic(auto)]
 
 mod program;
-mod request;
 
 use program::replay_streams;
 use std::env;

@@ -1,10 +1,9 @@
 //! The program: what its arguments request, done with its streams.
-ghost use Rattle.std.specs.Prelude.{◌≡◌, ◌<◌, OnOk};
-ghost use Rattle.std.specs.Io.KnownBytes.{Appends, IsAtEnd};
-ghost use Rattle.iox2_replay.specs.Program.{Printed, Ran, RequestsScript};
+ghost use Rattle.std.specs.Prelude.{◌<◌};
+ghost use Rattle.std.specs.Io.KnownBytes.{IsAtEnd};
+ghost use Rattle.iox2_replay.specs.Program.{Ran, RequestsScript};
 
-use crate::request::{Request, RequestError, request_of};
-use line_streams::write_whole;
+use line_streams::{Request, RequestError, print, request_of};
 use service_descriptions::replay::run_streams;
 use std::alloc::Global;
 use std::env::Args;
@@ -48,27 +47,6 @@ pub(crate) const BAD_ARGUMENT: &str = "bad argument: iox2-replay --help says how
 /// What is reported where memory was refused.
 pub(crate) const NO_MEMORY: &str = "no memory\n";
 
-/// Writes a text and flushes its writer.
-fn write_text<W: Write>(out: &mut W, text: &str) -> io::Result<()>
-    ensures { OnOk result (Appends (W.contents out.old) (W.contents out.new) text.now) }
-{
-    write_whole(out, text.as_bytes())?;
-    out.flush()
-}
-
-/// Writes a text and returns the status, or 3 where the writer fails.
-fn print<W: Write>(out: &mut W, text: &str, status: u8) -> u8
-    requires { status < 3 }
-    ensures range { result < 4 }
-    ensures printed { result < 3
-        → Printed text.now status result (W.contents out.old) (W.contents out.new) }
-{
-    match write_text(out, text) {
-        Ok(()) => status,
-        Err(_) => 3,
-    }
-}
-
 /// Runs the script that the reader gives, or writes how the program is used or its version, and
 /// returns its status. The first argument is the program's name.
 ///
@@ -91,7 +69,7 @@ pub(crate) fn replay_streams<R: Read, W: Write, E: Write>(
     ensures read { result < 2 → RequestsScript arguments → IsAtEnd (R.remaining input.new) }
 {
     match request_of(arguments) {
-        Ok(Request::Script) => run_streams(alloc, input, output, errors),
+        Ok(Request::Work) => run_streams(alloc, input, output, errors),
         Ok(Request::Help) => print(output, HELP, 0),
         Ok(Request::Version) => print(output, VERSION, 0),
         Err(RequestError::BadArgument) => print(errors, BAD_ARGUMENT, 1),

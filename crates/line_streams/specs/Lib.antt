@@ -1,4 +1,6 @@
--- Promises: the texts of phrases, and what a failed stream has read or written.
+-- Promises: the texts of phrases, what arguments request, and what a failed stream has read or
+-- written.
+pub mod Requests
 pub mod Spelling
 pub mod Streams
 -- Lemmas that the laws of the phrases cite: each is read in one way.

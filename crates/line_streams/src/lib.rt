@@ -7,6 +7,7 @@ pub mod laws;
 mod list;
 mod number;
 mod phrase;
+mod request;
 mod streams;
 mod word;
 
@@ -14,5 +15,6 @@ pub use end::{Line, LineEnd};
 pub use list::Listed;
 pub use number::{Number, number_before};
 pub use phrase::{Phrase, Then};
+pub use request::{Request, RequestError, print, request_of};
 pub use streams::{read_all, write_whole};
 pub use word::{After, after_word, before_byte};

@@ -1,0 +1,2 @@
+-- Promises: what the program does for its arguments.
+pub mod Program

@@ -1,0 +1,38 @@
+-- What the arguments of a program request.
+use Rattle.std.specs.Prelude.{◌≡◌, ◌≢◌, ℕ, List, [], ◌∷◌, codes, map, drop, Option, Result, Ok, Err, String, string_bytes}
+use Rattle.std.specs.IoError.{error_kind}
+use Rattle.std.specs.Io.KnownBytes.{Appends}
+use Rattle.std.specs.Vec.Iter.{into_iter_items}
+use Rattle.std.specs.declared.alloc.Global.{Global}
+use Rattle.std.specs.declared.vec.IntoIter.{IntoIter}
+use Rattle.std.specs.declared.io.Error.{Error}
+use Rattle.std.specs.declared.io.ErrorKind.TheVariants.{OutOfMemory}
+use Rattle.line_streams.specs.declared.request.Request.{Request}
+use Rattle.line_streams.specs.declared.request.Request.TheVariants.{Help, Version, Work}
+use Rattle.line_streams.specs.declared.request.RequestError.{RequestError}
+use Rattle.line_streams.specs.declared.request.RequestError.TheVariants.{BadArgument, NoMemory}
+
+-- the arguments
+abbrev pub words_of : IntoIter (String Global) Global → List (List ℕ)
+words_of words = map string_bytes (into_iter_items words)
+
+-- what the words after the program's name request
+abbrev pub RequestsIn : List (List ℕ) → Result Request RequestError → Type 0
+RequestsIn words (Ok Work) = words ≡ []
+RequestsIn words (Ok Help) = words ≡ codes "--help" ∷ []
+RequestsIn words (Ok Version) = words ≡ codes "--version" ∷ []
+RequestsIn words (Err BadArgument) =
+    (words ≢ []) × (words ≢ codes "--help" ∷ []) × (words ≢ codes "--version" ∷ [])
+RequestsIn words (Err NoMemory) = ⊥
+
+-- what the arguments request: where they could not be had, there is no memory or they are bad
+abbrev pub Requests : Result (IntoIter (String Global) Global) Error → Result Request RequestError
+    → Type 0
+Requests (Ok words) request = RequestsIn (drop 1 (words_of words)) request
+Requests (Err why) (Err NoMemory) = error_kind why ≡ OutOfMemory
+Requests (Err why) (Err BadArgument) = error_kind why ≢ OutOfMemory
+Requests (Err why) (Ok request) = ⊥
+
+-- the text was written, and the status is this one
+abbrev pub Printed : List ℕ → ℕ → ℕ → Option (List ℕ) → Option (List ℕ) → Type 0
+Printed text wanted status old new = (status ≡ wanted) × Appends old new text
