@@ -15,8 +15,8 @@ pub record MayOpen (opener service : MessageTypeDetails) : Type 0 where
   pub compatible : Compatible opener service
 
 -- a block of this size holds a message of n elements whose header lies at the block's start: the
--- payload has a place of 64 bits, the parts are aligned for the service and for every opener, and
--- so is each element where its size allows that
+-- payload's address has 64 bits, the parts are aligned for the service and for every opener, and so
+-- is each element where its size allows that
 pub record HoldsMessage (d : MessageTypeDetails) (n size header : ℕ) : Type 0 where
   pub place_fits : payload_place d header < 2 ^ 64
   pub own : Holds header size (parts d d header n)
@@ -35,7 +35,7 @@ block d size header i =
     }
 
 -- each block of this size that starts at a multiple of the header's alignment holds a message of n
--- elements, and so do blocks that lie end to end, of which no two share a place
+-- elements, and so do blocks that lie end to end, of which no two share a byte
 pub record HoldsEverywhere (d : MessageTypeDetails) (n size : ℕ) : Type 0 where
   pub alone : (header : ℕ) → d.header.alignment ∣ header → header + size < 2 ^ 64
       → HoldsMessage d n size header

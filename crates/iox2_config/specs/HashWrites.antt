@@ -7,7 +7,7 @@ use Rattle.iox2_config.specs.declared.types.message_details.MessageTypeDetails.{
 use Rattle.iox2_config.specs.declared.types.type_detail.TypeVariant.{TypeVariant}
 use Rattle.iox2_config.specs.declared.types.type_detail.TypeVariant.TheVariants.{FixedSize, Dynamic}
 
--- what a variant gives: its place among the variants
+-- what a variant gives: its number among the variants
 abbrev pub variant_writes : TypeVariant → HashWrites
 variant_writes FixedSize = isize (pos 0)
 variant_writes Dynamic = isize (pos 1)

@@ -36,8 +36,8 @@ hash_input kind name = (48 + pattern_number kind) ∷ name
 abbrev pub sha1_text : List ℕ → List ℕ
 sha1_text input = encode_of url_safe_no_pad (sha1 input)
 
--- what the making of a hash text answers: a refusal by the hasher only for an input that it may
--- refuse, and else what it means by the input, or that this is not legal
+-- the result of making a hash text: an error of the hasher only for an input that it may refuse,
+-- and else what it means by the input, or that this is not legal
 abbrev pub MakesHash : (List ℕ → List ℕ) → (List ℕ → Type 0) → List ℕ
     → Result (List ℕ) ServiceHashError → Type 0
 MakesHash meaning may_refuse input (Ok text) = (text ≡ meaning input)

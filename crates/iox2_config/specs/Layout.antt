@@ -1,25 +1,26 @@
--- Where the parts of a message lie, and how much room it is given.
+-- Where the parts of a message lie, and its layout.
 use Rattle.std.specs.Prelude.{ℕ, ◌+◌, ◌-◌, ◌*◌, ◌^◌, ◌<◌, List, [], ◌∷◌}
 use Rattle.iox2_texts.specs.Multiple.{least_multiple}
 use Rattle.iox2_config.specs.Parts.{Part}
 use Rattle.iox2_config.specs.declared.types.message_details.MessageTypeDetails.{MessageTypeDetails}
 use Rattle.iox2_config.specs.declared.types.places.Places.{Places}
 
--- the user header lies behind the header, at the first place that suits it
+-- the user header lies behind the header, at the first offset that suits it
 abbrev pub user_header_place : MessageTypeDetails → ℕ → ℕ
 user_header_place d header = least_multiple (header + d.header.size) d.user_header.alignment
 
--- the payload lies behind the user header, at the first place that suits it
+-- the payload lies behind the user header, at the first offset that suits it
 abbrev pub payload_place : MessageTypeDetails → ℕ → ℕ
 payload_place d header =
     least_multiple (user_header_place d header + d.user_header.size) d.payload.alignment
 
--- the places of both
+-- the offsets of both
 abbrev pub places_in : MessageTypeDetails → ℕ → Places
 places_in d header =
     record { user_header = user_header_place d header; payload = payload_place d header }
 
--- the size that a message of n elements is given: enough for the largest gaps between its parts
+-- the size of the layout of a message of n elements: enough for the largest padding between its
+-- parts
 abbrev pub sample_size : MessageTypeDetails → ℕ → ℕ
 sample_size d n =
     least_multiple
@@ -32,7 +33,7 @@ pub record HaveAlignments (d : MessageTypeDetails) : Type 0 where
   pub user_header : 0 < d.user_header.alignment
   pub payload : 0 < d.payload.alignment
 
--- a message with its header at this place has a place for its payload
+-- a message with its header at this offset has an offset for its payload
 pub record HasPlaces (d : MessageTypeDetails) (header : ℕ) : Type 0 where
   pub given : HaveAlignments d
   pub fits : payload_place d header < 2 ^ 64

@@ -1,5 +1,5 @@
 -- Promises: what the defaults are, what is hashed of a service, what the parts of types, messages
--- and layouts are, what their makers answer, where the parts of a message lie and what room holds
+-- and layouts are, what their makers return, where the parts of a message lie and what layout holds
 -- them, and who may open them.
 pub mod Blocks
 pub mod Compatible

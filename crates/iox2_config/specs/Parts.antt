@@ -3,7 +3,7 @@ use Rattle.std.specs.Prelude.{ℕ, ◌+◌, ◌<◌, ◌≤◌, List, [], ◌∷
 use Rattle.std.specs.List.{AllByRecursion}
 use Rattle.std.specs.Int.{◌∣◌}
 
--- the places from `start` on and before `end`; the start is to be a multiple of the alignment
+-- the bytes from `start` on and before `end`; the start is to be a multiple of the alignment
 pub record Part : Type 0 where
   pub start : ℕ
   pub end : ℕ
@@ -13,7 +13,7 @@ pub record Part : Type 0 where
 abbrev pub IsAligned : Part → Type 0
 IsAligned part = part.alignment ∣ part.start
 
--- the place is one of the part's
+-- the byte is one of the part's
 abbrev pub Covers : Part → ℕ → Type 0
 Covers part place = (part.start ≤ place) × (place < part.end)
 
@@ -21,17 +21,16 @@ Covers part place = (part.start ≤ place) × (place < part.end)
 abbrev pub Within : Part → Part → Type 0
 Within outer inner = (outer.start ≤ inner.start) × (inner.end ≤ outer.end)
 
--- no place is in both parts
+-- no byte is in both parts
 abbrev pub Apart : Part → Part → Type 0
 Apart one other = (place : ℕ) → Covers one place → Covers other place → ⊥
 
--- no two of the parts share a place
+-- no two of the parts share a byte
 abbrev pub AreApart : List Part → Type 0
 AreApart [] = ⊤
 AreApart (part ∷ others) = AllByRecursion (Apart part) others × AreApart others
 
--- the parts lie within the `size` places from `header`
--- on, no two share a place, and each is aligned
+-- the parts lie within the `size` bytes from `header` on, no two share a byte, and each is aligned
 pub record Holds (header size : ℕ) (parts : List Part) : Type 0 where
   pub inside : AllByRecursion (λ part. (header ≤ part.start) × (part.end ≤ header + size)) parts
   pub apart : AreApart parts

@@ -2,7 +2,7 @@
 use Rattle.std.specs.Prelude.{ℕ, ◌<◌, ◌^◌, IsTrue}
 use Rattle.std.specs.Int.{is_power_of_two}
 
--- a block of this many bytes, whose place is to be a multiple of the alignment
+-- a block of this many bytes with this alignment
 pub record SampleLayoutParts : Type 0 where
   pub size : ℕ
   pub alignment : ℕ

@@ -5,7 +5,7 @@ use Rattle.std.specs.Int.{◌∣◌, is_power_of_two}
 use Rattle.iox2_config.specs.declared.types.type_detail.TypeVariant.{TypeVariant}
 use Rattle.iox2_config.specs.declared.types.type_detail.TypeVariant.TheVariants.{FixedSize}
 
--- the type's details: its size in bytes, and the number of which each of its places is a multiple
+-- the type's details: its size in bytes, and its alignment
 pub record TypeDetailParts : Type 0 where
   pub variant : TypeVariant
   pub type_name : List ℕ

@@ -50,7 +50,7 @@ abbrev pub reply_of_remove : {T : Type 0} → Result ReleaseState ContainerRemov
 reply_of_remove (Ok state) = Reply.State state
 reply_of_remove (Err e) = Reply.NotOwned
 
--- a step was taken, and the reply tells what came of it
+-- a step was taken, and the reply is its result
 pub record Tells {T R : Type 0} (Step : R → Type 0) (told : R → RegistryReply T)
     (reply : RegistryReply T) : Type 0 where
   pub result : R

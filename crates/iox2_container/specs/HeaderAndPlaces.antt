@@ -1,4 +1,4 @@
--- What a header and places say together.
+-- What a header and slots say together.
 use Rattle.std.specs.Prelude.{◌≡◌, Option, List, length}
 use Rattle.iox2_container.specs.declared.container.registry_header.RegistryHeader.{RegistryHeader}
 use Rattle.iox2_container.specs.declared.container.slots.cell.Occupant.{Occupant}

@@ -10,7 +10,7 @@ use Rattle.iox2_container.specs.Handle.{Handle}
 use Rattle.iox2_container.specs.State.{RegistryState, IsRegistry, handle_of}
 use Rattle.iox2_container.specs.Steps.{AddStep, RemoveStep, Recovers, HasEntry, Asked, asked_about, marks_of, leaving}
 
--- a change that was asked for, and what came of it
+-- a change that was requested, and its result
 pub data Change (T : Type 0) : Type 0 where
   Adding : T → Result Handle ContainerAddFailure → Change T
   Removing : Handle → ReleaseMode → Result ReleaseState ContainerRemoveError → Change T

@@ -11,7 +11,7 @@ pub mod Calls
 pub mod Agreement
 -- What contracts see of slots, which others may use by themselves
 pub mod Cells
--- Inner facts, which no other crate needs: places, passes over them, the header, and the free list
+-- Inner facts, which no other crate needs: slots, passes over them, the header, and the free list
 pub mod Places
 pub mod Passes
 pub mod HeaderAndPlaces

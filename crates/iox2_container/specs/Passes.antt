@@ -1,4 +1,4 @@
--- What a pass over all places does with one of them, and in all.
+-- What a pass over all slots does with one of them, and in all.
 use Rattle.std.specs.Prelude.{◌≡◌, ℕ, ◌+◌, ◌-◌, ◌≤◌, ◌<◌, Bool, true, false, IsTrue, Option, Some, None, List, length, map, slice_get, ⊤}
 use Rattle.std.specs.Bool.{MatchBool}
 use Rattle.iox2_texts.specs.declared.bounded.callback_progression.CallbackProgression.{CallbackProgression}
@@ -9,18 +9,18 @@ use Rattle.iox2_container.specs.Cells.{occupant}
 use Rattle.iox2_container.specs.State.{Entry}
 use Rattle.iox2_container.specs.Steps.{Asked, marks_of, candidates, staying, is_of}
 
--- a callback was asked about what is in a cell, if there is anything
+-- a callback was called on the entry of a slot, if there is one
 abbrev pub AskedOfCell : {F A : Type 0} → (F → A → CallbackProgression → F → Type 0)
     → F → Option (Occupant A) → CallbackProgression → F → Type 0
 AskedOfCell calls f None answer f' = (answer ≡ Continue) × (f' ≡ f)
 AskedOfCell calls f (Some o) answer f' = calls f o.details answer f'
 
--- a callback may be asked about what is in a cell, if there is anything
+-- a callback may be called on the entry of a slot, if there is one
 abbrev pub TakesCell : {F A : Type 0} → (F → A → Type 0) → F → Option (Occupant A) → Type 0
 TakesCell takes f None = ⊤
 TakesCell takes f (Some o) = takes f o.details
 
--- a callback may be asked about what is in a cell, if it is the dead node's
+-- a callback may be called on the entry of a slot, if it is the dead node's
 abbrev pub TakesDead : {F T : Type 0} → (F → T → Type 0) → (T → Bool) → F → Option (Occupant T)
     → Type 0
 TakesDead takes is_dead f None = ⊤
@@ -31,12 +31,12 @@ abbrev pub cell_is_of : {T : Type 0} → (T → ℕ) → ℕ → Option (Occupan
 cell_is_of node id None = false
 cell_is_of node id (Some o) = is_of node id o.details
 
--- whether this place's cell is one of the node's
+-- whether the entry of this slot is one of the node's
 abbrev pub PlaceIsOf : {T : Type 0} → (T → ℕ) → ℕ → List (Option (Occupant T)) → ℕ → Bool → Type 0
 PlaceIsOf {T} node id cells slot is = (cell : Option (Occupant T))
     × (slice_get cells slot ≡ Some cell) × (is ≡ cell_is_of node id cell)
 
--- no entry of the node stands in these places
+-- no entry of the node is in these slots
 abbrev pub AreOthers : {T : Type 0} → (T → ℕ) → ℕ → List (Option (Occupant T)) → ℕ → ℕ → Type 0
 AreOthers node id cells from to = (slot : ℕ) → from ≤ slot → slot < to
     → PlaceIsOf node id cells slot false
@@ -65,7 +65,7 @@ abbrev pub looked_at : {T : Type 0} → ℕ → ℕ → Option (Found T) → ℕ
 looked_at from to None = to - from
 looked_at from to (Some found) = found.slot + 1 - from
 
--- whether what is in a cell goes, where a callback is asked about it if it is the dead node's
+-- whether the entry of a slot is removed, where a callback is called on it if it is the dead node's
 abbrev pub SweptCell : {F T : Type 0} → (F → T → Bool → F → Type 0) → (T → Bool) → F
     → Option (Occupant T) → Bool → F → Type 0
 SweptCell calls is_dead f None goes f' = (goes ≡ false) × (f' ≡ f)

@@ -1,4 +1,4 @@
--- What stands in numbered places.
+-- The entries of numbered slots.
 use Rattle.std.specs.Prelude.{◌≡◌, ◌≢◌, ℕ, ◌+◌, ◌≤◌, Option, Some, None, List, [], ◌∷◌, map, slice_get}
 use Rattle.iox2_container.specs.declared.container.slots.cell.Occupant.{Occupant}
 use Rattle.iox2_container.specs.Cells.{occupant}
@@ -20,11 +20,11 @@ details_in cells = map (λ e. e.details) (entries_from 0 cells)
 abbrev pub IsTakenAt : {T : Type 0} → List (Option (Occupant T)) → ℕ → Type 0
 IsTakenAt {T} cells slot = (o : Occupant T) × (slice_get cells slot ≡ Some (Some o))
 
--- no entry stands in this place, nor in a later one
+-- no entry is in this slot, nor in a later one
 abbrev pub NoneFrom : {T : Type 0} → List (Option (Occupant T)) → ℕ → Type 0
 NoneFrom cells end = (slot : ℕ) → end ≤ slot → IsTakenAt cells slot → ⊥
 
--- the details in the handle's place, if they have its ticket
+-- the details in the handle's slot, if they have its ticket
 abbrev pub Finds : {T : Type 0} → List (Option (Occupant T)) → Handle → Option T → Type 0
 Finds {T} cells handle None = (details : T)
     → slice_get cells handle.slot ≢ Some (Some (occupant handle.ticket details))

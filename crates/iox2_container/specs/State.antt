@@ -9,7 +9,7 @@ pub record Entry (T : Type 0) : Type 0 where
   pub ticket : ℕ
   pub details : T
 
--- a map of at most `capacity` entries. It hands out the tickets 0, 1, 2 .. below `budget`
+-- a map of at most `capacity` entries. It issues the tickets 0, 1, 2 .. below `budget`
 pub record RegistryState (T : Type 0) : Type 0 where
   pub service : ℕ
   pub role : Role

@@ -86,7 +86,7 @@ HasEntry {T} r handle details =
     (x : Entry T) × (handle ≡ handle_of r x) × (x.details ≡ details)
     × ((rest : List (Entry T)) × InsertsOne rest r.entries x)
 
--- a callback was asked once for each item, in order, and gave these answers
+-- a callback was called once on each item, in order, and returned these results
 abbrev pub Asked : {F A R : Type 0} → (F → A → R → F → Type 0) → F → List A → List R → F → Type 0
 Asked calls f [] [] f' = f' ≡ f
 Asked calls f [] (answer ∷ answers) f' = ⊥
@@ -98,8 +98,8 @@ Asked {F} calls f (item ∷ items) (answer ∷ answers) f' =
 abbrev pub listed : {T : Type 0} → RegistryState T → List T
 listed r = map (λ e. e.details) r.entries
 
--- a callback was asked about the items in order, up to and with the first answer `Stop`, or about
--- all. It is a record, so that a proof finds the calls in it
+-- a callback was called on the items in order, up to and with the first `Stop`, or on all. It is a
+-- record, so that a proof finds the calls in it
 pub record Visit {F A : Type 0} (calls : F → A → CallbackProgression → F → Type 0) (f : F)
     (items : List A) (f' : F) : Type 0 where
   pub visits : Visits calls f items f'
@@ -146,8 +146,8 @@ Recovers is_dead marked old mode state new =
     })
     × (state ≡ release_state new.locked)
 
--- what `recover` may do, where `calls` are the calls of its callback: it is asked about the
--- candidates in turn, it answers by the mark of each one's slot, and those that are marked go
+-- what `recover` may do, where `calls` are the calls of its callback: it is called on the
+-- candidates in turn, it returns the mark of each one's slot, and those that are marked are removed
 pub record RecoverStep {T F : Type 0} (calls : F → T → Bool → F → Type 0) (is_dead : T → Bool)
     (old : RegistryState T) (f : F) (mode : ReleaseMode) (state : ReleaseState)
     (new : RegistryState T) (f' : F) : Type 0 where

@@ -16,7 +16,7 @@ abbrev pub removes : PortCleanupAction → Bool
 removes RemovePort = true
 removes SkipPort = false
 
--- a callback was asked about a port, and its answer says whether the port goes
+-- a callback was called on a port, and its result says whether the port is removed
 abbrev pub AskedToGo : {F : Type 0} → (F → UniquePortId → PortCleanupAction → F → Type 0) → F
     → UniquePortId → Bool → F → Type 0
 AskedToGo calls f port goes f' =
@@ -26,8 +26,8 @@ AskedToGo calls f port goes f' =
 abbrev pub ids_asked_about : ℕ → ContainerState PortDetails → List UniquePortId
 ids_asked_about dead c = map port_of (asked_about (is_of node_of dead) c.registry)
 
--- a callback was asked once about each port of the dead
--- node, by rising slot, and exactly those go that it removes
+-- a callback was called once on each port of the dead node, by rising slot, and exactly those are
+-- removed that it removes
 abbrev pub RecoversPorts : {F : Type 0} → (F → UniquePortId → PortCleanupAction → F → Type 0) → ℕ
     → ContainerState PortDetails → F → ContainerState PortDetails → F → Type 0
 RecoversPorts calls dead old f new f' =

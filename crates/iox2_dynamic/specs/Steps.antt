@@ -80,14 +80,15 @@ abbrev pub ReleaseStep : Service → Handle → Result (Unit {0}) ContainerRemov
 ReleaseStep old handle (Ok _) new = (state : ReleaseState) × RemovesPort old handle (Ok state) new
 ReleaseStep old handle (Err why) new = RemovesPort old handle (Err why) new
 
--- the nodes, after the ports of the dead node were
--- asked about: where one of them is left, nothing goes
+-- the nodes, after the callback was called on the ports of the dead node: where one of them is
+-- left, no node is removed
 abbrev pub NodesAfter : ℕ → Bool → ContainerState ℕ → ReleaseState → ContainerState ℕ → Type 0
 NodesAfter dead true old state new = (state ≡ release_state old.registry.locked) × (new ≡ old)
 NodesAfter dead false old state new = RecoversNodes dead old state new
 
--- what the recovery of a dead node does: its ports of the first kind are asked about, then those of
--- the second, and then all its entries go if none of its ports is left
+-- what the recovery of a dead node does: the callback is called on its ports of the first kind,
+-- then on those of the second, and then all entries of the node are removed if none of its ports is
+-- left
 pub record DeadStep {F : Type 0} (calls : F → UniquePortId → PortCleanupAction → F → Type 0)
     (old : Service) (f : F) (dead : ℕ) (answer : DeregisterNodeState) (new : Service)
     (f' : F) : Type 0 where

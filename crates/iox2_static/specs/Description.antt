@@ -14,7 +14,7 @@ pub record Description : Type 0 where
   pub attributes : List Pair
   pub pattern : MessagingPattern
 
--- the description of a service without attributes, or the refusal of its hash text
+-- the description of a service without attributes, or the error of its hash text
 abbrev pub Describes : (List ℕ → List ℕ) → (List ℕ → Type 0) → List ℕ → ℕ → MessagingPattern
     → Result Description ServiceHashError → Type 0
 Describes meaning may_refuse name id pattern (Ok d) =

@@ -57,7 +57,7 @@ abbrev pub blackboard_writes : Blackboard → HashWrites
 blackboard_writes c = usize c.max_readers
     ++ (usize c.max_writers ++ (usize c.max_nodes ++ detail_writes c.type_details))
 
--- what a pattern gives: its place among the patterns, and then its configuration
+-- what a pattern gives: its number among the patterns, and then its configuration
 abbrev pub pattern_writes : MessagingPattern → HashWrites
 pattern_writes (pattern.RequestResponse c) = isize (pos 0) ++ request_response_writes c
 pattern_writes (pattern.PublishSubscribe c) = isize (pos 1) ++ publish_subscribe_writes c

@@ -1,4 +1,4 @@
--- Promises: how phrases are spelled, what arguments request, and what a failed stream has read or
+-- Promises: the texts of phrases, what arguments request, and what a failed stream has read or
 -- written.
 pub mod Requests
 pub mod Spelling

@@ -1,4 +1,4 @@
--- How phrases are spelled.
+-- The texts of phrases.
 use Rattle.std.specs.Prelude.{◌≡◌, ◌≢◌, ℕ, ◌≤◌, ◌<◌, ◌^◌, List, [], ◌∷◌, ◌++◌, get_or, Option, Some, None}
 use Rattle.std.specs.List.{All}
 use Rattle.std.specs.Fmt.{decimal}
@@ -6,14 +6,14 @@ use Rattle.std.specs.Int.{IsInRange}
 use Rattle.line_streams.specs.declared.end.LineEnd.{LineEnd}
 use Rattle.line_streams.specs.declared.end.LineEnd.TheVariants.{Newline, Bytes}
 
--- How values are spelled at the front of a text: which values can stand there, each with what
--- follows it, and the whole text.
+-- The texts of values at the front of a text: which values can be there, each with what follows it,
+-- and the whole text.
 pub record Spelling (A : Type 0) : Type 1 where
   pub Fits : A × List ℕ → Type 0
   pub text : A × List ℕ → List ℕ
 
--- What was read has a spelling, and is spelled so. Where nothing was read, nothing that has a
--- spelling is spelled so.
+-- What was read fits, and this is its text. Where nothing was read, nothing that fits has this
+-- text.
 abbrev pub Reads : {A B : Type 0} → (A → Type 0) → (A → List B) → Option A → List B → Type 0
 Reads Fits text (Some a) bytes = Fits a × (bytes ≡ text a)
 Reads {A = A} Fits text None bytes = (a : A) → Fits a → bytes ≢ text a

@@ -1,5 +1,5 @@
--- Promises: the step of a service under a command and its parts, how ids, commands, services and
--- replies are spelled, what a script is and gives, and what the streams of the program get.
+-- Promises: the step of a service under a command and its parts, the texts of ids, commands,
+-- services and replies, what a script is and gives, and what the streams of the program get.
 pub mod Steps
 pub mod Cleanups
 pub mod Descriptions

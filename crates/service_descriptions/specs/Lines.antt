@@ -1,4 +1,4 @@
--- How ids, commands and services are spelled in a script.
+-- The texts of ids, commands and services in a script.
 use Rattle.std.specs.Prelude.{◌≡◌, ◌≢◌, ℕ, ◌<◌, ◌^◌, List, [], ◌∷◌, ◌++◌, codes, map}
 use Rattle.std.specs.Fmt.{decimal}
 use Rattle.std.specs.List.{AllByRecursion, join_with_byte}
@@ -145,7 +145,7 @@ IsLine end line = HasLine line.0 × (line_end end).Fits (tt, line.1)
 abbrev pub line_text : LineEnd → Command × List ℕ → List ℕ
 line_text end line = line_of line.0 ++ (line_end end).text (tt, line.1)
 
--- the command that is spelled
+-- the command of a line
 abbrev pub command_of : LineCommand → Command
 command_of (spelled.Register id) = command.Register id
 command_of (spelled.Deregister k) = command.Deregister k

@@ -1,4 +1,4 @@
--- How a service answers what is asked of its nodes and ports.
+-- How a service replies to queries of its nodes and ports.
 use Rattle.std.specs.Prelude.{◌≡◌, Some}
 use Rattle.iox2_container.specs.declared.container.role.Role.{Role}
 use Rattle.iox2_container.specs.Steps.{listed}

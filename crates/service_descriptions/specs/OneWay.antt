@@ -62,7 +62,7 @@ node_id_one = record { same = λ a b p q e. id_one.same a b (p.0.0, p.1) (q.0.0,
 pub dead_one : OneWay dead_phrase
 dead_one = sequence_one node_id_one (listed_one (codes " skip ") 32 id_one)
 
--- what tells roles apart: the first two bytes
+-- what distinguishes roles: the first two bytes
 abbrev role_by : List ℕ → Role
 role_by bytes =
     if get_or bytes 0 0 == 112 then role.Publisher

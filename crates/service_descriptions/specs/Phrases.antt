@@ -1,4 +1,4 @@
--- How the words of lines are spelled, each with what follows it.
+-- The texts of the words of lines, each with what follows it.
 use Rattle.std.specs.Prelude.{◌≢◌, ℕ, List, ◌∷◌, ◌++◌, codes}
 use Rattle.iox2_config.specs.declared.hash.input.PatternKind.{PatternKind}
 use Rattle.iox2_config.specs.Hashing.{pattern_word}
@@ -48,7 +48,7 @@ three_phrase =
     sequence role_phrase
     (after (codes " ") (sequence id_phrase (after (codes " ") node_id_phrase)))
 
--- what is spelled of a port
+-- what a line has of a port
 abbrev pub spelled_of : PortDetails → Role × (ℕ × ℕ)
 spelled_of d = (role_of d, (port_value (port_of d), node_of d))
 

@@ -22,7 +22,7 @@ service_words l =
 abbrev pub service_line : ServiceLine → List ℕ
 service_line l = join_with_byte 32 (service_words l)
 
--- numbers of 64 bits have a spelling
+-- numbers of 64 bits have a text
 pub record IsServiceLine (l : ServiceLine) : Type 0 where
   pub number : l.number < 2 ^ 64
   pub max_nodes : l.max_nodes < 2 ^ 64

@@ -36,7 +36,7 @@ JoinStep old node port (Err why) new = RefusesToJoin old node port why × (new �
 abbrev pub CanJoin : Service → ℕ → PortDetails → Type 0
 CanJoin s node port = (joined : Joined) × (new : Service) × JoinStep s node port (Ok joined) new
 
--- what is asked before a node joins
+-- what is checked before a node joins
 abbrev pub MayJoin : Service → ℕ → PortDetails → Type 0
 MayJoin s node port = SuitsNode s node port × TakesEntry s.nodes.registry
     × TakesPort s (role_of port)

@@ -35,7 +35,7 @@ pub record IsRoster (s : Service) (members : List Member) : Type 0 where
   pub by_node : IsNonDecreasingBy node_of_member members
   pub in_turn : IsStableByKey node_of_member nat_cmp (members_of s) members
 
--- these were put at the end of a list, and no room was taken for them
+-- these were put at the end of a list, and no memory was taken for them
 abbrev pub Appends : {A : Type 0} → List A → Vec A → Vec A → Type 0
 Appends added old new =
     (new.items ≡ old.items ++ added)

@@ -48,7 +48,7 @@ IsVerified d o = (kind_of d.pattern ≡ kind.PublishSubscribe) × IsSatisfied o.
 abbrev pub IsCompatible : Description → Opener → Type 0
 IsCompatible d o = IsVerified d o × MayOpen o.types (types_of d.pattern)
 
--- the opener may use the messages, which fit the room that it was given, one of just the size and
+-- the opener may use the messages, which fit the layout that is returned, one of just the size and
 -- alignment that the service's messages have, and its node is registered
 abbrev pub Opens : Description → Opener → Service → OpenedService → Service → Type 0
 Opens d o old opened new =
@@ -58,7 +58,7 @@ Opens d o old opened new =
     × (opened.message.alignment ≡ (types_of d.pattern).header.alignment)
     × RegisterStep old o.node (Ok opened.node) new
 
--- the room of a message for an opener that may use messages of these types
+-- the layout of a message for an opener that may use messages of these types
 abbrev pub GivesRoom : MessageTypeDetails → Opener → Result SampleLayoutParts OpenError → Type 0
 GivesRoom types o (Ok room) =
     MayOpen o.types types × MessagesFit types o.types o.elements room.size

@@ -27,8 +27,8 @@ nodes_without dead nodes = record nodes {
   locked = nodes.locked || last_went nodes.entries (others (λ id. id) dead nodes.entries);
 }
 
--- no port and no entry of a dead node is left, each
--- other entry stays as it was, and the last death locks
+-- no port and no entry of a dead node is left, each other entry stays as it was, and the removal of
+-- the last node locks
 pub record OnlyOthersStay (dead : List ℕ) (old new : Service) : Type 0 where
   pub pattern : new.pattern ≡ old.pattern
   pub nodes : new.nodes.registry ≡ nodes_without dead old.nodes.registry

@@ -124,7 +124,7 @@ fn append_there(told: &Refusal, out: &mut Vec<u8>) -> Result<(), AllocError>
     Ok(())
 }
 
-/// Appends what is told of a reply that no run gives.
+/// Appends the report on a reply that no run gives.
 fn append_refusal(told: &Refusal, out: &mut Vec<u8>) -> Result<(), AllocError>
     ensures { OnOk result (out.new.items ≡ out.old.items ++ (seen_text told.now
         ++ there_text told.now)) }

@@ -91,7 +91,7 @@ fn run<R: Read, W: Write, E: Write>(
 ///
 /// - 0: the replies are those of a run. `conforms, N calls on 1 service` was written to `output`.
 /// - 1: they are none. The first that no run gives was written to `output`: its line, its words,
-///   every reply that a run gives in its place, and the nodes and ports that are there then.
+///   every reply that a run gives instead, and the nodes and ports that are there then.
 /// - 2: a line is not what it should be. Which one, and what is expected, was written to `errors`.
 /// - 3: memory was refused, and `no memory` was written to `errors`; or a read, a write or a flush
 ///   failed, for any cause, and it was tried to write `a stream failed` to `errors`.
