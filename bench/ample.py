@@ -1,10 +1,18 @@
 """What `iox2-replay` and `iox2-describe` are run on with ample memory: inputs of many sizes, which
 none may be too large for. Each comes with its name, the words after the program's name, and the
-number of lines that are to be written, if that is known."""
+number of lines that are to be written, if that is known.
 
-SIZES = [
-    *range(8), 100, 101, 1_000, 1_001, 4_095, 4_096, 4_097, 65_535, 65_536, 65_537, 1_000_000, 1_000_001
-]
+The sizes are all to 130, each power of two to 65,536 with one below and above, some more, and ten
+random ones, which the environment variable `SEED` repeats."""
+
+import os
+import random
+import time
+
+SEED = int(os.environ.get("SEED", time.time_ns() % 2**32))
+NEAR_POWERS = [2**exponent + near for exponent in range(17) for near in (-1, 0, 1)]
+RANDOM = random.Random(SEED).sample(range(131, 65_536), 10)
+SIZES = sorted({*range(131), *NEAR_POWERS, 1_000, 1_001, 1_000_000, 1_000_001, *RANDOM})
 PATTERNS = ["publish-subscribe", "event", "request-response", "blackboard"]
 
 SERVICE = b"service event 7 1 1 1\n"

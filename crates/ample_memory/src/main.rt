@@ -6,6 +6,7 @@
 
 mod containers;
 mod listings;
+mod ports;
 mod replaying;
 mod scripts;
 mod services;

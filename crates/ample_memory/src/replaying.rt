@@ -1,17 +1,16 @@
 //! Commands in one call and over many, their listings, and the lines of these.
 use super::Called;
+use super::ports::port;
 use service_descriptions::container::Role;
-use service_descriptions::dynamic_config::{
-    ListenerDetails, MessagingPatternSettings, PortDetails,
-};
+use service_descriptions::dynamic_config::MessagingPatternSettings;
 use service_descriptions::hash::PatternKind;
-use service_descriptions::identifiers::{UniqueListenerId, UniqueNodeId};
+use service_descriptions::identifiers::UniqueNodeId;
 use service_descriptions::replay::{Command, ServiceState, replay, write_reply};
 use std::alloc::{AllocError, Global};
 
-/// A service with this capacity for nodes and for listeners.
+/// A service with this capacity for nodes, for listeners and for notifiers.
 fn state(alloc: Global, places: usize) -> Result<ServiceState, AllocError> {
-    let settings = MessagingPatternSettings::new(PatternKind::Event, places, 1);
+    let settings = MessagingPatternSettings::new(PatternKind::Event, places, places);
     ServiceState::new(alloc, &settings, places, 7)
 }
 
@@ -50,26 +49,29 @@ fn over_many(alloc: Global, calls: usize) -> Result<(), AllocError> {
     )
 }
 
-/// A node and a port of it come.
-fn coming() -> Option<[Command; 2]> {
+/// A node and a port of each kind come.
+fn coming() -> Option<[Command; 3]> {
     let node_id = UniqueNodeId::new(1, 0, 0, 1)?;
-    let details = ListenerDetails {
-        listener_id: UniqueListenerId::new(1, 0, 0, 9),
-        node_id,
-    };
+    let listener = port(Role::Listener, node_id)?;
+    let notifier = port(Role::Notifier, node_id)?;
     Some([
         Command::Register(node_id),
-        Command::Add(PortDetails::Listener(details)),
+        Command::Add(listener),
+        Command::Add(notifier),
     ])
 }
 
-/// Listings of this many nodes and ports, and their lines.
+/// Listings of this many nodes and ports of each kind, and their lines.
 fn listed(alloc: Global, entries: usize) -> Result<(), AllocError> {
     let mut state = state(alloc, entries)?;
     if let Some(commands) = coming() {
         in_turn(alloc, &mut state, &commands, entries)?;
     }
-    let listings = [Command::Nodes, Command::List(Role::Listener)];
+    let listings = [
+        Command::Nodes,
+        Command::List(Role::Listener),
+        Command::List(Role::Notifier),
+    ];
     let mut replies = Vec::new(alloc);
     replay(alloc, &mut state, &listings, &mut replies)?;
     let mut out = Vec::new(alloc);
