@@ -422,9 +422,40 @@ iox2sd_field_answer __wrap_iox2sd_request_response_settings_check_at(
     given_requests = *settings;
     return {IOX2SD_DONE, 0};
 }
+
+/// How a script's calls end: the first, which asks for room, and the second.
+static iox2sd_script_answer first_run, second_run;
+
+iox2sd_script_answer __wrap_iox2sd_script_run(const uint8_t*, size_t, uint8_t* out,
+                                              size_t capacity) {
+    if (out == nullptr) return first_run;
+    for (std::size_t i = 0; i < second_run.length && i < capacity; ++i) {
+        out[i] = static_cast<std::uint8_t>('a' + i);
+    }
+    return second_run;
+}
 }
 
 namespace {
+
+/// What is answered of a script, whichever of its two calls has ended it.
+void scripts() {
+    const auto run = [](iox2sd_script_answer first, iox2sd_script_answer second) {
+        first_run = first, second_run = second;
+        return run_script("");
+    };
+    const auto ended = [](const ScriptRun& run, Status status, std::size_t line,
+                          std::string_view replies) {
+        CHECK(run.status == status && run.line == line && run.replies() == replies);
+    };
+    const iox2sd_script_answer room{IOX2SD_BUFFER_TOO_SHORT, 0, 3};
+    ended(run({IOX2SD_DONE, 0, 0}, {}), Status::Done, 0, "");
+    ended(run({IOX2SD_BAD_LINE, 7, 0}, {}), Status::BadLine, 7, "");
+    ended(run({IOX2SD_NO_MEMORY, 0, 0}, {}), Status::NoMemory, 0, "");
+    ended(run(room, {IOX2SD_DONE, 0, 3}), Status::Done, 0, "abc");
+    ended(run(room, {IOX2SD_BAD_LINE, 7, 3}), Status::BadLine, 7, "abc");
+    ended(run(room, {IOX2SD_NO_MEMORY, 0, 2}), Status::NoMemory, 0, "ab");
+}
 
 void crossing_settings() {
     const GlobalSettings global = GlobalSettings::defaults();
@@ -522,6 +553,7 @@ int main() {
     descriptions();
     ports();
     handles();
+    scripts();
     crossing_settings();
     crossing_samples();
     crossing_requests();

@@ -61,7 +61,8 @@ mod display;
 #[allow(unsafe_code)]
 mod library;
 mod limits;
-#[allow(missing_debug_implementations)]
+// Names are those of the headers.
+#[allow(missing_debug_implementations, clippy::struct_field_names)]
 mod sys;
 mod text;
 
