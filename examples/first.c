@@ -21,7 +21,8 @@ static iox2sd_key key_of(const char *text) {
 }
 
 static iox2sd_type_detail type_of(const char *name, size_t size, size_t alignment) {
-    iox2sd_type_detail made = {bytes(name), strlen(name), IOX2SD_FIXED_SIZE, size, alignment};
+    iox2sd_type_detail made = {bytes(name), strlen(name), IOX2SD_VARIANT_FIXED_SIZE, size,
+                               alignment};
     return made;
 }
 
@@ -97,7 +98,8 @@ static void verify(const iox2sd_attribute *attributes, size_t number_of_attribut
 /* A node joins with a publisher, is listed, and dies. */
 static void live(iox2sd_service *service) {
     const iox2sd_id node = {1, 0, 0, 2};
-    iox2sd_port_details publisher = {.role = IOX2SD_PUBLISHER, .port = {1, 0, 0, 3}, .node = {1, 0, 0, 2}};
+    iox2sd_port_details publisher = {
+        .role = IOX2SD_PUBLISHER, .port = {1, 0, 0, 3}, .node = {1, 0, 0, 2}};
     iox2sd_id nodes[20];
     iox2sd_port_details ports[2];
     iox2sd_count_answer found;

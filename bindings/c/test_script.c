@@ -138,6 +138,10 @@ int main(void) {
     CHECK(answers(iox2sd_script_run((const uint8_t *)"service event 7 1 1 18446744073709551615\n",
                                     41, out, MOST),
                   IOX2SD_NO_MEMORY, 0, 0));
+    CHECK(answers(iox2sd_script_run(NULL, 1, out, MOST), IOX2SD_NULL, 0, 0));
+    CHECK(answers(iox2sd_script_run((const uint8_t *)"", 0, NULL, 1), IOX2SD_NULL, 0, 0));
+    CHECK(answers(iox2sd_script_run_str(NULL, out, MOST), IOX2SD_NULL, 0, 0));
+    CHECK(answers(iox2sd_script_run_str("service", NULL, 0), IOX2SD_BAD_LINE, 1, 0));
     buffers();
     bad_lines();
     no_memory();

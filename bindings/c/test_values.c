@@ -267,7 +267,7 @@ static iox2sd_type_detail type_of(const char *name, size_t size, size_t alignmen
     iox2sd_type_detail detail;
     detail.name = bytes(name);
     detail.name_length = strlen(name);
-    detail.variant = IOX2SD_FIXED_SIZE;
+    detail.variant = IOX2SD_VARIANT_FIXED_SIZE;
     detail.size = size;
     detail.alignment = alignment;
     return detail;
@@ -322,7 +322,7 @@ static void compatible(void) {
 
     opener.payload.size = 9;
     CHECK(is_part(iox2sd_message_is_compatible_to(&opener, &service), IOX2SD_OTHER_SIZE, 0, IOX2SD_PAYLOAD));
-    opener.payload.variant = IOX2SD_DYNAMIC;
+    opener.payload.variant = IOX2SD_VARIANT_DYNAMIC;
     CHECK(is_part(iox2sd_message_is_compatible_to(&opener, &service), IOX2SD_OTHER_VARIANT, 0, IOX2SD_PAYLOAD));
     opener.user_header.name = bytes("Userheader");
     CHECK(is_part(iox2sd_message_is_compatible_to(&opener, &service), IOX2SD_OTHER_NAME, 0, IOX2SD_USER_HEADER));
@@ -351,7 +351,7 @@ static void type_details(void) {
     memset(name, 'x', sizeof name);
     CHECK(iox2sd_type_detail_check(&type) == IOX2SD_DONE);
     type = type_of("", 0, 1);
-    type.variant = IOX2SD_DYNAMIC;
+    type.variant = IOX2SD_VARIANT_DYNAMIC;
     CHECK(iox2sd_type_detail_check(&type) == IOX2SD_DONE);
     type.name = bytes(name);
     type.name_length = 256;
@@ -394,7 +394,7 @@ static void settings(void) {
     CHECK(p.max_subscribers == 8 && p.max_publishers == 2 && p.max_nodes == 20 && p.subscriber_max_buffer_size == 2);
     CHECK(p.subscriber_max_borrowed_samples == 2 && p.publisher_max_loaned_samples == 2 && p.publisher_history_size == 0);
     CHECK(p.subscriber_expired_connection_buffer == 128 && p.backpressure_strategy == IOX2SD_RETRY_UNTIL_DELIVERED);
-    CHECK(p.publisher_allocation_strategy == IOX2SD_STATIC && p.enable_safe_overflow);
+    CHECK(p.publisher_allocation_strategy == IOX2SD_ALLOCATION_STATIC && p.enable_safe_overflow);
     CHECK(e.max_listeners == 16 && e.max_notifiers == 16 && e.max_nodes == 36 && e.event_id_max_value == 255);
     CHECK(!e.deadline.is_some && e.deadline.seconds == 0 && e.deadline.nanoseconds == 0);
     CHECK(!e.notifier_created_event.is_some && e.notifier_created_event.number == 0);
@@ -404,7 +404,7 @@ static void settings(void) {
     CHECK(r.max_loaned_requests == 2 && r.server_max_loaned_responses_per_request == 2);
     CHECK(r.client_expired_connection_buffer == 128 && r.server_expired_connection_buffer == 128);
     CHECK(r.client_backpressure_strategy == IOX2SD_RETRY_UNTIL_DELIVERED && r.server_backpressure_strategy == 0);
-    CHECK(r.client_allocation_strategy == IOX2SD_STATIC && r.server_allocation_strategy == IOX2SD_STATIC);
+    CHECK(r.client_allocation_strategy == IOX2SD_ALLOCATION_STATIC && r.server_allocation_strategy == IOX2SD_ALLOCATION_STATIC);
     CHECK(r.enable_safe_overflow_for_requests && r.enable_safe_overflow_for_responses);
     CHECK(r.enable_fire_and_forget_requests);
     CHECK(b.max_readers == 8 && b.max_nodes == 20);

@@ -50,7 +50,7 @@ class UniqueId(Checked):
         return int(str(self), 16)
 
     def __str__(self) -> str:
-        return _native.written(_native.id_text, self._lent())[1]
+        return _native.written(_native.id_text_at, self._lent())[1]
 
     def __lt__(self, other: object) -> bool:
         if not isinstance(other, UniqueId) or type(other) is not type(self):

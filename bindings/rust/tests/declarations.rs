@@ -243,7 +243,11 @@ fn each_enumerator_has_the_number_of_its_name() {
             } else {
                 ""
             };
-            assert_eq!(constant, upper(name) + end, "{file}");
+            let front = ["ALLOCATION_", "VARIANT_"]
+                .into_iter()
+                .find(|front| constant.starts_with(front))
+                .unwrap_or("");
+            assert_eq!(constant, format!("{front}{}{end}", upper(name)), "{file}");
             count += 1;
         }
     }
