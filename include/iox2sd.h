@@ -431,6 +431,9 @@ static inline const char *iox2sd_pattern_str(uint64_t pattern) {
     }
 }
 
+/* How many bytes a text has that ends in a zero byte. NULL has one, so that calls refuse it. */
+static inline size_t iox2sd_length(const char *text) { return text != NULL ? strlen(text) : 1; }
+
 /* Whether an id is that of a node: its process or its counter is not 0. */
 bool iox2sd_id_is_node(iox2sd_id id);
 
@@ -460,7 +463,7 @@ static inline iox2sd_id_answer iox2sd_id_from_text(const uint8_t *text, size_t l
     return iox2sd_id_from_text_at(text, length);
 }
 static inline iox2sd_id_answer iox2sd_id_from_text_str(const char *text) {
-    return iox2sd_id_from_text((const uint8_t *)text, text != NULL ? strlen(text) : 1);
+    return iox2sd_id_from_text((const uint8_t *)text, iox2sd_length(text));
 }
 
 /* The library's own functions on a service take, in place of one pointer, an array of 0 or 1

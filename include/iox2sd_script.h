@@ -40,8 +40,7 @@ static inline iox2sd_script_answer iox2sd_script_run(const uint8_t *script, size
 }
 static inline iox2sd_script_answer iox2sd_script_run_str(const char *script, uint8_t *out,
                                                          size_t capacity) {
-    return iox2sd_script_run((const uint8_t *)script, script != NULL ? strlen(script) : 1, out,
-                             capacity);
+    return iox2sd_script_run((const uint8_t *)script, iox2sd_length(script), out, capacity);
 }
 
 #ifdef __cplusplus

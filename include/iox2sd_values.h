@@ -70,10 +70,6 @@ iox2sd_node_dir_at(const uint8_t *root, size_t length, uint8_t *out, size_t capa
 iox2sd_text_answer iox2sd_version_at(uint8_t *out, size_t capacity);
 iox2sd_text_answer iox2sd_layer_version_at(uint8_t *out, size_t capacity);
 
-/* How many bytes a text has that ends in a zero byte; 1 for NULL, which calls refuse with a length.
- */
-static inline size_t iox2sd_length(const char *text) { return text != NULL ? strlen(text) : 1; }
-
 /* Whether a text is the name that a user gives to a service: 1 to 255 bytes, each from 1 to 127,
  * not beginning with "iox2://".
  * Errors: IOX2SD_RESERVED_PREFIX; IOX2SD_EMPTY; IOX2SD_TOO_LONG, with `at` 255;
@@ -99,8 +95,7 @@ static inline iox2sd_place_answer iox2sd_internal_service_name_check_str(const c
     return iox2sd_internal_service_name_check((const uint8_t *)text, iox2sd_length(text));
 }
 
-/* Whether a text begins with "iox2://", as the names of the system's own services do; no for NULL.
- */
+/* Whether a text begins with "iox2://", as the names of the system's services do; no for NULL. */
 static inline bool iox2sd_has_iox2_prefix(const uint8_t *text, size_t length) {
     return text != NULL && iox2sd_has_iox2_prefix_at(text, length);
 }
@@ -171,8 +166,7 @@ static inline iox2sd_place_answer iox2sd_file_name_check_str(const char *text) {
 }
 
 /* Whether a text is the path of a file: 1 to 255 bytes, each from 1 to 127, of which those after
- * the last `/` are the name of a file. Errors as of the name of a file; a `/` is no illegal byte.
- */
+ * the last `/` are the name of a file. Errors as of the name of a file; `/` is no illegal byte. */
 static inline iox2sd_place_answer iox2sd_file_path_check(const uint8_t *text, size_t length) {
     iox2sd_place_answer refused = {IOX2SD_NULL, 0};
     if (text == NULL && length != 0) return refused;
@@ -367,8 +361,8 @@ iox2sd_attributes_key_value(const iox2sd_attribute *pairs, size_t length, const 
  * - IOX2SD_MISSING_PAIR, of the least required pair that the set lacks, with its first index in
  *   `required`;
  * - IOX2SD_MISSING_KEY, of the first required key that the set lacks, with its first index in
- *   `keys`. So an invalid required key is not reported where a seventeenth required pair stands
- *   before it. */
+ *   `keys`.
+ * So an invalid required key is not reported where a seventeenth required pair stands before it. */
 static inline iox2sd_place_answer
 iox2sd_attributes_verify(const iox2sd_attribute *pairs, size_t length,
                          const iox2sd_attribute *required, size_t required_length,
@@ -806,18 +800,23 @@ typedef struct iox2sd_description {
 } iox2sd_description;
 
 /* Functions that end in `_at` take a pointer and a count of 0 for NULL or 1; call those below. */
-iox2sd_field_answer iox2sd_describe_publish_subscribe_at(
-    const iox2sd_publish_subscribe_settings *settings, size_t count, const uint8_t *name,
-    size_t length, bool internal, iox2sd_id id, iox2sd_description *out, size_t out_count);
-iox2sd_field_answer iox2sd_describe_event_at(
-    const iox2sd_event_settings *settings, size_t count, const uint8_t *name,
-    size_t length, bool internal, iox2sd_id id, iox2sd_description *out, size_t out_count);
-iox2sd_field_answer iox2sd_describe_request_response_at(
-    const iox2sd_request_response_settings *settings, size_t count, const uint8_t *name,
-    size_t length, bool internal, iox2sd_id id, iox2sd_description *out, size_t out_count);
-iox2sd_field_answer iox2sd_describe_blackboard_at(
-    const iox2sd_blackboard_settings *settings, size_t count, const uint8_t *name,
-    size_t length, bool internal, iox2sd_id id, iox2sd_description *out, size_t out_count);
+iox2sd_field_answer
+iox2sd_describe_publish_subscribe_at(const iox2sd_publish_subscribe_settings *settings,
+                                     size_t count, const uint8_t *name, size_t length,
+                                     bool internal, iox2sd_id id, iox2sd_description *out,
+                                     size_t out_count);
+iox2sd_field_answer iox2sd_describe_event_at(const iox2sd_event_settings *settings, size_t count,
+                                             const uint8_t *name, size_t length, bool internal,
+                                             iox2sd_id id, iox2sd_description *out,
+                                             size_t out_count);
+iox2sd_field_answer
+iox2sd_describe_request_response_at(const iox2sd_request_response_settings *settings, size_t count,
+                                    const uint8_t *name, size_t length, bool internal, iox2sd_id id,
+                                    iox2sd_description *out, size_t out_count);
+iox2sd_field_answer iox2sd_describe_blackboard_at(const iox2sd_blackboard_settings *settings,
+                                                  size_t count, const uint8_t *name, size_t length,
+                                                  bool internal, iox2sd_id id,
+                                                  iox2sd_description *out, size_t out_count);
 
 /* Fills a description from a service's settings, its name and its id. Where `internal` is true, the
  * name may be one of the system's own. The hash text is that of iox2sd_internal_hash_text, which
@@ -826,61 +825,65 @@ iox2sd_field_answer iox2sd_describe_blackboard_at(
  * IOX2SD_NOT_UTF8; IOX2SD_BAD_SERVICE_NAME, of which iox2sd_service_name_check has the reason, or
  * iox2sd_internal_service_name_check where `internal` is true; IOX2SD_UNKNOWN_STRATEGY or
  * IOX2SD_BAD_DURATION with the field, as the checks of settings answer; IOX2SD_ILLEGAL_HASH. */
-static inline iox2sd_field_answer iox2sd_describe_publish_subscribe(
-    const iox2sd_publish_subscribe_settings *settings, const uint8_t *name, size_t length,
-    bool internal, iox2sd_id id, iox2sd_description *out) {
+static inline iox2sd_field_answer
+iox2sd_describe_publish_subscribe(const iox2sd_publish_subscribe_settings *settings,
+                                  const uint8_t *name, size_t length, bool internal, iox2sd_id id,
+                                  iox2sd_description *out) {
     iox2sd_field_answer refused = {IOX2SD_NULL, 0};
     if (name == NULL && length != 0) return refused;
-    return iox2sd_describe_publish_subscribe_at(settings, settings != NULL, name, length,
-                                  internal, id, out, out != NULL);
+    return iox2sd_describe_publish_subscribe_at(settings, settings != NULL, name, length, internal,
+                                                id, out, out != NULL);
 }
-static inline iox2sd_field_answer iox2sd_describe_publish_subscribe_str(
-    const iox2sd_publish_subscribe_settings *settings, const char *name, bool internal,
-    iox2sd_id id, iox2sd_description *out) {
+static inline iox2sd_field_answer
+iox2sd_describe_publish_subscribe_str(const iox2sd_publish_subscribe_settings *settings,
+                                      const char *name, bool internal, iox2sd_id id,
+                                      iox2sd_description *out) {
     return iox2sd_describe_publish_subscribe(settings, (const uint8_t *)name, iox2sd_length(name),
-                               internal, id, out);
+                                             internal, id, out);
 }
-static inline iox2sd_field_answer iox2sd_describe_event(
-    const iox2sd_event_settings *settings, const uint8_t *name, size_t length,
-    bool internal, iox2sd_id id, iox2sd_description *out) {
+static inline iox2sd_field_answer
+iox2sd_describe_event(const iox2sd_event_settings *settings, const uint8_t *name, size_t length,
+                      bool internal, iox2sd_id id, iox2sd_description *out) {
     iox2sd_field_answer refused = {IOX2SD_NULL, 0};
     if (name == NULL && length != 0) return refused;
-    return iox2sd_describe_event_at(settings, settings != NULL, name, length,
-                                  internal, id, out, out != NULL);
+    return iox2sd_describe_event_at(settings, settings != NULL, name, length, internal, id, out,
+                                    out != NULL);
 }
-static inline iox2sd_field_answer iox2sd_describe_event_str(
-    const iox2sd_event_settings *settings, const char *name, bool internal,
-    iox2sd_id id, iox2sd_description *out) {
-    return iox2sd_describe_event(settings, (const uint8_t *)name, iox2sd_length(name),
-                               internal, id, out);
+static inline iox2sd_field_answer iox2sd_describe_event_str(const iox2sd_event_settings *settings,
+                                                            const char *name, bool internal,
+                                                            iox2sd_id id, iox2sd_description *out) {
+    return iox2sd_describe_event(settings, (const uint8_t *)name, iox2sd_length(name), internal, id,
+                                 out);
 }
-static inline iox2sd_field_answer iox2sd_describe_request_response(
-    const iox2sd_request_response_settings *settings, const uint8_t *name, size_t length,
-    bool internal, iox2sd_id id, iox2sd_description *out) {
+static inline iox2sd_field_answer
+iox2sd_describe_request_response(const iox2sd_request_response_settings *settings,
+                                 const uint8_t *name, size_t length, bool internal, iox2sd_id id,
+                                 iox2sd_description *out) {
     iox2sd_field_answer refused = {IOX2SD_NULL, 0};
     if (name == NULL && length != 0) return refused;
-    return iox2sd_describe_request_response_at(settings, settings != NULL, name, length,
-                                  internal, id, out, out != NULL);
+    return iox2sd_describe_request_response_at(settings, settings != NULL, name, length, internal,
+                                               id, out, out != NULL);
 }
-static inline iox2sd_field_answer iox2sd_describe_request_response_str(
-    const iox2sd_request_response_settings *settings, const char *name, bool internal,
-    iox2sd_id id, iox2sd_description *out) {
+static inline iox2sd_field_answer
+iox2sd_describe_request_response_str(const iox2sd_request_response_settings *settings,
+                                     const char *name, bool internal, iox2sd_id id,
+                                     iox2sd_description *out) {
     return iox2sd_describe_request_response(settings, (const uint8_t *)name, iox2sd_length(name),
-                               internal, id, out);
+                                            internal, id, out);
 }
-static inline iox2sd_field_answer iox2sd_describe_blackboard(
-    const iox2sd_blackboard_settings *settings, const uint8_t *name, size_t length,
-    bool internal, iox2sd_id id, iox2sd_description *out) {
+static inline iox2sd_field_answer
+iox2sd_describe_blackboard(const iox2sd_blackboard_settings *settings, const uint8_t *name,
+                           size_t length, bool internal, iox2sd_id id, iox2sd_description *out) {
     iox2sd_field_answer refused = {IOX2SD_NULL, 0};
     if (name == NULL && length != 0) return refused;
-    return iox2sd_describe_blackboard_at(settings, settings != NULL, name, length,
-                                  internal, id, out, out != NULL);
+    return iox2sd_describe_blackboard_at(settings, settings != NULL, name, length, internal, id,
+                                         out, out != NULL);
 }
-static inline iox2sd_field_answer iox2sd_describe_blackboard_str(
-    const iox2sd_blackboard_settings *settings, const char *name, bool internal,
-    iox2sd_id id, iox2sd_description *out) {
+static inline iox2sd_field_answer
+iox2sd_describe_blackboard_str(const iox2sd_blackboard_settings *settings, const char *name,
+                               bool internal, iox2sd_id id, iox2sd_description *out) {
     return iox2sd_describe_blackboard(settings, (const uint8_t *)name, iox2sd_length(name),
-                               internal, id, out);
+                                      internal, id, out);
 }
 
 /* The capacities with which the described service is made; all 0 for NULL or an unknown pattern. */
