@@ -1,7 +1,7 @@
-/* What the headers promise beside the calls: a refused answer's handle stands for nothing, the static
- * texts are those of the library, and so is the version, NULL is reported, and wrong elements are in
- * their order. Compiled as C99 and linked with libiox2sd.a.
- * The last line is 'N checks, N failed'. */
+/* What the headers promise beside the calls: a refused answer's handle stands for nothing, the
+ * static texts are those of the library, and so is the version, NULL is reported, and wrong
+ * elements are in their order. Compiled as C99 and linked with libiox2sd.a. The last line is 'N
+ * checks, N failed'. */
 #include "check.h"
 #include "iox2sd_values.h"
 
@@ -332,12 +332,14 @@ static void reported_order(void) {
     iox2sd_attribute pairs[17], bad = {&a, 0, &a, 1}, one = {&a, 1, &a, 1};
     iox2sd_key keys[2] = {{&a, 1}, {&a, 0}};
     for (size_t i = 0; i < 17; i++) pairs[i] = one;
-    CHECK(at(iox2sd_attributes_verify(&one, 1, pairs, 17, keys + 1, 1), IOX2SD_TOO_MANY_REQUIRED, 16));
+    CHECK(at(iox2sd_attributes_verify(&one, 1, pairs, 17, keys + 1, 1), IOX2SD_TOO_MANY_REQUIRED,
+             16));
     CHECK(at(iox2sd_attributes_verify(&one, 1, pairs, 16, keys + 1, 1), IOX2SD_BAD_ASKED_KEY, 0));
     CHECK(at(iox2sd_attributes_verify(&one, 1, pairs, 16, keys, 2), IOX2SD_TOO_MANY_REQUIRED, 0));
     CHECK(at(iox2sd_attributes_verify(&one, 1, pairs, 15, keys, 2), IOX2SD_BAD_ASKED_KEY, 1));
     pairs[16] = bad;
-    CHECK(at(iox2sd_attributes_verify(&one, 1, pairs, 17, keys + 1, 1), IOX2SD_BAD_REQUIRED_KEY, 16));
+    CHECK(
+        at(iox2sd_attributes_verify(&one, 1, pairs, 17, keys + 1, 1), IOX2SD_BAD_REQUIRED_KEY, 16));
     pairs[3].value_length = 0;
     CHECK(at(iox2sd_attributes_verify(&one, 1, pairs, 17, keys, 1), IOX2SD_BAD_REQUIRED_VALUE, 3));
     CHECK(at(iox2sd_attributes_verify(&bad, 1, pairs, 17, keys, 1), IOX2SD_BAD_KEY, 0));

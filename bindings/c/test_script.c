@@ -115,8 +115,8 @@ static void no_memory(void) {
     CHECK(3 < request && request < 1000);
 }
 
-/* In too short a buffer too, memory that was refused is reported first, and no length but that of what
- * stands in the buffer: nothing, or the first reply line. */
+/* In too short a buffer too, memory that was refused is reported first, and no length but that of
+ * what stands in the buffer: nothing, or the first reply line. */
 static void no_memory_in_a_short_buffer(size_t capacity) {
     long request = 0;
     iox2sd_script_answer answer;
