@@ -10,6 +10,8 @@ CC=${CC:-cc}
 crates=$(cd ../crates && pwd)
 kit=$(dirname "$(rt doc)")
 heap=$kit/c/liblibc_c.a
+# The library runs on every x86-64: without this it would need SSE4.1 and popcnt.
+cpu=(--cpu x86-64)
 rm -rf out
 mkdir -p out
 
@@ -25,7 +27,7 @@ build_over_proved() {
     done
     for name in "$kit/rlibs" "$crates"/*/out/rlib; do words+=(-L "dependency=$name"); done
     words+=(--antt-project "$kit/rattle/logic/antt-project.json" --logic-built "$kit/logic_built")
-    words+=(--incremental out/incremental --links "$1=")
+    words+=(--incremental out/incremental --links "$1=" "${cpu[@]}")
     words+=(--toolchain "$kit/toolchain" -o "out/lib$1.a")
     (cd "$crates/$1" && mkdir -p out && "$kit/bin/rattle" build "${words[@]}" src/lib.rt)
 }
@@ -36,7 +38,7 @@ for crate in iox2sd iox2sd_values iox2sd_script; do
     if [ "${1:-}" = --after-gate ]; then
         build_over_proved "$crate"
     else
-        (cd "$crates/$crate" && rt lib)
+        (cd "$crates/$crate" && rt lib "${cpu[@]}")
     fi
     ld -r -o "out/$crate.o" --whole-archive "$crates/$crate/out/lib$crate.a" "$heap"
     objcopy --wildcard --keep-global-symbol='iox2sd_*' "out/$crate.o"

@@ -18,7 +18,7 @@ for library in out/libiox2sd.a out/libiox2sd.so.0; do
     [ -f "$library" ] || { echo "$library is missing: bindings/build.sh builds it" >&2; exit 1; }
 done
 source=../crates/iox2sd_values/src/version.rt
-version=$(sed -n '/fn iox2sd_version(/,/^}/s/^ *write(b"\([0-9.]*\)", out)$/\1/p' "$source")
+version=$(sed -n '/fn iox2sd_version_at(/,/^}/s/^ *write(b"\([0-9.]*\)", out)$/\1/p' "$source")
 [ -n "$version" ] || { echo "$source has no version" >&2; exit 1; }
 
 # A file that has the version in place of @VERSION@.

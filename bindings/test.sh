@@ -69,20 +69,25 @@ example() {
         -o "$work/caller" && run "$1 $2 prints what it says" prints_what_it_says "$2"
 }
 
-# The statuses of the header and of each crate: a number has one name, a name has one number, and
-# the crate that has the texts has all that the header has.
+# The statuses of the header are those of the crate that has them: a number has one name, and a name
+# one number.
 same_statuses() {
     sed -n '/^enum iox2sd_status {/,/^}/s/^ *IOX2SD_\([A-Z0-9_]*\) = \([0-9]*\).*/\2 \1/p' ../include/iox2sd.h |
         awk '{ n = split($2, words, "_"); name = ""
                for (i = 1; i <= n; i++) name = name substr(words[i], 1, 1) tolower(substr(words[i], 2))
                print $1, name }' | sort > "$work/header"
-    for crate in iox2sd iox2sd_values iox2sd_script; do
-        sed -n 's/^    \([A-Z][A-Za-z0-9]*\) = \([0-9]*\),$/\2 \1/p' "../crates/$crate/src/status.rt" | sort > "$work/$crate"
-    done
-    sort -u "$work/header" "$work"/iox2sd* > "$work/all"
-    [ -s "$work/header" ] && [ -s "$work/iox2sd_values" ] && [ -s "$work/iox2sd_script" ] &&
-        diff "$work/header" "$work/iox2sd" &&
-        [ -z "$(cut -d ' ' -f 1 "$work/all" | sort | uniq -d)$(cut -d ' ' -f 2 "$work/all" | sort | uniq -d)" ]
+    sed -n 's/^    \([A-Z][A-Za-z0-9]*\) = \([0-9]*\),$/\2 \1/p' \
+        ../crates/iox2sd_common/src/status.rt | sort > "$work/statuses"
+    [ -s "$work/header" ] && diff "$work/header" "$work/statuses" &&
+        [ -z "$(cut -d ' ' -f 1 "$work/header" | uniq -d)$(cut -d ' ' -f 2 "$work/header" | sort | uniq -d)" ]
+}
+
+# No instruction is beyond those that every x86-64 has.
+baseline() {
+    objdump -d --no-show-raw-insn out/libiox2sd.a > "$work/instructions" &&
+        [ -s "$work/instructions" ] &&
+        ! grep -E '\b(popcnt|crc32|ptest|pshufb|pextr[bdq]|pinsr[bdq]|pmulld|round[sp][sd]|v[a-z0-9]+ .*[xy]mm)' \
+            "$work/instructions"
 }
 
 # A command of cargo on the crate for Rust, with further arguments.
@@ -162,6 +167,9 @@ for compiler in g++ clang++; do
     for source in cpp/examples/*.cpp; do example "$compiler" "$source"; done
 done
 run "statuses agree" same_statuses
+if has objdump && [ "$(uname -m)" = x86_64 ]; then
+    run "libiox2sd runs on every x86-64" baseline
+fi
 if has nm; then
     run "libiox2sd exports iox2sd_* alone" same_exports
 fi

@@ -6,23 +6,9 @@
 
 #include <stdio.h>
 #include <stdlib.h>
-#include <string.h>
-
-static const uint8_t *bytes(const char *text) { return (const uint8_t *)text; }
-
-static iox2sd_attribute pair(const char *key, const char *value) {
-    iox2sd_attribute made = {bytes(key), strlen(key), bytes(value), strlen(value)};
-    return made;
-}
-
-static iox2sd_key key_of(const char *text) {
-    iox2sd_key made = {bytes(text), strlen(text)};
-    return made;
-}
 
 static iox2sd_type_detail type_of(const char *name, size_t size, size_t alignment) {
-    iox2sd_type_detail made = {bytes(name), strlen(name), IOX2SD_FIXED_SIZE, size, alignment};
-    return made;
+    return iox2sd_type_detail_str(name, IOX2SD_VARIANT_FIXED_SIZE, size, alignment);
 }
 
 /* Prints what a call wrote into `out`. */
@@ -50,12 +36,9 @@ static void print_handle(const char *what, iox2sd_handle_answer answer) {
 static void describe(const char *name, const iox2sd_publish_subscribe_settings *settings,
                      const iox2sd_attribute *attributes, size_t number_of_attributes) {
     uint8_t out[64];
-    const size_t length = strlen(name);
-    if (iox2sd_service_name_check(bytes(name), length).status != IOX2SD_DONE) exit(EXIT_FAILURE);
+    if (iox2sd_service_name_check_str(name).status != IOX2SD_DONE) exit(EXIT_FAILURE);
     printf("service: %s\n", name);
-    print_text("hash",
-               iox2sd_hash_text(IOX2SD_PUBLISH_SUBSCRIBE, bytes(name), length, out, sizeof out),
-               out);
+    print_text("hash", iox2sd_hash_text_str(IOX2SD_PUBLISH_SUBSCRIBE, name, out, sizeof out), out);
     printf("room: %zu nodes, %zu publishers, %zu subscribers\n", settings->max_nodes,
            settings->max_publishers, settings->max_subscribers);
     printf("samples: %zu\n",
@@ -73,8 +56,8 @@ static void describe(const char *name, const iox2sd_publish_subscribe_settings *
 
 /* Whether openers may use it: one that requires what it has, and one that requires more. */
 static void verify(const iox2sd_attribute *attributes, size_t number_of_attributes) {
-    const iox2sd_attribute required = pair("color", "red");
-    const iox2sd_key keys[] = {key_of("unit"), key_of("rate")};
+    const iox2sd_attribute required = iox2sd_attribute_str("color", "red");
+    const iox2sd_key keys[] = {iox2sd_key_str("unit"), iox2sd_key_str("rate")};
     const iox2sd_message_details service = {
         type_of("Header", 8, 8), type_of("UserHeader", 4, 4), type_of("Payload", 8, 8)};
     iox2sd_message_details opener = service;
@@ -119,10 +102,13 @@ static void live(iox2sd_service *service) {
 }
 
 int main(void) {
-    iox2sd_attribute attributes[] = {pair("unit", "mm"), pair("color", "red")};
+    iox2sd_attribute attributes[] = {iox2sd_attribute_str("unit", "mm"),
+                                     iox2sd_attribute_str("color", "red")};
     const iox2sd_publish_subscribe_settings settings = iox2sd_publish_subscribe_defaults();
-    const iox2sd_capacities room = {settings.max_nodes, settings.max_publishers,
-                                    settings.max_subscribers};
+    const iox2sd_publish_subscribe_capacities ports = {.nodes = settings.max_nodes,
+                                                       .publishers = settings.max_publishers,
+                                                       .subscribers = settings.max_subscribers};
+    const iox2sd_capacities room = iox2sd_capacities_of_publish_subscribe(ports);
     iox2sd_service service = IOX2SD_SERVICE_NONE;
     if (iox2sd_attributes_sort(attributes, 2).status != IOX2SD_DONE) return EXIT_FAILURE;
     describe("My/Service", &settings, attributes, 2);

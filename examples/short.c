@@ -2,7 +2,8 @@
 #include <stdio.h>
 int main(void) {
     iox2sd_service service = IOX2SD_SERVICE_NONE;
-    iox2sd_capacities room = {1, 2, 2}; /* for nodes, listeners and notifiers */
+    iox2sd_event_capacities ports = {.nodes = 1, .listeners = 2, .notifiers = 2};
+    iox2sd_capacities room = iox2sd_capacities_of_event(ports);
     iox2sd_id id = {1, 0, 0, 1};
     if (iox2sd_service_create(&service, IOX2SD_EVENT, 7, room, UINT64_MAX) != IOX2SD_DONE)
         return 1;

@@ -1,40 +1,43 @@
-/* The proved layer of service_descriptions, for C99 and C++: what a service is, and who is attached to it.
+/* The proved layer of service_descriptions, for C99 and C++: what a service is, and who is attached
+ * to it.
  *
  * Rules for every call
  *
- * - Values are plain structs, which a caller keeps, copies and compares as it likes. iox2sd_id and iox2sd_handle have no
- *   padding, so memcmp compares them; of the others the fields are compared.
- * - A call returns a status (enum iox2sd_status), alone or as the first field of a struct. Where it is not
- *   IOX2SD_DONE, the other fields are 0 and nothing was changed, but where a function says otherwise. A refused answer's
- *   handle is IOX2SD_HANDLE_NONE, which no call accepts. Each function names its refusals in the order in which they are
- *   reported.
- * - An array or a buffer is a pointer and a number of elements. NULL with the number 0 is an empty one. NULL with another
- *   number is an error of its own, IOX2SD_NULL, where a function names that error, as is NULL where one struct is expected;
- *   a buffer for a text is not given so.
- * - What is written overlaps no other argument of the call. No call writes past the number of elements that it was given,
- *   keeps a pointer, or calls back.
- * - No call starts a thread, takes a lock, or reads a file, the clock or the environment. There is no
- *   global state: calls may run on several threads at once, where none writes to what another is given.
- *   A question takes a `const iox2sd_service *`, and each other call on a service changes it. On one
- *   service any number of questions may run at once, or one change alone. A service may be moved to
- *   another thread; a move and a change are ordered with other calls by a lock or by a thread's start
- *   or join.
- * - iox2sd_service_create alone takes memory, by malloc; iox2sd_service_free alone gives it back. Nothing is kept for a call.
+ * - Values are plain structs, which a caller keeps, copies and compares as it likes. iox2sd_id and
+ *   iox2sd_handle have no padding, so memcmp compares them; of the others the fields are compared.
+ * - A call returns a status (enum iox2sd_status), alone or as the first field of a struct. Where it
+ *   is not IOX2SD_DONE, the other fields are 0 and nothing was changed, but where a function says
+ *   otherwise. A refused answer's handle is IOX2SD_HANDLE_NONE, which no call accepts. Each
+ *   function names its refusals in the order in which they are reported.
+ * - An array, a buffer or a text is a pointer and a number of elements. NULL with the number 0 is
+ *   an empty one. NULL with another number is IOX2SD_NULL, as is NULL where one struct is expected;
+ *   it is reported before all else. Where a function ends in `_str`, a text is a pointer to bytes
+ *   that end in a zero byte, and NULL is IOX2SD_NULL.
+ * - What is written overlaps no other argument of the call. No call writes past the number of
+ *   elements that it was given, keeps a pointer, or calls back.
+ * - No call starts a thread, takes a lock, or reads a file, the clock or the environment. There is
+ *   no global state: calls may run on several threads at once, where none writes to what another is
+ *   given. A question takes a `const iox2sd_service *`, and each other call on a service changes
+ *   it. On one service any number of questions may run at once, or one change alone. A service may
+ *   be moved to another thread; a move and a change are ordered with other calls by a lock or by a
+ *   thread's start or join.
+ * - iox2sd_service_create alone takes memory, by malloc; iox2sd_service_free alone gives it back.
+ *   Nothing is kept for a call.
  *
  * What is proved, and what not
  *
  * Each function of the library is proved to answer what the layer's own definitions say, to touch
- * nothing outside its arguments, and to return; each question, to leave the service as it was, its own
- * bytes and what it holds; and what a service holds, to be such as may be sent to another thread. The
- * proof takes this header's rules for granted: that a pointer points to as many elements as it is said
- * to, that no other thread touches them during the call, and that the bytes of a service are zeros or
- * what the last call left there. So it speaks of one question at a time. That a question writes nothing
- * to a service meanwhile either, so that several may run at once, is tested and not proved: all
- * questions are asked of services in pages that may only be read, by sixteen threads at once. No proof
- * says that a caller frees a service, that no other call runs beside a change, or what a caller does
- * with a pointer; nor that the declarations below are those of the library, nor that its inline
- * functions pass the numbers that they say. That NULL with the number 0 is an empty array is tested,
- * not proved.
+ * nothing outside its arguments, and to return; each question, to leave the service as it was, its
+ * own bytes and what it holds; and what a service holds, to be such as may be sent to another
+ * thread. The proof takes this header's rules for granted: that a pointer points to as many
+ * elements as it is said to, that no other thread touches them during the call, and that the bytes
+ * of a service are zeros or what the last call left there. So it speaks of one question at a time.
+ * That a question writes nothing to a service meanwhile either, so that several may run at once, is
+ * tested and not proved: all questions are asked of services in pages that may only be read, by
+ * sixteen threads at once. No proof says that a caller frees a service, that no other call runs
+ * beside a change, or what a caller does with a pointer; nor that the declarations below are those
+ * of the library, nor that its inline functions pass the numbers that they say. That NULL with the
+ * number 0 is an empty array is tested, not proved.
  */
 #ifndef IOX2SD_H
 #define IOX2SD_H
@@ -42,6 +45,7 @@
 #include <stdbool.h>
 #include <stddef.h>
 #include <stdint.h>
+#include <string.h>
 
 #if SIZE_MAX != UINT64_MAX
 #error "the library is built for a size_t of 64 bits"
@@ -61,25 +65,29 @@ extern "C" {
  * iox2sd_status_text has a text for each. */
 enum iox2sd_status {
     IOX2SD_DONE = 0,
-    IOX2SD_DONE_LOCKED = 1,      /* It was done, and the service is locked for good: no node registers any more. */
+    /* It was done, and the service is locked for good: no node registers any more. */
+    IOX2SD_DONE_LOCKED = 1,
     IOX2SD_BUFFER_TOO_SHORT = 2, /* The answer has the length that is needed. */
     IOX2SD_NO_MEMORY = 3,
     IOX2SD_NO_SERVICE = 4,  /* The place holds none. */
     IOX2SD_HAS_SERVICE = 5, /* The place holds one already. */
     IOX2SD_UNKNOWN_PATTERN = 6,
-    IOX2SD_UNKNOWN_ROLE = 7, /* The number is not that of a role, or that of nodes where a port is meant. */
+    /* The number is not that of a role, or that of nodes where a port is meant. */
+    IOX2SD_UNKNOWN_ROLE = 7,
     IOX2SD_NO_NODE = 8,      /* The id is that of no node: its process and its counter are 0. */
     IOX2SD_IS_LOCKED = 9,
     IOX2SD_OUT_OF_SPACE = 10,         /* No place or no ticket is left. */
     IOX2SD_FOREIGN_HANDLE = 11,       /* No entry has the handle. */
-    IOX2SD_PORTS_STILL_ATTACHED = 12, /* Some port has the node, and the handle is the node's only one. */
+    /* Some port has the node, and the handle is the node's only one. */
+    IOX2SD_PORTS_STILL_ATTACHED = 12,
     IOX2SD_NODE_NOT_REGISTERED = 13,  /* The node of the port is not. */
     IOX2SD_ROLE_NOT_IN_PATTERN = 14,
     IOX2SD_UNKNOWN_SEGMENT = 15,
     IOX2SD_BAD_KEY = 16,   /* A key of a pair is invalid: iox2sd_attribute_key_check says why. */
-    IOX2SD_BAD_VALUE = 17, /* A value of a pair is invalid: iox2sd_attribute_value_check says why. */
+    /* A value of a pair is invalid: iox2sd_attribute_value_check says why. */
+    IOX2SD_BAD_VALUE = 17,
     IOX2SD_TOO_MANY = 18,  /* There are more than sixteen pairs. */
-    IOX2SD_NULL = 20,      /* NULL where a struct is expected. */
+    IOX2SD_NULL = 20,      /* NULL where something is expected. */
     IOX2SD_UNKNOWN_STATUS = 21,
     IOX2SD_EMPTY = 40,
     IOX2SD_TOO_LONG = 41,
@@ -90,7 +98,8 @@ enum iox2sd_status {
     IOX2SD_BAD_SERVICE_NAME = 46,
     IOX2SD_BAD_PATH = 47,
     IOX2SD_BAD_ENTRY = 48,
-    IOX2SD_ILLEGAL_HASH = 49, /* No hash text of SHA-1 was ever seen to be illegal, but no proof excludes it. */
+    /* No hash text of SHA-1 was ever seen to be illegal, but no proof excludes it. */
+    IOX2SD_ILLEGAL_HASH = 49,
     IOX2SD_BAD_REQUIRED_KEY = 50,
     IOX2SD_BAD_REQUIRED_VALUE = 51,
     IOX2SD_BAD_ASKED_KEY = 52,
@@ -123,8 +132,9 @@ enum iox2sd_pattern_number {
     IOX2SD_BLACKBOARD = 3
 };
 
-/* What an entry of a service is. Each pattern has two kinds of ports, the first of which are recovered first: publishers and
- * subscribers, listeners and notifiers, servers and clients, readers and writers. */
+/* What an entry of a service is. Each pattern has two kinds of ports, the first of which are
+ * recovered first: publishers and subscribers, listeners and notifiers, servers and clients,
+ * readers and writers. */
 enum iox2sd_role {
     IOX2SD_NODE = 0,
     IOX2SD_PUBLISHER = 1,
@@ -163,8 +173,8 @@ typedef struct iox2sd_handle {
     uint64_t ticket; /* How many entries of its kind the service had been given before. */
 } iox2sd_handle;
 
-/* A handle that stands for nothing. One whose bytes are all 0 is that of the first node of a service
- * with the number 0. */
+/* A handle that stands for nothing. One whose bytes are all 0 is that of the first node of a
+ * service with the number 0. */
 #define IOX2SD_HANDLE_NONE {0, IOX2SD_NO_ROLE, 0, 0}
 
 /* The details of a port. A field that its kind does not have is ignored, and is 0 in an answer. */
@@ -190,9 +200,65 @@ typedef struct iox2sd_capacities {
     size_t second; /* For subscribers, notifiers, clients or writers. */
 } iox2sd_capacities;
 
-/* A service object. An all-zero one (IOX2SD_SERVICE_NONE, a memset) holds no service. The caller owns these bytes and neither
- * reads nor changes them but to zero them before the first call; a place that holds a service may be moved, but not copied:
- * one copy alone is ever used again. What it holds is freed by iox2sd_service_free alone. */
+/* The same by the names of each pattern's ports. */
+typedef struct iox2sd_publish_subscribe_capacities {
+    size_t nodes;
+    size_t publishers;
+    size_t subscribers;
+} iox2sd_publish_subscribe_capacities;
+typedef struct iox2sd_event_capacities {
+    size_t nodes;
+    size_t listeners;
+    size_t notifiers;
+} iox2sd_event_capacities;
+typedef struct iox2sd_request_response_capacities {
+    size_t nodes;
+    size_t servers;
+    size_t clients;
+} iox2sd_request_response_capacities;
+typedef struct iox2sd_blackboard_capacities {
+    size_t nodes;
+    size_t readers;
+    size_t writers;
+} iox2sd_blackboard_capacities;
+
+/* The capacities with which a service of the pattern is made. */
+static inline iox2sd_capacities
+iox2sd_capacities_of_publish_subscribe(iox2sd_publish_subscribe_capacities capacities) {
+    iox2sd_capacities made;
+    made.nodes = capacities.nodes;
+    made.first = capacities.publishers;
+    made.second = capacities.subscribers;
+    return made;
+}
+static inline iox2sd_capacities iox2sd_capacities_of_event(iox2sd_event_capacities capacities) {
+    iox2sd_capacities made;
+    made.nodes = capacities.nodes;
+    made.first = capacities.listeners;
+    made.second = capacities.notifiers;
+    return made;
+}
+static inline iox2sd_capacities
+iox2sd_capacities_of_request_response(iox2sd_request_response_capacities capacities) {
+    iox2sd_capacities made;
+    made.nodes = capacities.nodes;
+    made.first = capacities.servers;
+    made.second = capacities.clients;
+    return made;
+}
+static inline iox2sd_capacities
+iox2sd_capacities_of_blackboard(iox2sd_blackboard_capacities capacities) {
+    iox2sd_capacities made;
+    made.nodes = capacities.nodes;
+    made.first = capacities.readers;
+    made.second = capacities.writers;
+    return made;
+}
+
+/* A service object. An all-zero one (IOX2SD_SERVICE_NONE, a memset) holds no service. The caller
+ * owns these bytes and neither reads nor changes them but to zero them before the first call; a
+ * place that holds a service may be moved, but not copied: one copy alone is ever used again. What
+ * it holds is freed by iox2sd_service_free alone. */
 typedef struct iox2sd_service {
     bool full;
     void *at;
@@ -224,7 +290,8 @@ typedef struct iox2sd_number_answer {
     uint64_t number;
 } iox2sd_number_answer;
 
-/* The roles of the two kinds of ports of a pattern, of enum iox2sd_role; 0 where the status is not IOX2SD_DONE. */
+/* The roles of the two kinds of ports of a pattern, of enum iox2sd_role; 0 where the status is not
+ * IOX2SD_DONE. */
 typedef struct iox2sd_roles_answer {
     uint32_t status;
     uint64_t first;
@@ -237,7 +304,7 @@ typedef struct iox2sd_flag_answer {
     bool yes;
 } iox2sd_flag_answer;
 
-/* The id of a node; all 0 where the status is not IOX2SD_DONE. */
+/* An id; all 0 where the status is not IOX2SD_DONE. */
 typedef struct iox2sd_id_answer {
     uint32_t status;
     iox2sd_id id;
@@ -260,12 +327,24 @@ typedef struct iox2sd_dead_node_removal {
 #define IOX2SD_ABI 2
 uint32_t iox2sd_abi(void);
 
-/* Writes what a status says to the front of `out`, without a zero byte, where all of it fits.
- * Errors: IOX2SD_UNKNOWN_STATUS; IOX2SD_BUFFER_TOO_SHORT with the length that it needs. */
-iox2sd_text_answer iox2sd_status_text(uint32_t status, uint8_t *out, size_t capacity);
+/* The library's own functions on a text or a buffer. Callers use the functions below, which report
+ * IOX2SD_NULL. */
+iox2sd_text_answer iox2sd_status_text_at(uint32_t status, uint8_t *out, size_t capacity);
+iox2sd_text_answer iox2sd_id_text_at(iox2sd_id id, uint8_t *out, size_t capacity);
+iox2sd_id_answer iox2sd_id_from_text_at(const uint8_t *text, size_t length);
 
-/* What a status says, as iox2sd_status_text has it, ended by a zero byte. Of a number that is not that
- * of a status, that it is unknown. */
+/* Writes what a status says to the front of `out`, without a zero byte, where all of it fits.
+ * Errors: IOX2SD_NULL; IOX2SD_UNKNOWN_STATUS; IOX2SD_BUFFER_TOO_SHORT with the length that it
+ * needs. */
+static inline iox2sd_text_answer iox2sd_status_text(uint32_t status, uint8_t *out,
+                                                    size_t capacity) {
+    iox2sd_text_answer refused = {IOX2SD_NULL, 0};
+    if (out == NULL && capacity != 0) return refused;
+    return iox2sd_status_text_at(status, out, capacity);
+}
+
+/* What a status says, as iox2sd_status_text has it, ended by a zero byte. Of a number that is not
+ * that of a status, that it is unknown. */
 static inline const char *iox2sd_status_str(uint32_t status) {
     switch (status) {
         case IOX2SD_DONE: return "done";
@@ -313,7 +392,8 @@ static inline const char *iox2sd_status_str(uint32_t status) {
         case IOX2SD_OTHER_VARIANT: return "the types of a part are of other variants";
         case IOX2SD_OTHER_SIZE: return "the types of a part have other sizes";
         case IOX2SD_OTHER_ALIGNMENT: return "the types of the headers have other alignments";
-        case IOX2SD_GREATER_ALIGNMENT: return "the opener's type has a greater alignment than the service's";
+        case IOX2SD_GREATER_ALIGNMENT:
+            return "the opener's type has a greater alignment than the service's";
         case IOX2SD_UNKNOWN_TEXT: return "unknown text of the configuration";
         case IOX2SD_BAD_LINE: return "a line of the script is not valid";
         case IOX2SD_UNKNOWN_STRATEGY: return "unknown strategy";
@@ -322,7 +402,8 @@ static inline const char *iox2sd_status_str(uint32_t status) {
     }
 }
 
-/* The word for a role of enum iox2sd_role, ended by a zero byte; "unknown role" for any other number. */
+/* The word for a role of enum iox2sd_role, ended by a zero byte; "unknown role" for any other
+ * number. */
 static inline const char *iox2sd_role_str(uint64_t role) {
     switch (role) {
         case IOX2SD_NODE: return "node";
@@ -350,31 +431,55 @@ static inline const char *iox2sd_pattern_str(uint64_t pattern) {
     }
 }
 
+/* How many bytes a text has that ends in a zero byte. NULL has one, so that calls refuse it. */
+static inline size_t iox2sd_length(const char *text) { return text != NULL ? strlen(text) : 1; }
+
 /* Whether an id is that of a node: its process or its counter is not 0. */
 bool iox2sd_id_is_node(iox2sd_id id);
 
-/* process * 2^32 + counter, which is 0 for an id of no node alone. Nodes of one process with one counter share it. */
+/* process * 2^32 + counter, which is 0 for an id of no node alone. Nodes of one process with one
+ * counter share it. */
 uint64_t iox2sd_id_owner_id(iox2sd_id id);
 
-/* Whether the number process * 2^96 + seconds * 2^64 + nanoseconds * 2^32 + counter of the first is below that of the
- * other. */
+/* Whether the number process * 2^96 + seconds * 2^64 + nanoseconds * 2^32 + counter of the first is
+ * below that of the other. */
 bool iox2sd_id_is_before(iox2sd_id id, iox2sd_id other);
 
-/* Writes that number in lower-case hexadecimal digits without leading zeros, at most 32 bytes, without a zero byte.
- * Error: IOX2SD_BUFFER_TOO_SHORT with the length that it needs. */
-iox2sd_text_answer iox2sd_id_text(iox2sd_id id, uint8_t *out, size_t capacity);
+/* Writes that number in lower-case hexadecimal digits without leading zeros, at most 32 bytes,
+ * without a zero byte.
+ * Errors: IOX2SD_NULL; IOX2SD_BUFFER_TOO_SHORT with the length that it needs. */
+static inline iox2sd_text_answer iox2sd_id_text(iox2sd_id id, uint8_t *out, size_t capacity) {
+    iox2sd_text_answer refused = {IOX2SD_NULL, 0};
+    if (out == NULL && capacity != 0) return refused;
+    return iox2sd_id_text_at(id, out, capacity);
+}
 
-/* The library's own functions on a service take, in place of one pointer, an array of 0 or 1 elements: 0 where the pointer is
- * NULL. Callers use the functions below, which give the number. */
-uint32_t iox2sd_service_create_at(iox2sd_service *places, size_t count, uint32_t pattern, uint64_t number,
-                                iox2sd_capacities capacities, uint64_t tickets);
+/* The id of which iox2sd_id_text writes this text. It may be that of no node.
+ * Errors: IOX2SD_NULL; IOX2SD_EMPTY; IOX2SD_TOO_LONG, for more than 32 bytes; IOX2SD_ILLEGAL_BYTE,
+ * where a byte is not one of the digits 0 to 9 and a to f, or 0 stands before other digits. */
+static inline iox2sd_id_answer iox2sd_id_from_text(const uint8_t *text, size_t length) {
+    iox2sd_id_answer refused = {IOX2SD_NULL, {0, 0, 0, 0}};
+    if (text == NULL && length != 0) return refused;
+    return iox2sd_id_from_text_at(text, length);
+}
+static inline iox2sd_id_answer iox2sd_id_from_text_str(const char *text) {
+    return iox2sd_id_from_text((const uint8_t *)text, iox2sd_length(text));
+}
+
+/* The library's own functions on a service take, in place of one pointer, an array of 0 or 1
+ * elements: 0 where the pointer is NULL. Callers use the functions below, which give the number. */
+uint32_t iox2sd_service_create_at(iox2sd_service *places, size_t count, uint32_t pattern,
+                                  uint64_t number, iox2sd_capacities capacities, uint64_t tickets);
 uint32_t iox2sd_service_free_at(iox2sd_service *places, size_t count);
-iox2sd_handle_answer iox2sd_register_node_id_at(iox2sd_service *places, size_t count, iox2sd_id node);
+iox2sd_handle_answer
+iox2sd_register_node_id_at(iox2sd_service *places, size_t count, iox2sd_id node);
 uint32_t iox2sd_deregister_node_id_at(iox2sd_service *places, size_t count, iox2sd_handle handle);
-iox2sd_handle_answer iox2sd_attach_at(iox2sd_service *places, size_t count, const iox2sd_port_details *ports, size_t port_count);
+iox2sd_handle_answer iox2sd_attach_at(iox2sd_service *places, size_t count,
+                                      const iox2sd_port_details *ports, size_t port_count);
 uint32_t iox2sd_release_port_at(iox2sd_service *places, size_t count, iox2sd_handle handle);
-iox2sd_dead_node_removal iox2sd_remove_dead_node_id_at(iox2sd_service *places, size_t count, iox2sd_id dead, const iox2sd_id *kept,
-                                   size_t kept_count);
+iox2sd_dead_node_removal iox2sd_remove_dead_node_id_at(iox2sd_service *places, size_t count,
+                                                       iox2sd_id dead, const iox2sd_id *kept,
+                                                       size_t kept_count);
 iox2sd_number_answer iox2sd_messaging_pattern_at(const iox2sd_service *places, size_t count);
 iox2sd_number_answer iox2sd_service_number_at(const iox2sd_service *places, size_t count);
 iox2sd_roles_answer iox2sd_port_roles_at(const iox2sd_service *places, size_t count);
@@ -383,84 +488,101 @@ iox2sd_flag_answer iox2sd_is_locked_at(const iox2sd_service *places, size_t coun
 iox2sd_count_answer iox2sd_number_of_nodes_at(const iox2sd_service *places, size_t count);
 iox2sd_count_answer iox2sd_max_nodes_at(const iox2sd_service *places, size_t count);
 iox2sd_flag_answer iox2sd_has_room_for_node_at(const iox2sd_service *places, size_t count);
-iox2sd_count_answer iox2sd_count_ports_at(const iox2sd_service *places, size_t count, uint64_t role);
+iox2sd_count_answer
+iox2sd_count_ports_at(const iox2sd_service *places, size_t count, uint64_t role);
 iox2sd_count_answer iox2sd_max_ports_at(const iox2sd_service *places, size_t count, uint64_t role);
 iox2sd_flag_answer iox2sd_has_room_at(const iox2sd_service *places, size_t count, uint64_t role);
 iox2sd_id_answer iox2sd_node_at(const iox2sd_service *places, size_t count, iox2sd_handle handle);
 iox2sd_port_answer iox2sd_port_at(const iox2sd_service *places, size_t count, iox2sd_handle handle);
-iox2sd_count_answer iox2sd_nodes_at(const iox2sd_service *places, size_t count, iox2sd_id *out, size_t capacity);
-iox2sd_count_answer iox2sd_ports_at(const iox2sd_service *places, size_t count, uint64_t role, iox2sd_port_details *out,
-                                    size_t capacity);
+iox2sd_count_answer
+iox2sd_nodes_at(const iox2sd_service *places, size_t count, iox2sd_id *out, size_t capacity);
+iox2sd_count_answer iox2sd_ports_at(const iox2sd_service *places, size_t count, uint64_t role,
+                                    iox2sd_port_details *out, size_t capacity);
 iox2sd_count_answer iox2sd_ports_of_at(const iox2sd_service *places, size_t count, iox2sd_id node,
                                        iox2sd_port_details *out, size_t capacity);
 
-/* Makes a service with nothing attached. `number` stands in its handles. `tickets` tickets are given out for nodes and
- * for each kind of ports: each registering and each attaching takes one, and none comes back. UINT64_MAX is for all.
- * Errors: IOX2SD_NULL; IOX2SD_HAS_SERVICE, and the place keeps what it holds; IOX2SD_UNKNOWN_PATTERN; IOX2SD_NO_MEMORY. */
-static inline uint32_t iox2sd_service_create(iox2sd_service *service, uint32_t pattern, uint64_t number,
-                                           iox2sd_capacities capacities, uint64_t tickets) {
+/* Makes a service with nothing attached. `number` stands in its handles. `tickets` tickets are
+ * given out for nodes and for each kind of ports: each registering and each attaching takes one,
+ * and none comes back. UINT64_MAX is for all.
+ * Errors: IOX2SD_NULL; IOX2SD_HAS_SERVICE, and the place keeps what it holds;
+ * IOX2SD_UNKNOWN_PATTERN; IOX2SD_NO_MEMORY. */
+static inline uint32_t iox2sd_service_create(iox2sd_service *service, uint32_t pattern,
+                                             uint64_t number, iox2sd_capacities capacities,
+                                             uint64_t tickets) {
     return iox2sd_service_create_at(service, service != NULL, pattern, number, capacities, tickets);
 }
 
-/* Frees a service. Its place holds none afterwards, and may be used for another.
+/* Frees a service. Its place is IOX2SD_SERVICE_NONE afterwards, and may be used for another; a
+ * second call reports IOX2SD_NO_SERVICE.
  * Errors: IOX2SD_NULL; IOX2SD_NO_SERVICE. */
 static inline uint32_t iox2sd_service_free(iox2sd_service *service) {
-    return iox2sd_service_free_at(service, service != NULL);
+    const uint32_t status = iox2sd_service_free_at(service, service != NULL);
+    if (status == IOX2SD_DONE) service->at = NULL;
+    return status;
 }
 
 /* Registers a node, which may have several handles.
  * Errors: IOX2SD_NULL; IOX2SD_NO_SERVICE; IOX2SD_NO_NODE; IOX2SD_IS_LOCKED; IOX2SD_OUT_OF_SPACE. */
-static inline iox2sd_handle_answer iox2sd_register_node_id(iox2sd_service *service, iox2sd_id node) {
+static inline iox2sd_handle_answer
+iox2sd_register_node_id(iox2sd_service *service, iox2sd_id node) {
     return iox2sd_register_node_id_at(service, service != NULL, node);
 }
 
-/* Deregisters the node with this handle. IOX2SD_DONE_LOCKED where it was the last one: the service is locked for good.
- * Errors: IOX2SD_NULL; IOX2SD_NO_SERVICE; IOX2SD_UNKNOWN_ROLE; IOX2SD_FOREIGN_HANDLE, also for a port's handle;
- * IOX2SD_PORTS_STILL_ATTACHED where it is the only handle of its node and some port has that node. */
+/* Deregisters the node with this handle. IOX2SD_DONE_LOCKED where it was the last one: the service
+ * is locked for good.
+ * Errors: IOX2SD_NULL; IOX2SD_NO_SERVICE; IOX2SD_UNKNOWN_ROLE; IOX2SD_FOREIGN_HANDLE, also for a
+ * port's handle; IOX2SD_PORTS_STILL_ATTACHED where it is the only handle of its node and some port
+ * has that node. */
 static inline uint32_t iox2sd_deregister_node_id(iox2sd_service *service, iox2sd_handle handle) {
     return iox2sd_deregister_node_id_at(service, service != NULL, handle);
 }
 
 /* Attaches a port.
- * Errors: IOX2SD_NULL; IOX2SD_NO_SERVICE; IOX2SD_NO_NODE for the port's node; IOX2SD_UNKNOWN_ROLE, also for IOX2SD_NODE;
- * IOX2SD_UNKNOWN_SEGMENT; IOX2SD_ROLE_NOT_IN_PATTERN; IOX2SD_IS_LOCKED; IOX2SD_NODE_NOT_REGISTERED, by the whole id;
- * IOX2SD_OUT_OF_SPACE. */
-static inline iox2sd_handle_answer iox2sd_attach(iox2sd_service *service, const iox2sd_port_details *port) {
+ * Errors: IOX2SD_NULL; IOX2SD_NO_SERVICE; IOX2SD_NO_NODE for the port's node; IOX2SD_UNKNOWN_ROLE,
+ * also for IOX2SD_NODE; IOX2SD_UNKNOWN_SEGMENT; IOX2SD_ROLE_NOT_IN_PATTERN; IOX2SD_IS_LOCKED;
+ * IOX2SD_NODE_NOT_REGISTERED, by the whole id; IOX2SD_OUT_OF_SPACE. */
+static inline iox2sd_handle_answer
+iox2sd_attach(iox2sd_service *service, const iox2sd_port_details *port) {
     return iox2sd_attach_at(service, service != NULL, port, port != NULL);
 }
 
 /* Releases the port with this handle.
- * Errors: IOX2SD_NULL; IOX2SD_NO_SERVICE; IOX2SD_UNKNOWN_ROLE; IOX2SD_FOREIGN_HANDLE, also for a node's handle. */
+ * Errors: IOX2SD_NULL; IOX2SD_NO_SERVICE; IOX2SD_UNKNOWN_ROLE; IOX2SD_FOREIGN_HANDLE, also for a
+ * node's handle. */
 static inline uint32_t iox2sd_release_port(iox2sd_service *service, iox2sd_handle handle) {
     return iox2sd_release_port_at(service, service != NULL, handle);
 }
 
-/* Removes those ports of a dead node whose ids are not among `kept`, and returns how many went. Where none of its ports is
- * left, the node goes too, with all its handles. IOX2SD_DONE_LOCKED where the service is locked: it has no node any more.
+/* Removes those ports of a dead node whose ids are not among `kept`, and returns how many went.
+ * Where none of its ports is left, the node goes too, with all its handles. IOX2SD_DONE_LOCKED
+ * where the service is locked: it has no node any more.
  * Errors: IOX2SD_NULL; IOX2SD_NO_SERVICE; IOX2SD_NO_NODE. */
-static inline iox2sd_dead_node_removal iox2sd_remove_dead_node_id(iox2sd_service *service, iox2sd_id dead, const iox2sd_id *kept,
-                                              size_t kept_count) {
+static inline iox2sd_dead_node_removal
+iox2sd_remove_dead_node_id(iox2sd_service *service, iox2sd_id dead, const iox2sd_id *kept,
+                           size_t kept_count) {
     iox2sd_dead_node_removal refused = {IOX2SD_NULL, 0, 0};
     if (kept == NULL && kept_count != 0) return refused;
     return iox2sd_remove_dead_node_id_at(service, service != NULL, dead, kept, kept_count);
 }
 
-/* Lists the ports of a role by rising slot at the front of `out`, whose other places stay as they were.
- * Errors: IOX2SD_NULL; IOX2SD_NO_SERVICE; IOX2SD_UNKNOWN_ROLE; IOX2SD_ROLE_NOT_IN_PATTERN, also for IOX2SD_NODE;
- * IOX2SD_BUFFER_TOO_SHORT with the number of ports that there are. Then `out` is as it was. */
-static inline iox2sd_count_answer iox2sd_ports(const iox2sd_service *service, uint64_t role, iox2sd_port_details *out,
-                                               size_t capacity) {
+/* Lists the ports of a role by rising slot at the front of `out`, whose other places stay as they
+ * were.
+ * Errors: IOX2SD_NULL; IOX2SD_NO_SERVICE; IOX2SD_UNKNOWN_ROLE; IOX2SD_ROLE_NOT_IN_PATTERN, also for
+ * IOX2SD_NODE; IOX2SD_BUFFER_TOO_SHORT with the number of ports that there are. Then `out` is as it
+ * was. */
+static inline iox2sd_count_answer iox2sd_ports(const iox2sd_service *service, uint64_t role,
+                                               iox2sd_port_details *out, size_t capacity) {
     iox2sd_count_answer refused = {IOX2SD_NULL, 0};
     if (out == NULL && capacity != 0) return refused;
     return iox2sd_ports_at(service, service != NULL, role, out, capacity);
 }
 
-/* Lists the ports of a node, by its whole id, at the front of `out`, whose other places stay as they
- * were: those of the pattern's first kind before those of its second, each kind by rising slot. These
- * are the ports that iox2sd_remove_dead_node_id removes or keeps.
- * Errors: IOX2SD_NULL; IOX2SD_NO_SERVICE; IOX2SD_NO_NODE; IOX2SD_BUFFER_TOO_SHORT with the number of
- * ports that there are, or IOX2SD_TOO_LARGE where that number passes SIZE_MAX. Then `out` is as it
- * was. */
+/* Lists the ports of a node, by its whole id, at the front of `out`, whose other places stay as
+ * they were: those of the pattern's first kind before those of its second, each kind by rising
+ * slot. These are the ports that iox2sd_remove_dead_node_id removes or keeps.
+ * Errors: IOX2SD_NULL; IOX2SD_NO_SERVICE; IOX2SD_NO_NODE; IOX2SD_BUFFER_TOO_SHORT with the number
+ * of ports that there are, or IOX2SD_TOO_LARGE where that number passes SIZE_MAX. Then `out` is as
+ * it was. */
 static inline iox2sd_count_answer iox2sd_ports_of(const iox2sd_service *service, iox2sd_id node,
                                                   iox2sd_port_details *out, size_t capacity) {
     iox2sd_count_answer refused = {IOX2SD_NULL, 0};
@@ -478,7 +600,8 @@ static inline iox2sd_number_answer iox2sd_service_number(const iox2sd_service *s
     return iox2sd_service_number_at(service, service != NULL);
 }
 
-/* The roles of the pattern's two kinds of ports, that first which is recovered first. Errors: IOX2SD_NULL; IOX2SD_NO_SERVICE. */
+/* The roles of the pattern's two kinds of ports, that first which is recovered first. Errors:
+ * IOX2SD_NULL; IOX2SD_NO_SERVICE. */
 static inline iox2sd_roles_answer iox2sd_port_roles(const iox2sd_service *service) {
     return iox2sd_port_roles_at(service, service != NULL);
 }
@@ -489,12 +612,14 @@ static inline iox2sd_flag_answer iox2sd_has_role(const iox2sd_service *service, 
     return iox2sd_has_role_at(service, service != NULL, role);
 }
 
-/* Whether the service is locked for good: it has no node and no port, and takes none any more. Errors: IOX2SD_NULL; IOX2SD_NO_SERVICE. */
+/* Whether the service is locked for good: it has no node and no port, and takes none any more.
+ * Errors: IOX2SD_NULL; IOX2SD_NO_SERVICE. */
 static inline iox2sd_flag_answer iox2sd_is_locked(const iox2sd_service *service) {
     return iox2sd_is_locked_at(service, service != NULL);
 }
 
-/* How many handles of nodes there are: a node that is registered twice counts twice. Errors: IOX2SD_NULL; IOX2SD_NO_SERVICE. */
+/* How many handles of nodes there are: a node that is registered twice counts twice. Errors:
+ * IOX2SD_NULL; IOX2SD_NO_SERVICE. */
 static inline iox2sd_count_answer iox2sd_number_of_nodes(const iox2sd_service *service) {
     return iox2sd_number_of_nodes_at(service, service != NULL);
 }
@@ -504,7 +629,8 @@ static inline iox2sd_count_answer iox2sd_max_nodes(const iox2sd_service *service
     return iox2sd_max_nodes_at(service, service != NULL);
 }
 
-/* Whether iox2sd_register_node_id would register a node: the service is not locked, and a place and a ticket are left.
+/* Whether iox2sd_register_node_id would register a node: the service is not locked, and a place and
+ * a ticket are left.
  * Errors: IOX2SD_NULL; IOX2SD_NO_SERVICE. */
 static inline iox2sd_flag_answer iox2sd_has_room_for_node(const iox2sd_service *service) {
     return iox2sd_has_room_for_node_at(service, service != NULL);
@@ -532,22 +658,25 @@ static inline iox2sd_flag_answer iox2sd_has_room(const iox2sd_service *service, 
 }
 
 /* The node that was registered with this handle and is still there.
- * Errors: IOX2SD_NULL; IOX2SD_NO_SERVICE; IOX2SD_UNKNOWN_ROLE; IOX2SD_FOREIGN_HANDLE, also for a port's handle. */
+ * Errors: IOX2SD_NULL; IOX2SD_NO_SERVICE; IOX2SD_UNKNOWN_ROLE; IOX2SD_FOREIGN_HANDLE, also for a
+ * port's handle. */
 static inline iox2sd_id_answer iox2sd_node(const iox2sd_service *service, iox2sd_handle handle) {
     return iox2sd_node_at(service, service != NULL, handle);
 }
 
 /* The port that was attached with this handle and is still there.
- * Errors: IOX2SD_NULL; IOX2SD_NO_SERVICE; IOX2SD_UNKNOWN_ROLE; IOX2SD_FOREIGN_HANDLE, also for a node's handle. */
+ * Errors: IOX2SD_NULL; IOX2SD_NO_SERVICE; IOX2SD_UNKNOWN_ROLE; IOX2SD_FOREIGN_HANDLE, also for a
+ * node's handle. */
 static inline iox2sd_port_answer iox2sd_port(const iox2sd_service *service, iox2sd_handle handle) {
     return iox2sd_port_at(service, service != NULL, handle);
 }
 
-/* Lists the ids of the nodes by rising slot, one for each handle, at the front of `out`, whose other places stay as they
- * were.
- * Errors: IOX2SD_NULL; IOX2SD_NO_SERVICE; IOX2SD_BUFFER_TOO_SHORT with the number of handles that there are. Then `out` is
- * as it was. */
-static inline iox2sd_count_answer iox2sd_nodes(const iox2sd_service *service, iox2sd_id *out, size_t capacity) {
+/* Lists the ids of the nodes by rising slot, one for each handle, at the front of `out`, whose
+ * other places stay as they were.
+ * Errors: IOX2SD_NULL; IOX2SD_NO_SERVICE; IOX2SD_BUFFER_TOO_SHORT with the number of handles that
+ * there are. Then `out` is as it was. */
+static inline iox2sd_count_answer
+iox2sd_nodes(const iox2sd_service *service, iox2sd_id *out, size_t capacity) {
     iox2sd_count_answer refused = {IOX2SD_NULL, 0};
     if (out == NULL && capacity != 0) return refused;
     return iox2sd_nodes_at(service, service != NULL, out, capacity);

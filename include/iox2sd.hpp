@@ -746,24 +746,24 @@ protected:
 
 /// The key of an attribute: 1 to 64 bytes, each from 1 to 127. Refusals: `Empty`; `TooLong`, with
 /// `at` 64; `IllegalByte`, with the place of the first one.
-using AttributeKey = SemanticString<64, iox2sd_attribute_key_check>;
+using AttributeKey = SemanticString<64, iox2sd_attribute_key_check_at>;
 
 /// The value of an attribute: 1 to 256 bytes, each from 1 to 127. Refusals as of a key.
-using AttributeValue = SemanticString<256, iox2sd_attribute_value_check>;
+using AttributeValue = SemanticString<256, iox2sd_attribute_value_check_at>;
 
 /// The name of a file: 1 to 255 bytes, each from 1 to 127 and none a `/`, and neither "." nor "..".
 /// Refusals: `Empty`; `TooLong`, with `at` 255; `IllegalByte`, with its place; `NoFileName`.
-using FileName = SemanticString<255, iox2sd_file_name_check>;
+using FileName = SemanticString<255, iox2sd_file_name_check_at>;
 
 /// A restricted name of a file, as hash texts are: 1 to 64 letters A to Z and a to z, digits, `-`,
 /// `.`, `:` and `_`, and neither "." nor "..". Refusals as of the name of a file.
-using RestrictedFileName = SemanticString<64, iox2sd_restricted_file_name_check>;
+using RestrictedFileName = SemanticString<64, iox2sd_restricted_file_name_check_at>;
 
 /// A path: at most 255 bytes, each from 1 to 127. Refusals: `TooLong`, with `at` 255;
 /// `IllegalByte`, with the place of the first one.
-class Path : public SemanticString<255, iox2sd_path_check> {
+class Path : public SemanticString<255, iox2sd_path_check_at> {
 public:
-    using Base = SemanticString<255, iox2sd_path_check>;
+    using Base = SemanticString<255, iox2sd_path_check_at>;
 
     static Result<Path, TextError> create(std::string_view text) noexcept {
         const Result<Base, TextError> made = Base::create(text);
@@ -790,9 +790,9 @@ public:
 
 /// The path of a file: 1 to 255 bytes, each from 1 to 127, of which those after the last `/` are
 /// the name of a file. Refusals as of the name of a file; a `/` is no illegal byte.
-class FilePath : public SemanticString<255, iox2sd_file_path_check> {
+class FilePath : public SemanticString<255, iox2sd_file_path_check_at> {
 public:
-    using Base = SemanticString<255, iox2sd_file_path_check>;
+    using Base = SemanticString<255, iox2sd_file_path_check_at>;
 
     static Result<FilePath, TextError> create(std::string_view text) noexcept {
         const Result<Base, TextError> made = Base::create(text);
@@ -806,8 +806,8 @@ public:
     /// Refusal: `TooLong`, past 255 bytes.
     static Result<FilePath> from_path_and_file(const Path& path, const FileName& file) noexcept {
         const auto joined = written_by([&](std::uint8_t* out, std::size_t capacity) {
-            return iox2sd_file_path_from_path_and_file(detail::bytes(path), path.size(), detail::bytes(file),
-                                         file.size(), out, capacity);
+            return iox2sd_file_path_from_path_and_file(
+                detail::bytes(path), path.size(), detail::bytes(file), file.size(), out, capacity);
         });
         if (!joined) return joined.status();
         return FilePath(*joined, detail::FromLibrary{});
@@ -816,9 +816,9 @@ public:
 
 /// The name of a service: 1 to 255 bytes, each from 1 to 127. The names of the system's own
 /// services begin with "iox2://", and those that a user gives do not.
-class ServiceName : public SemanticString<255, iox2sd_internal_service_name_check> {
+class ServiceName : public SemanticString<255, iox2sd_internal_service_name_check_at> {
 public:
-    using Base = SemanticString<255, iox2sd_internal_service_name_check>;
+    using Base = SemanticString<255, iox2sd_internal_service_name_check_at>;
 
     /// The name that a user gives. Refusals: `ReservedPrefix`; `Empty`; `TooLong`, with `at` 255;
     /// `IllegalByte`, with the place of the first one.
@@ -1084,7 +1084,8 @@ public:
     /// How many values a key has. Nothing is refused: the key and the pairs are legal.
     std::size_t number_of_key_values(const AttributeKey& key) const noexcept {
         const detail::Pairs pairs = as_pairs();
-        return iox2sd_attributes_number_of_key_values(pairs.items, pairs.size, detail::bytes(key), key.size())
+        return iox2sd_attributes_number_of_key_values(pairs.items, pairs.size, detail::bytes(key),
+                                                      key.size())
             .count;
     }
 
@@ -1093,8 +1094,8 @@ public:
     Result<AttributeValue> key_value(const AttributeKey& key, std::size_t index) const noexcept {
         const detail::Pairs pairs = as_pairs();
         const auto found = Text<256>::written_by([&](std::uint8_t* out, std::size_t capacity) {
-            return iox2sd_attributes_key_value(pairs.items, pairs.size, detail::bytes(key), key.size(),
-                                          index, out, capacity);
+            return iox2sd_attributes_key_value(pairs.items, pairs.size, detail::bytes(key),
+                                               key.size(), index, out, capacity);
         });
         if (!found) return found.status();
         return AttributeValue(*found, detail::FromLibrary{});
@@ -1253,8 +1254,8 @@ private:
 
 /// How many values of a type a message has.
 enum class TypeVariant : std::uint32_t {
-    FixedSize = IOX2SD_FIXED_SIZE,  ///< One.
-    Dynamic = IOX2SD_DYNAMIC,       ///< Any number, one after another.
+    FixedSize = IOX2SD_VARIANT_FIXED_SIZE,  ///< One.
+    Dynamic = IOX2SD_VARIANT_DYNAMIC,       ///< Any number, one after another.
 };
 
 /// The parts of a message.
@@ -1357,7 +1358,8 @@ struct MessageTypeDetails {
     /// Refusal: `TooLarge` past 2^63 - 1 bytes.
     Result<Layout> sample_layout(std::size_t number_of_elements) const noexcept {
         const iox2sd_message_details details = as_c();
-        const iox2sd_layout_answer answer = iox2sd_message_sample_layout(&details, number_of_elements);
+        const iox2sd_layout_answer answer =
+            iox2sd_message_sample_layout(&details, number_of_elements);
         return detail::result(answer.status, Layout{answer.size, answer.alignment});
     }
 
@@ -1396,9 +1398,9 @@ enum class BackpressureStrategy : std::uint32_t {
 
 /// How the room for messages grows where their length is known at run time alone.
 enum class AllocationStrategy : std::uint32_t {
-    BestFit = IOX2SD_BEST_FIT,         ///< By as much as the message needs.
-    PowerOfTwo = IOX2SD_POWER_OF_TWO,  ///< To the next power of two.
-    Static = IOX2SD_STATIC,            ///< It does not grow.
+    BestFit = IOX2SD_ALLOCATION_BEST_FIT,         ///< By as much as the message needs.
+    PowerOfTwo = IOX2SD_ALLOCATION_POWER_OF_TWO,  ///< To the next power of two.
+    Static = IOX2SD_ALLOCATION_STATIC,            ///< It does not grow.
 };
 
 namespace detail {
@@ -2198,7 +2200,9 @@ struct NotifierDetails {
     static NotifierDetails from_c(const iox2sd_port_details& c) noexcept {
         return {UniqueNotifierId(c.port), detail::node_of(c)};
     }
-    iox2sd_port_details as_c() const noexcept { return detail::port(role, notifier_id.parts(), node_id); }
+    iox2sd_port_details as_c() const noexcept {
+        return detail::port(role, notifier_id.parts(), node_id);
+    }
 };
 
 /// What a listener reports of itself.
@@ -2214,7 +2218,9 @@ struct ListenerDetails {
     static ListenerDetails from_c(const iox2sd_port_details& c) noexcept {
         return {UniqueListenerId(c.port), detail::node_of(c)};
     }
-    iox2sd_port_details as_c() const noexcept { return detail::port(role, listener_id.parts(), node_id); }
+    iox2sd_port_details as_c() const noexcept {
+        return detail::port(role, listener_id.parts(), node_id);
+    }
 };
 
 /// What a client reports of itself.
@@ -2298,7 +2304,9 @@ struct ReaderDetails {
     static ReaderDetails from_c(const iox2sd_port_details& c) noexcept {
         return {UniqueReaderId(c.port), detail::node_of(c)};
     }
-    iox2sd_port_details as_c() const noexcept { return detail::port(role, reader_id.parts(), node_id); }
+    iox2sd_port_details as_c() const noexcept {
+        return detail::port(role, reader_id.parts(), node_id);
+    }
 };
 
 /// What a writer reports of itself.
@@ -2314,7 +2322,9 @@ struct WriterDetails {
     static WriterDetails from_c(const iox2sd_port_details& c) noexcept {
         return {UniqueWriterId(c.port), detail::node_of(c)};
     }
-    iox2sd_port_details as_c() const noexcept { return detail::port(role, writer_id.parts(), node_id); }
+    iox2sd_port_details as_c() const noexcept {
+        return detail::port(role, writer_id.parts(), node_id);
+    }
 };
 
 /// A port of any kind.

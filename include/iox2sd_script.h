@@ -21,14 +21,27 @@ typedef struct iox2sd_script_answer {
                     * IOX2SD_NO_MEMORY, of those that were written. */
 } iox2sd_script_answer;
 
+/* The library's own function. Callers use those below, which report IOX2SD_NULL. */
+iox2sd_script_answer iox2sd_script_run_at(const uint8_t *script, size_t length, uint8_t *out,
+                                          size_t capacity);
+
 /* Runs a whole script, and writes its reply lines to the front of `out`, without a zero byte, where
  * all of them fit. A script and a buffer of NULL and 0 are empty ones.
- * Errors: IOX2SD_NO_MEMORY, with nothing or the whole reply lines of some first commands.
- * IOX2SD_BUFFER_TOO_SHORT, with `line` and `length` as they would be with a longer buffer; then
- * `out` is as it was, and a call with a longer buffer runs the script again from its start.
- * IOX2SD_BAD_LINE, with `line` and the reply lines to the commands before it. */
-iox2sd_script_answer iox2sd_script_run(const uint8_t *script, size_t length, uint8_t *out,
-                                       size_t capacity);
+ * Errors: IOX2SD_NULL. IOX2SD_NO_MEMORY, with nothing or the whole reply lines of some first
+ * commands. IOX2SD_BUFFER_TOO_SHORT, with `line` and `length` as they would be with a longer
+ * buffer; then `out` is as it was, and a call with a longer buffer runs the script again from its
+ * start. IOX2SD_BAD_LINE, with `line` and the reply lines to the commands before it. */
+static inline iox2sd_script_answer iox2sd_script_run(const uint8_t *script, size_t length,
+                                                     uint8_t *out, size_t capacity) {
+    iox2sd_script_answer refused = {IOX2SD_NULL, 0, 0};
+    if (script == NULL && length != 0) return refused;
+    if (out == NULL && capacity != 0) return refused;
+    return iox2sd_script_run_at(script, length, out, capacity);
+}
+static inline iox2sd_script_answer iox2sd_script_run_str(const char *script, uint8_t *out,
+                                                         size_t capacity) {
+    return iox2sd_script_run((const uint8_t *)script, iox2sd_length(script), out, capacity);
+}
 
 #ifdef __cplusplus
 }

@@ -1,19 +1,24 @@
-/* The proved layer of service_descriptions, for C99 and C++: values. The statuses stand in iox2sd.h.
+/* The proved layer of service_descriptions, for C99 and C++: values. The statuses stand in
+ * iox2sd.h.
  *
  * Rules for every call
  *
- * - A text is a pointer and a length in bytes; it needs no zero byte at its end. NULL with length 0 is an empty text, and
- *   an array of length 0.
- * - A buffer is a pointer to `capacity` bytes that the caller owns, and that overlap no other argument of the call. A
- *   text is written to its front, without a zero byte, where all of it fits. Where it does not, nothing is written,
- *   the status is IOX2SD_BUFFER_TOO_SHORT, and `length` is the size that it needs. NULL with capacity 0 is a buffer.
- * - NULL where one struct is expected is IOX2SD_NULL, and so is an array of structs that is NULL with
- *   another number than 0; it is reported before all else. A text or a buffer that is NULL with
- *   another number than 0 is not caught.
- * - A status other than IOX2SD_DONE is an error: nothing was written, and the other fields of an answer are 0, but where a
- *   function says otherwise. Errors are checked in the order in which they are named.
- * - No call writes past the length that it was given, keeps a pointer, takes memory, or calls back. There is no global
- *   state: calls may run on several threads at once, where they share no buffer.
+ * - A text is a pointer and a length in bytes; it needs no zero byte at its end. NULL with length 0
+ *   is an empty text, and an array of length 0. Where a function ends in `_str`, its texts are
+ *   pointers to bytes that end in a zero byte.
+ * - A buffer is a pointer to `capacity` bytes that the caller owns, and that overlap no other
+ *   argument of the call. A text is written to its front, without a zero byte, where all of it
+ *   fits. Where it does not, nothing is written, the status is IOX2SD_BUFFER_TOO_SHORT, and
+ *   `length` is the size that it needs. NULL with capacity 0 is a buffer.
+ * - NULL where one struct is expected is IOX2SD_NULL, and so is an array, a text or a buffer that
+ *   is NULL with another number than 0, and NULL for a text of a function that ends in `_str`. It
+ *   is reported before all else; the comments below do not name it again for texts and buffers. A
+ *   text within a struct that is NULL with another length than 0 is not caught.
+ * - A status other than IOX2SD_DONE is an error: nothing was written, and the other fields of an
+ *   answer are 0, but where a function says otherwise. Errors are checked in the order in which
+ *   they are named.
+ * - No call writes past the length that it was given, keeps a pointer, takes memory, or calls back.
+ *   There is no global state: calls may run on several threads at once, where they share no buffer.
  *
  * An answer has padding: compare its fields.
  */
@@ -34,65 +39,223 @@ typedef struct iox2sd_place_answer {
 
 /* ---- Texts ---- */
 
-/* Whether a text is the name that a user gives to a service: 1 to 255 bytes, each from 1 to 127, not beginning with
- * "iox2://".
- * Errors: IOX2SD_RESERVED_PREFIX; IOX2SD_EMPTY; IOX2SD_TOO_LONG, with `at` 255; IOX2SD_ILLEGAL_BYTE, with the place of the
- * first one. */
-iox2sd_place_answer iox2sd_service_name_check(const uint8_t *text, size_t length);
+/* The library's own functions on texts and buffers. Callers use the functions below, which report
+ * IOX2SD_NULL. */
+iox2sd_place_answer iox2sd_service_name_check_at(const uint8_t *text, size_t length);
+iox2sd_place_answer iox2sd_internal_service_name_check_at(const uint8_t *text, size_t length);
+iox2sd_place_answer iox2sd_attribute_key_check_at(const uint8_t *text, size_t length);
+iox2sd_place_answer iox2sd_attribute_value_check_at(const uint8_t *text, size_t length);
+iox2sd_place_answer iox2sd_path_check_at(const uint8_t *text, size_t length);
+iox2sd_place_answer iox2sd_file_name_check_at(const uint8_t *text, size_t length);
+iox2sd_place_answer iox2sd_file_path_check_at(const uint8_t *text, size_t length);
+iox2sd_place_answer iox2sd_restricted_file_name_check_at(const uint8_t *text, size_t length);
+bool iox2sd_has_iox2_prefix_at(const uint8_t *text, size_t length);
+iox2sd_text_answer
+iox2sd_internal_service_name_at(const uint8_t *text, size_t length, uint8_t *out, size_t capacity);
+iox2sd_text_answer iox2sd_path_add_path_entry_at(const uint8_t *path, size_t path_length,
+                                                 const uint8_t *entry, size_t entry_length,
+                                                 uint8_t *out, size_t capacity);
+iox2sd_text_answer iox2sd_file_path_from_path_and_file_at(const uint8_t *path, size_t path_length,
+                                                          const uint8_t *file, size_t file_length,
+                                                          uint8_t *out, size_t capacity);
+iox2sd_text_answer iox2sd_hash_text_at(uint32_t pattern, const uint8_t *name, size_t length,
+                                       uint8_t *out, size_t capacity);
+iox2sd_text_answer iox2sd_internal_hash_text_at(uint32_t pattern, const uint8_t *name,
+                                                size_t length, uint8_t *out, size_t capacity);
+iox2sd_text_answer iox2sd_default_text_at(uint32_t which, uint8_t *out, size_t capacity);
+iox2sd_text_answer
+iox2sd_service_dir_at(const uint8_t *root, size_t length, uint8_t *out, size_t capacity);
+iox2sd_text_answer
+iox2sd_node_dir_at(const uint8_t *root, size_t length, uint8_t *out, size_t capacity);
+iox2sd_text_answer iox2sd_version_at(uint8_t *out, size_t capacity);
+iox2sd_text_answer iox2sd_layer_version_at(uint8_t *out, size_t capacity);
+
+/* Whether a text is the name that a user gives to a service: 1 to 255 bytes, each from 1 to 127,
+ * not beginning with "iox2://".
+ * Errors: IOX2SD_RESERVED_PREFIX; IOX2SD_EMPTY; IOX2SD_TOO_LONG, with `at` 255;
+ * IOX2SD_ILLEGAL_BYTE, with the place of the first one. */
+static inline iox2sd_place_answer iox2sd_service_name_check(const uint8_t *text, size_t length) {
+    iox2sd_place_answer refused = {IOX2SD_NULL, 0};
+    if (text == NULL && length != 0) return refused;
+    return iox2sd_service_name_check_at(text, length);
+}
+static inline iox2sd_place_answer iox2sd_service_name_check_str(const char *text) {
+    return iox2sd_service_name_check((const uint8_t *)text, iox2sd_length(text));
+}
 
 /* Whether a text is the name of a service, which may be one of the system's own.
  * Errors: as above, but for IOX2SD_RESERVED_PREFIX. */
-iox2sd_place_answer iox2sd_internal_service_name_check(const uint8_t *text, size_t length);
+static inline iox2sd_place_answer
+iox2sd_internal_service_name_check(const uint8_t *text, size_t length) {
+    iox2sd_place_answer refused = {IOX2SD_NULL, 0};
+    if (text == NULL && length != 0) return refused;
+    return iox2sd_internal_service_name_check_at(text, length);
+}
+static inline iox2sd_place_answer iox2sd_internal_service_name_check_str(const char *text) {
+    return iox2sd_internal_service_name_check((const uint8_t *)text, iox2sd_length(text));
+}
 
-/* Whether a text begins with "iox2://", as the names of the system's own services do. */
-bool iox2sd_has_iox2_prefix(const uint8_t *text, size_t length);
+/* Whether a text begins with "iox2://", as the names of the system's services do; no for NULL. */
+static inline bool iox2sd_has_iox2_prefix(const uint8_t *text, size_t length) {
+    return text != NULL && iox2sd_has_iox2_prefix_at(text, length);
+}
+static inline bool iox2sd_has_iox2_prefix_str(const char *text) {
+    return iox2sd_has_iox2_prefix((const uint8_t *)text, iox2sd_length(text));
+}
 
 /* Writes the name of one of the system's own services: "iox2://" and the text.
- * Errors: IOX2SD_NOT_UTF8; IOX2SD_TOO_LONG, for more than 248 bytes; IOX2SD_ILLEGAL_BYTE; IOX2SD_BUFFER_TOO_SHORT. */
-iox2sd_text_answer iox2sd_internal_service_name(const uint8_t *text, size_t length, uint8_t *out, size_t capacity);
+ * Errors: IOX2SD_NOT_UTF8; IOX2SD_TOO_LONG, for more than 248 bytes; IOX2SD_ILLEGAL_BYTE;
+ * IOX2SD_BUFFER_TOO_SHORT. */
+static inline iox2sd_text_answer
+iox2sd_internal_service_name(const uint8_t *text, size_t length, uint8_t *out, size_t capacity) {
+    iox2sd_text_answer refused = {IOX2SD_NULL, 0};
+    if (text == NULL && length != 0) return refused;
+    if (out == NULL && capacity != 0) return refused;
+    return iox2sd_internal_service_name_at(text, length, out, capacity);
+}
+static inline iox2sd_text_answer
+iox2sd_internal_service_name_str(const char *text, uint8_t *out, size_t capacity) {
+    return iox2sd_internal_service_name((const uint8_t *)text, iox2sd_length(text), out, capacity);
+}
 
 /* Whether a text is the key of an attribute: 1 to 64 bytes, each from 1 to 127.
- * Errors: IOX2SD_EMPTY; IOX2SD_TOO_LONG, with `at` 64; IOX2SD_ILLEGAL_BYTE, with the place of the first one. */
-iox2sd_place_answer iox2sd_attribute_key_check(const uint8_t *text, size_t length);
+ * Errors: IOX2SD_EMPTY; IOX2SD_TOO_LONG, with `at` 64; IOX2SD_ILLEGAL_BYTE, with the place of the
+ * first one. */
+static inline iox2sd_place_answer iox2sd_attribute_key_check(const uint8_t *text, size_t length) {
+    iox2sd_place_answer refused = {IOX2SD_NULL, 0};
+    if (text == NULL && length != 0) return refused;
+    return iox2sd_attribute_key_check_at(text, length);
+}
+static inline iox2sd_place_answer iox2sd_attribute_key_check_str(const char *text) {
+    return iox2sd_attribute_key_check((const uint8_t *)text, iox2sd_length(text));
+}
 
-/* Whether a text is the value of an attribute: 1 to 256 bytes, each from 1 to 127. Errors as of a key, with `at` 256. */
-iox2sd_place_answer iox2sd_attribute_value_check(const uint8_t *text, size_t length);
+/* Whether a text is the value of an attribute: 1 to 256 bytes, each from 1 to 127. Errors as of a
+ * key, with `at` 256. */
+static inline iox2sd_place_answer iox2sd_attribute_value_check(const uint8_t *text, size_t length) {
+    iox2sd_place_answer refused = {IOX2SD_NULL, 0};
+    if (text == NULL && length != 0) return refused;
+    return iox2sd_attribute_value_check_at(text, length);
+}
+static inline iox2sd_place_answer iox2sd_attribute_value_check_str(const char *text) {
+    return iox2sd_attribute_value_check((const uint8_t *)text, iox2sd_length(text));
+}
 
 /* Whether a text is a path: at most 255 bytes, each from 1 to 127. It may be empty.
  * Errors: IOX2SD_TOO_LONG, with `at` 255; IOX2SD_ILLEGAL_BYTE, with the place of the first one. */
-iox2sd_place_answer iox2sd_path_check(const uint8_t *text, size_t length);
+static inline iox2sd_place_answer iox2sd_path_check(const uint8_t *text, size_t length) {
+    iox2sd_place_answer refused = {IOX2SD_NULL, 0};
+    if (text == NULL && length != 0) return refused;
+    return iox2sd_path_check_at(text, length);
+}
+static inline iox2sd_place_answer iox2sd_path_check_str(const char *text) {
+    return iox2sd_path_check((const uint8_t *)text, iox2sd_length(text));
+}
 
-/* Whether a text is the name of a file: 1 to 255 bytes, each from 1 to 127 and none a `/`, and neither "." nor "..".
- * Errors: IOX2SD_EMPTY; IOX2SD_TOO_LONG, with `at` 255; IOX2SD_ILLEGAL_BYTE, with the place of the first one;
- * IOX2SD_NO_FILE_NAME. */
-iox2sd_place_answer iox2sd_file_name_check(const uint8_t *text, size_t length);
+/* Whether a text is the name of a file: 1 to 255 bytes, each from 1 to 127 and none a `/`, and
+ * neither "." nor "..".
+ * Errors: IOX2SD_EMPTY; IOX2SD_TOO_LONG, with `at` 255; IOX2SD_ILLEGAL_BYTE, with the place of the
+ * first one; IOX2SD_NO_FILE_NAME. */
+static inline iox2sd_place_answer iox2sd_file_name_check(const uint8_t *text, size_t length) {
+    iox2sd_place_answer refused = {IOX2SD_NULL, 0};
+    if (text == NULL && length != 0) return refused;
+    return iox2sd_file_name_check_at(text, length);
+}
+static inline iox2sd_place_answer iox2sd_file_name_check_str(const char *text) {
+    return iox2sd_file_name_check((const uint8_t *)text, iox2sd_length(text));
+}
 
-/* Whether a text is the path of a file: 1 to 255 bytes, each from 1 to 127, of which those after the last `/` are the name
- * of a file. Errors as of the name of a file; a `/` is no illegal byte. */
-iox2sd_place_answer iox2sd_file_path_check(const uint8_t *text, size_t length);
+/* Whether a text is the path of a file: 1 to 255 bytes, each from 1 to 127, of which those after
+ * the last `/` are the name of a file. Errors as of the name of a file; `/` is no illegal byte. */
+static inline iox2sd_place_answer iox2sd_file_path_check(const uint8_t *text, size_t length) {
+    iox2sd_place_answer refused = {IOX2SD_NULL, 0};
+    if (text == NULL && length != 0) return refused;
+    return iox2sd_file_path_check_at(text, length);
+}
+static inline iox2sd_place_answer iox2sd_file_path_check_str(const char *text) {
+    return iox2sd_file_path_check((const uint8_t *)text, iox2sd_length(text));
+}
 
-/* Whether a text is a restricted name of a file, as hash texts are: 1 to 64 letters A to Z and a to z, digits, `-`, `.`, `:`
- * and `_`, and neither "." nor "..". Errors as of the name of a file, with `at` 64 for IOX2SD_TOO_LONG. */
-iox2sd_place_answer iox2sd_restricted_file_name_check(const uint8_t *text, size_t length);
+/* Whether a text is a restricted name of a file, as hash texts are: 1 to 64 letters A to Z and a to
+ * z, digits, `-`, `.`, `:` and `_`, and neither "." nor "..". Errors as of the name of a file, with
+ * `at` 64 for IOX2SD_TOO_LONG. */
+static inline iox2sd_place_answer
+iox2sd_restricted_file_name_check(const uint8_t *text, size_t length) {
+    iox2sd_place_answer refused = {IOX2SD_NULL, 0};
+    if (text == NULL && length != 0) return refused;
+    return iox2sd_restricted_file_name_check_at(text, length);
+}
+static inline iox2sd_place_answer iox2sd_restricted_file_name_check_str(const char *text) {
+    return iox2sd_restricted_file_name_check((const uint8_t *)text, iox2sd_length(text));
+}
 
-/* Writes an entry, which is a path too, joined to a path, with one `/` between them unless the path is empty or ends in
- * `/`.
- * Errors: IOX2SD_BAD_PATH; IOX2SD_BAD_ENTRY; IOX2SD_TOO_LONG, past 255 bytes; IOX2SD_BUFFER_TOO_SHORT. */
-iox2sd_text_answer iox2sd_path_add_path_entry(const uint8_t *path, size_t path_length, const uint8_t *entry, size_t entry_length,
-                                    uint8_t *out, size_t capacity);
+/* Writes an entry, which is a path too, joined to a path, with one `/` between them unless the path
+ * is empty or ends in `/`.
+ * Errors: IOX2SD_BAD_PATH; IOX2SD_BAD_ENTRY; IOX2SD_TOO_LONG, past 255 bytes;
+ * IOX2SD_BUFFER_TOO_SHORT. */
+static inline iox2sd_text_answer
+iox2sd_path_add_path_entry(const uint8_t *path, size_t path_length, const uint8_t *entry,
+                           size_t entry_length, uint8_t *out, size_t capacity) {
+    iox2sd_text_answer refused = {IOX2SD_NULL, 0};
+    if (path == NULL && path_length != 0) return refused;
+    if (entry == NULL && entry_length != 0) return refused;
+    if (out == NULL && capacity != 0) return refused;
+    return iox2sd_path_add_path_entry_at(path, path_length, entry, entry_length, out, capacity);
+}
+static inline iox2sd_text_answer
+iox2sd_path_add_path_entry_str(const char *path, const char *entry, uint8_t *out, size_t capacity) {
+    return iox2sd_path_add_path_entry((const uint8_t *)path, iox2sd_length(path),
+                                      (const uint8_t *)entry, iox2sd_length(entry), out, capacity);
+}
 
 /* Writes the path of a file in a directory, joined in the same way. Errors as above. */
-iox2sd_text_answer iox2sd_file_path_from_path_and_file(const uint8_t *path, size_t path_length, const uint8_t *file, size_t file_length,
-                                         uint8_t *out, size_t capacity);
+static inline iox2sd_text_answer
+iox2sd_file_path_from_path_and_file(const uint8_t *path, size_t path_length, const uint8_t *file,
+                                    size_t file_length, uint8_t *out, size_t capacity) {
+    iox2sd_text_answer refused = {IOX2SD_NULL, 0};
+    if (path == NULL && path_length != 0) return refused;
+    if (file == NULL && file_length != 0) return refused;
+    if (out == NULL && capacity != 0) return refused;
+    return iox2sd_file_path_from_path_and_file_at(path, path_length, file, file_length, out,
+                                                  capacity);
+}
+static inline iox2sd_text_answer
+iox2sd_file_path_from_path_and_file_str(const char *path, const char *file, uint8_t *out,
+                                        size_t capacity) {
+    return iox2sd_file_path_from_path_and_file((const uint8_t *)path, iox2sd_length(path),
+                                               (const uint8_t *)file, iox2sd_length(file), out,
+                                               capacity);
+}
 
 /* Writes the hash text of a service's pattern and name, under which its files are found: 27 bytes.
- * Errors: IOX2SD_UNKNOWN_PATTERN; IOX2SD_NOT_UTF8; IOX2SD_BAD_SERVICE_NAME, of which iox2sd_service_name_check has the reason;
- * IOX2SD_ILLEGAL_HASH; IOX2SD_BUFFER_TOO_SHORT. */
-iox2sd_text_answer iox2sd_hash_text(uint32_t pattern, const uint8_t *name, size_t length, uint8_t *out, size_t capacity);
+ * Errors: IOX2SD_UNKNOWN_PATTERN; IOX2SD_NOT_UTF8; IOX2SD_BAD_SERVICE_NAME, of which
+ * iox2sd_service_name_check has the reason; IOX2SD_ILLEGAL_HASH; IOX2SD_BUFFER_TOO_SHORT. */
+static inline iox2sd_text_answer iox2sd_hash_text(uint32_t pattern, const uint8_t *name,
+                                                  size_t length, uint8_t *out, size_t capacity) {
+    iox2sd_text_answer refused = {IOX2SD_NULL, 0};
+    if (name == NULL && length != 0) return refused;
+    if (out == NULL && capacity != 0) return refused;
+    return iox2sd_hash_text_at(pattern, name, length, out, capacity);
+}
+static inline iox2sd_text_answer
+iox2sd_hash_text_str(uint32_t pattern, const char *name, uint8_t *out, size_t capacity) {
+    return iox2sd_hash_text(pattern, (const uint8_t *)name, iox2sd_length(name), out, capacity);
+}
 
 /* The same for a name that may be one of the system's own. */
-iox2sd_text_answer iox2sd_internal_hash_text(uint32_t pattern, const uint8_t *name, size_t length, uint8_t *out,
-                                             size_t capacity);
+static inline iox2sd_text_answer iox2sd_internal_hash_text(uint32_t pattern, const uint8_t *name,
+                                                           size_t length, uint8_t *out,
+                                                           size_t capacity) {
+    iox2sd_text_answer refused = {IOX2SD_NULL, 0};
+    if (name == NULL && length != 0) return refused;
+    if (out == NULL && capacity != 0) return refused;
+    return iox2sd_internal_hash_text_at(pattern, name, length, out, capacity);
+}
+static inline iox2sd_text_answer
+iox2sd_internal_hash_text_str(uint32_t pattern, const char *name, uint8_t *out, size_t capacity) {
+    return iox2sd_internal_hash_text(pattern, (const uint8_t *)name, iox2sd_length(name), out,
+                                     capacity);
+}
 
 /* ---- Attributes ---- */
 
@@ -110,51 +273,79 @@ typedef struct iox2sd_key {
     size_t length;
 } iox2sd_key;
 
+/* A pair, a key of texts that end in a zero byte, to which they point. NULL makes an empty text,
+ * which no key and no value is. */
+static inline iox2sd_attribute iox2sd_attribute_str(const char *key, const char *value) {
+    iox2sd_attribute made;
+    made.key = (const uint8_t *)key;
+    made.key_length = key != NULL ? strlen(key) : 0;
+    made.value = (const uint8_t *)value;
+    made.value_length = value != NULL ? strlen(value) : 0;
+    return made;
+}
+static inline iox2sd_key iox2sd_key_str(const char *text) {
+    iox2sd_key made;
+    made.text = (const uint8_t *)text;
+    made.length = text != NULL ? strlen(text) : 0;
+    return made;
+}
+
 /* The library's own functions on arrays of pairs and keys. Callers use the functions below, which
  * report IOX2SD_NULL. */
 iox2sd_place_answer iox2sd_attributes_check_at(const iox2sd_attribute *pairs, size_t length);
 iox2sd_place_answer iox2sd_attributes_sort_at(iox2sd_attribute *pairs, size_t length);
-iox2sd_count_answer iox2sd_attributes_number_of_key_values_at(const iox2sd_attribute *pairs, size_t length, const uint8_t *key,
-                                               size_t key_length);
-iox2sd_text_answer iox2sd_attributes_key_value_at(const iox2sd_attribute *pairs, size_t length, const uint8_t *key,
-                                             size_t key_length, size_t index, uint8_t *out, size_t capacity);
+iox2sd_count_answer iox2sd_attributes_number_of_key_values_at(const iox2sd_attribute *pairs,
+                                                              size_t length, const uint8_t *key,
+                                                              size_t key_length);
+iox2sd_text_answer iox2sd_attributes_key_value_at(const iox2sd_attribute *pairs, size_t length,
+                                                  const uint8_t *key, size_t key_length,
+                                                  size_t index, uint8_t *out, size_t capacity);
 iox2sd_place_answer iox2sd_attributes_verify_at(const iox2sd_attribute *pairs, size_t length,
-                                                const iox2sd_attribute *required, size_t required_length,
-                                                const iox2sd_key *keys, size_t keys_length);
+                                                const iox2sd_attribute *required,
+                                                size_t required_length, const iox2sd_key *keys,
+                                                size_t keys_length);
 
 /* Whether pairs are a set: at most sixteen, each of legal texts, in any order and with repeats.
- * Errors: IOX2SD_NULL; of the first pair that is wrong, with its place: IOX2SD_BAD_KEY; IOX2SD_BAD_VALUE;
- * IOX2SD_TOO_MANY, of the seventeenth. */
-static inline iox2sd_place_answer iox2sd_attributes_check(const iox2sd_attribute *pairs, size_t length) {
+ * Errors: IOX2SD_NULL; of the first pair that is wrong, with its place: IOX2SD_BAD_KEY;
+ * IOX2SD_BAD_VALUE; IOX2SD_TOO_MANY, of the seventeenth. */
+static inline iox2sd_place_answer
+iox2sd_attributes_check(const iox2sd_attribute *pairs, size_t length) {
     iox2sd_place_answer refused = {IOX2SD_NULL, 0};
     if (pairs == NULL && length != 0) return refused;
     return iox2sd_attributes_check_at(pairs, length);
 }
 
-/* Sorts the pairs of a set by the bytes of their keys, and then of their values. The array's pointers are moved, and the
- * texts stay where they are. Errors as above; the array is then as it was. */
+/* Sorts the pairs of a set by the bytes of their keys, and then of their values. The array's
+ * pointers are moved, and the texts stay where they are. Errors as above; the array is then as it
+ * was. */
 static inline iox2sd_place_answer iox2sd_attributes_sort(iox2sd_attribute *pairs, size_t length) {
     iox2sd_place_answer refused = {IOX2SD_NULL, 0};
     if (pairs == NULL && length != 0) return refused;
     return iox2sd_attributes_sort_at(pairs, length);
 }
 
-/* How many values a key has in a set. Errors: those of iox2sd_attributes_check, without a place; IOX2SD_BAD_ASKED_KEY. */
-static inline iox2sd_count_answer iox2sd_attributes_number_of_key_values(const iox2sd_attribute *pairs, size_t length,
-                                                          const uint8_t *key, size_t key_length) {
+/* How many values a key has in a set. Errors: those of iox2sd_attributes_check, without a place;
+ * IOX2SD_BAD_ASKED_KEY. */
+static inline iox2sd_count_answer
+iox2sd_attributes_number_of_key_values(const iox2sd_attribute *pairs, size_t length,
+                                       const uint8_t *key, size_t key_length) {
     iox2sd_count_answer refused = {IOX2SD_NULL, 0};
     if (pairs == NULL && length != 0) return refused;
+    if (key == NULL && key_length != 0) return refused;
     return iox2sd_attributes_number_of_key_values_at(pairs, length, key, key_length);
 }
 
-/* Writes the value at `index`, counted from 0, of the values that a key has in a set, by their bytes from the least.
- * Errors: those of iox2sd_attributes_check, without a place; IOX2SD_BAD_ASKED_KEY; IOX2SD_NO_SUCH_VALUE;
- * IOX2SD_BUFFER_TOO_SHORT. */
-static inline iox2sd_text_answer iox2sd_attributes_key_value(const iox2sd_attribute *pairs, size_t length,
-                                                        const uint8_t *key, size_t key_length, size_t index,
-                                                        uint8_t *out, size_t capacity) {
+/* Writes the value at `index`, counted from 0, of the values that a key has in a set, by their
+ * bytes from the least.
+ * Errors: those of iox2sd_attributes_check, without a place; IOX2SD_BAD_ASKED_KEY;
+ * IOX2SD_NO_SUCH_VALUE; IOX2SD_BUFFER_TOO_SHORT. */
+static inline iox2sd_text_answer
+iox2sd_attributes_key_value(const iox2sd_attribute *pairs, size_t length, const uint8_t *key,
+                            size_t key_length, size_t index, uint8_t *out, size_t capacity) {
     iox2sd_text_answer refused = {IOX2SD_NULL, 0};
     if (pairs == NULL && length != 0) return refused;
+    if (key == NULL && key_length != 0) return refused;
+    if (out == NULL && capacity != 0) return refused;
     return iox2sd_attributes_key_value_at(pairs, length, key, key_length, index, out, capacity);
 }
 
@@ -162,17 +353,20 @@ static inline iox2sd_text_answer iox2sd_attributes_key_value(const iox2sd_attrib
  * Errors, in this order:
  * - IOX2SD_NULL, of any of the three arrays;
  * - the others of iox2sd_attributes_check, of `pairs`;
- * - of the first required pair that is invalid, with its index in `required`: IOX2SD_BAD_REQUIRED_KEY;
- *   IOX2SD_BAD_REQUIRED_VALUE; IOX2SD_TOO_MANY_REQUIRED, of a valid seventeenth;
+ * - of the first required pair that is invalid, with its index in `required`:
+ *   IOX2SD_BAD_REQUIRED_KEY; IOX2SD_BAD_REQUIRED_VALUE; IOX2SD_TOO_MANY_REQUIRED, of a valid
+ *   seventeenth;
  * - of the first required key that is invalid, with its index in `keys`: IOX2SD_BAD_ASKED_KEY;
  *   IOX2SD_TOO_MANY_REQUIRED, of a valid key that is the seventeenth of pairs and keys together;
- * - IOX2SD_MISSING_PAIR, of the least required pair that the set lacks, with its first index in `required`;
- * - IOX2SD_MISSING_KEY, of the first required key that the set lacks, with its first index in `keys`.
+ * - IOX2SD_MISSING_PAIR, of the least required pair that the set lacks, with its first index in
+ *   `required`;
+ * - IOX2SD_MISSING_KEY, of the first required key that the set lacks, with its first index in
+ *   `keys`.
  * So an invalid required key is not reported where a seventeenth required pair stands before it. */
-static inline iox2sd_place_answer iox2sd_attributes_verify(const iox2sd_attribute *pairs, size_t length,
-                                                           const iox2sd_attribute *required,
-                                                           size_t required_length,
-                                                           const iox2sd_key *keys, size_t keys_length) {
+static inline iox2sd_place_answer
+iox2sd_attributes_verify(const iox2sd_attribute *pairs, size_t length,
+                         const iox2sd_attribute *required, size_t required_length,
+                         const iox2sd_key *keys, size_t keys_length) {
     iox2sd_place_answer refused = {IOX2SD_NULL, 0};
     if (pairs == NULL && length != 0) return refused;
     if (required == NULL && required_length != 0) return refused;
@@ -183,19 +377,31 @@ static inline iox2sd_place_answer iox2sd_attributes_verify(const iox2sd_attribut
 /* ---- Messages ---- */
 
 /* How many values of a type a message has. */
-enum {
-    IOX2SD_FIXED_SIZE = 0, /* One. */
-    IOX2SD_DYNAMIC = 1     /* Any number, one after another. */
+enum iox2sd_type_variant {
+    IOX2SD_VARIANT_FIXED_SIZE = 0, /* One. */
+    IOX2SD_VARIANT_DYNAMIC = 1     /* Any number, one after another. */
 };
 
 /* The type of one part of a message. */
 typedef struct iox2sd_type_detail {
     const uint8_t *name; /* UTF-8, at most 256 bytes, each from 1 to 127. */
     size_t name_length;
-    uint32_t variant; /* IOX2SD_FIXED_SIZE or IOX2SD_DYNAMIC. */
+    uint32_t variant; /* Of enum iox2sd_type_variant. */
     size_t size;      /* In bytes. */
     size_t alignment; /* A power of two. */
 } iox2sd_type_detail;
+
+/* A type with a name that ends in a zero byte, to which it points. NULL makes an empty name. */
+static inline iox2sd_type_detail iox2sd_type_detail_str(const char *name, uint32_t variant,
+                                                        size_t size, size_t alignment) {
+    iox2sd_type_detail made;
+    made.name = (const uint8_t *)name;
+    made.name_length = name != NULL ? strlen(name) : 0;
+    made.variant = variant;
+    made.size = size;
+    made.alignment = alignment;
+    return made;
+}
 
 /* The parts of a message, which lie one after another. */
 typedef struct iox2sd_message_details {
@@ -219,7 +425,7 @@ typedef struct iox2sd_places_answer {
 } iox2sd_places_answer;
 
 /* The parts of a message, as answers name them. */
-enum {
+enum iox2sd_message_part {
     IOX2SD_HEADER = 0,
     IOX2SD_USER_HEADER = 1,
     IOX2SD_PAYLOAD = 2
@@ -232,12 +438,16 @@ typedef struct iox2sd_part_answer {
     uint32_t part; /* IOX2SD_HEADER, IOX2SD_USER_HEADER or IOX2SD_PAYLOAD. */
 } iox2sd_part_answer;
 
-/* The functions that end in `_at` take a pointer and a count of 0 for NULL or 1; call those below them. */
+/* The functions that end in `_at` take a pointer and a count of 0 for NULL or 1; call those below
+ * them. */
 uint32_t iox2sd_type_detail_check_at(const iox2sd_type_detail *detail, size_t count);
-iox2sd_layout_answer iox2sd_message_sample_layout_at(const iox2sd_message_details *details, size_t count, size_t elements);
-iox2sd_places_answer iox2sd_message_places_at(const iox2sd_message_details *details, size_t count, size_t header);
-iox2sd_part_answer iox2sd_message_is_compatible_to_at(const iox2sd_message_details *opener, size_t opener_count,
-                                                const iox2sd_message_details *service, size_t service_count);
+iox2sd_layout_answer iox2sd_message_sample_layout_at(const iox2sd_message_details *details,
+                                                     size_t count, size_t elements);
+iox2sd_places_answer
+iox2sd_message_places_at(const iox2sd_message_details *details, size_t count, size_t header);
+iox2sd_part_answer
+iox2sd_message_is_compatible_to_at(const iox2sd_message_details *opener, size_t opener_count,
+                                   const iox2sd_message_details *service, size_t service_count);
 
 /* Whether the type of a part of a message is valid.
  * Errors: IOX2SD_NULL; IOX2SD_UNKNOWN_VARIANT; IOX2SD_NOT_UTF8, IOX2SD_TOO_LONG and
@@ -246,28 +456,35 @@ static inline uint32_t iox2sd_type_detail_check(const iox2sd_type_detail *detail
     return iox2sd_type_detail_check_at(detail, detail != NULL);
 }
 
-/* The layout of a message whose payload has so many elements. All parts lie in it, apart and aligned, for the service and
- * for every compatible opener. Names and variants are ignored.
+/* The layout of a message whose payload has so many elements. All parts lie in it, apart and
+ * aligned, for the service and for every compatible opener. Names and variants are ignored.
  * Errors: IOX2SD_NULL; IOX2SD_BAD_ALIGNMENT; IOX2SD_TOO_LARGE past 2^63 - 1 bytes. */
-static inline iox2sd_layout_answer iox2sd_message_sample_layout(const iox2sd_message_details *details, size_t elements) {
+static inline iox2sd_layout_answer
+iox2sd_message_sample_layout(const iox2sd_message_details *details, size_t elements) {
     return iox2sd_message_sample_layout_at(details, details != NULL, elements);
 }
 
-/* The places of user header and payload in a message whose header is at the place `header`. They are numbers: nothing
- * is read there. Names and variants are ignored.
- * Errors: IOX2SD_NULL; IOX2SD_BAD_ALIGNMENT; IOX2SD_TOO_LARGE where the payload's place would pass 2^64 - 1. */
-static inline iox2sd_places_answer iox2sd_message_places(const iox2sd_message_details *details, size_t header) {
+/* The places of user header and payload in a message whose header is at the place `header`. They
+ * are numbers: nothing is read there. Names and variants are ignored.
+ * Errors: IOX2SD_NULL; IOX2SD_BAD_ALIGNMENT; IOX2SD_TOO_LARGE where the payload's place would pass
+ * 2^64 - 1. */
+static inline iox2sd_places_answer
+iox2sd_message_places(const iox2sd_message_details *details, size_t header) {
     return iox2sd_message_places_at(details, details != NULL, header);
 }
 
-/* Whether an opener with these details may use the messages of a service with those: equal headers, and user headers and
- * payloads that are equal but for alignments, which are at most those of the service.
- * Errors, each with its side and its part: IOX2SD_NULL, the opener's before the service's; of the first part that is no
- * type, the opener's before the service's: IOX2SD_UNKNOWN_VARIANT; IOX2SD_NOT_UTF8, IOX2SD_TOO_LONG, IOX2SD_ILLEGAL_BYTE of
- * its name; IOX2SD_BAD_ALIGNMENT; and of the first part that keeps the opener out: IOX2SD_OTHER_NAME; IOX2SD_OTHER_VARIANT;
- * IOX2SD_OTHER_SIZE; IOX2SD_OTHER_ALIGNMENT of the header; IOX2SD_GREATER_ALIGNMENT of another part. */
-static inline iox2sd_part_answer iox2sd_message_is_compatible_to(const iox2sd_message_details *opener,
-                                                           const iox2sd_message_details *service) {
+/* Whether an opener with these details may use the messages of a service with those: equal headers,
+ * and user headers and payloads that are equal but for alignments, which are at most those of the
+ * service.
+ * Errors, each with its side and its part: IOX2SD_NULL, the opener's before the service's; of the
+ * first part that is no type, the opener's before the service's: IOX2SD_UNKNOWN_VARIANT;
+ * IOX2SD_NOT_UTF8, IOX2SD_TOO_LONG, IOX2SD_ILLEGAL_BYTE of its name; IOX2SD_BAD_ALIGNMENT; and of
+ * the first part that keeps the opener out: IOX2SD_OTHER_NAME; IOX2SD_OTHER_VARIANT;
+ * IOX2SD_OTHER_SIZE; IOX2SD_OTHER_ALIGNMENT of the header; IOX2SD_GREATER_ALIGNMENT of another
+ * part. */
+static inline iox2sd_part_answer
+iox2sd_message_is_compatible_to(const iox2sd_message_details *opener,
+                                const iox2sd_message_details *service) {
     return iox2sd_message_is_compatible_to_at(opener, opener != NULL, service, service != NULL);
 }
 
@@ -275,7 +492,8 @@ static inline iox2sd_part_answer iox2sd_message_is_compatible_to(const iox2sd_me
  * one client's requests or one server's responses that can be in use at once. The numbers are the
  * fields of these names of the settings or of the config of a description, and how many the port
  * may have loaned at once to be written (a server, for each request): publisher_max_loaned_samples,
- * max_loaned_requests or server_max_loaned_responses_per_request of the settings, or another number.
+ * max_loaned_requests or server_max_loaned_responses_per_request of the settings, or another
+ * number.
  * Error: IOX2SD_TOO_LARGE past 2^64 - 1. */
 iox2sd_count_answer iox2sd_required_amount_of_samples_per_data_segment(
     size_t max_subscribers, size_t subscriber_max_buffer_size,
@@ -289,16 +507,16 @@ iox2sd_count_answer iox2sd_required_amount_of_chunks_per_server_data_segment(
 /* ---- Settings ---- */
 
 /* What a sender does where a receiver's buffer is full and may not overflow. */
-enum {
+enum iox2sd_backpressure_strategy {
     IOX2SD_RETRY_UNTIL_DELIVERED = 0, /* It tries again until the receiver has room. */
     IOX2SD_DISCARD_DATA = 1           /* It leaves the receiver out. */
 };
 
 /* How a data segment grows where the length of messages is known at run time alone. */
-enum {
-    IOX2SD_BEST_FIT = 0,     /* By as much as the message needs. */
-    IOX2SD_POWER_OF_TWO = 1, /* To the next power of two. */
-    IOX2SD_STATIC = 2        /* It does not grow. */
+enum iox2sd_allocation_strategy {
+    IOX2SD_ALLOCATION_BEST_FIT = 0,     /* By as much as the message needs. */
+    IOX2SD_ALLOCATION_POWER_OF_TWO = 1, /* To the next power of two. */
+    IOX2SD_ALLOCATION_STATIC = 2        /* It does not grow. */
 };
 
 /* A span of time, or none: then all fields are 0. */
@@ -335,14 +553,20 @@ typedef struct iox2sd_publish_subscribe_settings {
     size_t max_subscribers; /* How many may be attached at once; so are the next two. */
     size_t max_publishers;
     size_t max_nodes;
-    size_t subscriber_max_buffer_size;           /* The capacity of a subscriber's buffer, in samples. */
-    size_t subscriber_max_borrowed_samples;      /* How many samples a subscriber may hold at once. */
-    size_t publisher_max_loaned_samples;         /* How many a publisher may have taken and not yet sent. */
-    size_t publisher_history_size;               /* How many a publisher keeps for subscribers that come later. */
-    size_t subscriber_expired_connection_buffer; /* How many connections of publishers that are gone it keeps. */
+    /* The capacity of a subscriber's buffer, in samples. */
+    size_t subscriber_max_buffer_size;
+    /* How many samples a subscriber may hold at once. */
+    size_t subscriber_max_borrowed_samples;
+    /* How many a publisher may have taken and not yet sent. */
+    size_t publisher_max_loaned_samples;
+    /* How many a publisher keeps for subscribers that come later. */
+    size_t publisher_history_size;
+    /* How many connections of publishers that are gone it keeps. */
+    size_t subscriber_expired_connection_buffer;
     uint32_t backpressure_strategy;
     uint32_t publisher_allocation_strategy;
-    bool enable_safe_overflow; /* Whether a new sample takes the oldest one's place where a buffer is full. */
+    /* Whether a new sample takes the oldest one's place where a buffer is full. */
+    bool enable_safe_overflow;
 } iox2sd_publish_subscribe_settings;
 
 /* The settings of an event service. */
@@ -360,14 +584,19 @@ typedef struct iox2sd_event_settings {
 /* The settings of a request-response service. */
 typedef struct iox2sd_request_response_settings {
     size_t max_active_requests_per_client; /* How many may be open at each server at once. */
-    size_t max_response_buffer_size;       /* The capacity of a client's buffer, in responses to one request. */
-    size_t max_servers;                    /* How many may be attached at once; so are the next two. */
+    /* The capacity of a client's buffer, in responses to one request. */
+    size_t max_response_buffer_size;
+    /* How many may be attached at once; so are the next two. */
+    size_t max_servers;
     size_t max_clients;
     size_t max_nodes;
     size_t max_borrowed_responses_per_pending_response; /* How many a client may hold at once. */
-    size_t max_loaned_requests;                         /* How many a client may have taken and not yet sent. */
-    size_t server_max_loaned_responses_per_request;     /* The same of a server's responses to one request. */
-    size_t client_expired_connection_buffer;            /* How many connections of servers that are gone it keeps. */
+    /* How many a client may have taken and not yet sent. */
+    size_t max_loaned_requests;
+    /* The same of a server's responses to one request. */
+    size_t server_max_loaned_responses_per_request;
+    /* How many connections of servers that are gone it keeps. */
+    size_t client_expired_connection_buffer;
     size_t server_expired_connection_buffer;
     uint32_t client_backpressure_strategy;
     uint32_t server_backpressure_strategy;
@@ -375,7 +604,8 @@ typedef struct iox2sd_request_response_settings {
     uint32_t server_allocation_strategy;
     bool enable_safe_overflow_for_requests;
     bool enable_safe_overflow_for_responses;
-    bool enable_fire_and_forget_requests; /* Whether a client may send a request and take no response. */
+    /* Whether a client may send a request and take no response. */
+    bool enable_fire_and_forget_requests;
 } iox2sd_request_response_settings;
 
 /* The settings of a blackboard service. */
@@ -394,7 +624,7 @@ iox2sd_request_response_settings iox2sd_request_response_defaults(void);
 iox2sd_blackboard_settings iox2sd_blackboard_defaults(void);
 
 /* The fields of settings that may be invalid, as answers name them. */
-enum {
+enum iox2sd_settings_field {
     IOX2SD_BACKPRESSURE_STRATEGY = 0, /* Of publish-subscribe; so is the next. */
     IOX2SD_PUBLISHER_ALLOCATION_STRATEGY = 1,
     IOX2SD_DEADLINE = 2,                     /* Of an event service. */
@@ -445,10 +675,11 @@ iox2sd_request_response_settings_check(const iox2sd_request_response_settings *s
 }
 
 /* The texts of the configuration. */
-enum {
+enum iox2sd_text_number {
     IOX2SD_ROOT_PATH = 0,         /* The path below which everything else lies. */
     IOX2SD_PREFIX = 1,            /* What the name of each file begins with. */
-    IOX2SD_SERVICE_DIRECTORY = 2, /* Below the root path. The ends of the names of services' files: */
+    /* Below the root path. The ends of the names of services' files: */
+    IOX2SD_SERVICE_DIRECTORY = 2,
     IOX2SD_DATA_SEGMENT_SUFFIX = 3,
     IOX2SD_STATIC_CONFIG_STORAGE_SUFFIX = 4,
     IOX2SD_DYNAMIC_CONFIG_STORAGE_SUFFIX = 5,
@@ -464,20 +695,47 @@ enum {
     IOX2SD_GLOBAL_MGMT_SUFFIX = 15,
     IOX2SD_CONFIG_FILE_NAME = 16,     /* The name of a configuration file. */
     IOX2SD_CONFIG_FILE_PATH = 17,     /* The configuration file of a working directory. */
-    IOX2SD_RELATIVE_CONFIG_PATH = 18, /* The directory of this system's, below one for configurations. */
-    IOX2SD_USER_CONFIG_FILE_PATH = 19 /* The configuration file below a user's directory for configurations. */
+    /* The directory of this system's, below one for configurations. */
+    IOX2SD_RELATIVE_CONFIG_PATH = 18,
+    /* The configuration file below a user's directory for configurations. */
+    IOX2SD_USER_CONFIG_FILE_PATH = 19
 };
 
 /* Writes a text of the configuration that stands where nothing else is said.
  * Errors: IOX2SD_UNKNOWN_TEXT; IOX2SD_BUFFER_TOO_SHORT. */
-iox2sd_text_answer iox2sd_default_text(uint32_t which, uint8_t *out, size_t capacity);
+static inline iox2sd_text_answer
+iox2sd_default_text(uint32_t which, uint8_t *out, size_t capacity) {
+    iox2sd_text_answer refused = {IOX2SD_NULL, 0};
+    if (out == NULL && capacity != 0) return refused;
+    return iox2sd_default_text_at(which, out, capacity);
+}
 
 /* Writes the directory of services below a root path.
  * Errors: IOX2SD_BAD_PATH; IOX2SD_TOO_LONG, past 255 bytes; IOX2SD_BUFFER_TOO_SHORT. */
-iox2sd_text_answer iox2sd_service_dir(const uint8_t *root, size_t length, uint8_t *out, size_t capacity);
+static inline iox2sd_text_answer
+iox2sd_service_dir(const uint8_t *root, size_t length, uint8_t *out, size_t capacity) {
+    iox2sd_text_answer refused = {IOX2SD_NULL, 0};
+    if (root == NULL && length != 0) return refused;
+    if (out == NULL && capacity != 0) return refused;
+    return iox2sd_service_dir_at(root, length, out, capacity);
+}
+static inline iox2sd_text_answer
+iox2sd_service_dir_str(const char *root, uint8_t *out, size_t capacity) {
+    return iox2sd_service_dir((const uint8_t *)root, iox2sd_length(root), out, capacity);
+}
 
 /* Writes the directory of nodes below a root path. Errors as above. */
-iox2sd_text_answer iox2sd_node_dir(const uint8_t *root, size_t length, uint8_t *out, size_t capacity);
+static inline iox2sd_text_answer
+iox2sd_node_dir(const uint8_t *root, size_t length, uint8_t *out, size_t capacity) {
+    iox2sd_text_answer refused = {IOX2SD_NULL, 0};
+    if (root == NULL && length != 0) return refused;
+    if (out == NULL && capacity != 0) return refused;
+    return iox2sd_node_dir_at(root, length, out, capacity);
+}
+static inline iox2sd_text_answer
+iox2sd_node_dir_str(const char *root, uint8_t *out, size_t capacity) {
+    return iox2sd_node_dir((const uint8_t *)root, iox2sd_length(root), out, capacity);
+}
 
 /* ---- Descriptions ---- */
 
@@ -542,49 +800,121 @@ typedef struct iox2sd_description {
 } iox2sd_description;
 
 /* Functions that end in `_at` take a pointer and a count of 0 for NULL or 1; call those below. */
-iox2sd_field_answer iox2sd_describe_publish_subscribe_at(
-    const iox2sd_publish_subscribe_settings *settings, size_t count, const uint8_t *name,
-    size_t length, bool internal, iox2sd_id id, iox2sd_description *out, size_t out_count);
-iox2sd_field_answer iox2sd_describe_event_at(
-    const iox2sd_event_settings *settings, size_t count, const uint8_t *name,
-    size_t length, bool internal, iox2sd_id id, iox2sd_description *out, size_t out_count);
-iox2sd_field_answer iox2sd_describe_request_response_at(
-    const iox2sd_request_response_settings *settings, size_t count, const uint8_t *name,
-    size_t length, bool internal, iox2sd_id id, iox2sd_description *out, size_t out_count);
-iox2sd_field_answer iox2sd_describe_blackboard_at(
-    const iox2sd_blackboard_settings *settings, size_t count, const uint8_t *name,
-    size_t length, bool internal, iox2sd_id id, iox2sd_description *out, size_t out_count);
+iox2sd_field_answer
+iox2sd_describe_publish_subscribe_at(const iox2sd_publish_subscribe_settings *settings,
+                                     size_t count, const uint8_t *name, size_t length,
+                                     bool internal, iox2sd_id id, iox2sd_description *out,
+                                     size_t out_count);
+iox2sd_field_answer iox2sd_describe_event_at(const iox2sd_event_settings *settings, size_t count,
+                                             const uint8_t *name, size_t length, bool internal,
+                                             iox2sd_id id, iox2sd_description *out,
+                                             size_t out_count);
+iox2sd_field_answer
+iox2sd_describe_request_response_at(const iox2sd_request_response_settings *settings, size_t count,
+                                    const uint8_t *name, size_t length, bool internal, iox2sd_id id,
+                                    iox2sd_description *out, size_t out_count);
+iox2sd_field_answer iox2sd_describe_blackboard_at(const iox2sd_blackboard_settings *settings,
+                                                  size_t count, const uint8_t *name, size_t length,
+                                                  bool internal, iox2sd_id id,
+                                                  iox2sd_description *out, size_t out_count);
 
 /* Fills a description from a service's settings, its name and its id. Where `internal` is true, the
- * name may be one of the system's own. The hash text is that of iox2sd_internal_hash_text, which for
- * a name that a user may give is that of iox2sd_hash_text.
+ * name may be one of the system's own. The hash text is that of iox2sd_internal_hash_text, which
+ * for a name that a user may give is that of iox2sd_hash_text.
  * Errors, with which the place is as it was: IOX2SD_NULL, of the settings or the place;
  * IOX2SD_NOT_UTF8; IOX2SD_BAD_SERVICE_NAME, of which iox2sd_service_name_check has the reason, or
  * iox2sd_internal_service_name_check where `internal` is true; IOX2SD_UNKNOWN_STRATEGY or
  * IOX2SD_BAD_DURATION with the field, as the checks of settings answer; IOX2SD_ILLEGAL_HASH. */
-static inline iox2sd_field_answer iox2sd_describe_publish_subscribe(
-    const iox2sd_publish_subscribe_settings *settings, const uint8_t *name, size_t length,
-    bool internal, iox2sd_id id, iox2sd_description *out) {
-    return iox2sd_describe_publish_subscribe_at(settings, settings != NULL, name, length,
-                                  internal, id, out, out != NULL);
+static inline iox2sd_field_answer
+iox2sd_describe_publish_subscribe(const iox2sd_publish_subscribe_settings *settings,
+                                  const uint8_t *name, size_t length, bool internal, iox2sd_id id,
+                                  iox2sd_description *out) {
+    iox2sd_field_answer refused = {IOX2SD_NULL, 0};
+    if (name == NULL && length != 0) return refused;
+    return iox2sd_describe_publish_subscribe_at(settings, settings != NULL, name, length, internal,
+                                                id, out, out != NULL);
 }
-static inline iox2sd_field_answer iox2sd_describe_event(
-    const iox2sd_event_settings *settings, const uint8_t *name, size_t length,
-    bool internal, iox2sd_id id, iox2sd_description *out) {
-    return iox2sd_describe_event_at(settings, settings != NULL, name, length,
-                                  internal, id, out, out != NULL);
+static inline iox2sd_field_answer
+iox2sd_describe_publish_subscribe_str(const iox2sd_publish_subscribe_settings *settings,
+                                      const char *name, bool internal, iox2sd_id id,
+                                      iox2sd_description *out) {
+    return iox2sd_describe_publish_subscribe(settings, (const uint8_t *)name, iox2sd_length(name),
+                                             internal, id, out);
 }
-static inline iox2sd_field_answer iox2sd_describe_request_response(
-    const iox2sd_request_response_settings *settings, const uint8_t *name, size_t length,
-    bool internal, iox2sd_id id, iox2sd_description *out) {
-    return iox2sd_describe_request_response_at(settings, settings != NULL, name, length,
-                                  internal, id, out, out != NULL);
+static inline iox2sd_field_answer
+iox2sd_describe_event(const iox2sd_event_settings *settings, const uint8_t *name, size_t length,
+                      bool internal, iox2sd_id id, iox2sd_description *out) {
+    iox2sd_field_answer refused = {IOX2SD_NULL, 0};
+    if (name == NULL && length != 0) return refused;
+    return iox2sd_describe_event_at(settings, settings != NULL, name, length, internal, id, out,
+                                    out != NULL);
 }
-static inline iox2sd_field_answer iox2sd_describe_blackboard(
-    const iox2sd_blackboard_settings *settings, const uint8_t *name, size_t length,
-    bool internal, iox2sd_id id, iox2sd_description *out) {
-    return iox2sd_describe_blackboard_at(settings, settings != NULL, name, length,
-                                  internal, id, out, out != NULL);
+static inline iox2sd_field_answer iox2sd_describe_event_str(const iox2sd_event_settings *settings,
+                                                            const char *name, bool internal,
+                                                            iox2sd_id id, iox2sd_description *out) {
+    return iox2sd_describe_event(settings, (const uint8_t *)name, iox2sd_length(name), internal, id,
+                                 out);
+}
+static inline iox2sd_field_answer
+iox2sd_describe_request_response(const iox2sd_request_response_settings *settings,
+                                 const uint8_t *name, size_t length, bool internal, iox2sd_id id,
+                                 iox2sd_description *out) {
+    iox2sd_field_answer refused = {IOX2SD_NULL, 0};
+    if (name == NULL && length != 0) return refused;
+    return iox2sd_describe_request_response_at(settings, settings != NULL, name, length, internal,
+                                               id, out, out != NULL);
+}
+static inline iox2sd_field_answer
+iox2sd_describe_request_response_str(const iox2sd_request_response_settings *settings,
+                                     const char *name, bool internal, iox2sd_id id,
+                                     iox2sd_description *out) {
+    return iox2sd_describe_request_response(settings, (const uint8_t *)name, iox2sd_length(name),
+                                            internal, id, out);
+}
+static inline iox2sd_field_answer
+iox2sd_describe_blackboard(const iox2sd_blackboard_settings *settings, const uint8_t *name,
+                           size_t length, bool internal, iox2sd_id id, iox2sd_description *out) {
+    iox2sd_field_answer refused = {IOX2SD_NULL, 0};
+    if (name == NULL && length != 0) return refused;
+    return iox2sd_describe_blackboard_at(settings, settings != NULL, name, length, internal, id,
+                                         out, out != NULL);
+}
+static inline iox2sd_field_answer
+iox2sd_describe_blackboard_str(const iox2sd_blackboard_settings *settings, const char *name,
+                               bool internal, iox2sd_id id, iox2sd_description *out) {
+    return iox2sd_describe_blackboard(settings, (const uint8_t *)name, iox2sd_length(name),
+                                      internal, id, out);
+}
+
+/* The capacities with which the described service is made; all 0 for NULL or an unknown pattern. */
+static inline iox2sd_capacities
+iox2sd_capacities_of_description(const iox2sd_description *description) {
+    iox2sd_capacities made = {0, 0, 0};
+    if (description == NULL) return made;
+    switch (description->pattern) {
+        case IOX2SD_PUBLISH_SUBSCRIBE:
+            made.nodes = description->publish_subscribe.max_nodes;
+            made.first = description->publish_subscribe.max_publishers;
+            made.second = description->publish_subscribe.max_subscribers;
+            break;
+        case IOX2SD_EVENT:
+            made.nodes = description->event.max_nodes;
+            made.first = description->event.max_listeners;
+            made.second = description->event.max_notifiers;
+            break;
+        case IOX2SD_REQUEST_RESPONSE:
+            made.nodes = description->request_response.max_nodes;
+            made.first = description->request_response.max_servers;
+            made.second = description->request_response.max_clients;
+            break;
+        case IOX2SD_BLACKBOARD:
+            made.nodes = description->blackboard.max_nodes;
+            made.first = description->blackboard.max_readers;
+            made.second = description->blackboard.max_writers;
+            break;
+        default: break;
+    }
+    return made;
 }
 
 /* Whether two numbers are those of one messaging pattern, as those of two descriptions.
@@ -594,10 +924,18 @@ iox2sd_flag_answer iox2sd_has_same_messaging_pattern(uint32_t left, uint32_t rig
 /* ---- Versions ---- */
 
 /* Writes the version of this library, as "0.1.0". */
-iox2sd_text_answer iox2sd_version(uint8_t *out, size_t capacity);
+static inline iox2sd_text_answer iox2sd_version(uint8_t *out, size_t capacity) {
+    iox2sd_text_answer refused = {IOX2SD_NULL, 0};
+    if (out == NULL && capacity != 0) return refused;
+    return iox2sd_version_at(out, capacity);
+}
 
 /* Writes the version of iceoryx2 whose layer this is, as "0.9.3". */
-iox2sd_text_answer iox2sd_layer_version(uint8_t *out, size_t capacity);
+static inline iox2sd_text_answer iox2sd_layer_version(uint8_t *out, size_t capacity) {
+    iox2sd_text_answer refused = {IOX2SD_NULL, 0};
+    if (out == NULL && capacity != 0) return refused;
+    return iox2sd_layer_version_at(out, capacity);
+}
 
 #ifdef __cplusplus
 }

@@ -95,7 +95,7 @@ static void services(void) {
 }
 
 static iox2sd_type_detail part(const char *name, size_t size, size_t alignment) {
-    iox2sd_type_detail detail = {(const uint8_t *)name, strlen(name), IOX2SD_FIXED_SIZE, size,
+    iox2sd_type_detail detail = {(const uint8_t *)name, strlen(name), IOX2SD_VARIANT_FIXED_SIZE, size,
                                  alignment};
     return detail;
 }

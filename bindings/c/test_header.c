@@ -1,7 +1,7 @@
-/* What the headers promise beside the calls: a refused answer's handle stands for nothing, the static
- * texts are those of the library, and so is the version, NULL is reported, and wrong elements are in
- * their order. Compiled as C99 and linked with libiox2sd.a.
- * The last line is 'N checks, N failed'. */
+/* What the headers promise beside the calls: a refused answer's handle stands for nothing, the
+ * static texts are those of the library, and so is the version, NULL is reported, and wrong
+ * elements are in their order. Compiled as C99 and linked with libiox2sd.a. The last line is 'N
+ * checks, N failed'. */
 #include "check.h"
 #include "iox2sd_values.h"
 
@@ -133,18 +133,213 @@ static void arrays_of_null(void) {
     CHECK(iox2sd_ports_of(&none, node, NULL, 1).status == IOX2SD_NULL);
 }
 
+typedef iox2sd_place_answer (*check_text)(const uint8_t *text, size_t length);
+typedef iox2sd_place_answer (*check_str)(const char *text);
+typedef iox2sd_text_answer (*write_text)(uint8_t *out, size_t capacity);
+
+/* Texts and buffers that are NULL with another number than 0, and texts that end in a zero byte. */
+static void texts_of_null(void) {
+    static const check_text checks[] = {
+        iox2sd_service_name_check,    iox2sd_internal_service_name_check,
+        iox2sd_attribute_key_check,   iox2sd_attribute_value_check,
+        iox2sd_path_check,            iox2sd_file_name_check,
+        iox2sd_file_path_check,       iox2sd_restricted_file_name_check};
+    static const check_str strs[] = {
+        iox2sd_service_name_check_str,  iox2sd_internal_service_name_check_str,
+        iox2sd_attribute_key_check_str, iox2sd_attribute_value_check_str,
+        iox2sd_path_check_str,          iox2sd_file_name_check_str,
+        iox2sd_file_path_check_str,     iox2sd_restricted_file_name_check_str};
+    static const write_text writers[] = {iox2sd_version, iox2sd_layer_version};
+    static const uint8_t a = 'a';
+    const iox2sd_attribute pair = {&a, 1, &a, 1};
+    const iox2sd_event_settings settings = iox2sd_event_defaults();
+    const iox2sd_id some = id(1, 2, 3, 4);
+    iox2sd_description made;
+    uint8_t out[64];
+    for (size_t i = 0; i < sizeof checks / sizeof *checks; i++) {
+        iox2sd_place_answer empty = checks[i]((const uint8_t *)"", 0);
+        CHECK(at(checks[i](NULL, 1), IOX2SD_NULL, 0));
+        CHECK(at(checks[i](NULL, SIZE_MAX), IOX2SD_NULL, 0));
+        CHECK(at(checks[i](NULL, 0), empty.status, empty.at));
+        CHECK(at(strs[i](NULL), IOX2SD_NULL, 0));
+        CHECK(at(strs[i](""), empty.status, empty.at));
+        CHECK(at(strs[i]("ab.c"), IOX2SD_DONE, 0));
+        CHECK(at(strs[i]("ab\x80"), IOX2SD_ILLEGAL_BYTE, 2));
+    }
+    for (size_t i = 0; i < sizeof writers / sizeof *writers; i++) {
+        CHECK(writers[i](NULL, 1).status == IOX2SD_NULL);
+        CHECK(writers[i](NULL, 0).status == IOX2SD_BUFFER_TOO_SHORT);
+    }
+    CHECK(!iox2sd_has_iox2_prefix(NULL, 7) && !iox2sd_has_iox2_prefix(NULL, 0));
+    CHECK(iox2sd_internal_service_name(NULL, 1, out, sizeof out).status == IOX2SD_NULL);
+    CHECK(iox2sd_internal_service_name(&a, 1, NULL, 1).status == IOX2SD_NULL);
+    CHECK(iox2sd_path_add_path_entry(NULL, 1, &a, 1, out, sizeof out).status == IOX2SD_NULL);
+    CHECK(iox2sd_path_add_path_entry(&a, 1, NULL, 1, out, sizeof out).status == IOX2SD_NULL);
+    CHECK(iox2sd_path_add_path_entry(&a, 1, &a, 1, NULL, 1).status == IOX2SD_NULL);
+    CHECK(iox2sd_file_path_from_path_and_file(NULL, 1, &a, 1, out, 64).status == IOX2SD_NULL);
+    CHECK(iox2sd_file_path_from_path_and_file(&a, 1, NULL, 1, out, 64).status == IOX2SD_NULL);
+    CHECK(iox2sd_file_path_from_path_and_file(&a, 1, &a, 1, NULL, 1).status == IOX2SD_NULL);
+    CHECK(iox2sd_hash_text(IOX2SD_EVENT, NULL, 1, out, sizeof out).status == IOX2SD_NULL);
+    CHECK(iox2sd_hash_text(9, NULL, 1, out, sizeof out).status == IOX2SD_NULL);
+    CHECK(iox2sd_hash_text(IOX2SD_EVENT, &a, 1, NULL, 1).status == IOX2SD_NULL);
+    CHECK(iox2sd_internal_hash_text(IOX2SD_EVENT, NULL, 1, out, 64).status == IOX2SD_NULL);
+    CHECK(iox2sd_internal_hash_text(IOX2SD_EVENT, &a, 1, NULL, 1).status == IOX2SD_NULL);
+    CHECK(iox2sd_default_text(IOX2SD_PREFIX, NULL, 1).status == IOX2SD_NULL);
+    CHECK(iox2sd_service_dir(NULL, 1, out, sizeof out).status == IOX2SD_NULL);
+    CHECK(iox2sd_service_dir(&a, 1, NULL, 1).status == IOX2SD_NULL);
+    CHECK(iox2sd_node_dir(NULL, 1, out, sizeof out).status == IOX2SD_NULL);
+    CHECK(iox2sd_node_dir(&a, 1, NULL, 1).status == IOX2SD_NULL);
+    CHECK(iox2sd_status_text(0, NULL, 1).status == IOX2SD_NULL);
+    CHECK(iox2sd_status_text(0, NULL, 0).status == IOX2SD_BUFFER_TOO_SHORT);
+    CHECK(iox2sd_id_text(some, NULL, 1).status == IOX2SD_NULL);
+    CHECK(iox2sd_id_from_text(NULL, 1).status == IOX2SD_NULL);
+    CHECK(iox2sd_attributes_number_of_key_values(&pair, 1, NULL, 1).status == IOX2SD_NULL);
+    CHECK(iox2sd_attributes_key_value(&pair, 1, NULL, 1, 0, out, 64).status == IOX2SD_NULL);
+    CHECK(iox2sd_attributes_key_value(&pair, 1, &a, 1, 0, NULL, 1).status == IOX2SD_NULL);
+    CHECK(iox2sd_describe_event(&settings, NULL, 1, true, some, &made).status == IOX2SD_NULL);
+    CHECK(iox2sd_describe_event_str(&settings, NULL, true, some, &made).status == IOX2SD_NULL);
+}
+
+/* Whether a text was written, and is this one. */
+static bool wrote(iox2sd_text_answer answer, const uint8_t *out, const char *text) {
+    return answer.status == IOX2SD_DONE && answer.length == strlen(text) &&
+           memcmp(out, text, answer.length) == 0;
+}
+
+/* Each form that takes texts ended by a zero byte does what the form with lengths does. */
+static void texts_that_end(void) {
+    const iox2sd_publish_subscribe_settings samples = iox2sd_publish_subscribe_defaults();
+    const iox2sd_event_settings events = iox2sd_event_defaults();
+    const iox2sd_request_response_settings requests = iox2sd_request_response_defaults();
+    const iox2sd_blackboard_settings board = iox2sd_blackboard_defaults();
+    const iox2sd_id some = id(1, 2, 3, 4);
+    const iox2sd_attribute pair = iox2sd_attribute_str("color", "red");
+    const iox2sd_key key = iox2sd_key_str("color");
+    iox2sd_type_detail type = iox2sd_type_detail_str("u64", IOX2SD_VARIANT_FIXED_SIZE, 16, 8);
+    iox2sd_description made;
+    uint8_t out[64];
+    CHECK(iox2sd_has_iox2_prefix_str("iox2://a") && !iox2sd_has_iox2_prefix_str("iox2:/a"));
+    CHECK(!iox2sd_has_iox2_prefix_str(NULL));
+    CHECK(wrote(iox2sd_internal_service_name_str("ab", out, 64), out, "iox2://ab"));
+    CHECK(wrote(iox2sd_path_add_path_entry_str("a", "bc", out, 64), out, "a/bc"));
+    CHECK(wrote(iox2sd_file_path_from_path_and_file_str("a", "bc", out, 64), out, "a/bc"));
+    CHECK(iox2sd_path_add_path_entry_str("a", NULL, out, 64).status == IOX2SD_NULL);
+    CHECK(iox2sd_file_path_from_path_and_file_str(NULL, "b", out, 64).status == IOX2SD_NULL);
+    CHECK(wrote(iox2sd_hash_text_str(IOX2SD_EVENT, "a", out, 64), out,
+                "mywygMzqC6QIJwxFGFv7zTYWQjc"));
+    CHECK(wrote(iox2sd_internal_hash_text_str(IOX2SD_BLACKBOARD, "iox2://x", out, 64), out,
+                "dBa6f4MAuXbGPrWuZe58tIdzmlw"));
+    CHECK(wrote(iox2sd_service_dir_str("/a", out, 64), out, "/a/services"));
+    CHECK(wrote(iox2sd_node_dir_str("/a", out, 64), out, "/a/nodes"));
+    CHECK(at(iox2sd_attributes_verify(&pair, 1, &pair, 1, &key, 1), IOX2SD_DONE, 0));
+    CHECK(pair.value_length == 3 && memcmp(pair.value, "red", 3) == 0);
+    CHECK(iox2sd_attribute_str(NULL, NULL).key_length == 0 && iox2sd_key_str(NULL).length == 0);
+    CHECK(iox2sd_type_detail_check(&type) == IOX2SD_DONE && type.name_length == 3);
+    CHECK(type.size == 16 && type.alignment == 8 && type.variant == IOX2SD_VARIANT_FIXED_SIZE);
+    type = iox2sd_type_detail_str(NULL, IOX2SD_VARIANT_DYNAMIC, 0, 3);
+    CHECK(iox2sd_type_detail_check(&type) == IOX2SD_BAD_ALIGNMENT);
+    CHECK(iox2sd_describe_publish_subscribe_str(&samples, "a", false, some, &made).status == 0);
+    CHECK(made.pattern == IOX2SD_PUBLISH_SUBSCRIBE && made.name_length == 1);
+    CHECK(iox2sd_describe_event_str(&events, "iox2://a", true, some, &made).status == 0);
+    CHECK(made.pattern == IOX2SD_EVENT && made.name_length == 8 && made.id.counter == 4);
+    CHECK(iox2sd_describe_request_response_str(&requests, "ab", false, some, &made).status == 0);
+    CHECK(made.pattern == IOX2SD_REQUEST_RESPONSE && made.name_length == 2);
+    CHECK(iox2sd_describe_blackboard_str(&board, "abc", false, some, &made).status == 0);
+    CHECK(made.pattern == IOX2SD_BLACKBOARD && made.name_length == 3);
+}
+
+static bool reads(const char *text, uint32_t status, iox2sd_id expected) {
+    const iox2sd_id_answer answer = iox2sd_id_from_text_str(text);
+    return answer.status == status && memcmp(&answer.id, &expected, sizeof expected) == 0;
+}
+
+/* Ids are read back from their texts, and from no other. */
+static void ids_of_texts(void) {
+    static const iox2sd_id ids[] = {
+        {0, 0, 0, 0},          {0, 0, 0, 1},          {0, 0, 0, UINT32_MAX}, {0, 0, 1, 0},
+        {0, 1, 0, 0},          {1, 0, 0, 0},          {1, 2, 3, 4},
+        {UINT32_MAX, 0, 0, 0}, {UINT32_MAX, UINT32_MAX, UINT32_MAX, UINT32_MAX}};
+    const iox2sd_id none = id(0, 0, 0, 0);
+    char text[40];
+    for (size_t i = 0; i < sizeof ids / sizeof *ids; i++) {
+        iox2sd_text_answer written = iox2sd_id_text(ids[i], (uint8_t *)text, sizeof text);
+        CHECK(written.status == IOX2SD_DONE && written.length <= 32);
+        text[written.length] = 0;
+        CHECK(reads(text, IOX2SD_DONE, ids[i]));
+    }
+    CHECK(reads("1000000020000000300000004", IOX2SD_DONE, id(1, 2, 3, 4)));
+    CHECK(reads("abcdef0123456789", IOX2SD_DONE, id(0, 0, 0xabcdef01, 0x23456789)));
+    CHECK(reads("", IOX2SD_EMPTY, none));
+    CHECK(reads(NULL, IOX2SD_NULL, none));
+    CHECK(reads("100000000000000000000000000000000", IOX2SD_TOO_LONG, none));
+    CHECK(reads("000000000000000000000000000000000", IOX2SD_TOO_LONG, none));
+    CHECK(reads("00", IOX2SD_ILLEGAL_BYTE, none) && reads("01", IOX2SD_ILLEGAL_BYTE, none));
+    CHECK(reads("1A", IOX2SD_ILLEGAL_BYTE, none) && reads("1g", IOX2SD_ILLEGAL_BYTE, none));
+    CHECK(reads("+1", IOX2SD_ILLEGAL_BYTE, none) && reads("-1", IOX2SD_ILLEGAL_BYTE, none));
+    CHECK(reads(" 1", IOX2SD_ILLEGAL_BYTE, none) && reads("1 ", IOX2SD_ILLEGAL_BYTE, none));
+    CHECK(reads("0x1", IOX2SD_ILLEGAL_BYTE, none) && reads("\xc3\xa4", IOX2SD_ILLEGAL_BYTE, none));
+}
+
+/* Capacities by the names of ports, in the order in which a service counts them. */
+static void named_capacities(void) {
+    const iox2sd_publish_subscribe_capacities samples = {1, 2, 3};
+    const iox2sd_event_capacities events = {1, 2, 3};
+    const iox2sd_request_response_capacities requests = {1, 2, 3};
+    const iox2sd_blackboard_capacities board = {1, 2, 3};
+    const struct {
+        uint32_t pattern;
+        iox2sd_capacities capacities;
+        uint64_t first, second;
+    } rows[] = {
+        {IOX2SD_PUBLISH_SUBSCRIBE, iox2sd_capacities_of_publish_subscribe(samples),
+         IOX2SD_PUBLISHER, IOX2SD_SUBSCRIBER},
+        {IOX2SD_EVENT, iox2sd_capacities_of_event(events), IOX2SD_LISTENER, IOX2SD_NOTIFIER},
+        {IOX2SD_REQUEST_RESPONSE, iox2sd_capacities_of_request_response(requests), IOX2SD_SERVER,
+         IOX2SD_CLIENT},
+        {IOX2SD_BLACKBOARD, iox2sd_capacities_of_blackboard(board), IOX2SD_READER,
+         IOX2SD_WRITER}};
+    iox2sd_description made;
+    memset(&made, 0, sizeof made);
+    made.publish_subscribe.max_nodes = made.event.max_nodes = 1;
+    made.request_response.max_nodes = made.blackboard.max_nodes = 1;
+    made.publish_subscribe.max_publishers = made.event.max_listeners = 2;
+    made.request_response.max_servers = made.blackboard.max_readers = 2;
+    made.publish_subscribe.max_subscribers = made.event.max_notifiers = 3;
+    made.request_response.max_clients = made.blackboard.max_writers = 3;
+    for (size_t i = 0; i < 4; i++) {
+        iox2sd_service service = IOX2SD_SERVICE_NONE;
+        iox2sd_capacities described;
+        made.pattern = rows[i].pattern;
+        described = iox2sd_capacities_of_description(&made);
+        CHECK(described.nodes == 1 && described.first == 2 && described.second == 3);
+        CHECK(iox2sd_service_create(&service, rows[i].pattern, 7, rows[i].capacities, 9) ==
+              IOX2SD_DONE);
+        CHECK(iox2sd_max_nodes(&service).count == 1);
+        CHECK(iox2sd_max_ports(&service, rows[i].first).count == 2);
+        CHECK(iox2sd_max_ports(&service, rows[i].second).count == 3);
+        CHECK(iox2sd_service_free(&service) == IOX2SD_DONE);
+        CHECK(!service.full && service.at == NULL);
+        CHECK(iox2sd_service_free(&service) == IOX2SD_NO_SERVICE);
+    }
+    made.pattern = 4;
+    CHECK(iox2sd_capacities_of_description(&made).nodes == 0);
+    CHECK(iox2sd_capacities_of_description(NULL).first == 0);
+}
+
 /* The first wrong element is reported, and each array is looked at before the next. */
 static void reported_order(void) {
     static const uint8_t a = 'a';
     iox2sd_attribute pairs[17], bad = {&a, 0, &a, 1}, one = {&a, 1, &a, 1};
     iox2sd_key keys[2] = {{&a, 1}, {&a, 0}};
     for (size_t i = 0; i < 17; i++) pairs[i] = one;
-    CHECK(at(iox2sd_attributes_verify(&one, 1, pairs, 17, keys + 1, 1), IOX2SD_TOO_MANY_REQUIRED, 16));
+    CHECK(at(iox2sd_attributes_verify(&one, 1, pairs, 17, keys + 1, 1), IOX2SD_TOO_MANY_REQUIRED,
+             16));
     CHECK(at(iox2sd_attributes_verify(&one, 1, pairs, 16, keys + 1, 1), IOX2SD_BAD_ASKED_KEY, 0));
     CHECK(at(iox2sd_attributes_verify(&one, 1, pairs, 16, keys, 2), IOX2SD_TOO_MANY_REQUIRED, 0));
     CHECK(at(iox2sd_attributes_verify(&one, 1, pairs, 15, keys, 2), IOX2SD_BAD_ASKED_KEY, 1));
     pairs[16] = bad;
-    CHECK(at(iox2sd_attributes_verify(&one, 1, pairs, 17, keys + 1, 1), IOX2SD_BAD_REQUIRED_KEY, 16));
+    CHECK(
+        at(iox2sd_attributes_verify(&one, 1, pairs, 17, keys + 1, 1), IOX2SD_BAD_REQUIRED_KEY, 16));
     pairs[3].value_length = 0;
     CHECK(at(iox2sd_attributes_verify(&one, 1, pairs, 17, keys, 1), IOX2SD_BAD_REQUIRED_VALUE, 3));
     CHECK(at(iox2sd_attributes_verify(&bad, 1, pairs, 17, keys, 1), IOX2SD_BAD_KEY, 0));
@@ -166,6 +361,10 @@ int main(void) {
     statuses_are_ok();
     static_texts();
     arrays_of_null();
+    texts_of_null();
+    texts_that_end();
+    ids_of_texts();
+    named_capacities();
     reported_order();
     version();
     return end_of_checks();

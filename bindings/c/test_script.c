@@ -115,8 +115,8 @@ static void no_memory(void) {
     CHECK(3 < request && request < 1000);
 }
 
-/* In too short a buffer too, memory that was refused is reported first, and no length but that of what
- * stands in the buffer: nothing, or the first reply line. */
+/* In too short a buffer too, memory that was refused is reported first, and no length but that of
+ * what stands in the buffer: nothing, or the first reply line. */
 static void no_memory_in_a_short_buffer(size_t capacity) {
     long request = 0;
     iox2sd_script_answer answer;
@@ -138,6 +138,10 @@ int main(void) {
     CHECK(answers(iox2sd_script_run((const uint8_t *)"service event 7 1 1 18446744073709551615\n",
                                     41, out, MOST),
                   IOX2SD_NO_MEMORY, 0, 0));
+    CHECK(answers(iox2sd_script_run(NULL, 1, out, MOST), IOX2SD_NULL, 0, 0));
+    CHECK(answers(iox2sd_script_run((const uint8_t *)"", 0, NULL, 1), IOX2SD_NULL, 0, 0));
+    CHECK(answers(iox2sd_script_run_str(NULL, out, MOST), IOX2SD_NULL, 0, 0));
+    CHECK(answers(iox2sd_script_run_str("service", NULL, 0), IOX2SD_BAD_LINE, 1, 0));
     buffers();
     bad_lines();
     no_memory();

@@ -1,4 +1,5 @@
-/* A caller in C and C++ of the calls on values: each call, each refusal, and buffers that are short by one. */
+/* A caller in C and C++ of the calls on values: each call, each refusal, and buffers that are short
+ * by one. */
 #include "iox2sd_values.h"
 
 #include <stdio.h>
@@ -78,7 +79,8 @@ static void checks(void) {
 
     CHECK(is_place(iox2sd_service_name_check(bytes("iox2://\xff"), 8), IOX2SD_RESERVED_PREFIX, 0));
     CHECK(is_place(iox2sd_service_name_check(bytes("iox2:/x"), 7), IOX2SD_DONE, 0));
-    CHECK(is_place(iox2sd_internal_service_name_check(bytes("iox2://\xff"), 8), IOX2SD_ILLEGAL_BYTE, 7));
+    CHECK(is_place(iox2sd_internal_service_name_check(bytes("iox2://\xff"), 8), IOX2SD_ILLEGAL_BYTE,
+                   7));
     CHECK(is_place(iox2sd_internal_service_name_check(bytes("iox2://x"), 8), IOX2SD_DONE, 0));
 
     CHECK(is_place(iox2sd_file_name_check(bytes("a/b"), 3), IOX2SD_ILLEGAL_BYTE, 1));
@@ -95,69 +97,103 @@ static void checks(void) {
 
 static void names(void) {
     uint8_t out[300];
-    CHECK(iox2sd_has_iox2_prefix(bytes("iox2://"), 7) && !iox2sd_has_iox2_prefix(bytes("iox2://"), 6));
+    CHECK(iox2sd_has_iox2_prefix(bytes("iox2://"), 7) &&
+          !iox2sd_has_iox2_prefix(bytes("iox2://"), 6));
     CHECK(!iox2sd_has_iox2_prefix(NULL, 0));
 
     memset(out, 0xAA, sizeof out);
-    CHECK(is_text(iox2sd_internal_service_name(bytes("ab"), 2, out, 8), IOX2SD_BUFFER_TOO_SHORT, 9));
+    CHECK(
+        is_text(iox2sd_internal_service_name(bytes("ab"), 2, out, 8), IOX2SD_BUFFER_TOO_SHORT, 9));
     CHECK(untouched(out, 0, sizeof out));
     CHECK(is_text(iox2sd_internal_service_name(bytes("ab"), 2, out, 9), IOX2SD_DONE, 9));
     CHECK(memcmp(out, "iox2://ab", 9) == 0 && untouched(out, 9, sizeof out));
     CHECK(is_text(iox2sd_internal_service_name(NULL, 0, out, sizeof out), IOX2SD_DONE, 7));
-    CHECK(is_text(iox2sd_internal_service_name(with_byte(0, 'y'), 248, out, sizeof out), IOX2SD_DONE, 255));
+    CHECK(is_text(iox2sd_internal_service_name(with_byte(0, 'y'), 248, out, sizeof out),
+                  IOX2SD_DONE, 255));
     memset(out, 0xAA, sizeof out);
-    CHECK(is_text(iox2sd_internal_service_name(with_byte(0, 0), 249, out, sizeof out), IOX2SD_TOO_LONG, 0));
-    CHECK(is_text(iox2sd_internal_service_name(with_byte(0, 0), 248, out, sizeof out), IOX2SD_ILLEGAL_BYTE, 0));
-    CHECK(is_text(iox2sd_internal_service_name(with_byte(0, 255), 249, out, sizeof out), IOX2SD_NOT_UTF8, 0));
+    CHECK(is_text(iox2sd_internal_service_name(with_byte(0, 0), 249, out, sizeof out),
+                  IOX2SD_TOO_LONG, 0));
+    CHECK(is_text(iox2sd_internal_service_name(with_byte(0, 0), 248, out, sizeof out),
+                  IOX2SD_ILLEGAL_BYTE, 0));
+    CHECK(is_text(iox2sd_internal_service_name(with_byte(0, 255), 249, out, sizeof out),
+                  IOX2SD_NOT_UTF8, 0));
     CHECK(untouched(out, 0, sizeof out));
 
-    CHECK(is_text(iox2sd_hash_text(IOX2SD_EVENT, bytes("a"), 1, out, 26), IOX2SD_BUFFER_TOO_SHORT, 27));
+    CHECK(is_text(iox2sd_hash_text(IOX2SD_EVENT, bytes("a"), 1, out, 26), IOX2SD_BUFFER_TOO_SHORT,
+                  27));
     CHECK(untouched(out, 0, sizeof out));
     CHECK(is_text(iox2sd_hash_text(IOX2SD_EVENT, bytes("a"), 1, out, 27), IOX2SD_DONE, 27));
     CHECK(memcmp(out, "mywygMzqC6QIJwxFGFv7zTYWQjc", 27) == 0 && untouched(out, 27, sizeof out));
-    CHECK(is_text(iox2sd_hash_text(IOX2SD_REQUEST_RESPONSE, bytes("My/Service"), 10, out, 27), IOX2SD_DONE, 27));
+    CHECK(is_text(iox2sd_hash_text(IOX2SD_REQUEST_RESPONSE, bytes("My/Service"), 10, out, 27),
+                  IOX2SD_DONE, 27));
     CHECK(memcmp(out, "h8eTEKlg0S7w-piembOTeKmjrxo", 27) == 0);
     memset(out, 0xAA, sizeof out);
-    CHECK(is_text(iox2sd_hash_text(4, bytes("\xff"), 1, out, sizeof out), IOX2SD_UNKNOWN_PATTERN, 0));
-    CHECK(is_text(iox2sd_hash_text(IOX2SD_EVENT, bytes("\xff"), 1, out, sizeof out), IOX2SD_NOT_UTF8, 0));
-    CHECK(is_text(iox2sd_hash_text(IOX2SD_EVENT, NULL, 0, out, sizeof out), IOX2SD_BAD_SERVICE_NAME, 0));
-    CHECK(is_text(iox2sd_hash_text(IOX2SD_BLACKBOARD, bytes("iox2://x"), 8, out, sizeof out), IOX2SD_BAD_SERVICE_NAME, 0));
+    CHECK(
+        is_text(iox2sd_hash_text(4, bytes("\xff"), 1, out, sizeof out), IOX2SD_UNKNOWN_PATTERN, 0));
+    CHECK(is_text(iox2sd_hash_text(IOX2SD_EVENT, bytes("\xff"), 1, out, sizeof out),
+                  IOX2SD_NOT_UTF8, 0));
+    CHECK(is_text(iox2sd_hash_text(IOX2SD_EVENT, NULL, 0, out, sizeof out), IOX2SD_BAD_SERVICE_NAME,
+                  0));
+    CHECK(is_text(iox2sd_hash_text(IOX2SD_BLACKBOARD, bytes("iox2://x"), 8, out, sizeof out),
+                  IOX2SD_BAD_SERVICE_NAME, 0));
     CHECK(untouched(out, 0, sizeof out));
-    CHECK(is_text(iox2sd_internal_hash_text(IOX2SD_BLACKBOARD, bytes("iox2://x"), 8, out, 27), IOX2SD_DONE, 27));
+    CHECK(is_text(iox2sd_internal_hash_text(IOX2SD_BLACKBOARD, bytes("iox2://x"), 8, out, 27),
+                  IOX2SD_DONE, 27));
     CHECK(memcmp(out, "dBa6f4MAuXbGPrWuZe58tIdzmlw", 27) == 0 && untouched(out, 27, sizeof out));
     memset(out, 0xAA, sizeof out);
-    CHECK(is_text(iox2sd_internal_hash_text(IOX2SD_EVENT, bytes("a"), 1, out, 26), IOX2SD_BUFFER_TOO_SHORT, 27));
-    CHECK(is_text(iox2sd_internal_hash_text(4, bytes("\xff"), 1, out, sizeof out), IOX2SD_UNKNOWN_PATTERN, 0));
-    CHECK(is_text(iox2sd_internal_hash_text(IOX2SD_EVENT, bytes("\xff"), 1, out, sizeof out), IOX2SD_NOT_UTF8, 0));
-    CHECK(is_text(iox2sd_internal_hash_text(IOX2SD_EVENT, NULL, 0, out, sizeof out), IOX2SD_BAD_SERVICE_NAME, 0));
+    CHECK(is_text(iox2sd_internal_hash_text(IOX2SD_EVENT, bytes("a"), 1, out, 26),
+                  IOX2SD_BUFFER_TOO_SHORT, 27));
+    CHECK(is_text(iox2sd_internal_hash_text(4, bytes("\xff"), 1, out, sizeof out),
+                  IOX2SD_UNKNOWN_PATTERN, 0));
+    CHECK(is_text(iox2sd_internal_hash_text(IOX2SD_EVENT, bytes("\xff"), 1, out, sizeof out),
+                  IOX2SD_NOT_UTF8, 0));
+    CHECK(is_text(iox2sd_internal_hash_text(IOX2SD_EVENT, NULL, 0, out, sizeof out),
+                  IOX2SD_BAD_SERVICE_NAME, 0));
     CHECK(untouched(out, 0, sizeof out));
 }
 
 static void paths(void) {
     uint8_t out[300];
     memset(out, 0xAA, sizeof out);
-    CHECK(is_text(iox2sd_path_add_path_entry(bytes("a"), 1, bytes("bc"), 2, out, 3), IOX2SD_BUFFER_TOO_SHORT, 4));
+    CHECK(is_text(iox2sd_path_add_path_entry(bytes("a"), 1, bytes("bc"), 2, out, 3),
+                  IOX2SD_BUFFER_TOO_SHORT, 4));
     CHECK(untouched(out, 0, sizeof out));
-    CHECK(is_text(iox2sd_path_add_path_entry(bytes("a"), 1, bytes("bc"), 2, out, 4), IOX2SD_DONE, 4));
+    CHECK(
+        is_text(iox2sd_path_add_path_entry(bytes("a"), 1, bytes("bc"), 2, out, 4), IOX2SD_DONE, 4));
     CHECK(memcmp(out, "a/bc", 4) == 0 && untouched(out, 4, sizeof out));
-    CHECK(is_text(iox2sd_path_add_path_entry(bytes("a/"), 2, bytes("bc"), 2, out, 4), IOX2SD_DONE, 4));
-    CHECK(is_text(iox2sd_path_add_path_entry(NULL, 0, bytes("bc"), 2, out, 4), IOX2SD_DONE, 2) && memcmp(out, "bc", 2) == 0);
+    CHECK(is_text(iox2sd_path_add_path_entry(bytes("a/"), 2, bytes("bc"), 2, out, 4), IOX2SD_DONE,
+                  4));
+    CHECK(is_text(iox2sd_path_add_path_entry(NULL, 0, bytes("bc"), 2, out, 4), IOX2SD_DONE, 2) &&
+          memcmp(out, "bc", 2) == 0);
     CHECK(is_text(iox2sd_path_add_path_entry(NULL, 0, NULL, 0, NULL, 0), IOX2SD_DONE, 0));
-    CHECK(is_text(iox2sd_path_add_path_entry(with_byte(0, 'y'), 127, with_byte(0, 'y'), 127, out, sizeof out), IOX2SD_DONE, 255));
+    CHECK(is_text(
+        iox2sd_path_add_path_entry(with_byte(0, 'y'), 127, with_byte(0, 'y'), 127, out, sizeof out),
+        IOX2SD_DONE, 255));
     memset(out, 0xAA, sizeof out);
-    CHECK(is_text(iox2sd_path_add_path_entry(with_byte(0, 'y'), 127, with_byte(0, 'y'), 128, out, sizeof out), IOX2SD_TOO_LONG, 0));
-    CHECK(is_text(iox2sd_path_add_path_entry(bytes("\xff"), 1, bytes("\xff"), 1, out, sizeof out), IOX2SD_BAD_PATH, 0));
-    CHECK(is_text(iox2sd_path_add_path_entry(bytes("a"), 1, bytes("\xff"), 1, out, sizeof out), IOX2SD_BAD_ENTRY, 0));
+    CHECK(is_text(
+        iox2sd_path_add_path_entry(with_byte(0, 'y'), 127, with_byte(0, 'y'), 128, out, sizeof out),
+        IOX2SD_TOO_LONG, 0));
+    CHECK(is_text(iox2sd_path_add_path_entry(bytes("\xff"), 1, bytes("\xff"), 1, out, sizeof out),
+                  IOX2SD_BAD_PATH, 0));
+    CHECK(is_text(iox2sd_path_add_path_entry(bytes("a"), 1, bytes("\xff"), 1, out, sizeof out),
+                  IOX2SD_BAD_ENTRY, 0));
     CHECK(untouched(out, 0, sizeof out));
 
-    CHECK(is_text(iox2sd_file_path_from_path_and_file(bytes("a"), 1, bytes("bc"), 2, out, 3), IOX2SD_BUFFER_TOO_SHORT, 4));
+    CHECK(is_text(iox2sd_file_path_from_path_and_file(bytes("a"), 1, bytes("bc"), 2, out, 3),
+                  IOX2SD_BUFFER_TOO_SHORT, 4));
     CHECK(untouched(out, 0, sizeof out));
-    CHECK(is_text(iox2sd_file_path_from_path_and_file(bytes("a"), 1, bytes("bc"), 2, out, 4), IOX2SD_DONE, 4));
+    CHECK(is_text(iox2sd_file_path_from_path_and_file(bytes("a"), 1, bytes("bc"), 2, out, 4),
+                  IOX2SD_DONE, 4));
     CHECK(memcmp(out, "a/bc", 4) == 0 && untouched(out, 4, sizeof out));
     memset(out, 0xAA, sizeof out);
-    CHECK(is_text(iox2sd_file_path_from_path_and_file(bytes("a"), 1, bytes("b/c"), 3, out, sizeof out), IOX2SD_BAD_ENTRY, 0));
-    CHECK(is_text(iox2sd_file_path_from_path_and_file(bytes("\xff"), 1, NULL, 0, out, sizeof out), IOX2SD_BAD_PATH, 0));
-    CHECK(is_text(iox2sd_file_path_from_path_and_file(bytes("a"), 1, with_byte(0, 'y'), 254, out, sizeof out), IOX2SD_TOO_LONG, 0));
+    CHECK(is_text(
+        iox2sd_file_path_from_path_and_file(bytes("a"), 1, bytes("b/c"), 3, out, sizeof out),
+        IOX2SD_BAD_ENTRY, 0));
+    CHECK(is_text(iox2sd_file_path_from_path_and_file(bytes("\xff"), 1, NULL, 0, out, sizeof out),
+                  IOX2SD_BAD_PATH, 0));
+    CHECK(is_text(
+        iox2sd_file_path_from_path_and_file(bytes("a"), 1, with_byte(0, 'y'), 254, out, sizeof out),
+        IOX2SD_TOO_LONG, 0));
     CHECK(untouched(out, 0, sizeof out));
 }
 
@@ -201,26 +237,37 @@ static void sets(void) {
     CHECK(is_place(iox2sd_attributes_sort(pairs, 6), IOX2SD_BAD_KEY, 5));
     CHECK(memcmp(before, pairs, sizeof pairs) == 0);
     CHECK(is_place(iox2sd_attributes_sort(pairs, 4), IOX2SD_DONE, 0));
-    CHECK(memcmp(&pairs[0], &before[3], sizeof pairs[0]) == 0 && memcmp(&pairs[1], &before[1], sizeof pairs[0]) == 0);
-    CHECK(memcmp(&pairs[2], &before[2], sizeof pairs[0]) == 0 && memcmp(&pairs[3], &before[0], sizeof pairs[0]) == 0);
+    CHECK(memcmp(&pairs[0], &before[3], sizeof pairs[0]) == 0 &&
+          memcmp(&pairs[1], &before[1], sizeof pairs[0]) == 0);
+    CHECK(memcmp(&pairs[2], &before[2], sizeof pairs[0]) == 0 &&
+          memcmp(&pairs[3], &before[0], sizeof pairs[0]) == 0);
     CHECK(memcmp(&pairs[4], &before[4], 13 * sizeof pairs[0]) == 0);
     CHECK(is_place(iox2sd_attributes_sort(NULL, 0), IOX2SD_DONE, 0));
 
-    CHECK(is_count(iox2sd_attributes_number_of_key_values(before, 4, bytes("b"), 1), IOX2SD_DONE, 2));
-    CHECK(is_count(iox2sd_attributes_number_of_key_values(before, 4, bytes("c"), 1), IOX2SD_DONE, 0));
+    CHECK(
+        is_count(iox2sd_attributes_number_of_key_values(before, 4, bytes("b"), 1), IOX2SD_DONE, 2));
+    CHECK(
+        is_count(iox2sd_attributes_number_of_key_values(before, 4, bytes("c"), 1), IOX2SD_DONE, 0));
     CHECK(is_count(iox2sd_attributes_number_of_key_values(NULL, 0, bytes("b"), 1), IOX2SD_DONE, 0));
-    CHECK(is_count(iox2sd_attributes_number_of_key_values(before, 4, NULL, 0), IOX2SD_BAD_ASKED_KEY, 0));
+    CHECK(is_count(iox2sd_attributes_number_of_key_values(before, 4, NULL, 0), IOX2SD_BAD_ASKED_KEY,
+                   0));
     CHECK(is_count(iox2sd_attributes_number_of_key_values(before, 6, NULL, 0), IOX2SD_BAD_KEY, 0));
 
     memset(out, 0xAA, sizeof out);
-    CHECK(is_text(iox2sd_attributes_key_value(before, 4, bytes("a"), 1, 0, out, 1), IOX2SD_BUFFER_TOO_SHORT, 2));
+    CHECK(is_text(iox2sd_attributes_key_value(before, 4, bytes("a"), 1, 0, out, 1),
+                  IOX2SD_BUFFER_TOO_SHORT, 2));
     CHECK(untouched(out, 0, sizeof out));
-    CHECK(is_text(iox2sd_attributes_key_value(before, 4, bytes("a"), 1, 0, out, 2), IOX2SD_DONE, 2));
+    CHECK(
+        is_text(iox2sd_attributes_key_value(before, 4, bytes("a"), 1, 0, out, 2), IOX2SD_DONE, 2));
     CHECK(memcmp(out, "10", 2) == 0 && untouched(out, 2, sizeof out));
-    CHECK(is_text(iox2sd_attributes_key_value(before, 4, bytes("a"), 1, 1, out, 8), IOX2SD_DONE, 1) && out[0] == '2');
+    CHECK(
+        is_text(iox2sd_attributes_key_value(before, 4, bytes("a"), 1, 1, out, 8), IOX2SD_DONE, 1) &&
+        out[0] == '2');
     memset(out, 0xAA, sizeof out);
-    CHECK(is_text(iox2sd_attributes_key_value(before, 4, bytes("a"), 1, 2, out, 8), IOX2SD_NO_SUCH_VALUE, 0));
-    CHECK(is_text(iox2sd_attributes_key_value(before, 4, NULL, 0, 2, out, 8), IOX2SD_BAD_ASKED_KEY, 0));
+    CHECK(is_text(iox2sd_attributes_key_value(before, 4, bytes("a"), 1, 2, out, 8),
+                  IOX2SD_NO_SUCH_VALUE, 0));
+    CHECK(is_text(iox2sd_attributes_key_value(before, 4, NULL, 0, 2, out, 8), IOX2SD_BAD_ASKED_KEY,
+                  0));
     CHECK(is_text(iox2sd_attributes_key_value(before, 6, NULL, 0, 2, out, 8), IOX2SD_BAD_KEY, 0));
     CHECK(untouched(out, 0, sizeof out));
 }
@@ -240,8 +287,10 @@ static void requirements(void) {
     CHECK(is_place(iox2sd_attributes_verify(pairs, 3, NULL, 0, NULL, 0), IOX2SD_DONE, 0));
     CHECK(is_place(iox2sd_attributes_verify(pairs, 3, required, 16, NULL, 0), IOX2SD_DONE, 0));
     CHECK(is_place(iox2sd_attributes_verify(pairs, 3, required, 3, keys, 13), IOX2SD_DONE, 0));
-    CHECK(is_place(iox2sd_attributes_verify(pairs, 3, required, 17, keys, 0), IOX2SD_TOO_MANY_REQUIRED, 16));
-    CHECK(is_place(iox2sd_attributes_verify(pairs, 3, required, 3, keys, 14), IOX2SD_TOO_MANY_REQUIRED, 13));
+    CHECK(is_place(iox2sd_attributes_verify(pairs, 3, required, 17, keys, 0),
+                   IOX2SD_TOO_MANY_REQUIRED, 16));
+    CHECK(is_place(iox2sd_attributes_verify(pairs, 3, required, 3, keys, 14),
+                   IOX2SD_TOO_MANY_REQUIRED, 13));
 
     required[1] = pair("b", "3");
     required[2] = pair("b", "2");
@@ -249,16 +298,22 @@ static void requirements(void) {
     keys[1] = key_of("c");
     keys[2] = key_of("0");
     keys[3] = key_of("c");
-    CHECK(is_place(iox2sd_attributes_verify(pairs, 3, required, 4, keys, 4), IOX2SD_MISSING_PAIR, 2));
-    CHECK(is_place(iox2sd_attributes_verify(pairs, 3, required, 1, keys, 4), IOX2SD_MISSING_KEY, 1));
-    CHECK(is_place(iox2sd_attributes_verify(NULL, 0, required, 1, keys, 4), IOX2SD_MISSING_PAIR, 0));
+    CHECK(
+        is_place(iox2sd_attributes_verify(pairs, 3, required, 4, keys, 4), IOX2SD_MISSING_PAIR, 2));
+    CHECK(
+        is_place(iox2sd_attributes_verify(pairs, 3, required, 1, keys, 4), IOX2SD_MISSING_KEY, 1));
+    CHECK(
+        is_place(iox2sd_attributes_verify(NULL, 0, required, 1, keys, 4), IOX2SD_MISSING_PAIR, 0));
 
     keys[4] = key_of("");
-    CHECK(is_place(iox2sd_attributes_verify(pairs, 3, required, 4, keys, 5), IOX2SD_BAD_ASKED_KEY, 4));
+    CHECK(is_place(iox2sd_attributes_verify(pairs, 3, required, 4, keys, 5), IOX2SD_BAD_ASKED_KEY,
+                   4));
     required[6] = pair("b", "");
-    CHECK(is_place(iox2sd_attributes_verify(pairs, 3, required, 7, keys, 5), IOX2SD_BAD_REQUIRED_VALUE, 6));
+    CHECK(is_place(iox2sd_attributes_verify(pairs, 3, required, 7, keys, 5),
+                   IOX2SD_BAD_REQUIRED_VALUE, 6));
     required[5] = pair("", "");
-    CHECK(is_place(iox2sd_attributes_verify(pairs, 3, required, 7, keys, 5), IOX2SD_BAD_REQUIRED_KEY, 5));
+    CHECK(is_place(iox2sd_attributes_verify(pairs, 3, required, 7, keys, 5),
+                   IOX2SD_BAD_REQUIRED_KEY, 5));
     pairs[1] = pair("a", "");
     CHECK(is_place(iox2sd_attributes_verify(pairs, 3, required, 7, keys, 5), IOX2SD_BAD_VALUE, 1));
 }
@@ -267,7 +322,7 @@ static iox2sd_type_detail type_of(const char *name, size_t size, size_t alignmen
     iox2sd_type_detail detail;
     detail.name = bytes(name);
     detail.name_length = strlen(name);
-    detail.variant = IOX2SD_FIXED_SIZE;
+    detail.variant = IOX2SD_VARIANT_FIXED_SIZE;
     detail.size = size;
     detail.alignment = alignment;
     return detail;
@@ -316,32 +371,43 @@ static void compatible(void) {
     memset(long_name, 'x', sizeof long_name);
     long_name[257] = 0;
     CHECK(is_part(iox2sd_message_is_compatible_to(&opener, &service), IOX2SD_DONE, 0, 0));
-    CHECK(is_part(iox2sd_message_is_compatible_to(&service, &opener), IOX2SD_GREATER_ALIGNMENT, 0, IOX2SD_PAYLOAD));
+    CHECK(is_part(iox2sd_message_is_compatible_to(&service, &opener), IOX2SD_GREATER_ALIGNMENT, 0,
+                  IOX2SD_PAYLOAD));
     CHECK(is_part(iox2sd_message_is_compatible_to(NULL, NULL), IOX2SD_NULL, 0, 0));
     CHECK(is_part(iox2sd_message_is_compatible_to(&opener, NULL), IOX2SD_NULL, 1, 0));
 
     opener.payload.size = 9;
-    CHECK(is_part(iox2sd_message_is_compatible_to(&opener, &service), IOX2SD_OTHER_SIZE, 0, IOX2SD_PAYLOAD));
-    opener.payload.variant = IOX2SD_DYNAMIC;
-    CHECK(is_part(iox2sd_message_is_compatible_to(&opener, &service), IOX2SD_OTHER_VARIANT, 0, IOX2SD_PAYLOAD));
+    CHECK(is_part(iox2sd_message_is_compatible_to(&opener, &service), IOX2SD_OTHER_SIZE, 0,
+                  IOX2SD_PAYLOAD));
+    opener.payload.variant = IOX2SD_VARIANT_DYNAMIC;
+    CHECK(is_part(iox2sd_message_is_compatible_to(&opener, &service), IOX2SD_OTHER_VARIANT, 0,
+                  IOX2SD_PAYLOAD));
     opener.user_header.name = bytes("Userheader");
-    CHECK(is_part(iox2sd_message_is_compatible_to(&opener, &service), IOX2SD_OTHER_NAME, 0, IOX2SD_USER_HEADER));
+    CHECK(is_part(iox2sd_message_is_compatible_to(&opener, &service), IOX2SD_OTHER_NAME, 0,
+                  IOX2SD_USER_HEADER));
     opener.header.alignment = 4;
-    CHECK(is_part(iox2sd_message_is_compatible_to(&opener, &service), IOX2SD_OTHER_ALIGNMENT, 0, IOX2SD_HEADER));
+    CHECK(is_part(iox2sd_message_is_compatible_to(&opener, &service), IOX2SD_OTHER_ALIGNMENT, 0,
+                  IOX2SD_HEADER));
     opener.header.size = 4;
-    CHECK(is_part(iox2sd_message_is_compatible_to(&opener, &service), IOX2SD_OTHER_SIZE, 0, IOX2SD_HEADER));
+    CHECK(is_part(iox2sd_message_is_compatible_to(&opener, &service), IOX2SD_OTHER_SIZE, 0,
+                  IOX2SD_HEADER));
 
     service.payload.alignment = 12;
-    CHECK(is_part(iox2sd_message_is_compatible_to(&opener, &service), IOX2SD_BAD_ALIGNMENT, 1, IOX2SD_PAYLOAD));
+    CHECK(is_part(iox2sd_message_is_compatible_to(&opener, &service), IOX2SD_BAD_ALIGNMENT, 1,
+                  IOX2SD_PAYLOAD));
     service.user_header.name = bytes("\xc3\xa4");
     service.user_header.name_length = 2;
-    CHECK(is_part(iox2sd_message_is_compatible_to(&opener, &service), IOX2SD_ILLEGAL_BYTE, 1, IOX2SD_USER_HEADER));
+    CHECK(is_part(iox2sd_message_is_compatible_to(&opener, &service), IOX2SD_ILLEGAL_BYTE, 1,
+                  IOX2SD_USER_HEADER));
     service.header = type_of(long_name, 8, 8);
-    CHECK(is_part(iox2sd_message_is_compatible_to(&opener, &service), IOX2SD_TOO_LONG, 1, IOX2SD_HEADER));
+    CHECK(is_part(iox2sd_message_is_compatible_to(&opener, &service), IOX2SD_TOO_LONG, 1,
+                  IOX2SD_HEADER));
     opener.payload = type_of("\xff", 8, 3);
-    CHECK(is_part(iox2sd_message_is_compatible_to(&opener, &service), IOX2SD_NOT_UTF8, 0, IOX2SD_PAYLOAD));
+    CHECK(is_part(iox2sd_message_is_compatible_to(&opener, &service), IOX2SD_NOT_UTF8, 0,
+                  IOX2SD_PAYLOAD));
     opener.user_header.variant = 2;
-    CHECK(is_part(iox2sd_message_is_compatible_to(&opener, &service), IOX2SD_UNKNOWN_VARIANT, 0, IOX2SD_USER_HEADER));
+    CHECK(is_part(iox2sd_message_is_compatible_to(&opener, &service), IOX2SD_UNKNOWN_VARIANT, 0,
+                  IOX2SD_USER_HEADER));
 }
 
 /* Each cause, over those that are reported later. */
@@ -351,7 +417,7 @@ static void type_details(void) {
     memset(name, 'x', sizeof name);
     CHECK(iox2sd_type_detail_check(&type) == IOX2SD_DONE);
     type = type_of("", 0, 1);
-    type.variant = IOX2SD_DYNAMIC;
+    type.variant = IOX2SD_VARIANT_DYNAMIC;
     CHECK(iox2sd_type_detail_check(&type) == IOX2SD_DONE);
     type.name = bytes(name);
     type.name_length = 256;
@@ -375,15 +441,25 @@ static void type_details(void) {
 
 static void chunks(void) {
     const size_t most = SIZE_MAX;
-    CHECK(is_count(iox2sd_required_amount_of_samples_per_data_segment(3, 5, 7, 11, 13), IOX2SD_DONE, 3 * (5 + 7) + 11 + 13));
-    CHECK(is_count(iox2sd_required_amount_of_chunks_per_client_data_segment(3, 5, 7), IOX2SD_DONE, 3 * 2 * 5 + 7));
-    CHECK(is_count(iox2sd_required_amount_of_chunks_per_client_data_segment(5, 3, 0), IOX2SD_DONE, 5 * 2 * 3));
-    CHECK(is_count(iox2sd_required_amount_of_chunks_per_server_data_segment(3, 5, 7, 11, 13), IOX2SD_DONE, 3 * 2 * 5 * (7 + 11 + 13)));
-    CHECK(is_count(iox2sd_required_amount_of_samples_per_data_segment(1, most, 0, 0, 0), IOX2SD_DONE, most));
-    CHECK(is_count(iox2sd_required_amount_of_samples_per_data_segment(1, most, 0, 0, 1), IOX2SD_TOO_LARGE, 0));
-    CHECK(is_count(iox2sd_required_amount_of_chunks_per_client_data_segment(0, most, most), IOX2SD_DONE, most));
-    CHECK(is_count(iox2sd_required_amount_of_chunks_per_client_data_segment(most, most, most), IOX2SD_TOO_LARGE, 0));
-    CHECK(is_count(iox2sd_required_amount_of_chunks_per_server_data_segment(most, most, most, most, most), IOX2SD_TOO_LARGE, 0));
+    CHECK(is_count(iox2sd_required_amount_of_samples_per_data_segment(3, 5, 7, 11, 13), IOX2SD_DONE,
+                   3 * (5 + 7) + 11 + 13));
+    CHECK(is_count(iox2sd_required_amount_of_chunks_per_client_data_segment(3, 5, 7), IOX2SD_DONE,
+                   3 * 2 * 5 + 7));
+    CHECK(is_count(iox2sd_required_amount_of_chunks_per_client_data_segment(5, 3, 0), IOX2SD_DONE,
+                   5 * 2 * 3));
+    CHECK(is_count(iox2sd_required_amount_of_chunks_per_server_data_segment(3, 5, 7, 11, 13),
+                   IOX2SD_DONE, 3 * 2 * 5 * (7 + 11 + 13)));
+    CHECK(is_count(iox2sd_required_amount_of_samples_per_data_segment(1, most, 0, 0, 0),
+                   IOX2SD_DONE, most));
+    CHECK(is_count(iox2sd_required_amount_of_samples_per_data_segment(1, most, 0, 0, 1),
+                   IOX2SD_TOO_LARGE, 0));
+    CHECK(is_count(iox2sd_required_amount_of_chunks_per_client_data_segment(0, most, most),
+                   IOX2SD_DONE, most));
+    CHECK(is_count(iox2sd_required_amount_of_chunks_per_client_data_segment(most, most, most),
+                   IOX2SD_TOO_LARGE, 0));
+    CHECK(is_count(
+        iox2sd_required_amount_of_chunks_per_server_data_segment(most, most, most, most, most),
+        IOX2SD_TOO_LARGE, 0));
 }
 
 static void settings(void) {
@@ -391,20 +467,28 @@ static void settings(void) {
     const iox2sd_event_settings e = iox2sd_event_defaults();
     const iox2sd_request_response_settings r = iox2sd_request_response_defaults();
     const iox2sd_blackboard_settings b = iox2sd_blackboard_defaults();
-    CHECK(p.max_subscribers == 8 && p.max_publishers == 2 && p.max_nodes == 20 && p.subscriber_max_buffer_size == 2);
-    CHECK(p.subscriber_max_borrowed_samples == 2 && p.publisher_max_loaned_samples == 2 && p.publisher_history_size == 0);
-    CHECK(p.subscriber_expired_connection_buffer == 128 && p.backpressure_strategy == IOX2SD_RETRY_UNTIL_DELIVERED);
-    CHECK(p.publisher_allocation_strategy == IOX2SD_STATIC && p.enable_safe_overflow);
-    CHECK(e.max_listeners == 16 && e.max_notifiers == 16 && e.max_nodes == 36 && e.event_id_max_value == 255);
+    CHECK(p.max_subscribers == 8 && p.max_publishers == 2 && p.max_nodes == 20 &&
+          p.subscriber_max_buffer_size == 2);
+    CHECK(p.subscriber_max_borrowed_samples == 2 && p.publisher_max_loaned_samples == 2 &&
+          p.publisher_history_size == 0);
+    CHECK(p.subscriber_expired_connection_buffer == 128 &&
+          p.backpressure_strategy == IOX2SD_RETRY_UNTIL_DELIVERED);
+    CHECK(p.publisher_allocation_strategy == IOX2SD_ALLOCATION_STATIC && p.enable_safe_overflow);
+    CHECK(e.max_listeners == 16 && e.max_notifiers == 16 && e.max_nodes == 36 &&
+          e.event_id_max_value == 255);
     CHECK(!e.deadline.is_some && e.deadline.seconds == 0 && e.deadline.nanoseconds == 0);
     CHECK(!e.notifier_created_event.is_some && e.notifier_created_event.number == 0);
     CHECK(!e.notifier_dropped_event.is_some && !e.notifier_dead_event.is_some);
-    CHECK(r.max_active_requests_per_client == 4 && r.max_response_buffer_size == 2 && r.max_servers == 2);
-    CHECK(r.max_clients == 8 && r.max_nodes == 20 && r.max_borrowed_responses_per_pending_response == 2);
+    CHECK(r.max_active_requests_per_client == 4 && r.max_response_buffer_size == 2 &&
+          r.max_servers == 2);
+    CHECK(r.max_clients == 8 && r.max_nodes == 20 &&
+          r.max_borrowed_responses_per_pending_response == 2);
     CHECK(r.max_loaned_requests == 2 && r.server_max_loaned_responses_per_request == 2);
     CHECK(r.client_expired_connection_buffer == 128 && r.server_expired_connection_buffer == 128);
-    CHECK(r.client_backpressure_strategy == IOX2SD_RETRY_UNTIL_DELIVERED && r.server_backpressure_strategy == 0);
-    CHECK(r.client_allocation_strategy == IOX2SD_STATIC && r.server_allocation_strategy == IOX2SD_STATIC);
+    CHECK(r.client_backpressure_strategy == IOX2SD_RETRY_UNTIL_DELIVERED &&
+          r.server_backpressure_strategy == 0);
+    CHECK(r.client_allocation_strategy == IOX2SD_ALLOCATION_STATIC &&
+          r.server_allocation_strategy == IOX2SD_ALLOCATION_STATIC);
     CHECK(r.enable_safe_overflow_for_requests && r.enable_safe_overflow_for_responses);
     CHECK(r.enable_fire_and_forget_requests);
     CHECK(b.max_readers == 8 && b.max_nodes == 20);
@@ -479,20 +563,39 @@ static bool tells(teller tell, const char *expected) {
     uint8_t out[64];
     const size_t length = strlen(expected);
     memset(out, 0xAA, sizeof out);
-    return is_text(tell(out, length - 1), IOX2SD_BUFFER_TOO_SHORT, length) && untouched(out, 0, sizeof out)
-           && is_text(tell(out, length), IOX2SD_DONE, length) && memcmp(out, expected, length) == 0
-           && untouched(out, length, sizeof out) && is_text(tell(NULL, 0), IOX2SD_BUFFER_TOO_SHORT, length);
+    return is_text(tell(out, length - 1), IOX2SD_BUFFER_TOO_SHORT, length) &&
+           untouched(out, 0, sizeof out) && is_text(tell(out, length), IOX2SD_DONE, length) &&
+           memcmp(out, expected, length) == 0 && untouched(out, length, sizeof out) &&
+           is_text(tell(NULL, 0), IOX2SD_BUFFER_TOO_SHORT, length);
 }
 
 static uint32_t asked;
 
-static iox2sd_text_answer tell_asked(uint8_t *out, size_t capacity) { return iox2sd_default_text(asked, out, capacity); }
+static iox2sd_text_answer tell_asked(uint8_t *out, size_t capacity) {
+    return iox2sd_default_text(asked, out, capacity);
+}
 
 static void files(void) {
-    static const char *const expected[] = {
-        "/tmp/iceoryx2/", "iox2_", "services", ".data", ".service", ".dynamic", ".connection", ".event",
-        ".blackboard_mgmt", ".blackboard_data", "nodes", ".node_monitor", ".details", ".service_tag", ".port_tag",
-        ".global_mgmt", "iceoryx2.toml", "config/iceoryx2.toml", "iceoryx2", "iceoryx2/iceoryx2.toml"};
+    static const char *const expected[] = {"/tmp/iceoryx2/",
+                                           "iox2_",
+                                           "services",
+                                           ".data",
+                                           ".service",
+                                           ".dynamic",
+                                           ".connection",
+                                           ".event",
+                                           ".blackboard_mgmt",
+                                           ".blackboard_data",
+                                           "nodes",
+                                           ".node_monitor",
+                                           ".details",
+                                           ".service_tag",
+                                           ".port_tag",
+                                           ".global_mgmt",
+                                           "iceoryx2.toml",
+                                           "config/iceoryx2.toml",
+                                           "iceoryx2",
+                                           "iceoryx2/iceoryx2.toml"};
     uint8_t out[300];
     for (asked = 0; asked < 20; asked++) CHECK(tells(tell_asked, expected[asked]));
     memset(out, 0xAA, sizeof out);
@@ -506,8 +609,10 @@ static void files(void) {
     CHECK(untouched(out, 0, sizeof out));
     CHECK(is_text(iox2sd_service_dir(bytes("/a"), 2, out, 11), IOX2SD_DONE, 11));
     CHECK(memcmp(out, "/a/services", 11) == 0 && untouched(out, 11, sizeof out));
-    CHECK(is_text(iox2sd_node_dir(bytes("/a/"), 3, out, 8), IOX2SD_DONE, 8) && memcmp(out, "/a/nodes", 8) == 0);
-    CHECK(is_text(iox2sd_node_dir(NULL, 0, out, 5), IOX2SD_DONE, 5) && memcmp(out, "nodes", 5) == 0);
+    CHECK(is_text(iox2sd_node_dir(bytes("/a/"), 3, out, 8), IOX2SD_DONE, 8) &&
+          memcmp(out, "/a/nodes", 8) == 0);
+    CHECK(is_text(iox2sd_node_dir(NULL, 0, out, 5), IOX2SD_DONE, 5) &&
+          memcmp(out, "nodes", 5) == 0);
     CHECK(tells(iox2sd_version, "0.1.0") && tells(iox2sd_layer_version, "0.9.3"));
 }
 
@@ -523,7 +628,8 @@ static bool holds(const uint8_t *found, size_t length, size_t end, const char *t
     return true;
 }
 
-/* Whether the description is of this pattern and name, with the hash text of both, and of `some_id`. */
+/* Whether the description is of this pattern and name, with the hash text of both, and of
+ * `some_id`. */
 static bool describes(const iox2sd_description *d, uint32_t pattern, const char *name) {
     uint8_t hash[28] = {0};
     iox2sd_internal_hash_text(pattern, bytes(name), strlen(name), hash, sizeof hash);
@@ -550,8 +656,8 @@ static void describe_publish_subscribe(void) {
     s.publisher_history_size = 11;
     s.subscriber_max_buffer_size = 13;
     s.subscriber_max_borrowed_samples = 17;
-    CHECK(is_field(iox2sd_describe_publish_subscribe(&s, bytes("a/b"), 3, false, some_id, &d), IOX2SD_DONE,
-                   0));
+    CHECK(is_field(iox2sd_describe_publish_subscribe(&s, bytes("a/b"), 3, false, some_id, &d),
+                   IOX2SD_DONE, 0));
     CHECK(describes(&d, IOX2SD_PUBLISH_SUBSCRIBE, "a/b"));
     CHECK(c->max_subscribers == 3 && c->max_publishers == 5 && c->max_nodes == 7);
     CHECK(c->history_size == 11 && c->subscriber_max_buffer_size == 13);
@@ -598,7 +704,8 @@ static void describe_event(void) {
     s.notifier_dropped_event = dropped;
     s.max_listeners = 3;
     s.max_notifiers = 7;
-    CHECK(is_field(iox2sd_describe_event(&s, with_byte(0, 'y'), 255, false, some_id, &d), IOX2SD_DONE, 0));
+    CHECK(is_field(iox2sd_describe_event(&s, with_byte(0, 'y'), 255, false, some_id, &d),
+                   IOX2SD_DONE, 0));
     CHECK(d.name_length == 255 && memcmp(d.name, with_byte(0, 'y'), 255) == 0 && d.name[255] == 0);
     CHECK(d.pattern == IOX2SD_EVENT && is_unset(&d.publish_subscribe)
           && d.blackboard.max_nodes == 0);
@@ -633,8 +740,8 @@ static void describe_request_response(void) {
     s.max_nodes = 17;
     s.max_borrowed_responses_per_pending_response = 19;
     s.enable_safe_overflow_for_requests = false;
-    CHECK(
-        is_field(iox2sd_describe_request_response(&s, bytes("a"), 1, false, some_id, &d), IOX2SD_DONE, 0));
+    CHECK(is_field(iox2sd_describe_request_response(&s, bytes("a"), 1, false, some_id, &d),
+                   IOX2SD_DONE, 0));
     CHECK(describes(&d, IOX2SD_REQUEST_RESPONSE, "a") && is_unset(&d.publish_subscribe));
     CHECK(c->max_active_requests_per_client == 3 && c->max_loaned_requests == 5);
     CHECK(c->max_response_buffer_size == 7 && c->max_servers == 11 && c->max_clients == 13);
@@ -653,7 +760,8 @@ static void describe_blackboard(void) {
     const iox2sd_blackboard_settings s = {3, 5};
     iox2sd_description d;
     memset(&d, 0xAA, sizeof d);
-    CHECK(is_field(iox2sd_describe_blackboard(&s, bytes("a"), 1, false, some_id, &d), IOX2SD_DONE, 0));
+    CHECK(is_field(iox2sd_describe_blackboard(&s, bytes("a"), 1, false, some_id, &d), IOX2SD_DONE,
+                   0));
     CHECK(describes(&d, IOX2SD_BLACKBOARD, "a") && is_unset(&d.publish_subscribe));
     CHECK(d.blackboard.max_readers == 3 && d.blackboard.max_writers == 1
           && d.blackboard.max_nodes == 5);

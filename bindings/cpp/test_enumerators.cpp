@@ -108,8 +108,8 @@ std::uint64_t of_header(DataSegmentType type) {
 
 std::uint64_t of_header(TypeVariant variant) {
     switch (variant) {
-        case TypeVariant::FixedSize: return IOX2SD_FIXED_SIZE;
-        case TypeVariant::Dynamic: return IOX2SD_DYNAMIC;
+        case TypeVariant::FixedSize: return IOX2SD_VARIANT_FIXED_SIZE;
+        case TypeVariant::Dynamic: return IOX2SD_VARIANT_DYNAMIC;
     }
     return none;
 }
@@ -133,9 +133,9 @@ std::uint64_t of_header(BackpressureStrategy strategy) {
 
 std::uint64_t of_header(AllocationStrategy strategy) {
     switch (strategy) {
-        case AllocationStrategy::BestFit: return IOX2SD_BEST_FIT;
-        case AllocationStrategy::PowerOfTwo: return IOX2SD_POWER_OF_TWO;
-        case AllocationStrategy::Static: return IOX2SD_STATIC;
+        case AllocationStrategy::BestFit: return IOX2SD_ALLOCATION_BEST_FIT;
+        case AllocationStrategy::PowerOfTwo: return IOX2SD_ALLOCATION_POWER_OF_TWO;
+        case AllocationStrategy::Static: return IOX2SD_ALLOCATION_STATIC;
     }
     return none;
 }
@@ -250,10 +250,10 @@ void enumerators() {
     numbers<Role>(IOX2SD_NODE, 9);
     numbers<PatternKind>(IOX2SD_PUBLISH_SUBSCRIBE, 4);
     numbers<DataSegmentType>(IOX2SD_DYNAMIC_SEGMENT, 2);
-    numbers<TypeVariant>(IOX2SD_FIXED_SIZE, 2);
+    numbers<TypeVariant>(IOX2SD_VARIANT_FIXED_SIZE, 2);
     numbers<MessagePart>(IOX2SD_HEADER, 3);
     numbers<BackpressureStrategy>(IOX2SD_RETRY_UNTIL_DELIVERED, 2);
-    numbers<AllocationStrategy>(IOX2SD_BEST_FIT, 3);
+    numbers<AllocationStrategy>(IOX2SD_ALLOCATION_BEST_FIT, 3);
     numbers<SettingsField>(IOX2SD_BACKPRESSURE_STRATEGY, 8);
     numbers<ConfigEntry>(IOX2SD_ROOT_PATH, 20);
     // The numbers of statuses have gaps.

@@ -382,7 +382,7 @@ extern "C" {
 iox2sd_global_settings __wrap_iox2sd_global_defaults() { return {{1, 2}, true, false, true}; }
 
 iox2sd_publish_subscribe_settings __wrap_iox2sd_publish_subscribe_defaults() {
-    return {1, 2, 3, 4, 5, 6, 7, 8, IOX2SD_DISCARD_DATA, IOX2SD_STATIC, true};
+    return {1, 2, 3, 4, 5, 6, 7, 8, IOX2SD_DISCARD_DATA, IOX2SD_ALLOCATION_STATIC, true};
 }
 
 iox2sd_event_settings __wrap_iox2sd_event_defaults() {
@@ -391,7 +391,7 @@ iox2sd_event_settings __wrap_iox2sd_event_defaults() {
 
 iox2sd_request_response_settings __wrap_iox2sd_request_response_defaults() {
     return {1, 2, 3, 4, 5, 6, 7, 8, 9, 10, IOX2SD_DISCARD_DATA, IOX2SD_RETRY_UNTIL_DELIVERED,
-            IOX2SD_STATIC, IOX2SD_POWER_OF_TWO, true, false, true};
+            IOX2SD_ALLOCATION_STATIC, IOX2SD_ALLOCATION_POWER_OF_TWO, true, false, true};
 }
 
 iox2sd_blackboard_settings __wrap_iox2sd_blackboard_defaults() { return {1, 2}; }
@@ -499,7 +499,7 @@ void crossing_samples() {
     CHECK(c.publisher_max_loaned_samples == 6 && c.publisher_history_size == 7);
     CHECK(c.subscriber_expired_connection_buffer == 8 && c.enable_safe_overflow);
     CHECK(c.backpressure_strategy == IOX2SD_DISCARD_DATA);
-    CHECK(c.publisher_allocation_strategy == IOX2SD_STATIC);
+    CHECK(c.publisher_allocation_strategy == IOX2SD_ALLOCATION_STATIC);
 
     const PublishSubscribeStaticConfig fixed(read, message("p"));
     CHECK(fixed.max_subscribers == 1 && fixed.max_publishers == 2 && fixed.max_nodes == 3);
@@ -528,8 +528,8 @@ void crossing_requests() {
     CHECK(c.client_expired_connection_buffer == 9 && c.server_expired_connection_buffer == 10);
     CHECK(c.client_backpressure_strategy == IOX2SD_DISCARD_DATA);
     CHECK(c.server_backpressure_strategy == IOX2SD_RETRY_UNTIL_DELIVERED);
-    CHECK(c.client_allocation_strategy == IOX2SD_STATIC);
-    CHECK(c.server_allocation_strategy == IOX2SD_POWER_OF_TWO);
+    CHECK(c.client_allocation_strategy == IOX2SD_ALLOCATION_STATIC);
+    CHECK(c.server_allocation_strategy == IOX2SD_ALLOCATION_POWER_OF_TWO);
     CHECK(c.enable_safe_overflow_for_requests && !c.enable_safe_overflow_for_responses);
     CHECK(c.enable_fire_and_forget_requests);
 

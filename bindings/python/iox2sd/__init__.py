@@ -132,10 +132,10 @@ from .texts import (
 for _kind in [kind for kind in globals().values() if is_dataclass(kind)]:
     readable(_kind)
 
-__version__: str = _native.written(_native.version)[1]
+__version__: str = _native.written(_native.version_at)[1]
 """The version of the library."""
 
-LAYER_VERSION: str = _native.written(_native.layer_version)[1]
+LAYER_VERSION: str = _native.written(_native.layer_version_at)[1]
 """The version of iceoryx2 whose layer this is."""
 
 __all__ = [

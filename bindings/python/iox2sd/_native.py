@@ -353,14 +353,14 @@ _DETAILS = (POINTER(MessageDetails), c_size_t)
 _DESCRIBED = (c_size_t, *_TEXT, c_bool, Id, POINTER(Description), c_size_t)
 
 abi = _export("abi", c_uint32)
-status_text = _export("status_text", TextAnswer, c_uint32, *_OUT)
-version = _export("version", TextAnswer, *_OUT)
-layer_version = _export("layer_version", TextAnswer, *_OUT)
+status_text_at = _export("status_text_at", TextAnswer, c_uint32, *_OUT)
+version_at = _export("version_at", TextAnswer, *_OUT)
+layer_version_at = _export("layer_version_at", TextAnswer, *_OUT)
 
 id_is_node = _export("id_is_node", c_bool, Id)
 id_owner_id = _export("id_owner_id", c_uint64, Id)
 id_is_before = _export("id_is_before", c_bool, Id, Id)
-id_text = _export("id_text", TextAnswer, Id, *_OUT)
+id_text_at = _export("id_text_at", TextAnswer, Id, *_OUT)
 
 service_create_at = _export(
     "service_create_at", c_uint32, *_SERVICE, c_uint32, c_uint64, Capacities, c_uint64
@@ -395,28 +395,28 @@ ports_at = _export(
 ports_of_at = _export(
     "ports_of_at", CountAnswer, *_SERVICE, Id, POINTER(PortDetails), c_size_t
 )
-script_run = _export(
-    "script_run", ScriptAnswer, *_TEXT, *_OUT, library=ctypes.CDLL(_PATH)
+script_run_at = _export(
+    "script_run_at", ScriptAnswer, *_TEXT, *_OUT, library=ctypes.CDLL(_PATH)
 )
 
-service_name_check = _export("service_name_check", PlaceAnswer, *_TEXT)
-internal_service_name_check = _export(
-    "internal_service_name_check", PlaceAnswer, *_TEXT
+service_name_check_at = _export("service_name_check_at", PlaceAnswer, *_TEXT)
+internal_service_name_check_at = _export(
+    "internal_service_name_check_at", PlaceAnswer, *_TEXT
 )
-has_iox2_prefix = _export("has_iox2_prefix", c_bool, *_TEXT)
-internal_service_name = _export("internal_service_name", TextAnswer, *_TEXT, *_OUT)
-attribute_key_check = _export("attribute_key_check", PlaceAnswer, *_TEXT)
-attribute_value_check = _export("attribute_value_check", PlaceAnswer, *_TEXT)
-path_check = _export("path_check", PlaceAnswer, *_TEXT)
-file_name_check = _export("file_name_check", PlaceAnswer, *_TEXT)
-file_path_check = _export("file_path_check", PlaceAnswer, *_TEXT)
-restricted_file_name_check = _export("restricted_file_name_check", PlaceAnswer, *_TEXT)
-path_add_path_entry = _export("path_add_path_entry", TextAnswer, *_TEXT, *_TEXT, *_OUT)
-file_path_from_path_and_file = _export(
-    "file_path_from_path_and_file", TextAnswer, *_TEXT, *_TEXT, *_OUT
+has_iox2_prefix_at = _export("has_iox2_prefix_at", c_bool, *_TEXT)
+internal_service_name_at = _export("internal_service_name_at", TextAnswer, *_TEXT, *_OUT)
+attribute_key_check_at = _export("attribute_key_check_at", PlaceAnswer, *_TEXT)
+attribute_value_check_at = _export("attribute_value_check_at", PlaceAnswer, *_TEXT)
+path_check_at = _export("path_check_at", PlaceAnswer, *_TEXT)
+file_name_check_at = _export("file_name_check_at", PlaceAnswer, *_TEXT)
+file_path_check_at = _export("file_path_check_at", PlaceAnswer, *_TEXT)
+restricted_file_name_check_at = _export("restricted_file_name_check_at", PlaceAnswer, *_TEXT)
+path_add_path_entry_at = _export("path_add_path_entry_at", TextAnswer, *_TEXT, *_TEXT, *_OUT)
+file_path_from_path_and_file_at = _export(
+    "file_path_from_path_and_file_at", TextAnswer, *_TEXT, *_TEXT, *_OUT
 )
-hash_text = _export("hash_text", TextAnswer, c_uint32, *_TEXT, *_OUT)
-internal_hash_text = _export("internal_hash_text", TextAnswer, c_uint32, *_TEXT, *_OUT)
+hash_text_at = _export("hash_text_at", TextAnswer, c_uint32, *_TEXT, *_OUT)
+internal_hash_text_at = _export("internal_hash_text_at", TextAnswer, c_uint32, *_TEXT, *_OUT)
 
 attributes_check_at = _export("attributes_check_at", PlaceAnswer, *_PAIRS)
 attributes_sort_at = _export("attributes_sort_at", PlaceAnswer, *_PAIRS)
@@ -472,9 +472,9 @@ describe_request_response_at = _export(
 describe_blackboard_at = _export(
     "describe_blackboard_at", FieldAnswer, POINTER(BlackboardSettings), *_DESCRIBED
 )
-default_text = _export("default_text", TextAnswer, c_uint32, *_OUT)
-service_dir = _export("service_dir", TextAnswer, *_TEXT, *_OUT)
-node_dir = _export("node_dir", TextAnswer, *_TEXT, *_OUT)
+default_text_at = _export("default_text_at", TextAnswer, c_uint32, *_OUT)
+service_dir_at = _export("service_dir_at", TextAnswer, *_TEXT, *_OUT)
+node_dir_at = _export("node_dir_at", TextAnswer, *_TEXT, *_OUT)
 
 
 def written(function: Any, *arguments: Any) -> "tuple[int, str]":

@@ -48,7 +48,7 @@ class Refused(Error):
 
 def status_text(status: int) -> str:
     """The library's text of a status, or its number where the library has none."""
-    found, text = _native.written(_native.status_text, status)
+    found, text = _native.written(_native.status_text_at, status)
     return text if found == _native.DONE else f"status {status}"
 
 

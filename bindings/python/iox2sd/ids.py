@@ -55,7 +55,7 @@ class UniqueId(Checked):
         return int.from_bytes(_PARTS.pack(*parts), "big")
 
     def __str__(self) -> str:
-        return _native.written(_native.id_text, self._lent())[1]
+        return _native.written(_native.id_text_at, self._lent())[1]
 
     def __lt__(self, other: object) -> bool:
         if not isinstance(other, UniqueId) or type(other) is not type(self):

@@ -19,7 +19,7 @@ def run_script(script: Union[str, bytes]) -> str:
     capacity = 256 + len(given)
     while True:
         out = (ctypes.c_uint8 * capacity)()
-        answer = _native.script_run(given, len(given), out, capacity)
+        answer = _native.script_run_at(given, len(given), out, capacity)
         if answer.status != _native.BUFFER_TOO_SHORT:
             break
         capacity = answer.length

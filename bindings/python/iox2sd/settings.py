@@ -282,19 +282,19 @@ class DefaultText(Choice):
 def default_text(which: DefaultText) -> str:
     """A text of the configuration, where nothing else is said."""
     instance(which, DefaultText, "default_text")
-    status, text = _native.written(_native.default_text, which.value)
+    status, text = _native.written(_native.default_text_at, which.value)
     check(status, str(which))
     return text
 
 
 def service_dir(root: Path) -> Path:
     """The directory of services below a root path. Raises `TooLong` past 255 bytes."""
-    return _directory(root, "service_dir", _native.service_dir)
+    return _directory(root, "service_dir", _native.service_dir_at)
 
 
 def node_dir(root: Path) -> Path:
     """The directory of nodes below a root path. Raises `TooLong` past 255 bytes."""
-    return _directory(root, "node_dir", _native.node_dir)
+    return _directory(root, "node_dir", _native.node_dir_at)
 
 
 def _directory(root: Path, what: str, function: Any) -> Path:

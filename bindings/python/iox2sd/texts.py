@@ -67,13 +67,13 @@ class ServiceName(Text):
     """
 
     __slots__ = ()
-    _check = _native.service_name_check
+    _check = _native.service_name_check_at
 
     @staticmethod
     def has_iox2_prefix(name: str) -> bool:
         """Whether a text begins as the names of the system's own services do."""
         encoded = utf8(name, "has_iox2_prefix")
-        return bool(_native.has_iox2_prefix(encoded, len(encoded)))
+        return bool(_native.has_iox2_prefix_at(encoded, len(encoded)))
 
 
 class InternalServiceName(ServiceName):
@@ -83,7 +83,7 @@ class InternalServiceName(ServiceName):
     """
 
     __slots__ = ()
-    _check = _native.internal_service_name_check
+    _check = _native.internal_service_name_check_at
 
     @classmethod
     def prefixed(cls, name: str) -> "InternalServiceName":
@@ -93,7 +93,7 @@ class InternalServiceName(ServiceName):
         """
         encoded = utf8(name, "InternalServiceName.prefixed")
         what = f"InternalServiceName.prefixed {shown(name)}"
-        return cls._written(what, _native.internal_service_name, encoded, len(encoded))
+        return cls._written(what, _native.internal_service_name_at, encoded, len(encoded))
 
 
 class AttributeKey(Text):
@@ -103,7 +103,7 @@ class AttributeKey(Text):
     """
 
     __slots__ = ()
-    _check = _native.attribute_key_check
+    _check = _native.attribute_key_check_at
 
 
 class AttributeValue(Text):
@@ -113,7 +113,7 @@ class AttributeValue(Text):
     """
 
     __slots__ = ()
-    _check = _native.attribute_value_check
+    _check = _native.attribute_value_check_at
 
 
 class Path(Text):
@@ -123,7 +123,7 @@ class Path(Text):
     """
 
     __slots__ = ()
-    _check = _native.path_check
+    _check = _native.path_check_at
 
     def add_path_entry(self, entry: "Path") -> "Path":
         """A path with an entry behind it, with one `/` between them unless this path is empty or
@@ -131,7 +131,7 @@ class Path(Text):
         """
         instance(entry, Path, "Path.add_path_entry")
         what = f"{shown(self)} and {shown(entry)}"
-        return Path._written(what, _native.path_add_path_entry, *lent(self), *lent(entry))
+        return Path._written(what, _native.path_add_path_entry_at, *lent(self), *lent(entry))
 
 
 class FileName(Text):
@@ -141,7 +141,7 @@ class FileName(Text):
     """
 
     __slots__ = ()
-    _check = _native.file_name_check
+    _check = _native.file_name_check_at
 
 
 class FilePath(Text):
@@ -152,7 +152,7 @@ class FilePath(Text):
     """
 
     __slots__ = ()
-    _check = _native.file_path_check
+    _check = _native.file_path_check_at
 
     @classmethod
     def from_path_and_file(cls, path: Path, file: FileName) -> "FilePath":
@@ -163,7 +163,7 @@ class FilePath(Text):
         instance(path, Path, "FilePath.from_path_and_file")
         instance(file, FileName, "FilePath.from_path_and_file")
         what = f"{shown(path)} and {shown(file)}"
-        return cls._written(what, _native.file_path_from_path_and_file, *lent(path), *lent(file))
+        return cls._written(what, _native.file_path_from_path_and_file_at, *lent(path), *lent(file))
 
 
 class RestrictedFileName(Text):
@@ -174,7 +174,7 @@ class RestrictedFileName(Text):
     """
 
     __slots__ = ()
-    _check = _native.restricted_file_name_check
+    _check = _native.restricted_file_name_check_at
 
 
 class ServiceHash(RestrictedFileName):
@@ -191,6 +191,6 @@ class ServiceHash(RestrictedFileName):
         instance(service_name, ServiceName, "ServiceHash.new")
         instance(messaging_pattern, MessagingPattern, "ServiceHash.new")
         internal = isinstance(service_name, InternalServiceName)
-        function = _native.internal_hash_text if internal else _native.hash_text
+        function = _native.internal_hash_text_at if internal else _native.hash_text_at
         what = f"hash text of {shown(service_name)}"
         return cls._written(what, function, messaging_pattern.value, *lent(service_name))

@@ -41,6 +41,7 @@ NO_CLASS = {
 NOT_CALLED = {
     r"(publish_subscribe|event|request_response)_settings_check_at": "their fields are valid",
     r"has_same_messaging_pattern": "patterns are members of an enum",
+    r"id_from_text_at": "ids are made of their parts",
 }
 """The exports that the package has no use for."""
 
@@ -141,19 +142,20 @@ class Declarations(unittest.TestCase):
         self.assertEqual((_native.ABI, _native.abi()), (int(headers.ABI.group(1)),) * 2)
 
     def test_constants_are_those_of_the_header(self):
-        kinds: "list[tuple[type[enum.Enum], str]]" = [
-            (iox2sd.MessagingPattern, ""),
-            (iox2sd.Role, ""),
-            (iox2sd.DataSegmentType, "_SEGMENT"),
-            (iox2sd.TypeVariant, ""),
-            (iox2sd.BackpressureStrategy, ""),
-            (iox2sd.AllocationStrategy, ""),
-            (iox2sd.DefaultText, ""),
+        kinds: "list[tuple[type[enum.Enum], str, str]]" = [
+            (iox2sd.MessagingPattern, "", ""),
+            (iox2sd.Role, "", ""),
+            (iox2sd.DataSegmentType, "", "_SEGMENT"),
+            (iox2sd.TypeVariant, "VARIANT_", ""),
+            (iox2sd.BackpressureStrategy, "", ""),
+            (iox2sd.AllocationStrategy, "ALLOCATION_", ""),
+            (iox2sd.DefaultText, "", ""),
         ]
-        for kind, end in kinds:
+        for kind, front, end in kinds:
             for member in kind:
                 with self.subTest(member=member):
-                    self.assertEqual(headers.CONSTANTS[member.name + end], member.value)
+                    name = front + member.name + end
+                    self.assertEqual(headers.CONSTANTS[name], member.value)
         for name in ("DONE", "DONE_LOCKED", "BUFFER_TOO_SHORT", "NO_SUCH_VALUE"):
             self.assertEqual(headers.STATUSES[name], getattr(_native, name))
 

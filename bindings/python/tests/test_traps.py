@@ -218,7 +218,7 @@ class Calls(unittest.TestCase):
             if isinstance(function, ctypes._CFuncPtr)
         }
         self.assertGreater(len(functions), 60)
-        self.assertEqual([name for name, kept in functions.items() if not kept], ["script_run"])
+        self.assertEqual([name for name, kept in functions.items() if not kept], ["script_run_at"])
 
     def joined(self, *threads: threading.Thread):
         for thread in threads:

@@ -80,14 +80,14 @@ macro_rules! checks {
 }
 
 checks! {
-    check_service_name: iox2sd_service_name_check
-    check_internal_service_name: iox2sd_internal_service_name_check
-    check_attribute_key: iox2sd_attribute_key_check
-    check_attribute_value: iox2sd_attribute_value_check
-    check_path: iox2sd_path_check
-    check_file_name: iox2sd_file_name_check
-    check_file_path: iox2sd_file_path_check
-    check_restricted_name: iox2sd_restricted_file_name_check
+    check_service_name: iox2sd_service_name_check_at
+    check_internal_service_name: iox2sd_internal_service_name_check_at
+    check_attribute_key: iox2sd_attribute_key_check_at
+    check_attribute_value: iox2sd_attribute_value_check_at
+    check_path: iox2sd_path_check_at
+    check_file_name: iox2sd_file_name_check_at
+    check_file_path: iox2sd_file_path_check_at
+    check_restricted_name: iox2sd_restricted_file_name_check_at
 }
 
 /// Defines calls that write a text about plain values.
@@ -103,11 +103,11 @@ macro_rules! texts {
 }
 
 texts! {
-    status_text(status: u32): iox2sd_status_text
-    version(): iox2sd_version
-    layer_version(): iox2sd_layer_version
-    id_text(id: sys::iox2sd_id): iox2sd_id_text
-    default_text(which: u32): iox2sd_default_text
+    status_text(status: u32): iox2sd_status_text_at
+    version(): iox2sd_version_at
+    layer_version(): iox2sd_layer_version_at
+    id_text(id: sys::iox2sd_id): iox2sd_id_text_at
+    default_text(which: u32): iox2sd_default_text_at
 }
 
 /// Defines calls on values alone.
@@ -162,20 +162,20 @@ pub(crate) fn chunks(answer: &sys::iox2sd_count_answer) -> Option<usize> {
 
 pub(crate) fn has_internal_prefix(text: &str) -> bool {
     // SAFETY: pointer and length are those of one slice.
-    unsafe { sys::iox2sd_has_iox2_prefix(text.as_ptr(), text.len()) }
+    unsafe { sys::iox2sd_has_iox2_prefix_at(text.as_ptr(), text.len()) }
 }
 
 pub(crate) fn internal_service_name(name: &str) -> Result<String, u32> {
     // SAFETY: each pointer and length are those of one slice, and `out` overlaps no other.
     text(|out| unsafe {
-        sys::iox2sd_internal_service_name(name.as_ptr(), name.len(), out.as_mut_ptr(), out.len())
+        sys::iox2sd_internal_service_name_at(name.as_ptr(), name.len(), out.as_mut_ptr(), out.len())
     })
 }
 
 pub(crate) fn hash_text(pattern: u32, name: &str) -> Result<String, u32> {
     // SAFETY: as above.
     text(|out| unsafe {
-        sys::iox2sd_internal_hash_text(
+        sys::iox2sd_internal_hash_text_at(
             pattern,
             name.as_ptr(),
             name.len(),
@@ -188,7 +188,7 @@ pub(crate) fn hash_text(pattern: u32, name: &str) -> Result<String, u32> {
 pub(crate) fn path_join(path: &str, entry: &str) -> Result<String, u32> {
     // SAFETY: as above.
     text(|out| unsafe {
-        sys::iox2sd_path_add_path_entry(
+        sys::iox2sd_path_add_path_entry_at(
             path.as_ptr(),
             path.len(),
             entry.as_ptr(),
@@ -202,7 +202,7 @@ pub(crate) fn path_join(path: &str, entry: &str) -> Result<String, u32> {
 pub(crate) fn file_path_join(path: &str, file: &str) -> Result<String, u32> {
     // SAFETY: as above.
     text(|out| unsafe {
-        sys::iox2sd_file_path_from_path_and_file(
+        sys::iox2sd_file_path_from_path_and_file_at(
             path.as_ptr(),
             path.len(),
             file.as_ptr(),
@@ -225,7 +225,7 @@ pub(crate) fn script_run(script: &str) -> Run {
     loop {
         // SAFETY: each pointer and length are those of one slice, and `out` overlaps no other.
         let answer = unsafe {
-            sys::iox2sd_script_run(script.as_ptr(), script.len(), out.as_mut_ptr(), out.len())
+            sys::iox2sd_script_run_at(script.as_ptr(), script.len(), out.as_mut_ptr(), out.len())
         };
         if answer.status == sys::IOX2SD_BUFFER_TOO_SHORT {
             out.resize(answer.length, 0);

@@ -52,8 +52,8 @@ pub const IOX2SD_WRITER: u64 = 8;
 pub const IOX2SD_DYNAMIC_SEGMENT: u32 = 0;
 pub const IOX2SD_STATIC_SEGMENT: u32 = 1;
 
-pub const IOX2SD_FIXED_SIZE: u32 = 0;
-pub const IOX2SD_DYNAMIC: u32 = 1;
+pub const IOX2SD_VARIANT_FIXED_SIZE: u32 = 0;
+pub const IOX2SD_VARIANT_DYNAMIC: u32 = 1;
 
 pub const IOX2SD_HEADER: u32 = 0;
 pub const IOX2SD_USER_HEADER: u32 = 1;
@@ -62,9 +62,9 @@ pub const IOX2SD_PAYLOAD: u32 = 2;
 pub const IOX2SD_RETRY_UNTIL_DELIVERED: u32 = 0;
 pub const IOX2SD_DISCARD_DATA: u32 = 1;
 
-pub const IOX2SD_BEST_FIT: u32 = 0;
-pub const IOX2SD_POWER_OF_TWO: u32 = 1;
-pub const IOX2SD_STATIC: u32 = 2;
+pub const IOX2SD_ALLOCATION_BEST_FIT: u32 = 0;
+pub const IOX2SD_ALLOCATION_POWER_OF_TWO: u32 = 1;
+pub const IOX2SD_ALLOCATION_STATIC: u32 = 2;
 
 pub const IOX2SD_ROOT_PATH: u32 = 0;
 pub const IOX2SD_PREFIX: u32 = 1;
@@ -404,14 +404,14 @@ pub struct iox2sd_description {
 }
 
 extern "C" {
-    pub fn iox2sd_status_text(status: u32, out: *mut u8, capacity: usize) -> iox2sd_text_answer;
-    pub fn iox2sd_version(out: *mut u8, capacity: usize) -> iox2sd_text_answer;
-    pub fn iox2sd_layer_version(out: *mut u8, capacity: usize) -> iox2sd_text_answer;
+    pub fn iox2sd_status_text_at(status: u32, out: *mut u8, capacity: usize) -> iox2sd_text_answer;
+    pub fn iox2sd_version_at(out: *mut u8, capacity: usize) -> iox2sd_text_answer;
+    pub fn iox2sd_layer_version_at(out: *mut u8, capacity: usize) -> iox2sd_text_answer;
 
     pub fn iox2sd_id_is_node(id: iox2sd_id) -> bool;
     pub fn iox2sd_id_owner_id(id: iox2sd_id) -> u64;
     pub fn iox2sd_id_is_before(id: iox2sd_id, other: iox2sd_id) -> bool;
-    pub fn iox2sd_id_text(id: iox2sd_id, out: *mut u8, capacity: usize) -> iox2sd_text_answer;
+    pub fn iox2sd_id_text_at(id: iox2sd_id, out: *mut u8, capacity: usize) -> iox2sd_text_answer;
 
     pub fn iox2sd_service_create_at(
         places: *mut iox2sd_service,
@@ -517,33 +517,35 @@ extern "C" {
         capacity: usize,
     ) -> iox2sd_count_answer;
 
-    pub fn iox2sd_script_run(
+    pub fn iox2sd_script_run_at(
         script: *const u8,
         length: usize,
         out: *mut u8,
         capacity: usize,
     ) -> iox2sd_script_answer;
 
-    pub fn iox2sd_service_name_check(text: *const u8, length: usize) -> iox2sd_place_answer;
-    pub fn iox2sd_internal_service_name_check(
+    pub fn iox2sd_service_name_check_at(text: *const u8, length: usize) -> iox2sd_place_answer;
+    pub fn iox2sd_internal_service_name_check_at(
         text: *const u8,
         length: usize,
     ) -> iox2sd_place_answer;
-    pub fn iox2sd_has_iox2_prefix(text: *const u8, length: usize) -> bool;
-    pub fn iox2sd_internal_service_name(
+    pub fn iox2sd_has_iox2_prefix_at(text: *const u8, length: usize) -> bool;
+    pub fn iox2sd_internal_service_name_at(
         text: *const u8,
         length: usize,
         out: *mut u8,
         capacity: usize,
     ) -> iox2sd_text_answer;
-    pub fn iox2sd_attribute_key_check(text: *const u8, length: usize) -> iox2sd_place_answer;
-    pub fn iox2sd_attribute_value_check(text: *const u8, length: usize) -> iox2sd_place_answer;
-    pub fn iox2sd_path_check(text: *const u8, length: usize) -> iox2sd_place_answer;
-    pub fn iox2sd_file_name_check(text: *const u8, length: usize) -> iox2sd_place_answer;
-    pub fn iox2sd_file_path_check(text: *const u8, length: usize) -> iox2sd_place_answer;
-    pub fn iox2sd_restricted_file_name_check(text: *const u8, length: usize)
-        -> iox2sd_place_answer;
-    pub fn iox2sd_path_add_path_entry(
+    pub fn iox2sd_attribute_key_check_at(text: *const u8, length: usize) -> iox2sd_place_answer;
+    pub fn iox2sd_attribute_value_check_at(text: *const u8, length: usize) -> iox2sd_place_answer;
+    pub fn iox2sd_path_check_at(text: *const u8, length: usize) -> iox2sd_place_answer;
+    pub fn iox2sd_file_name_check_at(text: *const u8, length: usize) -> iox2sd_place_answer;
+    pub fn iox2sd_file_path_check_at(text: *const u8, length: usize) -> iox2sd_place_answer;
+    pub fn iox2sd_restricted_file_name_check_at(
+        text: *const u8,
+        length: usize,
+    ) -> iox2sd_place_answer;
+    pub fn iox2sd_path_add_path_entry_at(
         path: *const u8,
         path_length: usize,
         entry: *const u8,
@@ -551,7 +553,7 @@ extern "C" {
         out: *mut u8,
         capacity: usize,
     ) -> iox2sd_text_answer;
-    pub fn iox2sd_file_path_from_path_and_file(
+    pub fn iox2sd_file_path_from_path_and_file_at(
         path: *const u8,
         path_length: usize,
         file: *const u8,
@@ -559,7 +561,7 @@ extern "C" {
         out: *mut u8,
         capacity: usize,
     ) -> iox2sd_text_answer;
-    pub fn iox2sd_internal_hash_text(
+    pub fn iox2sd_internal_hash_text_at(
         pattern: u32,
         name: *const u8,
         length: usize,
@@ -677,5 +679,5 @@ extern "C" {
         out: *mut iox2sd_description,
         out_count: usize,
     ) -> iox2sd_field_answer;
-    pub fn iox2sd_default_text(which: u32, out: *mut u8, capacity: usize) -> iox2sd_text_answer;
+    pub fn iox2sd_default_text_at(which: u32, out: *mut u8, capacity: usize) -> iox2sd_text_answer;
 }

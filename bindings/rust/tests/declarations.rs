@@ -243,7 +243,11 @@ fn each_enumerator_has_the_number_of_its_name() {
             } else {
                 ""
             };
-            assert_eq!(constant, upper(name) + end, "{file}");
+            let front = ["ALLOCATION_", "VARIANT_"]
+                .into_iter()
+                .find(|front| constant.starts_with(front))
+                .unwrap_or("");
+            assert_eq!(constant, format!("{front}{}{end}", upper(name)), "{file}");
             count += 1;
         }
     }
@@ -265,24 +269,36 @@ fn field_of(before: &str) -> Option<&str> {
 #[test]
 fn each_field_of_a_struct_is_read_and_written_by_its_name() {
     let mut count = 0;
-    let text = squeezed(&without_comments(&read("src/config/patterns.rs"))).replace(' ', "");
-    for (at, _) in text.match_indices("settings.") {
-        let before = &text[..at];
-        if before.ends_with("letdeadline=") {
-            continue;
+    // Where settings are read, where they are written, and where what they fix is read. A deadline
+    // has fields of its own.
+    for (file, from) in [
+        ("config/patterns.rs", "settings."),
+        ("library/descriptions.rs", "settings."),
+        ("static_config/publish_subscribe.rs", "fixed."),
+        ("static_config/event.rs", "fixed."),
+        ("static_config/request_response.rs", "fixed."),
+        ("static_config/blackboard.rs", "fixed."),
+    ] {
+        let code = without_comments(&read(&format!("src/{file}")));
+        let text = squeezed(&code).replace(" as u32", "").replace(' ', "");
+        for (at, _) in text.match_indices(from) {
+            let before = &text[..at];
+            let read = text[at + from.len()..]
+                .split(|letter: char| !letter.is_alphanumeric() && letter != '_')
+                .next();
+            if read == Some("deadline") {
+                continue;
+            }
+            assert_eq!(
+                field_of(before),
+                read,
+                "{file}: {}",
+                &before[at.saturating_sub(80)..]
+            );
+            count += 1;
         }
-        let read = text[at + "settings.".len()..]
-            .split(|letter: char| !letter.is_alphanumeric() && letter != '_')
-            .next();
-        assert_eq!(
-            field_of(before),
-            read,
-            "{}",
-            &before[at.saturating_sub(80)..]
-        );
-        count += 1;
     }
-    assert_eq!(count, 11 + 7 + 17 + 2);
+    assert_eq!(count, 2 * (11 + 7 + 17 + 2) + 7 + 7 + 10 + 3);
     let details = read("src/dynamic_config/details.rs");
     for line in details.lines().map(str::trim) {
         let Some((field, library)) = line.split_once(" = ") else {
@@ -301,5 +317,5 @@ fn each_field_of_a_struct_is_read_and_written_by_its_name() {
         }
         count += 1;
     }
-    assert_eq!(count, 37 + 4 + 1 + 5 + 5);
+    assert_eq!(count, 101 + 4 + 1 + 5 + 5);
 }

@@ -15,7 +15,7 @@ use Rattle.iox2_dynamic.specs.Service.{Service}
 use Rattle.iox2_dynamic.specs.Steps.{DeadStep}
 use Rattle.iox2sd.specs.Counts.{counted}
 use Rattle.iox2sd.specs.Deaths.{Keeps, Went}
-use Rattle.iox2sd.specs.declared.id.Id.{Id}
+use Rattle.iox2sd_common.specs.declared.id.Id.{Id}
 use Rattle.iox2sd.specs.declared.service.roles.Counts.{Counts}
 
 recovered_fewer : {F : Type 0} (calls : F → UniquePortId → PortCleanupAction → F → Type 0)

@@ -15,9 +15,9 @@ use Rattle.iox2_dynamic.specs.declared.dynamic_config.port_details.PortDetails.{
 use Rattle.iox2_dynamic.specs.Ports.{CountsIn}
 use Rattle.iox2_dynamic.specs.Service.{Service, first_role, second_role}
 use Rattle.iox2_dynamic.proofs.Rooms.{roles_differ}
-use Rattle.iox2sd.specs.Ids.{id_of}
+use Rattle.iox2sd_common.specs.Ids.{id_of}
 use Rattle.iox2sd.specs.Listings.{Puts, PutsAll, ListsAll, NeedsMore, ports_in, ports_of_kind, nodes_in, PortsOf}
-use Rattle.iox2sd.specs.declared.id.Id.{Id}
+use Rattle.iox2sd_common.specs.declared.id.Id.{Id}
 use Rattle.iox2sd.specs.Ports.{told_port}
 use Rattle.iox2sd.specs.declared.port.Port.{Port}
 

@@ -1,10 +1,10 @@
 -- What the library is, and what its statuses say.
 use Rattle.std.specs.Prelude.{◌≡◌, ℕ, Option, Some, None, List}
-use Rattle.iox2sd.specs.Answers.{text_answer, Written}
-use Rattle.iox2sd.specs.Status.{ReadsStatus, status_text}
-use Rattle.iox2sd.specs.declared.answers.TextAnswer.{TextAnswer}
-use Rattle.iox2sd.specs.declared.status.Status.{Status}
-use Rattle.iox2sd.specs.declared.status.Status.TheVariants as status
+use Rattle.iox2sd_common.specs.Answers.{text_answer, Written}
+use Rattle.iox2sd_common.specs.Status.{ReadsStatus, status_text}
+use Rattle.iox2sd_common.specs.declared.answers.TextAnswer.{TextAnswer}
+use Rattle.iox2sd_common.specs.declared.status.Status.{Status}
+use Rattle.iox2sd_common.specs.declared.status.Status.TheVariants as status
 
 -- the number of the structs and exports of today
 abbrev pub the_abi : ℕ

@@ -10,15 +10,15 @@ use Rattle.iox2_dynamic.specs.declared.dynamic_config.cleanup.PortCleanupAction.
 use Rattle.iox2_dynamic.specs.Service.{Service as Held}
 use Rattle.iox2_dynamic.specs.Steps.{DeadStep}
 use Rattle.iox2sd.specs.Counts.{counted}
-use Rattle.iox2sd.specs.Ids.{number_of, ReadsNode}
-use Rattle.iox2sd.specs.Status.{code}
-use Rattle.iox2sd.specs.declared.id.Id.{Id}
+use Rattle.iox2sd_common.specs.Ids.{number_of, ReadsNode}
+use Rattle.iox2sd_common.specs.Status.{code}
+use Rattle.iox2sd_common.specs.declared.id.Id.{Id}
 use Rattle.iox2sd.specs.declared.service.roles.Counts.{Counts}
 use Rattle.iox2sd.specs.declared.service.death.Death.{Death}
 use Rattle.iox2sd.specs.declared.service.death.Death.TheVariants.{Open, Locked, Refused}
 use Rattle.iox2sd.specs.declared.service.death.DeathAnswer.{DeathAnswer}
-use Rattle.iox2sd.specs.declared.status.Status.{Status}
-use Rattle.iox2sd.specs.declared.status.Status.TheVariants as status
+use Rattle.iox2sd_common.specs.declared.status.Status.{Status}
+use Rattle.iox2sd_common.specs.declared.status.Status.TheVariants as status
 
 -- a status, and how many ports of each kind went
 abbrev pub told_death : Status → Counts → DeathAnswer

@@ -1,6 +1,4 @@
 -- Promises: what each export answers, and what the caller's memory holds then.
-pub mod Status
-pub mod Answers
 pub mod About
 pub mod Ids
 pub mod Handles

@@ -8,16 +8,16 @@ use Rattle.iox2_container.specs.declared.container.role.Role.{Role}
 use Rattle.iox2_dynamic.specs.declared.dynamic_config.port_details.PortDetails.{PortDetails}
 use Rattle.iox2_dynamic.specs.Ports.{Ports, IsNeither}
 use Rattle.iox2_dynamic.specs.Service.{Service as Held, first_role, second_role}
-use Rattle.iox2sd.specs.Answers.{count_answer}
+use Rattle.iox2sd_common.specs.Answers.{count_answer}
 use Rattle.iox2sd.specs.Handles.{ReadsRole}
-use Rattle.iox2sd.specs.Ids.{id_of}
+use Rattle.iox2sd_common.specs.Ids.{id_of}
 use Rattle.iox2sd.specs.Ports.{told_port}
-use Rattle.iox2sd.specs.declared.answers.CountAnswer.{CountAnswer}
-use Rattle.iox2sd.specs.declared.id.Id.{Id}
+use Rattle.iox2sd_common.specs.declared.answers.CountAnswer.{CountAnswer}
+use Rattle.iox2sd_common.specs.declared.id.Id.{Id}
 use Rattle.iox2sd.specs.declared.port.Port.{Port}
 use Rattle.iox2sd.specs.declared.service.listing.Listed.{Listed}
 use Rattle.iox2sd.specs.declared.service.listing.Listed.TheVariants.{All, TooShort, Refused}
-use Rattle.iox2sd.specs.declared.status.Status.TheVariants as status
+use Rattle.iox2sd_common.specs.declared.status.Status.TheVariants as status
 
 -- what became of a listing, as C sees it
 abbrev pub listed_answer : Listed → CountAnswer

@@ -6,14 +6,14 @@ use Rattle.iox2_dynamic.specs.Details.{node_of}
 use Rattle.iox2_dynamic.specs.declared.dynamic_config.port_details.PortDetails.{PortDetails}
 use Rattle.iox2_dynamic.specs.Ports.{ports_of_node}
 use Rattle.iox2_dynamic.specs.Service.{Service as Held}
-use Rattle.iox2sd.specs.Ids.{ReadsNode}
+use Rattle.iox2sd_common.specs.Ids.{ReadsNode}
 use Rattle.iox2sd.specs.Listings.{ListsAll, NeedsMore}
 use Rattle.iox2sd.specs.Ports.{told_port}
-use Rattle.iox2sd.specs.declared.id.Id.{Id}
+use Rattle.iox2sd_common.specs.declared.id.Id.{Id}
 use Rattle.iox2sd.specs.declared.port.Port.{Port}
 use Rattle.iox2sd.specs.declared.service.listing.Listed.{Listed}
 use Rattle.iox2sd.specs.declared.service.listing.Listed.TheVariants.{All, TooShort, Refused}
-use Rattle.iox2sd.specs.declared.status.Status.TheVariants as status
+use Rattle.iox2sd_common.specs.declared.status.Status.TheVariants as status
 
 -- so many were counted, or too many
 abbrev pub Counts : ℕ → Option ℕ → Type 0

@@ -6,11 +6,11 @@ use Rattle.iox2_container.specs.declared.container.role.Role.{Role}
 use Rattle.iox2_dynamic.specs.declared.dynamic_config.port_details.PortDetails.{PortDetails}
 use Rattle.iox2_dynamic.specs.Ports.{OfRole}
 use Rattle.iox2_dynamic.specs.Service.{Service as Held, HasRole, TakesPort, first_role, second_role}
-use Rattle.iox2sd.specs.Answers.{count_answer}
+use Rattle.iox2sd_common.specs.Answers.{count_answer}
 use Rattle.iox2sd.specs.Handles.{ReadsRole}
-use Rattle.iox2sd.specs.declared.answers.CountAnswer.{CountAnswer}
-use Rattle.iox2sd.specs.declared.status.Status.{Status}
-use Rattle.iox2sd.specs.declared.status.Status.TheVariants as status
+use Rattle.iox2sd_common.specs.declared.answers.CountAnswer.{CountAnswer}
+use Rattle.iox2sd_common.specs.declared.status.Status.{Status}
+use Rattle.iox2sd_common.specs.declared.status.Status.TheVariants as status
 
 -- how many, or the status of a refusal
 abbrev pub told_count : Result ℕ Status → CountAnswer

@@ -2,8 +2,8 @@
 use Rattle.std.specs.Prelude.{◌≡◌, Option, Some, None, List, [], ◌∷◌, is_some}
 use Rattle.iox2_dynamic.specs.Service.{Service as Held}
 use Rattle.iox2sd.specs.declared.service.Service.{Service}
-use Rattle.iox2sd.specs.declared.status.Status.{Status}
-use Rattle.iox2sd.specs.declared.status.Status.TheVariants as status
+use Rattle.iox2sd_common.specs.declared.status.Status.{Status}
+use Rattle.iox2sd_common.specs.declared.status.Status.TheVariants as status
 
 -- the place says whether it holds a service
 abbrev pub IsSoundPlace : Service → Type 0

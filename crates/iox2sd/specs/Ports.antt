@@ -13,11 +13,11 @@ use Rattle.iox2_dynamic.specs.Details.{role_of, node_of, port_of}
 use Rattle.iox2_dynamic.specs.Service.{Service as Held, HasRole}
 use Rattle.iox2_dynamic.specs.Steps.{AttachStep}
 use Rattle.iox2sd.specs.Handles.{told, role_number, ReadsRole}
-use Rattle.iox2sd.specs.Ids.{number_of, id_of, ReadsNode}
+use Rattle.iox2sd_common.specs.Ids.{number_of, id_of, ReadsNode}
 use Rattle.iox2sd.specs.declared.handle.Handle.{Handle}
 use Rattle.iox2sd.specs.declared.port.Port.{Port}
-use Rattle.iox2sd.specs.declared.status.Status.{Status}
-use Rattle.iox2sd.specs.declared.status.Status.TheVariants as status
+use Rattle.iox2sd_common.specs.declared.status.Status.{Status}
+use Rattle.iox2sd_common.specs.declared.status.Status.TheVariants as status
 
 -- the number of a kind of data segment
 abbrev pub segment_number : DataSegmentType → ℕ

@@ -1,15 +1,14 @@
 -- Questions to a service, and what they answer.
-use Rattle.std.specs.Prelude.{◌≡◌, ◌↔◌, ℕ, Bool, false, IsTrue, Some, None, Result, Ok, Err}
+use Rattle.std.specs.Prelude.{◌≡◌, ◌↔◌, ℕ, Bool, IsTrue, Some, None, Result, Ok, Err}
 use Rattle.iox2_container.specs.declared.container.role.Role.{Role}
 use Rattle.iox2_dynamic.specs.Service.{Service as Held, HasRole, first_role, second_role}
 use Rattle.iox2sd.specs.Handles.{role_number, ReadsRole}
-use Rattle.iox2sd.specs.Status.{code}
-use Rattle.iox2sd.specs.declared.service.queries.FlagAnswer.{FlagAnswer}
+use Rattle.iox2sd_common.specs.Status.{code}
 use Rattle.iox2sd.specs.declared.service.queries.NumberAnswer.{NumberAnswer}
 use Rattle.iox2sd.specs.declared.service.queries.Roles.{Roles}
 use Rattle.iox2sd.specs.declared.service.queries.RolesAnswer.{RolesAnswer}
-use Rattle.iox2sd.specs.declared.status.Status.{Status}
-use Rattle.iox2sd.specs.declared.status.Status.TheVariants as status
+use Rattle.iox2sd_common.specs.declared.status.Status.{Status}
+use Rattle.iox2sd_common.specs.declared.status.Status.TheVariants as status
 
 -- a number, or the status of a refusal
 abbrev pub number_answer : Result ℕ Status → NumberAnswer
@@ -21,11 +20,6 @@ abbrev pub roles_answer : Result Roles Status → RolesAnswer
 roles_answer (Ok roles) =
     record { status = code status.Done; first = roles.first; second = roles.second }
 roles_answer (Err s) = record { status = code s; first = 0; second = 0 }
-
--- yes or no, or the status of a refusal
-abbrev pub flag_answer : Result Bool Status → FlagAnswer
-flag_answer (Ok is_so) = record { status = code status.Done; yes = is_so }
-flag_answer (Err s) = record { status = code s; yes = false }
 
 -- a question that is never refused: the answer is this of the service
 abbrev pub Gives : {A : Type 0} → (Held → A) → Held → Result A Status → Type 0

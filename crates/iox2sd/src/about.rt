@@ -2,8 +2,8 @@
 ghost use Rattle.std.specs.Prelude.{◌≡◌};
 ghost use Rattle.iox2sd.specs.About.{the_abi, TellsStatus};
 
-use super::answers::{TextAnswer, no_text, write};
-use super::status::{Status, status_of};
+use iox2sd_common::answers::{TextAnswer, no_text, write};
+use iox2sd_common::status::{Status, status_of};
 
 /// A number that rises when a struct or an export changes.
 #[unsafe(no_mangle)]
@@ -15,7 +15,7 @@ pub extern "C" fn iox2sd_abi() -> u32
 
 /// Writes what a status says. Refused is a number that is not that of a status.
 #[unsafe(no_mangle)]
-pub extern "C" fn iox2sd_status_text(number: u32, out: &mut [u8]) -> TextAnswer
+pub extern "C" fn iox2sd_status_text_at(number: u32, out: &mut [u8]) -> TextAnswer
     ensures { TellsStatus number out.old result out.new }
 {
     match status_of(number) {

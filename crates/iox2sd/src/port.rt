@@ -1,21 +1,20 @@
 //! Ports as plain values: a number for the kind, and the fields of all kinds.
 ghost use Rattle.std.specs.Prelude.{◌≡◌};
 ghost use Rattle.iox2sd.specs.Ports.{segment_number, ReadsSegment, ReadsPort, blank, told_port};
-ghost use Rattle.iox2sd.specs.Ports.{no_port};
 
 use super::handle::{role_number, role_of};
-use super::id::Id;
-use super::status::Status;
 use iox2_config::config::DataSegmentType;
 use iox2_container::container::Role;
 use iox2_dynamic::dynamic_config::{
     ClientDetails, ListenerDetails, NotifierDetails, PortDetails, PublisherDetails, ReaderDetails,
     ServerDetails, SubscriberDetails, WriterDetails,
 };
+use iox2sd_common::id::Id;
+use iox2sd_common::status::Status;
 
 /// The details of a port. A field that its kind does not have is not checked, and is returned as 0.
 #[repr(C)]
-#[derive(Clone, Copy)]
+#[derive(Clone, Copy, Default)]
 pub struct Port {
     /// The number of the role: what the port is.
     pub role: u64,
@@ -66,26 +65,6 @@ fn segment_of(number: u32) -> Option<DataSegmentType>
 }
 
 impl Port {
-    /// The port whose fields are all 0.
-    pub(super) fn zero() -> Port
-        ensures { result ≡ no_port }
-    {
-        Port {
-            role: 0,
-            port: Id::zero(),
-            node: Id::zero(),
-            number_of_samples: 0,
-            buffer_size: 0,
-            request_buffer_size: 0,
-            number_of_responses: 0,
-            number_of_requests: 0,
-            response_buffer_size: 0,
-            max_slice_len: 0,
-            data_segment: 0,
-            max_number_of_segments: 0,
-        }
-    }
-
     /// What the details of every kind have; all other fields are 0.
     #[inline]
     fn blank(details: &PortDetails) -> Port
@@ -95,7 +74,7 @@ impl Port {
             role: role_number(details.role()),
             port: Id::of_number(details.port_id().value()),
             node: Id::of_number(details.node_id().value()),
-            ..Port::zero()
+            ..Port::default()
         }
     }
 

@@ -1,3 +1,2 @@
 -- Promises: what a script's run answers and writes.
-pub mod Status
 pub mod Scripts

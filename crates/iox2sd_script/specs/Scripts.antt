@@ -1,12 +1,13 @@
 -- Whole scripts.
-use Rattle.std.specs.Prelude.{◌≡◌, ℕ, ◌<◌, ◌≤◌, Bool, true, false, if◌then◌else◌, List, ◌++◌, Result, Ok, Err, drop, length}
+use Rattle.std.specs.Prelude.{◌≡◌, ℕ, Bool, if◌then◌else◌, List, Result, Ok, Err, length}
 use Rattle.service_descriptions.specs.Script.{Scripted}
 use Rattle.service_descriptions.specs.declared.replay.lines.script.ScriptError.{ScriptError}
 use Rattle.service_descriptions.specs.declared.replay.lines.script.ScriptError.TheVariants as error
-use Rattle.iox2sd_script.specs.Status.{code}
+use Rattle.iox2sd_common.specs.Answers.{Writes}
+use Rattle.iox2sd_common.specs.Status.{code}
 use Rattle.iox2sd_script.specs.declared.script.ScriptAnswer.{ScriptAnswer}
-use Rattle.iox2sd_script.specs.declared.status.Status.{Status}
-use Rattle.iox2sd_script.specs.declared.status.Status.TheVariants as status
+use Rattle.iox2sd_common.specs.declared.status.Status.{Status}
+use Rattle.iox2sd_common.specs.declared.status.Status.TheVariants as status
 
 -- the status of a script that ended so, whose reply lines fit the buffer or do not: want of memory
 -- is reported before too short a buffer
@@ -27,11 +28,6 @@ abbrev pub end_length : Bool → Result (Unit {0}) ScriptError → ℕ → ℕ
 end_length fits (Ok done) n = n
 end_length fits (Err (error.BadLine k)) n = n
 end_length fits (Err (error.NoMemory why)) n = if fits then n else 0
-
--- the text stands at the front of the buffer, or does not fit there and the buffer is as it was
-abbrev pub Writes : List ℕ → List ℕ → Bool → List ℕ → Type 0
-Writes text old true new = (length text ≤ length old) × (new ≡ text ++ drop (length text) old)
-Writes text old false new = (length old < length text) × (new ≡ old)
 
 -- the script may end so and give this text, which was written to the buffer where it fits
 abbrev pub Answers : List ℕ → List ℕ → ScriptAnswer → List ℕ → Type 0

@@ -4,4 +4,3 @@
 #![tactic(auto)]
 
 pub mod script;
-pub mod status;

@@ -1,8 +1,9 @@
 //! Whole scripts.
 ghost use Rattle.std.specs.Prelude.{◌≡◌};
-ghost use Rattle.iox2sd_script.specs.Scripts.{end_status, bad_line, end_length, Writes, Answers};
+ghost use Rattle.iox2sd_script.specs.Scripts.{end_status, bad_line, end_length, Answers};
 
-use super::status::Status;
+use iox2sd_common::answers::put;
+use iox2sd_common::status::Status;
 use service_descriptions::replay::{ScriptError, run_script};
 use std::alloc::Global;
 
@@ -52,20 +53,6 @@ fn bad_line(end: &Result<(), ScriptError>) -> usize
     }
 }
 
-/// Writes the text to the front of the buffer, or nothing where it does not fit, and says whether
-/// it fits.
-fn write(text: &[u8], out: &mut [u8]) -> bool
-    ensures { Writes text.now out.old result out.new }
-{
-    let length = text.len();
-    if length > out.len() {
-        return false;
-    }
-    let (front, _) = out.split_at_mut(length);
-    front.copy_from_slice(text);
-    true
-}
-
 /// Runs a script, and writes its reply lines to the front of the buffer where they all fit; else
 /// the buffer stays as it was.
 ///
@@ -74,12 +61,12 @@ fn write(text: &[u8], out: &mut [u8]) -> bool
 /// the script again from its start; and a bad line (`BadLine`), with the reply lines to the
 /// commands before it.
 #[unsafe(no_mangle)]
-pub extern "C" fn iox2sd_script_run(alloc: Global, script: &[u8], out: &mut [u8]) -> ScriptAnswer
+pub extern "C" fn iox2sd_script_run_at(alloc: Global, script: &[u8], out: &mut [u8]) -> ScriptAnswer
     ensures { Answers script.now out.old result out.new }
 {
     let mut text = Vec::new(alloc);
     let end = run_script(alloc, script, &mut text);
-    let fits = write(&text, out);
+    let fits = put(&text, out);
     ScriptAnswer {
         status: end_status(fits, &end).code(),
         line: bad_line(&end),

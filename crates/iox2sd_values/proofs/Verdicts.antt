@@ -12,14 +12,14 @@ use Rattle.iox2_texts.specs.Attribute.{IsListing, ContainsKey}
 use Rattle.iox2_texts.specs.Pair.{Pair, pair_cmp}
 use Rattle.iox2_texts.specs.Verify.{Requirements}
 use Rattle.iox2_texts.specs.declared.attribute.verifier.AttributeVerificationError.TheVariants.{NonExistingKey, IncompatibleAttribute}
-use Rattle.iox2sd_values.specs.Answers.{place_answer}
+use Rattle.iox2sd_common.specs.Answers.{place_answer}
 use Rattle.iox2sd_values.specs.Attributes.{pair_of}
 use Rattle.iox2sd_values.specs.Missing.{Has, HasKeyOf, IsFirstLack, IsLeastAt}
 use Rattle.iox2sd_values.specs.Requirements.{ComesFrom, Judges, text_of}
-use Rattle.iox2sd_values.specs.declared.answers.PlaceAnswer.{PlaceAnswer}
+use Rattle.iox2sd_common.specs.declared.answers.PlaceAnswer.{PlaceAnswer}
 use Rattle.iox2sd_values.specs.declared.attributes.Attribute.{Attribute}
 use Rattle.iox2sd_values.specs.declared.attributes.Key.{Key}
-use Rattle.iox2sd_values.specs.declared.status.Status.TheVariants as status
+use Rattle.iox2sd_common.specs.declared.status.Status.TheVariants as status
 
 -- what holds of some pair holds of some in another order
 any_moved : (P : Pair → Type 0) (xs ys : List Pair) → IsPermutation xs ys → Any P xs → Any P ys

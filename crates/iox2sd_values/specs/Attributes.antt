@@ -4,14 +4,14 @@ use Rattle.iox2_texts.specs.Attribute.{IsListing, values_of}
 use Rattle.iox2_texts.specs.Name.{MakesName}
 use Rattle.iox2_texts.specs.Pair.{Pair, pair_cmp}
 use Rattle.iox2_texts.specs.declared.bounded.SemanticStringError.{SemanticStringError}
-use Rattle.iox2sd_values.specs.Answers.{count_answer, text_answer, Written}
-use Rattle.iox2sd_values.specs.Status.{end_code}
-use Rattle.iox2sd_values.specs.declared.answers.CountAnswer.{CountAnswer}
-use Rattle.iox2sd_values.specs.declared.answers.PlaceAnswer.{PlaceAnswer}
-use Rattle.iox2sd_values.specs.declared.answers.TextAnswer.{TextAnswer}
+use Rattle.iox2sd_common.specs.Answers.{count_answer, text_answer, Written}
+use Rattle.iox2sd_common.specs.Status.{end_code}
+use Rattle.iox2sd_common.specs.declared.answers.CountAnswer.{CountAnswer}
+use Rattle.iox2sd_common.specs.declared.answers.PlaceAnswer.{PlaceAnswer}
+use Rattle.iox2sd_common.specs.declared.answers.TextAnswer.{TextAnswer}
 use Rattle.iox2sd_values.specs.declared.attributes.Attribute.{Attribute}
-use Rattle.iox2sd_values.specs.declared.status.Status.{Status}
-use Rattle.iox2sd_values.specs.declared.status.Status.TheVariants as status
+use Rattle.iox2sd_common.specs.declared.status.Status.{Status}
+use Rattle.iox2sd_common.specs.declared.status.Status.TheVariants as status
 
 -- the pair as the layer has it
 abbrev pub pair_of : Attribute → Pair

@@ -4,14 +4,14 @@ use Rattle.iox2_config.specs.Compatible.{Compatible, Suits}
 use Rattle.iox2_config.specs.TypeDetailParts.{TypeDetailParts}
 use Rattle.iox2_config.specs.declared.types.message_details.MessageTypeDetails.{MessageTypeDetails}
 use Rattle.iox2sd_values.specs.Details.{ReadsDetails}
-use Rattle.iox2sd_values.specs.Status.{code}
+use Rattle.iox2sd_common.specs.Status.{code}
 use Rattle.iox2sd_values.specs.declared.compatible.PartAnswer.{PartAnswer}
 use Rattle.iox2sd_values.specs.declared.details.Details.{Details}
 use Rattle.iox2sd_values.specs.declared.details.Fault.{Fault}
 use Rattle.iox2sd_values.specs.declared.details.Which.{Which}
 use Rattle.iox2sd_values.specs.declared.details.Which.TheVariants as which
-use Rattle.iox2sd_values.specs.declared.status.Status.{Status}
-use Rattle.iox2sd_values.specs.declared.status.Status.TheVariants as status
+use Rattle.iox2sd_common.specs.declared.status.Status.{Status}
+use Rattle.iox2sd_common.specs.declared.status.Status.TheVariants as status
 
 -- the number of a part
 abbrev pub part_number : Which → ℕ

@@ -10,12 +10,13 @@ use Rattle.iox2_static.specs.PublishSubscribe.{publish_subscribe_of}
 use Rattle.iox2_static.specs.RequestResponse.{request_response_of}
 use Rattle.iox2_static.specs.declared.static_config.messaging_pattern.MessagingPattern.{MessagingPattern}
 use Rattle.iox2_static.specs.declared.static_config.messaging_pattern.MessagingPattern.TheVariants as pattern
-use Rattle.iox2sd_values.specs.Descriptions.{number_of, told_description}
+use Rattle.iox2sd_common.specs.Ids.{number_of}
+use Rattle.iox2sd_values.specs.Descriptions.{told_description}
 use Rattle.iox2sd_values.specs.Names.{ReadsAnyName}
 use Rattle.iox2sd_values.specs.ReadSettings.{field_answer, no_field, ReadsPublishSubscribe, ReadsEvent, ReadsRequestResponse, ReadsBlackboard}
 use Rattle.iox2sd_values.specs.declared.describe.Refusal.{Refusal}
 use Rattle.iox2sd_values.specs.declared.describe.Refusal.TheVariants as refusal
-use Rattle.iox2sd_values.specs.declared.descriptions.Id.{Id}
+use Rattle.iox2sd_common.specs.declared.id.Id.{Id}
 use Rattle.iox2sd_values.specs.declared.descriptions.ServiceDescription.{ServiceDescription}
 use Rattle.iox2sd_values.specs.declared.read_settings.Field.{Field}
 use Rattle.iox2sd_values.specs.declared.read_settings.FieldAnswer.{FieldAnswer}
@@ -23,8 +24,8 @@ use Rattle.iox2sd_values.specs.declared.settings.BlackboardSettings.{BlackboardS
 use Rattle.iox2sd_values.specs.declared.settings.EventSettings.{EventSettings}
 use Rattle.iox2sd_values.specs.declared.settings.PublishSubscribeSettings.{PublishSubscribeSettings}
 use Rattle.iox2sd_values.specs.declared.settings.RequestResponseSettings.{RequestResponseSettings}
-use Rattle.iox2sd_values.specs.declared.status.Status.{Status}
-use Rattle.iox2sd_values.specs.declared.status.Status.TheVariants as status
+use Rattle.iox2sd_common.specs.declared.status.Status.{Status}
+use Rattle.iox2sd_common.specs.declared.status.Status.TheVariants as status
 
 -- the answer on a refusal
 abbrev pub refusal_answer : Refusal → FieldAnswer

@@ -1,28 +1,23 @@
 -- What is fixed of a service, as plain values.
-use Rattle.std.specs.Prelude.{◌≡◌, ◌↔◌, ℕ, false, IsTrue, Option, Some, None, length}
+use Rattle.std.specs.Prelude.{◌≡◌, ◌↔◌, ℕ, false, IsTrue, Option, Some, None, Err, length}
 use Rattle.iox2_config.specs.Hashing.{ReadsPattern, pattern_number}
 use Rattle.iox2_config.specs.declared.hash.input.PatternKind.{PatternKind}
-use Rattle.iox2_ids.specs.Packing.{packed}
 use Rattle.iox2_static.specs.Description.{Description}
 use Rattle.iox2_static.specs.Event.{duration_of}
 use Rattle.iox2_static.specs.MessagingPattern.{kind_of}
 use Rattle.iox2_static.specs.declared.static_config.messaging_pattern.MessagingPattern.{MessagingPattern}
 use Rattle.iox2_static.specs.declared.static_config.messaging_pattern.MessagingPattern.TheVariants as pattern
-use Rattle.iox2sd_values.specs.Answers.{flag_answer, zero_padded}
+use Rattle.iox2sd_common.specs.Answers.{flag_answer, zero_padded}
 use Rattle.iox2sd_values.specs.Settings.{told_duration, told_event_id}
-use Rattle.iox2sd_values.specs.Status.{code}
-use Rattle.iox2sd_values.specs.declared.answers.FlagAnswer.{FlagAnswer}
+use Rattle.iox2sd_common.specs.Status.{code}
+use Rattle.iox2sd_common.specs.declared.answers.FlagAnswer.{FlagAnswer}
 use Rattle.iox2sd_values.specs.declared.descriptions.BlackboardConfig.{BlackboardConfig}
 use Rattle.iox2sd_values.specs.declared.descriptions.EventConfig.{EventConfig}
-use Rattle.iox2sd_values.specs.declared.descriptions.Id.{Id}
+use Rattle.iox2sd_common.specs.declared.id.Id.{Id}
 use Rattle.iox2sd_values.specs.declared.descriptions.PublishSubscribeConfig.{PublishSubscribeConfig}
 use Rattle.iox2sd_values.specs.declared.descriptions.RequestResponseConfig.{RequestResponseConfig}
 use Rattle.iox2sd_values.specs.declared.descriptions.ServiceDescription.{ServiceDescription}
-use Rattle.iox2sd_values.specs.declared.status.Status.TheVariants as status
-
--- the number that the parts make
-abbrev pub number_of : Id → ℕ
-number_of id = packed id.process id.seconds id.nanoseconds id.counter
+use Rattle.iox2sd_common.specs.declared.status.Status.TheVariants as status
 
 -- what is fixed of a publish-subscribe service, or zeros
 abbrev pub publish_subscribe_config : MessagingPattern → PublishSubscribeConfig
@@ -120,8 +115,8 @@ told_description d id = record {
 abbrev pub ComparesKinds : Option PatternKind → Option PatternKind → FlagAnswer → Type 0
 ComparesKinds (Some left) (Some right) answer =
     (answer.status ≡ code status.Done) × (IsTrue answer.yes ↔ (left ≡ right))
-ComparesKinds (Some left) None answer = answer ≡ flag_answer status.UnknownPattern false
-ComparesKinds None right answer = answer ≡ flag_answer status.UnknownPattern false
+ComparesKinds (Some left) None answer = answer ≡ flag_answer (Err status.UnknownPattern)
+ComparesKinds None right answer = answer ≡ flag_answer (Err status.UnknownPattern)
 
 -- whether two numbers are those of one pattern
 abbrev pub ComparesPatterns : ℕ → ℕ → FlagAnswer → Type 0

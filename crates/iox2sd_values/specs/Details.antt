@@ -8,14 +8,14 @@ use Rattle.iox2_config.specs.declared.types.type_detail.TypeDetailError.TheVaria
 use Rattle.iox2_config.specs.declared.types.type_detail.TypeVariant.{TypeVariant}
 use Rattle.iox2_config.specs.declared.types.type_detail.TypeVariant.TheVariants.{FixedSize, Dynamic}
 use Rattle.iox2_texts.specs.declared.bounded.StringModificationError.TheVariants.{InsertWouldExceedCapacity, InvalidCharacter}
-use Rattle.iox2sd_values.specs.Status.{code, end_code}
+use Rattle.iox2sd_common.specs.Status.{code, end_code}
 use Rattle.iox2sd_values.specs.declared.details.Details.{Details}
 use Rattle.iox2sd_values.specs.declared.details.Fault.{Fault}
 use Rattle.iox2sd_values.specs.declared.details.Part.{Part}
 use Rattle.iox2sd_values.specs.declared.details.Which.{Which}
 use Rattle.iox2sd_values.specs.declared.details.Which.TheVariants as which
-use Rattle.iox2sd_values.specs.declared.status.Status.{Status}
-use Rattle.iox2sd_values.specs.declared.status.Status.TheVariants as status
+use Rattle.iox2sd_common.specs.declared.status.Status.{Status}
+use Rattle.iox2sd_common.specs.declared.status.Status.TheVariants as status
 
 -- the number of a variant
 abbrev pub variant_number : TypeVariant → ℕ

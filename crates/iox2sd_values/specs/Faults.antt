@@ -4,8 +4,8 @@ use Rattle.iox2sd_values.specs.Attributes.{BadKey, BadValue, FailsAt, IsLegal}
 use Rattle.iox2sd_values.specs.declared.attributes.Attribute.{Attribute}
 use Rattle.iox2sd_values.specs.declared.attributes.faults.Fault.{Fault}
 use Rattle.iox2sd_values.specs.declared.attributes.faults.Fault.TheVariants as fault
-use Rattle.iox2sd_values.specs.declared.status.Status.{Status}
-use Rattle.iox2sd_values.specs.declared.status.Status.TheVariants as status
+use Rattle.iox2sd_common.specs.declared.status.Status.{Status}
+use Rattle.iox2sd_common.specs.declared.status.Status.TheVariants as status
 
 -- the status that tells the fault of a pair of a set
 abbrev pub set_fault : Fault → Status

@@ -5,13 +5,13 @@ use Rattle.iox2_config.specs.Defaults.{default_service, default_node}
 use Rattle.iox2_config.specs.GlobalSettings.{GlobalSettings}
 use Rattle.iox2_texts.specs.Path.{MakesJoined}
 use Rattle.iox2_texts.specs.declared.bounded.SemanticStringError.{SemanticStringError}
-use Rattle.iox2sd_values.specs.Answers.{text_answer, TellsText, Written}
+use Rattle.iox2sd_common.specs.Answers.{text_answer, TellsText, Written}
 use Rattle.iox2sd_values.specs.Texts.{MakesPath}
-use Rattle.iox2sd_values.specs.declared.answers.TextAnswer.{TextAnswer}
+use Rattle.iox2sd_common.specs.declared.answers.TextAnswer.{TextAnswer}
 use Rattle.iox2sd_values.specs.declared.files.Named.{Named}
 use Rattle.iox2sd_values.specs.declared.files.Named.TheVariants as known
-use Rattle.iox2sd_values.specs.declared.status.Status.{Status}
-use Rattle.iox2sd_values.specs.declared.status.Status.TheVariants as status
+use Rattle.iox2sd_common.specs.declared.status.Status.{Status}
+use Rattle.iox2sd_common.specs.declared.status.Status.TheVariants as status
 
 -- a text of the configuration
 abbrev pub named : Named → List ℕ

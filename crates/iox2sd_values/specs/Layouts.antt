@@ -5,12 +5,12 @@ use Rattle.iox2_config.specs.Layout.{sample_size, payload_place, places_in}
 use Rattle.iox2_config.specs.SampleLayoutParts.{SampleLayoutParts}
 use Rattle.iox2_config.specs.declared.types.places.Places.{Places}
 use Rattle.iox2sd_values.specs.Details.{HavePowers, shapes}
-use Rattle.iox2sd_values.specs.Status.{code}
+use Rattle.iox2sd_common.specs.Status.{code}
 use Rattle.iox2sd_values.specs.declared.details.Details.{Details}
 use Rattle.iox2sd_values.specs.declared.layout.LayoutAnswer.{LayoutAnswer}
 use Rattle.iox2sd_values.specs.declared.layout.PlacesAnswer.{PlacesAnswer}
-use Rattle.iox2sd_values.specs.declared.status.Status.{Status}
-use Rattle.iox2sd_values.specs.declared.status.Status.TheVariants as status
+use Rattle.iox2sd_common.specs.declared.status.Status.{Status}
+use Rattle.iox2sd_common.specs.declared.status.Status.TheVariants as status
 
 -- the answer with this room, or with the cause for which there is none
 abbrev pub layout_answer : Result SampleLayoutParts Status → LayoutAnswer

@@ -1,5 +1,4 @@
 -- Promises: what each export answers, and what the caller's memory holds then.
-pub mod Answers
 pub mod Attributes
 pub mod Chunks
 pub mod Compatible
@@ -13,7 +12,6 @@ pub mod Paths
 pub mod ReadSettings
 pub mod Requirements
 pub mod Settings
-pub mod Status
 pub mod Texts
 -- Inner facts: which pair is wrong, and what a set lacks, as loops over the caller's arrays find it
 pub mod Faults

@@ -7,10 +7,10 @@ use Rattle.iox2_texts.specs.Name.{MakesServiceName, MakesPublicName}
 use Rattle.iox2_texts.specs.Path.{IsRestrictedName}
 use Rattle.iox2_texts.specs.declared.service_name.ServiceNameError.{ServiceNameError}
 use Rattle.iox2_texts.specs.declared.service_name.ServiceNameError.TheVariants as error
-use Rattle.iox2sd_values.specs.Answers.{TellsText}
-use Rattle.iox2sd_values.specs.declared.answers.TextAnswer.{TextAnswer}
-use Rattle.iox2sd_values.specs.declared.status.Status.{Status}
-use Rattle.iox2sd_values.specs.declared.status.Status.TheVariants as status
+use Rattle.iox2sd_common.specs.Answers.{TellsText}
+use Rattle.iox2sd_common.specs.declared.answers.TextAnswer.{TextAnswer}
+use Rattle.iox2sd_common.specs.declared.status.Status.{Status}
+use Rattle.iox2sd_common.specs.declared.status.Status.TheVariants as status
 
 -- what making a name of bytes answers: what is no UTF-8 is told first
 abbrev pub ReadsBy : (List ℕ → Result (List ℕ) ServiceNameError → Type 0) → List ℕ

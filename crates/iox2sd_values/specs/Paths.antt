@@ -2,11 +2,11 @@
 use Rattle.std.specs.Prelude.{ℕ, List, Result, Ok, Err}
 use Rattle.iox2_texts.specs.Path.{MakesJoined}
 use Rattle.iox2_texts.specs.declared.bounded.SemanticStringError.{SemanticStringError}
-use Rattle.iox2sd_values.specs.Answers.{TellsText}
+use Rattle.iox2sd_common.specs.Answers.{TellsText}
 use Rattle.iox2sd_values.specs.Texts.{MakesPath, MakesFileName}
-use Rattle.iox2sd_values.specs.declared.answers.TextAnswer.{TextAnswer}
-use Rattle.iox2sd_values.specs.declared.status.Status.{Status}
-use Rattle.iox2sd_values.specs.declared.status.Status.TheVariants as status
+use Rattle.iox2sd_common.specs.declared.answers.TextAnswer.{TextAnswer}
+use Rattle.iox2sd_common.specs.declared.status.Status.{Status}
+use Rattle.iox2sd_common.specs.declared.status.Status.TheVariants as status
 
 -- what joining to a path answers: the path is looked at first, then the entry, and then the length
 abbrev pub Joins : (List ℕ → Result (List ℕ) SemanticStringError → Type 0) → List ℕ → List ℕ

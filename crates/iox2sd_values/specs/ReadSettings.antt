@@ -9,7 +9,7 @@ use Rattle.iox2_config.specs.declared.config.event.Event.{Event}
 use Rattle.iox2_config.specs.declared.config.publish_subscribe.PublishSubscribe.{PublishSubscribe}
 use Rattle.iox2_config.specs.declared.config.request_response.RequestResonse.{RequestResonse}
 use Rattle.iox2sd_values.specs.Settings.{allocation_number, backpressure_number, told_blackboard, told_publish_subscribe, told_request_response}
-use Rattle.iox2sd_values.specs.Status.{code}
+use Rattle.iox2sd_common.specs.Status.{code}
 use Rattle.iox2sd_values.specs.declared.read_settings.Field.{Field}
 use Rattle.iox2sd_values.specs.declared.read_settings.Field.TheVariants as field
 use Rattle.iox2sd_values.specs.declared.read_settings.FieldAnswer.{FieldAnswer}
@@ -21,8 +21,8 @@ use Rattle.iox2sd_values.specs.declared.settings.OptionalEventId.{OptionalEventI
 use Rattle.iox2sd_values.specs.declared.settings.PlainDuration.{PlainDuration}
 use Rattle.iox2sd_values.specs.declared.settings.PublishSubscribeSettings.{PublishSubscribeSettings}
 use Rattle.iox2sd_values.specs.declared.settings.RequestResponseSettings.{RequestResponseSettings}
-use Rattle.iox2sd_values.specs.declared.status.Status.{Status}
-use Rattle.iox2sd_values.specs.declared.status.Status.TheVariants as status
+use Rattle.iox2sd_common.specs.declared.status.Status.{Status}
+use Rattle.iox2sd_common.specs.declared.status.Status.TheVariants as status
 
 -- the number of a field
 abbrev pub field_number : Field → ℕ

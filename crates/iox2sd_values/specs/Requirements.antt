@@ -9,13 +9,13 @@ use Rattle.iox2_texts.specs.VerifyErrors.{Verifies}
 use Rattle.iox2_texts.specs.declared.attribute.verifier.AttributeVerificationError.{AttributeVerificationError}
 use Rattle.iox2_texts.specs.declared.attribute.verifier.AttributeVerificationError.TheVariants.{NonExistingKey, IncompatibleAttribute}
 use Rattle.iox2_texts.specs.declared.bounded.SemanticStringError.{SemanticStringError}
-use Rattle.iox2sd_values.specs.Answers.{place_answer}
+use Rattle.iox2sd_common.specs.Answers.{place_answer}
 use Rattle.iox2sd_values.specs.Attributes.{pair_of, BadKey, BadValue, FailsAt, IsLegal, MakesSet}
-use Rattle.iox2sd_values.specs.declared.answers.PlaceAnswer.{PlaceAnswer}
+use Rattle.iox2sd_common.specs.declared.answers.PlaceAnswer.{PlaceAnswer}
 use Rattle.iox2sd_values.specs.declared.attributes.Attribute.{Attribute}
 use Rattle.iox2sd_values.specs.declared.attributes.Key.{Key}
-use Rattle.iox2sd_values.specs.declared.status.Status.{Status}
-use Rattle.iox2sd_values.specs.declared.status.Status.TheVariants as status
+use Rattle.iox2sd_common.specs.declared.status.Status.{Status}
+use Rattle.iox2sd_common.specs.declared.status.Status.TheVariants as status
 
 -- the element at the place has the property, and none before it has
 abbrev pub IsFirst : {X : Type 0} → (X → Type 0) → List X → ℕ → Type 0

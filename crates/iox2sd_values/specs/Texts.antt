@@ -7,10 +7,10 @@ use Rattle.iox2_texts.specs.Path.{IsPlain, EndsPlain, IsRestricted, is_restricte
 use Rattle.iox2_texts.specs.Text.{IsTextByte}
 use Rattle.iox2_texts.specs.declared.bounded.SemanticStringError.{SemanticStringError}
 use Rattle.iox2_texts.specs.declared.bounded.SemanticStringError.TheVariants.{InvalidContent, ExceedsMaximumLength}
-use Rattle.iox2sd_values.specs.Answers.{place_answer}
-use Rattle.iox2sd_values.specs.declared.answers.PlaceAnswer.{PlaceAnswer}
-use Rattle.iox2sd_values.specs.declared.status.Status.{Status}
-use Rattle.iox2sd_values.specs.declared.status.Status.TheVariants as status
+use Rattle.iox2sd_common.specs.Answers.{place_answer}
+use Rattle.iox2sd_common.specs.declared.answers.PlaceAnswer.{PlaceAnswer}
+use Rattle.iox2sd_common.specs.declared.status.Status.{Status}
+use Rattle.iox2sd_common.specs.declared.status.Status.TheVariants as status
 use Rattle.iox2sd_values.specs.declared.texts.Alphabet.{Alphabet}
 use Rattle.iox2sd_values.specs.declared.texts.Alphabet.TheVariants as alphabet
 

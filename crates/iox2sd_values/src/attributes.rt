@@ -6,10 +6,10 @@ mod faults;
 mod missing;
 mod sets;
 
-use super::answers::{CountAnswer, PlaceAnswer, TextAnswer, count, no_text, place, write};
-use super::status::Status;
 use faults::{check_keys, check_required, check_set};
 use iox2_texts::attribute::AttributeKey;
+use iox2sd_common::answers::{CountAnswer, PlaceAnswer, TextAnswer, count, no_text, place, write};
+use iox2sd_common::status::Status;
 use missing::verify;
 use sets::read_set;
 

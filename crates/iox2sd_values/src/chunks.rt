@@ -4,10 +4,10 @@ ghost use Rattle.iox2_static.specs.PublishSubscribe.{sample_limits};
 ghost use Rattle.iox2_static.specs.RequestResponse.{client_limits, server_limits};
 ghost use Rattle.iox2sd_values.specs.Chunks.{Counts, counted, publish_subscribe, request_response};
 
-use super::answers::{CountAnswer, count};
-use super::status::Status;
 use iox2_config::types::MessageTypeDetails;
 use iox2_static::static_config::{publish_subscribe, request_response};
+use iox2sd_common::answers::{CountAnswer, count};
+use iox2sd_common::status::Status;
 
 /// The number of chunks, which may be too large.
 pub(super) fn chunks(number: Option<usize>) -> CountAnswer

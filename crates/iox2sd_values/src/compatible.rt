@@ -4,8 +4,8 @@ ghost use Rattle.iox2sd_values.specs.Compatible.{IsOther, IsUnsuited, Compares, 
 ghost use Rattle.iox2sd_values.specs.Compatible.{null_answer, ThenReads, TellsCompatible};
 
 use super::details::{Details, Fault, Which, read_details};
-use super::status::Status;
 use iox2_config::types::{MessageTypeDetails, TypeDetail};
+use iox2sd_common::status::Status;
 
 /// What is wrong of whose part.
 #[repr(C)]

@@ -4,7 +4,7 @@ ghost use Rattle.iox2sd_values.specs.Describe.{refusal_answer, Fills, FillsNamed
 ghost use Rattle.iox2sd_values.specs.Describe.{MakesPublishSubscribe, MakesEvent};
 ghost use Rattle.iox2sd_values.specs.Describe.{MakesRequestResponse, MakesBlackboard};
 
-use super::descriptions::{Id, ServiceDescription, told_description};
+use super::descriptions::{ServiceDescription, told_description};
 use super::names::any_service_name;
 use super::read_settings::{
     Field, FieldAnswer, no_field, read_blackboard, read_event, read_publish_subscribe,
@@ -13,12 +13,13 @@ use super::read_settings::{
 use super::settings::{
     BlackboardSettings, EventSettings, PublishSubscribeSettings, RequestResponseSettings,
 };
-use super::status::Status;
 use iox2_config::config::Config;
 use iox2_config::hash::{ServiceHashError, Sha1Hasher};
 use iox2_ids::identifiers::UniqueServiceId;
 use iox2_static::static_config::StaticConfig;
 use iox2_texts::service_name::ServiceName;
+use iox2sd_common::id::Id;
+use iox2sd_common::status::Status;
 
 /// Why there is no description.
 #[derive(Clone, Copy)]
@@ -119,7 +120,7 @@ pub extern "C" fn iox2sd_describe_publish_subscribe_at(
     };
     let name = any_service_name(name, internal);
     fill(
-        make_publish_subscribe(name, settings, id.of_service()),
+        make_publish_subscribe(name, settings, id.of_kind()),
         id,
         out,
     )
@@ -159,7 +160,7 @@ pub extern "C" fn iox2sd_describe_event_at(
         return no_field(Status::Null);
     };
     let name = any_service_name(name, internal);
-    fill(make_event(name, settings, id.of_service()), id, out)
+    fill(make_event(name, settings, id.of_kind()), id, out)
 }
 
 /// The description of a request-response service.
@@ -197,11 +198,7 @@ pub extern "C" fn iox2sd_describe_request_response_at(
         return no_field(Status::Null);
     };
     let name = any_service_name(name, internal);
-    fill(
-        make_request_response(name, settings, id.of_service()),
-        id,
-        out,
-    )
+    fill(make_request_response(name, settings, id.of_kind()), id, out)
 }
 
 /// The description of a blackboard service.
@@ -238,5 +235,5 @@ pub extern "C" fn iox2sd_describe_blackboard_at(
         return no_field(Status::Null);
     };
     let name = any_service_name(name, internal);
-    fill(make_blackboard(name, settings, id.of_service()), id, out)
+    fill(make_blackboard(name, settings, id.of_kind()), id, out)
 }

@@ -1,41 +1,17 @@
 //! What is fixed of a service, as plain values.
 ghost use Rattle.std.specs.Prelude.{◌≡◌};
 ghost use Rattle.iox2_config.specs.Hashing.{pattern_number};
-ghost use Rattle.iox2sd_values.specs.Descriptions.{number_of, told_description};
-ghost use Rattle.iox2sd_values.specs.Descriptions.{ComparesPatterns};
+ghost use Rattle.iox2sd_values.specs.Descriptions.{told_description, ComparesPatterns};
 ghost use Rattle.iox2sd_values.specs.Descriptions.{publish_subscribe_config, event_config};
 ghost use Rattle.iox2sd_values.specs.Descriptions.{request_response_config, blackboard_config};
 
-use super::answers::{FlagAnswer, flag, zero_padded};
 use super::settings::{OptionalDuration, OptionalEventId, duration_of, event_id_of};
-use super::status::Status;
 use iox2_config::hash::PatternKind;
-use iox2_ids::identifiers::UniqueServiceId;
 use iox2_static::static_config::StaticConfig;
 use iox2_static::static_config::messaging_pattern::MessagingPattern;
-
-/// The id of a service.
-#[repr(C)]
-#[derive(Clone, Copy)]
-pub struct Id {
-    /// The process that made it.
-    pub process: u32,
-    /// When it was made: whole seconds.
-    pub seconds: u32,
-    /// When it was made: the nanoseconds beside the seconds.
-    pub nanoseconds: u32,
-    /// The number that distinguishes it from others.
-    pub counter: u32,
-}
-
-impl Id {
-    /// The service's id of these parts.
-    pub(super) fn of_service(self) -> UniqueServiceId
-        ensures { result ≡ number_of self }
-    {
-        UniqueServiceId::new(self.process, self.seconds, self.nanoseconds, self.counter)
-    }
-}
+use iox2sd_common::answers::{FlagAnswer, zero_padded};
+use iox2sd_common::id::Id;
+use iox2sd_common::status::Status;
 
 /// What is fixed of a publish-subscribe service, beside the types of its messages.
 #[repr(C)]
@@ -251,7 +227,7 @@ pub extern "C" fn iox2sd_has_same_messaging_pattern(left: u32, right: u32) -> Fl
     ensures { ComparesPatterns left right result }
 {
     match (PatternKind::of_number(left), PatternKind::of_number(right)) {
-        (Some(left), Some(right)) => flag(Status::Done, left == right),
-        _ => flag(Status::UnknownPattern, false),
+        (Some(left), Some(right)) => FlagAnswer::of(Ok(left == right)),
+        _ => FlagAnswer::of(Err(Status::UnknownPattern)),
     }
 }

@@ -3,9 +3,9 @@ ghost use Rattle.std.specs.Prelude.{◌≡◌};
 ghost use Rattle.iox2sd_values.specs.Details.{ReadsVariant, ReadsPart, ReadsDetails, ShapesPart};
 ghost use Rattle.iox2sd_values.specs.Details.{ShapesDetails, ChecksPart};
 
-use super::status::Status;
 use iox2_config::types::{MessageTypeDetails, TypeDetail, TypeDetailError, TypeVariant};
 use iox2_texts::bounded::StringModificationError;
+use iox2sd_common::status::Status;
 use std::str;
 
 /// What a caller says of one part of a message.

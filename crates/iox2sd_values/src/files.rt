@@ -1,13 +1,13 @@
 //! Where the system's files lie and how they are called, where nothing else is said.
 ghost use Rattle.iox2_config.specs.Defaults.{IsDefaultGlobal, default_service, default_node};
-ghost use Rattle.iox2sd_values.specs.Answers.{Written};
+ghost use Rattle.iox2sd_common.specs.Answers.{Written};
 ghost use Rattle.iox2sd_values.specs.Files.{named, ReadsNamed, TellsNamed, Roots, JoinsBelow};
 ghost use Rattle.iox2sd_values.specs.Files.{TellsBelow};
 
-use super::answers::{TextAnswer, no_text, write};
-use super::status::Status;
 use iox2_config::config::{Config, Global};
 use iox2_texts::paths::Path;
+use iox2sd_common::answers::{TextAnswer, no_text, write};
+use iox2sd_common::status::Status;
 
 /// A text of the configuration.
 #[derive(Clone, Copy)]
@@ -130,7 +130,7 @@ fn write_named(text: Named, out: &mut [u8]) -> TextAnswer
 ///
 /// Refused is a number that is not that of a text (`UnknownText`).
 #[unsafe(no_mangle)]
-pub extern "C" fn iox2sd_default_text(which: u32, out: &mut [u8]) -> TextAnswer
+pub extern "C" fn iox2sd_default_text_at(which: u32, out: &mut [u8]) -> TextAnswer
     ensures { TellsNamed which out.old result out.new }
 {
     match named_of(which) {
@@ -181,7 +181,7 @@ fn node_directory(root: &[u8]) -> Result<Path, Status>
 ///
 /// Refused are, in this order, a wrong root path (`BadPath`), and more than 255 bytes (`TooLong`).
 #[unsafe(no_mangle)]
-pub extern "C" fn iox2sd_service_dir(root: &[u8], out: &mut [u8]) -> TextAnswer
+pub extern "C" fn iox2sd_service_dir_at(root: &[u8], out: &mut [u8]) -> TextAnswer
     ensures { TellsBelow root.now default_service.directory out.old result out.new }
 {
     match service_directory(root) {
@@ -192,7 +192,7 @@ pub extern "C" fn iox2sd_service_dir(root: &[u8], out: &mut [u8]) -> TextAnswer
 
 /// Writes the directory of nodes below a root path. Refused as that of services is.
 #[unsafe(no_mangle)]
-pub extern "C" fn iox2sd_node_dir(root: &[u8], out: &mut [u8]) -> TextAnswer
+pub extern "C" fn iox2sd_node_dir_at(root: &[u8], out: &mut [u8]) -> TextAnswer
     ensures { TellsBelow root.now default_node.directory out.old result out.new }
 {
     match node_directory(root) {

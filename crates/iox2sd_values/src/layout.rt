@@ -4,12 +4,12 @@ ghost use Rattle.iox2sd_values.specs.Layouts.{LaysOut, layout_answer, TellsLayou
 ghost use Rattle.iox2sd_values.specs.Layouts.{PlacesOf, places_answer, TellsPlaces};
 
 use super::details::{Details, shape_details};
-use super::status::Status;
 use iox2_config::types::{Places, SampleLayout};
+use iox2sd_common::status::Status;
 
 /// The layout of a message.
 #[repr(C)]
-#[derive(Clone, Copy)]
+#[derive(Clone, Copy, Default)]
 pub struct LayoutAnswer {
     /// The number of a [`Status`]. Where it is not that of `Done`, the other fields are 0.
     pub status: u32,
@@ -21,7 +21,7 @@ pub struct LayoutAnswer {
 
 /// The offsets of two parts of a message.
 #[repr(C)]
-#[derive(Clone, Copy)]
+#[derive(Clone, Copy, Default)]
 pub struct PlacesAnswer {
     /// The number of a [`Status`]. Where it is not that of `Done`, the other fields are 0.
     pub status: u32,
@@ -43,8 +43,7 @@ fn layout_answer(made: Result<SampleLayout, Status>) -> LayoutAnswer
         },
         Err(cause) => LayoutAnswer {
             status: cause.code(),
-            size: 0,
-            alignment: 0,
+            ..LayoutAnswer::default()
         },
     }
 }
@@ -61,8 +60,7 @@ fn places_answer(made: Result<Places, Status>) -> PlacesAnswer
         },
         Err(cause) => PlacesAnswer {
             status: cause.code(),
-            user_header: 0,
-            payload: 0,
+            ..PlacesAnswer::default()
         },
     }
 }

@@ -1,7 +1,6 @@
 //! A typed interface for C, in one static library without global state.
 #![tactic(auto)]
 
-pub mod answers;
 pub mod attributes;
 pub mod chunks;
 pub mod compatible;
@@ -14,6 +13,5 @@ pub mod names;
 pub mod paths;
 pub mod read_settings;
 pub mod settings;
-pub mod status;
 pub mod texts;
 pub mod version;

@@ -6,10 +6,10 @@ ghost use Rattle.iox2sd_values.specs.Names.{ReadsAnyName, HashesName, HashesInte
 ghost use Rattle.iox2sd_values.specs.Names.{TellsHash, TellsInternalHash};
 ghost use lib.Chars.{codes};
 
-use super::answers::{TextAnswer, no_text, write};
-use super::status::Status;
 use iox2_config::hash::{PatternKind, ServiceHash, ServiceHashError, Sha1Hasher};
 use iox2_texts::service_name::{INTERNAL_SERVICE_PREFIX, ServiceName, ServiceNameError};
+use iox2sd_common::answers::{TextAnswer, no_text, write};
+use iox2sd_common::status::Status;
 use std::str;
 
 /// The name that a user gives.
@@ -65,7 +65,7 @@ fn prefixed_name(text: &[u8]) -> Result<ServiceName, Status>
 
 /// Whether a text begins with `iox2://`, as the names of the system's own services do.
 #[unsafe(no_mangle)]
-pub extern "C" fn iox2sd_has_iox2_prefix(text: &[u8]) -> bool
+pub extern "C" fn iox2sd_has_iox2_prefix_at(text: &[u8]) -> bool
     ensures { result ≡ starts_with nat_eq text.now (codes "iox2://") }
 {
     text.starts_with(INTERNAL_SERVICE_PREFIX.as_bytes())
@@ -76,7 +76,7 @@ pub extern "C" fn iox2sd_has_iox2_prefix(text: &[u8]) -> bool
 /// Refused are, in this order, bytes that are no UTF-8 (`NotUtf8`), more than 248 bytes
 /// (`TooLong`), and a byte that is not from 1 to 127 (`IllegalByte`).
 #[unsafe(no_mangle)]
-pub extern "C" fn iox2sd_internal_service_name(text: &[u8], out: &mut [u8]) -> TextAnswer
+pub extern "C" fn iox2sd_internal_service_name_at(text: &[u8], out: &mut [u8]) -> TextAnswer
     ensures { TellsPrefixed text.now out.old result out.new }
 {
     match prefixed_name(text) {
@@ -128,7 +128,7 @@ fn internal_hash_of(pattern: u32, name: &[u8]) -> Result<ServiceHash, Status>
 /// that are no UTF-8 (`NotUtf8`), what `iox2sd_service_name_check` refuses (`BadServiceName`), and
 /// a hash text that cannot be the name of a file (`IllegalHash`).
 #[unsafe(no_mangle)]
-pub extern "C" fn iox2sd_hash_text(pattern: u32, name: &[u8], out: &mut [u8]) -> TextAnswer
+pub extern "C" fn iox2sd_hash_text_at(pattern: u32, name: &[u8], out: &mut [u8]) -> TextAnswer
     ensures { TellsHash pattern name.now out.old result out.new }
 {
     match hash_of(pattern, name) {
@@ -139,7 +139,11 @@ pub extern "C" fn iox2sd_hash_text(pattern: u32, name: &[u8], out: &mut [u8]) ->
 
 /// As `iox2sd_hash_text`, for a name that may be one of the system's own.
 #[unsafe(no_mangle)]
-pub extern "C" fn iox2sd_internal_hash_text(pattern: u32, name: &[u8], out: &mut [u8]) -> TextAnswer
+pub extern "C" fn iox2sd_internal_hash_text_at(
+    pattern: u32,
+    name: &[u8],
+    out: &mut [u8],
+) -> TextAnswer
     ensures { TellsInternalHash pattern name.now out.old result out.new }
 {
     match internal_hash_of(pattern, name) {

@@ -1,9 +1,9 @@
 //! Paths that are joined.
 ghost use Rattle.iox2sd_values.specs.Paths.{JoinsPaths, JoinsFile, TellsPath, TellsFile};
 
-use super::answers::{TextAnswer, no_text, write};
-use super::status::Status;
 use iox2_texts::paths::{FileName, FilePath, Path};
+use iox2sd_common::answers::{TextAnswer, no_text, write};
+use iox2sd_common::status::Status;
 
 /// The entry joined to the path.
 fn join_paths(path: &[u8], entry: &[u8]) -> Result<Path, Status>
@@ -44,7 +44,7 @@ fn join_file(path: &[u8], file: &[u8]) -> Result<FilePath, Status>
 /// Refused are, in this order, a wrong path (`BadPath`), a wrong entry, which is a path too
 /// (`BadEntry`), and more than 255 bytes (`TooLong`).
 #[unsafe(no_mangle)]
-pub extern "C" fn iox2sd_path_add_path_entry(
+pub extern "C" fn iox2sd_path_add_path_entry_at(
     path: &[u8],
     entry: &[u8],
     out: &mut [u8],
@@ -63,7 +63,7 @@ pub extern "C" fn iox2sd_path_add_path_entry(
 /// Refused are, in this order, a wrong path of the directory (`BadPath`), a wrong name of the file
 /// (`BadEntry`), and more than 255 bytes (`TooLong`).
 #[unsafe(no_mangle)]
-pub extern "C" fn iox2sd_file_path_from_path_and_file(
+pub extern "C" fn iox2sd_file_path_from_path_and_file_at(
     path: &[u8],
     file: &[u8],
     out: &mut [u8],

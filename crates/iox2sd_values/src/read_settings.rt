@@ -12,10 +12,10 @@ use super::settings::{
     BlackboardSettings, EventSettings, GlobalSettings, OptionalDuration, OptionalEventId,
     PlainDuration, PublishSubscribeSettings, RequestResponseSettings,
 };
-use super::status::Status;
 use iox2_config::config::{
     AllocationStrategy, BackpressureStrategy, Blackboard, Event, PublishSubscribe, RequestResonse,
 };
+use iox2sd_common::status::Status;
 use std::time::Duration;
 
 /// A field of settings that may be invalid.

@@ -6,12 +6,12 @@ ghost use Rattle.iox2sd_values.specs.Texts.{IsLegal, FindsIllegal, Explains, Ref
 ghost use Rattle.iox2sd_values.specs.Texts.{ChecksName};
 ghost use Rattle.iox2sd_values.specs.Texts.{MakesPath, MakesFileName, MakesFilePath, MakesRestricted};
 
-use super::answers::{PlaceAnswer, place};
-use super::status::Status;
 use iox2_texts::attribute::{AttributeContent, AttributeKey, AttributeValue};
 use iox2_texts::bounded::{SemanticString, SemanticStringError};
 use iox2_texts::paths::{FileName, FilePath, Path, RestrictedFileName};
 use iox2_texts::service_name::INTERNAL_SERVICE_PREFIX;
+use iox2sd_common::answers::{PlaceAnswer, place};
+use iox2sd_common::status::Status;
 
 /// A text of 1 to 255 bytes, as the name of a service is one.
 type Name = SemanticString<AttributeContent, 255>;
@@ -98,7 +98,7 @@ fn refusal(error: SemanticStringError, text: &[u8], alphabet: Alphabet, most: us
 /// Errors, in this order: the empty text (`Empty`), more than 255 bytes (`TooLong`), and a byte
 /// that is not from 1 to 127 (`IllegalByte`), with the index of the first wrong byte.
 #[unsafe(no_mangle)]
-pub extern "C" fn iox2sd_internal_service_name_check(text: &[u8]) -> PlaceAnswer
+pub extern "C" fn iox2sd_internal_service_name_check_at(text: &[u8]) -> PlaceAnswer
     ensures { ChecksText (MakesName 255 text.now) Alphabet.Text 255 text.now result }
 {
     match Name::new(text) {
@@ -112,13 +112,13 @@ pub extern "C" fn iox2sd_internal_service_name_check(text: &[u8]) -> PlaceAnswer
 /// Refused are, in this order, one that begins with `iox2://` (`ReservedPrefix`), and what
 /// `iox2sd_internal_service_name_check` refuses.
 #[unsafe(no_mangle)]
-pub extern "C" fn iox2sd_service_name_check(text: &[u8]) -> PlaceAnswer
+pub extern "C" fn iox2sd_service_name_check_at(text: &[u8]) -> PlaceAnswer
     ensures { ChecksName text.now result }
 {
     if text.starts_with(INTERNAL_SERVICE_PREFIX.as_bytes()) {
         return place(Status::ReservedPrefix, 0);
     }
-    iox2sd_internal_service_name_check(text)
+    iox2sd_internal_service_name_check_at(text)
 }
 
 /// Whether a text is the key of an attribute: 1 to 64 bytes, each from 1 to 127.
@@ -126,7 +126,7 @@ pub extern "C" fn iox2sd_service_name_check(text: &[u8]) -> PlaceAnswer
 /// Errors, in this order: the empty text (`Empty`), more than 64 bytes (`TooLong`), and a byte that
 /// is not from 1 to 127 (`IllegalByte`), with the index of the first wrong byte.
 #[unsafe(no_mangle)]
-pub extern "C" fn iox2sd_attribute_key_check(text: &[u8]) -> PlaceAnswer
+pub extern "C" fn iox2sd_attribute_key_check_at(text: &[u8]) -> PlaceAnswer
     ensures { ChecksText (MakesName 64 text.now) Alphabet.Text 64 text.now result }
 {
     match AttributeKey::new(text) {
@@ -138,7 +138,7 @@ pub extern "C" fn iox2sd_attribute_key_check(text: &[u8]) -> PlaceAnswer
 /// Whether a text is the value of an attribute: 1 to 256 bytes, each from 1 to 127. Refused as a
 /// key is.
 #[unsafe(no_mangle)]
-pub extern "C" fn iox2sd_attribute_value_check(text: &[u8]) -> PlaceAnswer
+pub extern "C" fn iox2sd_attribute_value_check_at(text: &[u8]) -> PlaceAnswer
     ensures { ChecksText (MakesName 256 text.now) Alphabet.Text 256 text.now result }
 {
     match AttributeValue::new(text) {
@@ -152,7 +152,7 @@ pub extern "C" fn iox2sd_attribute_value_check(text: &[u8]) -> PlaceAnswer
 /// Refused are, in this order, more than 255 bytes (`TooLong`), and a byte that is not from 1 to
 /// 127 (`IllegalByte`).
 #[unsafe(no_mangle)]
-pub extern "C" fn iox2sd_path_check(text: &[u8]) -> PlaceAnswer
+pub extern "C" fn iox2sd_path_check_at(text: &[u8]) -> PlaceAnswer
     ensures { ChecksText (MakesPath text.now) Alphabet.Text 255 text.now result }
 {
     match Path::new(text) {
@@ -167,7 +167,7 @@ pub extern "C" fn iox2sd_path_check(text: &[u8]) -> PlaceAnswer
 /// Refused are, in this order, the empty text (`Empty`), more than 255 bytes (`TooLong`), a byte
 /// that may not stand there (`IllegalByte`), and `.` and `..` (`NoFileName`).
 #[unsafe(no_mangle)]
-pub extern "C" fn iox2sd_file_name_check(text: &[u8]) -> PlaceAnswer
+pub extern "C" fn iox2sd_file_name_check_at(text: &[u8]) -> PlaceAnswer
     ensures { ChecksText (MakesFileName text.now) Alphabet.FileName 255 text.now result }
 {
     match FileName::new(text) {
@@ -183,7 +183,7 @@ pub extern "C" fn iox2sd_file_name_check(text: &[u8]) -> PlaceAnswer
 /// that is not from 1 to 127 (`IllegalByte`), and a last part that is empty, `.` or `..`
 /// (`NoFileName`).
 #[unsafe(no_mangle)]
-pub extern "C" fn iox2sd_file_path_check(text: &[u8]) -> PlaceAnswer
+pub extern "C" fn iox2sd_file_path_check_at(text: &[u8]) -> PlaceAnswer
     ensures { ChecksText (MakesFilePath text.now) Alphabet.Text 255 text.now result }
 {
     match FilePath::new(text) {
@@ -196,7 +196,7 @@ pub extern "C" fn iox2sd_file_path_check(text: &[u8]) -> PlaceAnswer
 /// `a` to `z`, digits, `-`, `.`, `:` and `_`, and neither `.` nor `..`. Refused as the name of a
 /// file is.
 #[unsafe(no_mangle)]
-pub extern "C" fn iox2sd_restricted_file_name_check(text: &[u8]) -> PlaceAnswer
+pub extern "C" fn iox2sd_restricted_file_name_check_at(text: &[u8]) -> PlaceAnswer
     ensures { ChecksText (MakesRestricted text.now) Alphabet.Restricted 64 text.now result }
 {
     match RestrictedFileName::<64>::new(text) {

@@ -1,12 +1,12 @@
 //! Versions.
 ghost use lib.Chars.{codes};
-ghost use Rattle.iox2sd_values.specs.Answers.{Written};
+ghost use Rattle.iox2sd_common.specs.Answers.{Written};
 
-use super::answers::{TextAnswer, write};
+use iox2sd_common::answers::{TextAnswer, write};
 
 /// Writes the version of this library.
 #[unsafe(no_mangle)]
-pub extern "C" fn iox2sd_version(out: &mut [u8]) -> TextAnswer
+pub extern "C" fn iox2sd_version_at(out: &mut [u8]) -> TextAnswer
     ensures { Written (codes "0.1.0") out.old result out.new }
 {
     write(b"0.1.0", out)
@@ -14,7 +14,7 @@ pub extern "C" fn iox2sd_version(out: &mut [u8]) -> TextAnswer
 
 /// Writes the version of iceoryx2 whose layer this is.
 #[unsafe(no_mangle)]
-pub extern "C" fn iox2sd_layer_version(out: &mut [u8]) -> TextAnswer
+pub extern "C" fn iox2sd_layer_version_at(out: &mut [u8]) -> TextAnswer
     ensures { Written (codes "0.9.3") out.old result out.new }
 {
     write(b"0.9.3", out)

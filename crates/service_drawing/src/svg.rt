@@ -7,7 +7,6 @@ mod sheet;
 use crate::description::{Description, Exchange};
 use crate::segments::segments;
 use crate::sentences::Counted;
-use crate::text::pattern_name;
 use message::{write_message, write_summary};
 use sheet::{NAME, NOTE, Sheet, write_escaped};
 use std::alloc::{AllocError, Global};
@@ -47,7 +46,7 @@ pub(crate) fn write_svg(
     )?;
     write!(out, "<title id=\"title\">")?;
     write_escaped(out, service.name.as_str())?;
-    writeln!(out, " ({})</title>", pattern_name(service.kind))?;
+    writeln!(out, " ({})</title>", service.kind.word())?;
     write_description(out, service)?;
     out.push_str(STYLE)?;
     writeln!(
@@ -83,7 +82,7 @@ fn write_description(out: &mut String, service: &Description) -> Result<(), Allo
 
 /// Draws the name of a service, and below it its messages or the type of its keys.
 fn write_sheet(sheet: &mut Sheet, service: &Description) -> Result<(), AllocError> {
-    let pattern = pattern_name(service.kind);
+    let pattern = service.kind.word();
     let heading = format!(in sheet.alloc(); "{} ({pattern})", service.name.as_str())?;
     sheet.write_lines(NAME, heading.as_str())?;
     sheet.skip(120);

@@ -16,22 +16,12 @@ use std::alloc::AllocError;
 /// Appends all that is described of a service.
 pub(crate) fn write_text(out: &mut String, service: &Description) -> Result<(), AllocError> {
     writeln!(out, "service    {}", service.name.as_str())?;
-    writeln!(out, "pattern    {}", pattern_name(service.kind))?;
+    writeln!(out, "pattern    {}", service.kind.word())?;
     writeln!(out, "hash text  {}", service.hash.as_str())?;
     write_files(out, service)?;
     write_all_settings(out, service)?;
     write_exchange(out, service)?;
     write_attributes(out, service)
-}
-
-/// The word for a pattern.
-pub(crate) fn pattern_name(kind: PatternKind) -> &'static str {
-    match kind {
-        PatternKind::PublishSubscribe => "publish-subscribe",
-        PatternKind::Event => "event",
-        PatternKind::RequestResponse => "request-response",
-        PatternKind::Blackboard => "blackboard",
-    }
 }
 
 /// Appends the names of the service's files.

@@ -43,11 +43,11 @@ impl BackpressureStrategy {
 #[repr(u32)]
 pub enum AllocationStrategy {
     /// By as much as the message needs.
-    BestFit = sys::IOX2SD_BEST_FIT,
+    BestFit = sys::IOX2SD_ALLOCATION_BEST_FIT,
     /// To the next power of two.
-    PowerOfTwo = sys::IOX2SD_POWER_OF_TWO,
+    PowerOfTwo = sys::IOX2SD_ALLOCATION_POWER_OF_TWO,
     /// It does not grow.
-    Static = sys::IOX2SD_STATIC,
+    Static = sys::IOX2SD_ALLOCATION_STATIC,
 }
 
 shown_by_name!(AllocationStrategy);

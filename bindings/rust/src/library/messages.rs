@@ -62,7 +62,7 @@ pub(crate) fn check_type_name(name: &str) -> u32 {
     let part = sys::iox2sd_type_detail {
         name: name.as_ptr(),
         name_length: name.len(),
-        variant: sys::IOX2SD_FIXED_SIZE,
+        variant: sys::IOX2SD_VARIANT_FIXED_SIZE,
         size: 0,
         alignment: 1,
     };

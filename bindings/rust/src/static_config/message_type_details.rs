@@ -43,9 +43,9 @@ use std::str::FromStr;
 pub enum TypeVariant {
     /// One.
     #[default]
-    FixedSize = sys::IOX2SD_FIXED_SIZE,
+    FixedSize = sys::IOX2SD_VARIANT_FIXED_SIZE,
     /// A number that is known only at run time, one after another.
-    Dynamic = sys::IOX2SD_DYNAMIC,
+    Dynamic = sys::IOX2SD_VARIANT_DYNAMIC,
 }
 
 shown_by_name!(TypeVariant);

@@ -3,14 +3,14 @@ ghost use Rattle.std.specs.Prelude.{◌≡◌, All, Err};
 ghost use Rattle.iox2sd.specs.Changes.{handle_answer, Registers, Deregisters, Releases, AttachesAt};
 ghost use Rattle.iox2sd.specs.Places.{IsSoundPlace, At, Nothing};
 ghost use Rattle.iox2sd.specs.Ports.{AttachesPort};
-ghost use Rattle.iox2sd.specs.Status.{code};
+ghost use Rattle.iox2sd_common.specs.Status.{code};
 
 use super::Service;
 use super::steps::{attach, deregister, register, release};
 use crate::handle::Handle;
-use crate::id::Id;
 use crate::port::Port;
-use crate::status::Status;
+use iox2sd_common::id::Id;
+use iox2sd_common::status::Status;
 
 /// The handle of what was registered or attached.
 #[repr(C)]

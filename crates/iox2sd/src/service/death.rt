@@ -9,10 +9,10 @@ ghost use Rattle.iox2sd.specs.declared.service.death.Death.TheVariants as death;
 
 use super::Service;
 use super::roles::Counts;
-use crate::id::Id;
-use crate::status::Status;
 use iox2_dynamic::dynamic_config::{DeregisterNodeState, DynamicConfig, PortCleanupAction};
 use iox2_ids::identifiers::{UniqueNodeId, UniquePortId};
+use iox2sd_common::id::Id;
+use iox2sd_common::status::Status;
 
 /// How many ports went with a dead node.
 #[repr(C)]

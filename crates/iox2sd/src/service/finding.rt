@@ -7,12 +7,12 @@ ghost use Rattle.iox2sd.specs.Places.{IsSoundPlace, Asked, Nothing};
 
 use super::Service;
 use crate::handle::Handle;
-use crate::id::Id;
 use crate::port::Port;
-use crate::status::Status;
 use iox2_dynamic::dynamic_config::DynamicConfig;
+use iox2sd_common::id::Id;
+use iox2sd_common::status::Status;
 
-/// A node.
+/// An id.
 #[repr(C)]
 #[derive(Clone, Copy)]
 pub struct IdAnswer {
@@ -33,9 +33,9 @@ pub struct PortAnswer {
 }
 
 impl IdAnswer {
-    /// The answer with a node, or why there is none.
+    /// The answer with an id, or why there is none.
     #[inline(always)]
-    fn of(found: Result<Id, Status>) -> IdAnswer
+    pub(crate) fn of(found: Result<Id, Status>) -> IdAnswer
         ensures { result ≡ id_answer found }
     {
         match found {
@@ -45,7 +45,7 @@ impl IdAnswer {
             },
             Err(status) => IdAnswer {
                 status: status.code(),
-                id: Id::zero(),
+                id: Id::default(),
             },
         }
     }
@@ -64,7 +64,7 @@ impl PortAnswer {
             },
             Err(status) => PortAnswer {
                 status: status.code(),
-                port: Port::zero(),
+                port: Port::default(),
             },
         }
     }

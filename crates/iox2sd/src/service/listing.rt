@@ -8,14 +8,14 @@ ghost use Rattle.iox2sd.specs.Ports.{told_port};
 ghost use Rattle.iox2sd.specs.declared.service.listing.Listed.TheVariants as listed;
 
 use super::Service;
-use crate::answers::{CountAnswer, count};
 use crate::handle::role_of;
 use crate::port::Port;
-use crate::status::Status;
 use iox2_config::hash::PatternKind;
 use iox2_container::container::Role;
 use iox2_dynamic::dynamic_config::{DynamicConfig, PortKind, PortRegistries, PortRoles};
 use iox2_texts::bounded::CallbackProgression;
+use iox2sd_common::answers::{CountAnswer, count};
+use iox2sd_common::status::Status;
 
 /// What became of a listing.
 pub(super) enum Listed {

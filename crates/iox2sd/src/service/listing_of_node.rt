@@ -13,14 +13,14 @@ ghost use Rattle.iox2sd.specs.declared.service.listing.Listed.TheVariants as lis
 
 use super::Service;
 use super::listing::Listed;
-use crate::answers::CountAnswer;
-use crate::id::Id;
 use crate::port::Port;
-use crate::status::Status;
 use iox2_container::container::Role;
 use iox2_dynamic::dynamic_config::{DynamicConfig, PortDetails, PortRoles};
 use iox2_ids::identifiers::UniqueNodeId;
 use iox2_texts::bounded::CallbackProgression;
+use iox2sd_common::answers::CountAnswer;
+use iox2sd_common::id::Id;
+use iox2sd_common::status::Status;
 
 /// One more, unless that is too large.
 fn one_more(count: Option<usize>) -> Option<usize>

@@ -4,9 +4,9 @@ ghost use Rattle.iox2sd.specs.Places.{IsSoundPlace, held};
 ghost use Rattle.iox2sd.specs.Services.{MakesAt, FreesAt, Makes};
 
 use super::Service;
-use crate::status::Status;
 use iox2_config::hash::PatternKind;
 use iox2_dynamic::dynamic_config::{DynamicConfig, MessagingPatternSettings};
+use iox2sd_common::status::Status;
 use std::alloc::Global;
 
 /// How many nodes and ports a service can have at a time.

@@ -1,18 +1,18 @@
 //! Listings of nodes into a caller's array.
 ghost use Rattle.std.specs.Prelude.{◌≡◌, All};
-ghost use Rattle.iox2sd.specs.Ids.{id_of};
+ghost use Rattle.iox2sd_common.specs.Ids.{id_of};
 ghost use Rattle.iox2sd.specs.Listings.{Puts, PutsAll, nodes_in, ListsNodes, listed_answer};
 ghost use Rattle.iox2sd.specs.Places.{IsSoundPlace, Asked};
 ghost use Rattle.iox2sd.specs.declared.service.listing.Listed.TheVariants as listed;
 
 use super::Service;
 use super::listing::{Listed, put};
-use crate::answers::CountAnswer;
-use crate::id::Id;
-use crate::status::Status;
 use iox2_dynamic::dynamic_config::DynamicConfig;
 use iox2_ids::identifiers::UniqueNodeId;
 use iox2_texts::bounded::CallbackProgression;
+use iox2sd_common::answers::CountAnswer;
+use iox2sd_common::id::Id;
+use iox2sd_common::status::Status;
 
 /// Puts the ids of the nodes at the front of the array.
 fn put_nodes(service: &DynamicConfig, out: &mut [Id], used: &mut usize)

@@ -4,14 +4,14 @@
 ghost use Rattle.std.specs.Prelude.{◌≡◌, All, Err, length};
 ghost use Rattle.iox2sd.specs.Numbers.{told_count, AsksPorts, AsksRoom, AsksNodeRoom};
 ghost use Rattle.iox2sd.specs.Places.{IsSoundPlace, Asked, Nothing};
-ghost use Rattle.iox2sd.specs.Queries.{Gives, flag_answer};
+ghost use Rattle.iox2sd.specs.Queries.{Gives};
+ghost use Rattle.iox2sd_common.specs.Answers.{flag_answer};
 
 use super::Service;
-use super::queries::FlagAnswer;
-use crate::answers::{CountAnswer, count};
 use crate::handle::role_of;
-use crate::status::Status;
 use iox2_dynamic::dynamic_config::DynamicConfig;
+use iox2sd_common::answers::{CountAnswer, FlagAnswer, count};
+use iox2sd_common::status::Status;
 
 /// The answer with how many, or why it does not.
 fn told(asked: Result<usize, Status>) -> CountAnswer

@@ -4,13 +4,14 @@
 ghost use Rattle.std.specs.Prelude.{◌≡◌, All, Ok, Err};
 ghost use Rattle.iox2_config.specs.Hashing.{pattern_number};
 ghost use Rattle.iox2sd.specs.Places.{IsSoundPlace, Asked, Nothing};
-ghost use Rattle.iox2sd.specs.Queries.{Gives, AsksRole, number_answer, roles_answer, flag_answer};
-ghost use Rattle.iox2sd.specs.Queries.{roles_in};
+ghost use Rattle.iox2sd.specs.Queries.{Gives, AsksRole, number_answer, roles_answer, roles_in};
+ghost use Rattle.iox2sd_common.specs.Answers.{flag_answer};
 
 use super::Service;
 use crate::handle::{role_number, role_of};
-use crate::status::Status;
 use iox2_dynamic::dynamic_config::{DynamicConfig, PortRoles};
+use iox2sd_common::answers::FlagAnswer;
+use iox2sd_common::status::Status;
 
 /// A number of the service.
 #[repr(C)]
@@ -24,7 +25,7 @@ pub struct NumberAnswer {
 
 /// The roles of the two kinds of ports of a pattern, that first which is recovered first.
 #[repr(C)]
-#[derive(Clone, Copy)]
+#[derive(Clone, Copy, Default)]
 pub struct RolesAnswer {
     /// The number of a [`Status`].
     pub status: u32,
@@ -34,16 +35,6 @@ pub struct RolesAnswer {
     /// The role of subscribers, notifiers, clients or writers; 0 where the status is not that of
     /// `Done`.
     pub second: u64,
-}
-
-/// Yes or no.
-#[repr(C)]
-#[derive(Clone, Copy)]
-pub struct FlagAnswer {
-    /// The number of a [`Status`].
-    pub status: u32,
-    /// Whether it is so; no where the status is not that of `Done`.
-    pub yes: bool,
 }
 
 /// The numbers of two roles.
@@ -84,26 +75,7 @@ impl RolesAnswer {
             },
             Err(status) => RolesAnswer {
                 status: status.code(),
-                first: 0,
-                second: 0,
-            },
-        }
-    }
-}
-
-impl FlagAnswer {
-    /// The answer that says yes or no, or why it does not.
-    pub(super) fn of(asked: Result<bool, Status>) -> FlagAnswer
-        ensures { result ≡ flag_answer asked }
-    {
-        match asked {
-            Ok(yes) => FlagAnswer {
-                status: Status::Done.code(),
-                yes,
-            },
-            Err(status) => FlagAnswer {
-                status: status.code(),
-                yes: false,
+                ..RolesAnswer::default()
             },
         }
     }

@@ -3,12 +3,12 @@ ghost use Rattle.iox2sd.specs.Changes.{Registers, Deregisters, Releases};
 ghost use Rattle.iox2sd.specs.Ports.{AttachesPort};
 
 use crate::handle::Handle;
-use crate::id::Id;
 use crate::port::Port;
-use crate::status::Status;
 use iox2_dynamic::dynamic_config::{
     AttachError, DeregisterError, DeregisterNodeState, DynamicConfig, RegisterNodeResult,
 };
+use iox2sd_common::id::Id;
+use iox2sd_common::status::Status;
 
 /// Registers a node.
 pub(super) fn register(service: &mut DynamicConfig, node: Id) -> Result<Handle, Status>

@@ -10,8 +10,8 @@ ghost use Rattle.iox2sd_values.specs.Faults.{ChecksPairs, set_fault, required_fa
 ghost use Rattle.iox2sd_values.specs.Requirements.{RequiresPairs, RequiresKeys, text_of};
 
 use super::{Attribute, Key};
-use crate::status::Status;
 use iox2_texts::attribute::{MAX_ATTRIBUTE_KEY_LENGTH, MAX_ATTRIBUTE_VALUE_LENGTH, MAX_ATTRIBUTES};
+use iox2sd_common::status::Status;
 
 /// What is wrong with a pair.
 #[derive(Clone, Copy)]

@@ -9,8 +9,8 @@ ghost use Rattle.iox2sd_values.specs.Missing.{Has, HasKeyOf, FindsLack, IsFirstL
 ghost use Rattle.iox2sd_values.specs.Requirements.{ComesFrom, Judges, text_of};
 
 use super::{Attribute, Key};
-use crate::answers::{PlaceAnswer, place};
-use crate::status::Status;
+use iox2sd_common::answers::{PlaceAnswer, place};
+use iox2sd_common::status::Status;
 
 /// Whether the pairs have the same bytes. Values are looked at first: keys often begin alike.
 fn is_pair(pair: &Attribute<'_>, other: &Attribute<'_>) -> bool

@@ -2,8 +2,8 @@
 ghost use Rattle.iox2sd_values.specs.Attributes.{ReadsSet};
 
 use super::Attribute;
-use crate::status::Status;
 use iox2_texts::attribute::{AttributeKey, AttributeSet, AttributeValue};
+use iox2sd_common::status::Status;
 
 /// The set of the pairs, or why there is none; the index of the pair that is wrong is written.
 pub(super) fn read_set(pairs: &[Attribute<'_>], at: &mut usize) -> Result<AttributeSet, Status>

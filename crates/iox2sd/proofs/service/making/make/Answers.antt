@@ -2,7 +2,7 @@ use Rattle.std.proofs.Common.{◌∙◌, Option, Some, sym, ap, subst}
 use Rattle.iox2_dynamic.specs.Service.{Service as Held, PatternCapacities, fresh_service}
 use Rattle.iox2sd.specs.Places.{held}
 use Rattle.iox2sd.specs.Services.{Makes}
-use Rattle.iox2sd.specs.declared.status.Status.TheVariants as status
+use Rattle.iox2sd_common.specs.declared.status.Status.TheVariants as status
 use Rattle.iox2sd.proofs.service.making.make.Goals as goal
 
 pub returns-in_default-of_number-clause-made : goal.returns-in_default-of_number-clause-made

@@ -1,6 +1,6 @@
 //! What an export answers.
 ghost use Rattle.std.specs.Prelude.{◌≡◌};
-ghost use Rattle.iox2sd.specs.Status.{code, status_text, ReadsStatus};
+ghost use Rattle.iox2sd_common.specs.Status.{code, status_text, ReadsStatus};
 
 /// What an export answers; C sees its number.
 #[derive(Clone, Copy)]
@@ -109,14 +109,14 @@ pub enum Status {
 
 impl Status {
     /// The number that C sees.
-    pub(super) fn code(self) -> u32
+    pub fn code(self) -> u32
         ensures { result ≡ code self }
     {
         self as u32
     }
 
     /// What it says.
-    pub(super) fn text(self) -> &'static str
+    pub fn text(self) -> &'static str
         ensures { result.now ≡ status_text self }
     {
         match self {
@@ -176,7 +176,7 @@ impl Status {
 }
 
 /// The status of a number.
-pub(super) fn status_of(number: u32) -> Option<Status>
+pub fn status_of(number: u32) -> Option<Status>
     ensures { ReadsStatus number result }
 {
     match number {

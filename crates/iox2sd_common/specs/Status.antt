@@ -1,7 +1,7 @@
 -- What an export answers, as C sees it.
-use Rattle.std.specs.Prelude.{◌≡◌, ◌≢◌, ℕ, Option, Some, None, List, codes}
-use Rattle.iox2sd.specs.declared.status.Status.{Status}
-use Rattle.iox2sd.specs.declared.status.Status.TheVariants as status
+use Rattle.std.specs.Prelude.{◌≡◌, ◌≢◌, ℕ, Option, Some, None, List, codes, Result, Ok, Err}
+use Rattle.iox2sd_common.specs.declared.status.Status.{Status}
+use Rattle.iox2sd_common.specs.declared.status.Status.TheVariants as status
 
 -- the number of a status
 abbrev pub code : Status → ℕ
@@ -114,3 +114,8 @@ status_text status.UnknownText = codes "unknown text of the configuration"
 status_text status.BadLine = codes "a line of the script is not valid"
 status_text status.UnknownStrategy = codes "unknown strategy"
 status_text status.BadDuration = codes "the nanoseconds of a duration are a second or more"
+
+-- the number at the end of a call that makes something or is refused
+abbrev pub end_code : {A : Type 0} → Result A Status → ℕ
+end_code (Ok made) = code status.Done
+end_code (Err refused) = code refused

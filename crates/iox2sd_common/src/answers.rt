@@ -1,7 +1,7 @@
 //! What exports return beside a status: an index, a count, or a text for a buffer.
 ghost use Rattle.std.specs.Prelude.{◌≡◌, ◌≤◌, ◌++◌, length, drop};
-ghost use Rattle.iox2sd_values.specs.Answers.{place_answer, count_answer, text_answer, Writes};
-ghost use Rattle.iox2sd_values.specs.Answers.{Written, flag_answer, zero_padded};
+ghost use Rattle.iox2sd_common.specs.Answers.{place_answer, count_answer, text_answer, Writes};
+ghost use Rattle.iox2sd_common.specs.Answers.{Written, flag_answer, zero_padded};
 
 use super::status::Status;
 
@@ -21,7 +21,7 @@ pub struct PlaceAnswer {
 pub struct CountAnswer {
     /// The number of a [`Status`].
     pub status: u32,
-    /// How many; 0 where the status is not that of `Done`.
+    /// How many; also where the status is that of `BufferTooShort`: so many are needed.
     pub count: usize,
 }
 
@@ -46,7 +46,7 @@ pub struct TextAnswer {
 }
 
 /// The answer of this status with this index.
-pub(super) fn place(status: Status, at: usize) -> PlaceAnswer
+pub fn place(status: Status, at: usize) -> PlaceAnswer
     ensures { result ≡ place_answer status at }
 {
     PlaceAnswer {
@@ -56,7 +56,7 @@ pub(super) fn place(status: Status, at: usize) -> PlaceAnswer
 }
 
 /// The answer of this status with this number.
-pub(super) fn count(status: Status, count: usize) -> CountAnswer
+pub fn count(status: Status, count: usize) -> CountAnswer
     ensures { result ≡ count_answer status count }
 {
     CountAnswer {
@@ -65,18 +65,26 @@ pub(super) fn count(status: Status, count: usize) -> CountAnswer
     }
 }
 
-/// The answer of this status with yes or no.
-pub(super) fn flag(status: Status, yes: bool) -> FlagAnswer
-    ensures { result ≡ flag_answer status yes }
-{
-    FlagAnswer {
-        status: status.code(),
-        yes,
+impl FlagAnswer {
+    /// The answer that says yes or no, or why it does not.
+    pub fn of(asked: Result<bool, Status>) -> FlagAnswer
+        ensures { result ≡ flag_answer asked }
+    {
+        match asked {
+            Ok(yes) => FlagAnswer {
+                status: Status::Done.code(),
+                yes,
+            },
+            Err(status) => FlagAnswer {
+                status: status.code(),
+                yes: false,
+            },
+        }
     }
 }
 
 /// The answer where there is no text.
-pub(super) fn no_text(status: Status) -> TextAnswer
+pub fn no_text(status: Status) -> TextAnswer
     ensures { result ≡ text_answer status 0 }
 {
     TextAnswer {
@@ -95,7 +103,7 @@ fn write_front(text: &[u8], out: &mut [u8])
 }
 
 /// The text in an array, followed by zeros.
-pub(super) fn zero_padded<const N: usize>(text: &[u8]) -> [u8; N]
+pub fn zero_padded<const N: usize>(text: &[u8]) -> [u8; N]
     requires { length text.now ≤ N }
     ensures { result ≡ zero_padded N text.now }
 {
@@ -104,23 +112,28 @@ pub(super) fn zero_padded<const N: usize>(text: &[u8]) -> [u8; N]
     bytes
 }
 
-/// Writes the text to the front of the buffer, or nothing where it does not fit.
-fn put(text: &[u8], out: &mut [u8]) -> Status
+/// Writes the text to the front of the buffer, or nothing where it does not fit, and says whether
+/// it fits.
+pub fn put(text: &[u8], out: &mut [u8]) -> bool
     ensures { Writes text.now out.old result out.new }
 {
     if text.len() > out.len() {
-        return Status::BufferTooShort;
+        return false;
     }
     write_front(text, out);
-    Status::Done
+    true
 }
 
 /// Writes the text to the front of the buffer, or nothing where it does not fit, and returns its
 /// length.
-pub(super) fn write(text: &[u8], out: &mut [u8]) -> TextAnswer
+pub fn write(text: &[u8], out: &mut [u8]) -> TextAnswer
     ensures { Written text.now out.old result out.new }
 {
-    let status = put(text, out);
+    let status = if put(text, out) {
+        Status::Done
+    } else {
+        Status::BufferTooShort
+    };
     TextAnswer {
         status: status.code(),
         length: text.len(),

@@ -1,0 +1,50 @@
+-- What exports answer beside a status.
+use Rattle.std.specs.Prelude.{◌≡◌, ℕ, ◌<◌, ◌≤◌, Bool, true, false, if◌then◌else◌, List, ◌++◌, Result, Ok, Err, drop, length, replicate}
+use Rattle.iox2sd_common.specs.Status.{code}
+use Rattle.iox2sd_common.specs.declared.answers.CountAnswer.{CountAnswer}
+use Rattle.iox2sd_common.specs.declared.answers.FlagAnswer.{FlagAnswer}
+use Rattle.iox2sd_common.specs.declared.answers.PlaceAnswer.{PlaceAnswer}
+use Rattle.iox2sd_common.specs.declared.answers.TextAnswer.{TextAnswer}
+use Rattle.iox2sd_common.specs.declared.status.Status.{Status}
+use Rattle.iox2sd_common.specs.declared.status.Status.TheVariants as status
+
+-- the status with the place of which it speaks
+abbrev pub place_answer : Status → ℕ → PlaceAnswer
+place_answer s at = record { status = code s; at = at }
+
+-- the status with a number
+abbrev pub count_answer : Status → ℕ → CountAnswer
+count_answer s count = record { status = code s; count = count }
+
+-- yes or no, or the status of a refusal
+abbrev pub flag_answer : Result Bool Status → FlagAnswer
+flag_answer (Ok is_so) = record { status = code status.Done; yes = is_so }
+flag_answer (Err s) = record { status = code s; yes = false }
+
+-- the status with the length of a text
+abbrev pub text_answer : Status → ℕ → TextAnswer
+text_answer s n = record { status = code s; length = n }
+
+-- the text at the front of so many bytes, and zeros after it
+abbrev pub zero_padded : ℕ → List ℕ → List ℕ
+zero_padded n text = text ++ drop (length text) (replicate n 0)
+
+-- the text stands at the front of the buffer, or does not fit there and the buffer is as it was
+abbrev pub Writes : List ℕ → List ℕ → Bool → List ℕ → Type 0
+Writes text old true new = (length text ≤ length old) × (new ≡ text ++ drop (length text) old)
+Writes text old false new = (length old < length text) × (new ≡ old)
+
+-- the status of a text that fits the buffer or does not
+abbrev pub fit_status : Bool → Status
+fit_status fits = if fits then status.Done else status.BufferTooShort
+
+-- the same, with the answer that tells it
+abbrev pub Written : List ℕ → List ℕ → TextAnswer → List ℕ → Type 0
+Written text old answer new =
+    (fits : Bool) × Writes text old fits new
+    × (answer ≡ text_answer (fit_status fits) (length text))
+
+-- the text was written, or there is none for this cause and the buffer is as it was
+abbrev pub TellsText : Result (List ℕ) Status → List ℕ → TextAnswer → List ℕ → Type 0
+TellsText (Ok text) old answer new = Written text old answer new
+TellsText (Err cause) old answer new = (answer ≡ text_answer cause 0) × (new ≡ old)

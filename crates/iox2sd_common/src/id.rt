@@ -1,0 +1,93 @@
+//! Ids as plain values.
+ghost use Rattle.std.specs.Prelude.{◌≡◌};
+ghost use Rattle.iox2sd_common.specs.Ids.{number_of, id_of, ReadsNode, ReadsNumber, ReadsText};
+
+use super::status::Status;
+use iox2_ids::identifiers::{Hexadecimal, UniqueId, UniqueNodeId, UniqueServiceId};
+use std::str;
+
+/// The id of a node, of a port or of a service. It has no padding, so C may compare its bytes.
+#[repr(C)]
+#[derive(Clone, Copy, Default)]
+pub struct Id {
+    /// The process that made it.
+    pub process: u32,
+    /// When it was made: whole seconds.
+    pub seconds: u32,
+    /// When it was made: the nanoseconds beside the seconds.
+    pub nanoseconds: u32,
+    /// The number that tells it from others.
+    pub counter: u32,
+}
+
+impl Id {
+    /// The id of these parts, of whatever kind.
+    pub fn of_kind<K>(self) -> UniqueId<K>
+        ensures { result ≡ number_of self }
+    {
+        UniqueId::new(self.process, self.seconds, self.nanoseconds, self.counter)
+    }
+
+    /// The number of these parts.
+    pub fn number(&self) -> u128
+        ensures { result ≡ number_of self.now }
+    {
+        let id: UniqueServiceId = self.of_kind();
+        id.value()
+    }
+
+    /// The id of the node of these parts, if there is one.
+    pub fn of_node(self) -> Option<UniqueNodeId>
+        ensures { ReadsNode self result }
+    {
+        UniqueNodeId::new(self.process, self.seconds, self.nanoseconds, self.counter)
+    }
+
+    /// The parts of the number of an id.
+    pub fn of_number(value: u128) -> Id
+        ensures { result ≡ id_of value }
+    {
+        Id {
+            process: (value >> 96) as u32,
+            seconds: ((value >> 64) % (1 << 32)) as u32,
+            nanoseconds: ((value >> 32) % (1 << 32)) as u32,
+            counter: (value % (1 << 32)) as u32,
+        }
+    }
+
+    /// The id whose number a text writes in lower-case hexadecimal digits without leading zeros.
+    ///
+    /// Refused are, in this order, an empty text (`Empty`), more than 32 bytes (`TooLong`), and a
+    /// text that writes no number so (`IllegalByte`).
+    pub fn from_text(text: &[u8]) -> Result<Id, Status>
+        ensures { ReadsText text.now result }
+    {
+        if text.is_empty() {
+            return Err(Status::Empty);
+        }
+        if text.len() > 32 {
+            return Err(Status::TooLong);
+        }
+        match read_number(text) {
+            Some(value) => Ok(Id::of_number(value)),
+            None => Err(Status::IllegalByte),
+        }
+    }
+}
+
+/// The number that a text writes in lower-case hexadecimal digits without leading zeros.
+fn read_number(text: &[u8]) -> Option<u128>
+    ensures { ReadsNumber text.now result }
+{
+    let Ok(digits) = str::from_utf8(text) else {
+        return None;
+    };
+    let Ok(value) = u128::from_str_radix(digits, 16) else {
+        return None;
+    };
+    if Hexadecimal::new(value).as_bytes() == text {
+        Some(value)
+    } else {
+        None
+    }
+}
