@@ -144,4 +144,5 @@ WritesOver default config (Err NoMemory) = ⊤
 
 -- the same with the defaults of the middleware
 abbrev pub Writes : Config → Result (String Global) ConfigWriteError → Type 0
-Writes config result = (default : Config) × IsDefaultConfig default × WritesOver default config result
+Writes config result =
+    (default : Config) × IsDefaultConfig default × WritesOver default config result

@@ -1,22 +1,23 @@
 -- What is answered, and what follows from a status.
-use Rattle.std.proofs.Common.{◌≡◌, ℕ, List, Option, Some, None, IfSome, Result, Ok, Err, IfOk, String, subst, sym, ap, ◌∙◌, arith}
+use Rattle.std.proofs.Common.{◌≡◌, ℕ, List, Option, Some, None, IfSome, Result, Ok, Err, IfOk, subst, sym, ap, ◌∙◌, arith}
 use Rattle.std.specs.Result.{IsErr, IsErrAnd, MatchResult}
-use Rattle.std.specs.declared.alloc.Global.{Global}
 use Rattle.service_drawing.specs.Descriptions.{StopsReading}
 use Rattle.service_drawing.specs.Reasons.{IsReason}
 use Rattle.service_drawing.specs.Streams.{status_of, TellsBadLine, Draws, Answers}
 use Rattle.service_drawing.specs.declared.arguments.Asked.{Asked}
 use Rattle.service_drawing.specs.declared.fault.Fault.{Fault}
-use Rattle.service_drawing.specs.declared.fault.Fault.TheVariants.{BadArgument, BadLine, NoMemory}
+use Rattle.service_drawing.specs.declared.fault.Fault.TheVariants.{BadArgument, BadLine, BadSettings, NoMemory}
+use Rattle.service_drawing.specs.declared.streams.Written.{Written}
 use Rattle.service_drawing.specs.declared.reading.expected.Expected.{Expected}
 use Rattle.service_drawing.proofs.Reasons.{one_reason}
 
 -- the status 0 is that of an answer
-pub answered_at_zero : (end : Result (String Global) Fault) (P : Type 0) → IfOk end (λ text. P)
+pub answered_at_zero : (end : Result Written Fault) (P : Type 0) → IfOk end (λ written. P)
     → status_of end ≡ 0 → P
-answered_at_zero (Ok text) P h e = h
+answered_at_zero (Ok written) P h e = h
 answered_at_zero (Err (BadLine line cause prefix form)) P h e = absurd (omega (arith, e))
 answered_at_zero (Err BadArgument) P h e = absurd (omega (arith, e))
+answered_at_zero (Err (BadSettings lines)) P h e = absurd (omega (arith, e))
 answered_at_zero (Err NoMemory) P h e = absurd (omega (arith, e))
 
 -- what is true of an error is true of it where it is handed on
@@ -27,7 +28,7 @@ handed_on Good Bad (Err e) why h bad = subst Bad (sym h.1) bad
 
 -- what is answered to this request
 pub answers_for : (given : Option (List ℕ)) (asked : Result Asked Fault) (field expected : Asked)
-    (end : Result (String Global) Fault) → asked ≡ Ok field → field ≡ expected
+    (end : Result Written Fault) → asked ≡ Ok field → field ≡ expected
     → Answers given (Ok expected) end → Answers given asked end
 answers_for given asked field expected end e f h =
     subst (λ (q : Result Asked Fault). Answers given q end) (sym (e ∙ ap Ok f)) h
@@ -46,12 +47,11 @@ draws_no_more bytes expected (BadLine line cause prefix form) s h = record {
   because = h.1;
 }
 draws_no_more bytes expected BadArgument s h = h
+draws_no_more bytes expected (BadSettings lines) s h = h
 draws_no_more bytes expected NoMemory s h = tt
 
--- what was drawn is drawn of what the reader gave
-pub draws_given : (given : Option (List ℕ)) (items bytes : List ℕ)
-    (end : Result (String Global) Fault) → IfSome given (λ input. items ≡ input) → bytes ≡ items
-    → Draws bytes end → IfSome given (λ input. Draws input end)
-draws_given None items bytes end e same h = tt
-draws_given (Some input) items bytes end e same h =
-    subst (λ (b : List ℕ). Draws b end) (same ∙ e) h
+-- what is true of what was read is true of what the reader gave
+pub true_of_given : (P : List ℕ → Type 0) (given : Option (List ℕ)) (items bytes : List ℕ)
+    → IfSome given (λ input. items ≡ input) → bytes ≡ items → P bytes → IfSome given P
+true_of_given P None items bytes e same h = tt
+true_of_given P (Some input) items bytes e same h = subst P (same ∙ e) h

@@ -7,10 +7,11 @@ use Rattle.std.specs.declared.vec.IntoIter.{IntoIter}
 use Rattle.std.specs.declared.io.Error.{Error}
 use Rattle.std.specs.declared.io.ErrorKind.TheVariants.{OutOfMemory}
 use Rattle.service_drawing.specs.declared.arguments.Asked.{Asked}
-use Rattle.service_drawing.specs.declared.arguments.Asked.TheVariants.{Drawing, Help, Version}
+use Rattle.service_drawing.specs.declared.arguments.Asked.TheVariants.{Drawing, Settings, DefaultSettings, Help, Version}
 use Rattle.service_drawing.specs.declared.arguments.Form.TheVariants.{Text, Svg}
 use Rattle.service_drawing.specs.declared.fault.Fault.{Fault}
-use Rattle.service_drawing.specs.declared.fault.Fault.TheVariants.{BadArgument, BadLine, NoMemory}
+use Rattle.service_drawing.specs.declared.streams.Written.{Written}
+use Rattle.service_drawing.specs.declared.fault.Fault.TheVariants.{BadArgument, BadLine, BadSettings, NoMemory}
 
 -- the arguments
 abbrev pub words_of : IntoIter (String Global) Global → List (List ℕ)
@@ -19,18 +20,22 @@ words_of words = map string_bytes (into_iter_items words)
 -- the words are no request that the program knows
 abbrev pub IsNoRequest : List (List ℕ) → Type 0
 IsNoRequest words =
-    (words ≢ []) × (words ≢ codes "svg" ∷ []) × (words ≢ codes "--help" ∷ [])
+    (words ≢ []) × (words ≢ codes "svg" ∷ []) × (words ≢ codes "config" ∷ [])
+    × (words ≢ codes "config" ∷ codes "default" ∷ []) × (words ≢ codes "--help" ∷ [])
     × (words ≢ codes "--version" ∷ [])
 
 -- what the words after the program's name ask for
 abbrev pub Asks : List (List ℕ) → Result Asked Fault → Type 0
 Asks words (Ok (Drawing Text)) = words ≡ []
 Asks words (Ok (Drawing Svg)) = words ≡ codes "svg" ∷ []
+Asks words (Ok Settings) = words ≡ codes "config" ∷ []
+Asks words (Ok DefaultSettings) = words ≡ codes "config" ∷ codes "default" ∷ []
 Asks words (Ok Help) = words ≡ codes "--help" ∷ []
 Asks words (Ok Version) = words ≡ codes "--version" ∷ []
 Asks words (Err BadArgument) = IsNoRequest words
 Asks words (Err NoMemory) = ⊥
 Asks words (Err (BadLine line cause prefix form)) = ⊥
+Asks words (Err (BadSettings lines)) = ⊥
 
 -- what the arguments ask for: where they could not be had, there is no memory or they are bad
 abbrev pub AsksFor : Result (IntoIter (String Global) Global) Error → Result Asked Fault → Type 0
@@ -39,12 +44,14 @@ AsksFor (Err why) (Err NoMemory) = error_kind why ≡ OutOfMemory
 AsksFor (Err why) (Err BadArgument) = error_kind why ≢ OutOfMemory
 AsksFor (Err why) other = ⊥
 
--- a drawing is asked for
-abbrev pub IsDrawing : Result Asked Fault → Type 0
-IsDrawing (Ok (Drawing form)) = Unit {0}
-IsDrawing asked = ⊥
+-- what is asked for is made of what is read
+abbrev pub IsRead : Result Asked Fault → Type 0
+IsRead (Ok (Drawing form)) = Unit {0}
+IsRead (Ok Settings) = Unit {0}
+IsRead asked = ⊥
 
 -- this text, or there is no memory for it
-abbrev pub IsTextOrNoMemory : List ℕ → Result (String Global) Fault → Type 0
-IsTextOrNoMemory text (Ok copy) = string_bytes copy ≡ text
+abbrev pub IsTextOrNoMemory : List ℕ → Result Written Fault → Type 0
+IsTextOrNoMemory text (Ok copy) =
+    (string_bytes copy.text ≡ text) × (string_bytes copy.warnings ≡ [])
 IsTextOrNoMemory text (Err fault) = fault ≡ NoMemory

@@ -2,30 +2,11 @@
 use Rattle.std.specs.Prelude.{◌≡◌, ℕ, List, [], ◌∷◌, codes, Option, Some, None}
 use Rattle.iox2_config.specs.declared.config.defaults.Defaults.{Defaults}
 use Rattle.iox2_static.specs.Chunks.{TellsGreatest}
-use Rattle.iox2_static.specs.PublishSubscribe.{publish_subscribe_of, sample_limits}
-use Rattle.iox2_static.specs.RequestResponse.{request_response_of, client_limits, server_limits}
+use Rattle.config_report.specs.Limits.{sample_limits_of, request_limits_of, response_limits_of}
 use Rattle.service_drawing.specs.declared.description.Exchange.{Exchange}
 use Rattle.service_drawing.specs.declared.description.Exchange.TheVariants.{PublishSubscribe, Event, RequestResponse, Blackboard}
 use Rattle.service_drawing.specs.declared.description.Message.{Message}
 use Rattle.service_drawing.specs.declared.segments.Segment.{Segment}
-
--- the limits on the samples of a publisher
-abbrev pub sample_limits_of : Defaults → List ℕ
-sample_limits_of d =
-    sample_limits
-    (publish_subscribe_of d.publish_subscribe) d.publish_subscribe.publisher_max_loaned_samples
-
--- the limits on the requests of a client
-abbrev pub request_limits_of : Defaults → List ℕ
-request_limits_of d =
-    client_limits (request_response_of d.request_response) d.request_response.max_loaned_requests
-
--- the limits on the responses of a server
-abbrev pub response_limits_of : Defaults → List ℕ
-response_limits_of d =
-    server_limits
-    (request_response_of d.request_response)
-    d.request_response.server_max_loaned_responses_per_request
 
 -- ports of this name send this message, which is called
 -- so, and of one port that many are in use at most

@@ -5,15 +5,17 @@ use Rattle.std.specs.Io.KnownBytes.{Appends, IsAtEnd}
 use Rattle.std.specs.declared.alloc.Global.{Global}
 use Rattle.std.specs.declared.io.Error.{Error}
 use Rattle.std.specs.declared.vec.IntoIter.{IntoIter}
-use Rattle.service_drawing.specs.Arguments.{AsksFor, IsDrawing, IsTextOrNoMemory}
+use Rattle.service_drawing.specs.Arguments.{AsksFor, IsRead, IsTextOrNoMemory}
+use Rattle.config_report.specs.Report.{HasWarnings, IsNoFile, HasDefaults}
 use Rattle.service_drawing.specs.Causes.{IsCause}
 use Rattle.service_drawing.specs.Descriptions.{IsDescription, StopsReading}
 use Rattle.service_drawing.specs.Reasons.{IsReason}
 use Rattle.service_drawing.specs.declared.arguments.Asked.{Asked}
-use Rattle.service_drawing.specs.declared.arguments.Asked.TheVariants.{Drawing, Help, Version}
+use Rattle.service_drawing.specs.declared.arguments.Asked.TheVariants.{Drawing, Settings, DefaultSettings, Help, Version}
 use Rattle.service_drawing.specs.declared.arguments.TheConstants.{HELP, VERSION}
 use Rattle.service_drawing.specs.declared.fault.Fault.{Fault}
-use Rattle.service_drawing.specs.declared.fault.Fault.TheVariants.{BadArgument, BadLine, NoMemory}
+use Rattle.service_drawing.specs.declared.fault.Fault.TheVariants.{BadArgument, BadLine, BadSettings, NoMemory}
+use Rattle.service_drawing.specs.declared.streams.Written.{Written}
 use Rattle.service_drawing.specs.declared.reading.cause.Cause.{Cause}
 use Rattle.service_drawing.specs.declared.reading.cause.Cause.TheVariants.{NoNewline, CarriageReturn, ForeignByte, TwoSpaces, Read}
 use Rattle.service_drawing.specs.declared.reading.cause.Reason.{Reason}
@@ -47,8 +49,10 @@ bad_line_text line cause prefix form =
 -- the line that reports a fault
 abbrev pub fault_text : Fault → List ℕ
 fault_text (BadLine line cause prefix form) = bad_line_text line cause prefix.now form.now
-fault_text BadArgument = codes "bad argument: expected svg, --help, --version, or no argument" ++ 10
-    ∷ []
+fault_text BadArgument =
+    codes "bad argument: expected svg, config, config default, --help, --version, or no argument"
+    ++ 10 ∷ []
+fault_text (BadSettings lines) = string_bytes lines
 fault_text NoMemory = codes "no memory" ++ 10 ∷ []
 
 -- the fault of the line with which what is left
@@ -59,6 +63,7 @@ TellsBadLine bytes expected (BadLine line cause prefix form) =
     × IsCause expected.rest.now expected.reason cause
     × (prefix.now ≡ expected.prefix.now) × (form.now ≡ expected.form.now)
 TellsBadLine bytes expected BadArgument = ⊥
+TellsBadLine bytes expected (BadSettings lines) = ⊥
 TellsBadLine bytes expected NoMemory = ⊥
 
 -- the line of this number is bad for this cause: it is the first that no description has there, and
@@ -74,46 +79,64 @@ pub record IsBadLine (line : ℕ) (cause : Cause) (bytes : List ℕ) : Type 0 wh
 
 -- what is drawn of the bytes: a description, or the number of the first line that none has there
 -- is reported
-abbrev pub Draws : List ℕ → Result (String Global) Fault → Type 0
-Draws bytes (Ok text) = IsDescription bytes
+abbrev pub Draws : List ℕ → Result Written Fault → Type 0
+Draws bytes (Ok written) = IsDescription bytes × (string_bytes written.warnings ≡ [])
 Draws bytes (Err (BadLine line cause prefix form)) = IsBadLine line cause bytes
 Draws bytes (Err BadArgument) = ⊥
+Draws bytes (Err (BadSettings lines)) = ⊥
 Draws bytes (Err NoMemory) = Unit {0}
 
--- what is answered: the bytes that the reader gives, if they are known, are drawn, or the text
--- that was asked for is answered unless there is no memory for it
-abbrev pub Answers : Option (List ℕ) → Result Asked Fault → Result (String Global) Fault → Type 0
+-- what is said of the bytes of a file of settings
+abbrev pub Tells : List ℕ → Result Written Fault → Type 0
+Tells bytes (Ok written) = HasWarnings bytes (string_bytes written.warnings)
+Tells bytes (Err (BadSettings lines)) = IsNoFile bytes
+Tells bytes (Err (BadLine line cause prefix form)) = ⊥
+Tells bytes (Err BadArgument) = ⊥
+Tells bytes (Err NoMemory) = Unit {0}
+
+-- the file of the default settings, or there is no memory for it
+abbrev pub IsDefaultFile : Result Written Fault → Type 0
+IsDefaultFile (Ok written) =
+    HasDefaults (string_bytes written.text) × (string_bytes written.warnings ≡ [])
+IsDefaultFile (Err fault) = fault ≡ NoMemory
+
+-- what is answered: the bytes that the reader gives, if they are known, are drawn or looked at as
+-- a file of settings, or the text that was asked for is answered unless there is no memory for it
+abbrev pub Answers : Option (List ℕ) → Result Asked Fault → Result Written Fault → Type 0
 Answers given (Err fault) end = end ≡ Err fault
 Answers given (Ok (Drawing form)) end = IfSome given (λ bytes. Draws bytes end)
+Answers given (Ok Settings) end = IfSome given (λ bytes. Tells bytes end)
+Answers given (Ok DefaultSettings) end = IsDefaultFile end
 Answers given (Ok Help) end = IsTextOrNoMemory HELP.now end
 Answers given (Ok Version) end = IsTextOrNoMemory VERSION.now end
 
 -- what the output gets
-abbrev pub output_text : Result (String Global) Fault → List ℕ
-output_text (Ok text) = string_bytes text
+abbrev pub output_text : Result Written Fault → List ℕ
+output_text (Ok written) = string_bytes written.text
 output_text (Err fault) = []
 
 -- what the errors get
-abbrev pub error_text : Result (String Global) Fault → List ℕ
-error_text (Ok text) = []
+abbrev pub error_text : Result Written Fault → List ℕ
+error_text (Ok written) = string_bytes written.warnings
 error_text (Err fault) = fault_text fault
 
 -- the status
-abbrev pub status_of : Result (String Global) Fault → ℕ
-status_of (Ok text) = 0
+abbrev pub status_of : Result Written Fault → ℕ
+status_of (Ok written) = 0
 status_of (Err (BadLine line cause prefix form)) = 1
 status_of (Err BadArgument) = 1
+status_of (Err (BadSettings lines)) = 1
 status_of (Err NoMemory) = 2
 
 -- what was asked for was answered or there was a fault: that is the status, the writers got what
--- fits it, and for a drawing the input was read to its end
+-- fits it, and for a drawing and for settings the input was read to its end
 pub record Reported (arguments : Result (IntoIter (String Global) Global) Error) (status : ℕ)
     (given left out_old out_new err_old err_new : Option (List ℕ)) : Type 0 where
   pub asked : Result Asked Fault
-  pub end : Result (String Global) Fault
+  pub end : Result Written Fault
   pub asks : AsksFor arguments asked
   pub answered : Answers given asked end
   pub told : status ≡ status_of end
-  pub read : status ≡ 0 → IsDrawing asked → IsAtEnd left
+  pub read : status ≡ 0 → IsRead asked → IsAtEnd left
   pub output : Appends out_old out_new (output_text end)
   pub errors : Appends err_old err_new (error_text end)

@@ -13,7 +13,7 @@ use std::io;
 use std::io::Write;
 
 /// Why nothing was drawn.
-#[derive(Clone, Copy)]
+#[derive(Drop)]
 pub(crate) enum Fault {
     /// There are arguments, and not one of the known words alone.
     BadArgument,
@@ -25,6 +25,8 @@ pub(crate) enum Fault {
         prefix: &'static str,
         form: &'static str,
     },
+    /// The file of settings is bad: what is wrong with it, in lines.
+    BadSettings(String),
     /// Memory was refused.
     NoMemory,
 }
@@ -148,8 +150,9 @@ pub(crate) fn write_fault<E: Write>(errors: &mut E, fault: &Fault) -> io::Result
         } => write_bad_line(errors, *line, *cause, prefix, form),
         Fault::BadArgument => write_whole(
             errors,
-            b"bad argument: expected svg, --help, --version, or no argument\n",
+            b"bad argument: expected svg, config, config default, --help, --version, or no argument\n",
         ),
+        Fault::BadSettings(lines) => write_whole(errors, lines.as_bytes()),
         Fault::NoMemory => write_whole(errors, b"no memory\n"),
     }
 }

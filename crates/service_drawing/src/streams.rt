@@ -1,23 +1,42 @@
 //! The program: a description comes from a reader, and goes to a writer as text or as a picture.
-ghost use Rattle.std.specs.Prelude.{◌≡◌, ◌<◌, IfOk, OnOk};
+ghost use Rattle.std.specs.Prelude.{◌≡◌, ◌<◌, [], IfOk, OnOk, string_bytes};
 ghost use Rattle.std.specs.Io.KnownBytes.{Appends, IsAtEnd};
-ghost use Rattle.service_drawing.specs.Arguments.{IsDrawing, IsTextOrNoMemory};
+ghost use Rattle.service_drawing.specs.Arguments.{IsRead, IsTextOrNoMemory};
 ghost use Rattle.service_drawing.specs.Streams.{status_of, output_text, error_text};
-ghost use Rattle.service_drawing.specs.Streams.{Draws, Answers, Reported};
+ghost use Rattle.service_drawing.specs.Streams.{Draws, Tells, IsDefaultFile, Answers, Reported};
 
 use crate::arguments::{Asked, Form, HELP, VERSION, asked_by};
 use crate::fault::{Fault, bad_line, write_fault};
 use crate::reading::read_description;
 use crate::svg::write_svg;
 use crate::text::write_text;
+use config_report::{ReportError, default_file, report_file};
 use line_streams::{read_all, write_whole};
 use std::alloc::Global;
 use std::env::Args;
 use std::io;
 use std::io::{Read, Write};
 
+/// What is written to the output, and to the errors although there is no fault.
+#[derive(Drop)]
+struct Written {
+    text: String,
+    warnings: String,
+}
+
+/// A text without warnings.
+fn without_warnings(alloc: Global, text: String) -> Written
+    ensures text { string_bytes result.text ≡ string_bytes text }
+    ensures warnings { string_bytes result.warnings ≡ [] }
+{
+    Written {
+        text,
+        warnings: String::new(alloc),
+    }
+}
+
 /// What a description is drawn as, or why it is not drawn.
-fn drawn(alloc: Global, form: Form, bytes: &[u8]) -> Result<String, Fault>
+fn drawn(alloc: Global, form: Form, bytes: &[u8]) -> Result<Written, Fault>
     ensures { Draws bytes.now result }
 {
     let service = match read_description(bytes) {
@@ -30,18 +49,42 @@ fn drawn(alloc: Global, form: Form, bytes: &[u8]) -> Result<String, Fault>
         Form::Svg => write_svg(alloc, &mut out, &service),
     };
     match done {
-        Ok(()) => Ok(out),
+        Ok(()) => Ok(without_warnings(alloc, out)),
+        Err(_) => Err(Fault::NoMemory),
+    }
+}
+
+/// What a file of settings says, or what is wrong with it.
+fn told(alloc: Global, bytes: &[u8]) -> Result<Written, Fault>
+    ensures { Tells bytes.now result }
+{
+    match report_file(alloc, bytes) {
+        Ok(report) => Ok(Written {
+            text: report.text,
+            warnings: report.warnings,
+        }),
+        Err(ReportError::Refused(lines)) => Err(Fault::BadSettings(lines)),
+        Err(ReportError::NoMemory) => Err(Fault::NoMemory),
+    }
+}
+
+/// The file of the default settings.
+fn default_settings(alloc: Global) -> Result<Written, Fault>
+    ensures { IsDefaultFile result }
+{
+    match default_file(alloc) {
+        Ok(text) => Ok(without_warnings(alloc, text)),
         Err(_) => Err(Fault::NoMemory),
     }
 }
 
 /// The status after a description was drawn, or was not.
-fn status(end: &Result<String, Fault>) -> u8
+fn status(end: &Result<Written, Fault>) -> u8
     ensures { result ≡ status_of end.now }
 {
     match end {
         Ok(_) => 0,
-        Err(Fault::BadArgument | Fault::BadLine { .. }) => 1,
+        Err(Fault::BadArgument | Fault::BadLine { .. } | Fault::BadSettings(_)) => 1,
         Err(Fault::NoMemory) => 2,
     }
 }
@@ -50,7 +93,7 @@ fn status(end: &Result<String, Fault>) -> u8
 fn report<W: Write, E: Write>(
     output: &mut W,
     errors: &mut E,
-    end: &Result<String, Fault>,
+    end: &Result<Written, Fault>,
 ) -> io::Result<()>
     ensures output { OnOk result
         (Appends (W.contents output.old) (W.contents output.new) (output_text end.now)) }
@@ -58,7 +101,10 @@ fn report<W: Write, E: Write>(
         (Appends (E.contents errors.old) (E.contents errors.new) (error_text end.now)) }
 {
     match end {
-        Ok(text) => write_whole(output, text.as_bytes())?,
+        Ok(written) => {
+            write_whole(output, written.text.as_bytes())?;
+            write_whole(errors, written.warnings.as_bytes())?;
+        }
         Err(fault) => write_fault(errors, fault)?,
     }
     output.flush()?;
@@ -71,16 +117,21 @@ fn answer<R: Read>(
     alloc: Global,
     asked: Result<Asked, Fault>,
     input: &mut R,
-) -> io::Result<Result<String, Fault>>
+) -> io::Result<Result<Written, Fault>>
     ensures told { IfOk result (λ end. Answers (R.remaining input.old) asked end) }
-    ensures read { IfOk result (λ end. IfOk end (λ text.
-        IsDrawing asked → IsAtEnd (R.remaining input.new))) }
+    ensures read { IfOk result (λ end. IfOk end (λ written.
+        IsRead asked → IsAtEnd (R.remaining input.new))) }
 {
     match asked {
         Ok(Asked::Drawing(form)) => match read_all(alloc, input)? {
             Ok(bytes) => Ok(drawn(alloc, form, &bytes)),
             Err(_) => Ok(Err(Fault::NoMemory)),
         },
+        Ok(Asked::Settings) => match read_all(alloc, input)? {
+            Ok(bytes) => Ok(told(alloc, &bytes)),
+            Err(_) => Ok(Err(Fault::NoMemory)),
+        },
+        Ok(Asked::DefaultSettings) => Ok(default_settings(alloc)),
         Ok(Asked::Help) => Ok(text_of(alloc, HELP)),
         Ok(Asked::Version) => Ok(text_of(alloc, VERSION)),
         Err(fault) => Ok(Err(fault)),
@@ -88,11 +139,11 @@ fn answer<R: Read>(
 }
 
 /// A text of its own.
-fn text_of(alloc: Global, text: &str) -> Result<String, Fault>
+fn text_of(alloc: Global, text: &str) -> Result<Written, Fault>
     ensures { IsTextOrNoMemory text.now result }
 {
     match String::from_str(alloc, text) {
-        Ok(text) => Ok(text),
+        Ok(text) => Ok(without_warnings(alloc, text)),
         Err(_) => Err(Fault::NoMemory),
     }
 }
@@ -118,13 +169,16 @@ fn run<R: Read, W: Write, E: Write>(
 
 /// Draws the description of a service that the reader gives, writes the drawing to `output`, and
 /// answers the status of the program: as text without arguments, and as an SVG document with the
-/// one argument `svg`. With `--help` or `--version` it reads nothing and writes how it is used, or
-/// the version. The first argument is the program's name.
+/// one argument `svg`. With `config` it writes what the file of settings says that the reader
+/// gives. With `config default`, `--help` or `--version` it reads nothing and writes the file of
+/// the default settings, how it is used, or the version. The first argument is the program's name.
 ///
-/// - 0: the whole input was read, is a description, the drawing was written, and nothing to
-///   `errors`.
-/// - 1: an argument or a line is bad. Nothing was written to `output`, and to `errors` the number
-///   of the first line that no description has there, why it is bad and what was expected.
+/// - 0: the whole input was read, is a description or a file of settings, and the drawing or the
+///   settings were written; to `errors` a line for each key of the file that no setting has, and
+///   else nothing.
+/// - 1: an argument, a line or a setting is bad. Nothing was written to `output`, and to `errors`
+///   the number of the first line that no description has there, why it is bad and what was
+///   expected, or what is wrong with the file of settings.
 /// - 2: memory was refused. Nothing was written to `output`, and `no memory` to `errors`.
 /// - 3: a read, a write or a flush failed, for any cause. Nothing was written after it.
 pub fn describe_streams<R: Read, W: Write, E: Write>(

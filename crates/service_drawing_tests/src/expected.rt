@@ -3,6 +3,7 @@
 pub(super) mod parts;
 pub(super) mod pictures;
 pub(super) mod request_response;
+pub(super) mod settings;
 
 /// A dynamic payload, an opener that is compatible, and a required key that is missing.
 pub(super) const PUBLISH_SUBSCRIBE: (&str, &str) = (

@@ -21,3 +21,5 @@ mod refusals;
 mod reports;
 #[cfg(test)]
 mod running;
+#[cfg(test)]
+mod settings;

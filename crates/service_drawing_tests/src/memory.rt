@@ -2,6 +2,7 @@
 //! (`bench/refuse_memory` does that), nothing is drawn, and the program says why.
 
 use super::expected::pictures::{COLORS, PICTURE};
+use super::expected::settings::{SETTINGS, UNKNOWN};
 use super::expected::{EVENT, PUBLISH_SUBSCRIBE};
 use super::running::arguments;
 use service_drawing::describe_streams;
@@ -14,7 +15,7 @@ use test_support::memory::may_be_refused;
 fn run(alloc: Global, words: &[&str], input: &str) -> Result<(u8, Vec<u8>, Vec<u8>), AllocError> {
     let words = arguments(alloc, words)?;
     let mut output = Vec::with_capacity(alloc, 16384)?;
-    let mut errors = Vec::with_capacity(alloc, 40)?;
+    let mut errors = Vec::with_capacity(alloc, 200)?;
     let mut bytes = input.as_bytes();
     let status = describe_streams(alloc, Ok(words), &mut bytes, &mut output, &mut errors);
     Ok((status, output, errors))
@@ -48,6 +49,28 @@ fn draws_all_or_nothing(
 fn a_text_is_whole_or_none(rt: HostRuntime) {
     draws_all_or_nothing(&rt, &["iox2-describe"], PUBLISH_SUBSCRIBE);
     draws_all_or_nothing(&rt, &["iox2-describe"], EVENT);
+}
+
+/// Settings are written with all warnings, or memory is refused and nothing is written.
+#[test]
+fn settings_are_whole_or_none(rt: HostRuntime) {
+    let Ok((status, output, errors)) = run(rt.alloc(), &["iox2-describe", "config"], SETTINGS)
+    else {
+        assert!(rt; may_be_refused(&rt));
+        return;
+    };
+    if status == 2 {
+        assert!(rt; may_be_refused(&rt));
+        assert_eq!(rt;
+            (output.len(), errors.as_slice()),
+            (0, b"no memory\n".as_slice())
+        );
+    } else {
+        assert_eq!(rt;
+            (status, output.len() > 2000, errors.as_slice()),
+            (0, true, UNKNOWN.as_bytes())
+        );
+    }
 }
 
 #[test]

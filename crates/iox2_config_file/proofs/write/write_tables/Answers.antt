@@ -13,12 +13,11 @@ loop-section-preserved c =
 pub returns : goal.returns
 returns c =
     let (done, was, rest) = c.loop-section.invariant in
-    let none : drop c.loop-section.section-index c.args.sections.now ≡ [] =
-    drop_of_length-le c.args.sections.now c.loop-section-test.false in
-    let tables : IsTablesText c.args.default.now c.args.config.now c.args.sections.now (done ++ []) =
-    rest [] (subst (λ l. IsTablesText c.args.default.now c.args.config.now l []) (sym none) refl) in (
-      done,
-      was,
-      subst (λ l. IsTablesText c.args.default.now c.args.config.now c.args.sections.now l)
-          (append-nil done) tables,
-    )
+    let default = c.args.default.now in
+    let config = c.args.config.now in
+    let ss = c.args.sections.now in
+    let none : drop c.loop-section.section-index ss ≡ [] =
+    drop_of_length-le ss c.loop-section-test.false in
+    let nothing = subst (λ l. IsTablesText default config l []) (sym none) refl in
+    let tables : IsTablesText default config ss (done ++ []) = rest [] nothing in
+    (done, was, subst (λ l. IsTablesText default config ss l) (append-nil done) tables)

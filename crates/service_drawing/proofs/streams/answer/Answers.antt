@@ -1,5 +1,6 @@
 use Rattle.service_drawing.specs.declared.arguments.Asked.TheVariants.{Drawing, Help, Version}
-use Rattle.service_drawing.proofs.Answered.{answers_for, draws_given}
+use Rattle.service_drawing.specs.Streams.{Draws}
+use Rattle.service_drawing.proofs.Answered.{answers_for, true_of_given}
 use Rattle.service_drawing.proofs.streams.answer.Goals as goal
 
 pub returns-in-Ok-clause-told : goal.returns-in-Ok-clause-told
@@ -7,7 +8,7 @@ returns-in-Ok-clause-told g c =
     answers_for _ c.args.asked c.in-Ok-Drawing.field-0
     (Drawing c.in-Ok-Drawing.form) c.drawn.result c.in-Ok-Drawing.is
     (rw c.in-Ok-Drawing.is at c.in-Ok-Drawing.field-0-is)
-    (draws_given _ c.in-Ok.bytes.items _ c.drawn.result
+    (true_of_given (λ bytes. Draws bytes c.drawn.result) _ c.in-Ok.bytes.items _
     (rw c.in-Ok.is at c.in_ok-bytes-in-Ok-Drawing.ensures.bytes) c.deref.ensures.value
     c.drawn.ensures)
 

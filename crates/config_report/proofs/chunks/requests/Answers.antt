@@ -1,7 +1,7 @@
 use Rattle.std.proofs.Common.{subst}
 use Rattle.iox2_static.specs.Chunks.{TellsGreatest}
 use Rattle.iox2_static.specs.RequestResponse.{client_limits}
-use Rattle.service_drawing.proofs.segments.requests.Goals as goal
+use Rattle.config_report.proofs.chunks.requests.Goals as goal
 
 pub returns : goal.returns
 returns c =
