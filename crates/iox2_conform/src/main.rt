@@ -1,7 +1,7 @@
 //! Judges the log on standard input, and writes the verdict to standard output.
 #![tactic(auto)]
 
-use service_conformance::conformance::check_streams;
+use service_logs::logs::check_streams;
 use std::process::ExitCode;
 
 fn main(rt: HostRuntime) -> ExitCode {
