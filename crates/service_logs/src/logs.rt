@@ -100,11 +100,10 @@ fn check_calls(
 
 /// Judges a log of one service.
 ///
-/// The log has the line of a service, as [`run_script`](service_descriptions::replay::run_script)
-/// reads it, and then calls: the line of a command, as
-/// [`read_line`](service_descriptions::replay::read_line) reads it, and below it `= ` and the words
-/// of the reply that was seen, as [`write_reply`](service_descriptions::replay::write_reply) writes
-/// them. Lines that are empty or begin with `#` may stand anywhere. Every line ends with a newline.
+/// The log has the line of a service, as `service_before` reads it, and then calls: the line of a
+/// command, as `read_line` reads it, and below it `= ` and the words of the reply that was seen, as
+/// `write_reply` writes them. Lines that are empty or begin with `#` may stand anywhere. Every line
+/// ends with a newline.
 pub fn check_log(alloc: Global, log: &[u8]) -> Result<Verdict, AllocError>
     ensures { IfOk result (Judged log.now) }
 {
