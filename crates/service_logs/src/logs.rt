@@ -3,16 +3,18 @@ ghost use Rattle.std.specs.Prelude.{◌≡◌, ◌+◌, ◌<◌, ◌≤◌, ◌^
 ghost use Rattle.service_logs.specs.Fronts.{HasCall, IsTold, LacksCall};
 ghost use Rattle.service_logs.specs.Logs.{CallsEnd, FirstIsNot, IsNote, Judged};
 ghost use Rattle.service_conformance.specs.Possible.{IsCovered};
+ghost use Rattle.service_descriptions.specs.Lines.{command_of};
 
 mod front;
 mod report;
 mod streams;
 mod verdict;
 
-use front::{after_notes, command_before, words_before};
+use front::{after_notes, words_before};
 use iox2_dynamic::dynamic_config::MessagingPatternSettings;
+use line_streams::LineEnd;
 use service_conformance::conformance::RunCheck;
-use service_descriptions::replay::{Command, service_before};
+use service_descriptions::replay::{LineCommand, command_before, service_before};
 use std::alloc::{AllocError, Global};
 pub use streams::check_streams;
 pub use verdict::{Expected, Refusal, Verdict};
@@ -21,13 +23,13 @@ pub use verdict::{Expected, Refusal, Verdict};
 fn refusal(
     alloc: Global,
     check: &RunCheck,
-    command: &Command,
+    command: &LineCommand,
     words: &[u8],
     line: usize,
 ) -> Result<Refusal, AllocError>
-    requires { IsCovered command.now }
+    requires { IsCovered (command_of command.now) }
     ensures line { IfOk result (λ told. told.line ≡ line) }
-    ensures told { IfOk result (IsTold check.now command.now words.now) }
+    ensures told { IfOk result (IsTold check.now (command_of command.now) words.now) }
 {
     Ok(Refusal {
         line,
@@ -55,7 +57,7 @@ fn check_call<'a>(
         (λ found. found.0 + length found.1.now ≤ length lines.now)) }
     ensures none { IfOk result (λ end. IfErr end (LacksCall check.old above lines.now)) }
 {
-    let Some((command, rest)) = command_before(alloc, lines)? else {
+    let Some((command, rest)) = command_before(alloc, lines, LineEnd::Newline)? else {
         return Ok(Err(Verdict::BadLine(above + 1, Expected::Command)));
     };
     let (between, rest) = after_notes(rest);

@@ -1,14 +1,11 @@
 //! The lines of a log.
-ghost use Rattle.std.specs.Prelude.{◌≡◌, ◌+◌, ◌≤◌, ◌∷◌, ◌++◌, IfNone, IfOk, IfSome, length};
+ghost use Rattle.std.specs.Prelude.{◌≡◌, ◌+◌, ◌≤◌, ◌∷◌, ◌++◌, IfNone, IfSome, length};
 ghost use Rattle.line_streams.specs.Spelling.{HasNo};
 ghost use Rattle.service_logs.specs.Fronts.{HasNotes, IsAfterNote};
-ghost use Rattle.service_logs.specs.Logs.{FirstIsNot, IsCommandLine, IsNote, IsReplyLine};
+ghost use Rattle.service_logs.specs.Logs.{FirstIsNot, IsNote, IsReplyLine};
 ghost use Rattle.service_logs.specs.Logs.{is_note, reply_seen};
-ghost use Rattle.service_descriptions.specs.Lines.{HasLine, line_of};
 
 use line_streams::{after_word, before_byte};
-use service_descriptions::replay::{Command, read_line};
-use std::alloc::{AllocError, Global};
 
 /// Whether a line says nothing of a service.
 fn is_note(line: &[u8]) -> bool
@@ -48,25 +45,6 @@ pub(super) fn after_notes(lines: &[u8]) -> (usize, &[u8])
         };
         count += 1;
         rest = more;
-    }
-}
-
-/// The command whose line begins the lines, and what follows it.
-pub(super) fn command_before(
-    alloc: Global,
-    lines: &[u8],
-) -> Result<Option<(Command, &[u8])>, AllocError>
-    ensures line { IfOk result (λ found. IfSome found (λ found. HasLine found.0)) }
-    ensures some { IfOk result (λ found. IfSome found
-        (λ found. lines.now ≡ line_of found.0 ++ 10 ∷ found.1.now)) }
-    ensures none { IfOk result (λ found. IfNone found (FirstIsNot IsCommandLine lines.now)) }
-{
-    let Some((line, rest)) = before_byte(lines, b'\n') else {
-        return Ok(None);
-    };
-    match read_line(alloc, line)? {
-        Some(command) => Ok(Some((command, rest))),
-        None => Ok(None),
     }
 }
 
