@@ -4,7 +4,7 @@ ghost use Rattle.std.specs.Io.KnownBytes.{IsAtEnd};
 ghost use Rattle.iox2_conform.specs.Program.{Ran, RequestsCheck};
 
 use line_streams::{Request, RequestError, print, request_of};
-use service_conformance::conformance::check_streams;
+use service_logs::logs::check_streams;
 use std::alloc::Global;
 use std::env::Args;
 use std::io;

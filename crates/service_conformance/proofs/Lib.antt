@@ -16,5 +16,3 @@ pub mod Conforming
 pub mod Stepping
 pub mod Dying
 pub mod DeadSteps
-pub mod Logs
-pub mod Reports

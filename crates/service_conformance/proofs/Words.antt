@@ -89,7 +89,8 @@ parts_same s t u v p q p' q' e =
     let parts =
     (number_one most).same (s, 32 ∷ decimal t) (u, 32 ∷ decimal v) (omega arith, p, ends t)
     (omega arith, p', ends v)
-    (append_cancel_left (codes "handle ") (decimal s ++ 32 ∷ decimal t) (decimal u ++ 32 ∷ decimal v)
+    (append_cancel_left (codes "handle ") (decimal s ++ 32 ∷ decimal t)
+    (decimal u ++ 32 ∷ decimal v)
     (sym (spaced s t) ∙ (e ∙ spaced u v))) in
     (parts.0, decimal_injective t v q q' (cons_same parts.1).1)
 
@@ -192,7 +193,8 @@ module _ (s : Service) (words : List ℕ) where
 
 module _ (s : Service) (Step : Reply → Service → Type 0) (p : Possible) (words : List ℕ)
     (all : ArePossible s Step p) where
-  pub told_none : (new : Service) → new ≡ s → Tells s p words None → CheckedWords Step words s None new
+  pub told_none : (new : Service) → new ≡ s → Tells s p words None
+      → CheckedWords Step words s None new
   told_none new e never = (λ r f can. never r (all.only r can.0 can.1 can.2) f, e)
 
   pub told_can : (r : Reply) → Tells s p words (Some r) → CanServe Step r

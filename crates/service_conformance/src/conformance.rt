@@ -1,7 +1,6 @@
 //! Checks of commands and replies that were seen, against the steps of
 //! registries and services.
 
-mod log;
 mod placed;
 mod possible;
 mod registry_check;
@@ -11,6 +10,5 @@ mod service_check;
 mod sides;
 mod words;
 
-pub use log::{Expected, Refusal, Verdict, check_log, check_streams};
 pub use possible::{NextHandle, PossibleReplies};
 pub use run_check::{RunCheck, conforms};

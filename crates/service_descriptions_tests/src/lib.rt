@@ -14,6 +14,10 @@ mod line_runs;
 #[cfg(test)]
 mod lines;
 #[cfg(test)]
+mod log_streams;
+#[cfg(test)]
+mod logs;
+#[cfg(test)]
 mod memory;
 #[cfg(test)]
 mod modules;

@@ -10,14 +10,14 @@ use std::test::Fail;
 
 /// Counts calls, one of which fails.
 #[derive(Clone, Copy)]
-struct Calls {
-    made: u64,
+pub(super) struct Calls {
+    pub(super) made: u64,
     failing: Option<u64>,
     kind: ErrorKind,
 }
 
 impl Calls {
-    fn failing_at(failing: Option<u64>, kind: ErrorKind) -> Self {
+    pub(super) fn failing_at(failing: Option<u64>, kind: ErrorKind) -> Self {
         Calls {
             made: 0,
             failing,
@@ -39,11 +39,11 @@ impl Calls {
 /// Gives a text in pieces of this many bytes at most,
 /// and notes the greatest piece that was asked for.
 #[derive(Clone, Copy)]
-struct Source<'a> {
-    text: &'a [u8],
-    piece: usize,
-    greatest: usize,
-    calls: Calls,
+pub(super) struct Source<'a> {
+    pub(super) text: &'a [u8],
+    pub(super) piece: usize,
+    pub(super) greatest: usize,
+    pub(super) calls: Calls,
 }
 
 impl Read for Source<'_> {
@@ -59,10 +59,10 @@ impl Read for Source<'_> {
 
 /// Takes this many bytes at a call at most.
 #[derive(Drop)]
-struct Sink {
-    bytes: Vec<u8>,
-    piece: usize,
-    calls: Calls,
+pub(super) struct Sink {
+    pub(super) bytes: Vec<u8>,
+    pub(super) piece: usize,
+    pub(super) calls: Calls,
 }
 
 impl Write for Sink {

@@ -6,6 +6,7 @@ ghost use Rattle.service_conformance.specs.Possible.{IsCovered};
 ghost use Rattle.service_conformance.specs.Quiet.{quiet_state};
 ghost use Rattle.service_conformance.specs.Runs.{Follows, Conforms};
 ghost use Rattle.service_conformance.specs.Words.{AreRepliesTo, FollowsWords};
+ghost use Rattle.service_descriptions.specs.Lines.{command_of};
 ghost use Rattle.service_descriptions.specs.Steps.{new_state};
 
 use super::possible::PossibleReplies;
@@ -14,7 +15,7 @@ use super::service_check::ServiceCheck;
 use iox2_container::container::ContainerHandle;
 use iox2_dynamic::dynamic_config::{MessagingPatternSettings, PortDetails};
 use iox2_ids::identifiers::UniqueNodeId;
-use service_descriptions::replay::{Command, Reply};
+use service_descriptions::replay::{Command, LineCommand, Reply};
 use std::alloc::{AllocError, Global};
 use std::marker::Model;
 
@@ -81,12 +82,12 @@ impl RunCheck {
     pub fn check_words(
         &mut self,
         alloc: Global,
-        command: &Command,
+        command: &LineCommand,
         words: &[u8],
     ) -> Result<bool, AllocError>
-        requires { IsCovered command.now }
+        requires { IsCovered (command_of command.now) }
         ensures ok { IfOk result (λ yes.
-            FollowsWords self.old command.now words.now yes self.new) }
+            FollowsWords self.old (command_of command.now) words.now yes self.new) }
         ensures err { OnErr result (self.new ≡ self.old) }
         ensures rest { quiet_state self.old ≡ self.old }
         ensures rests { quiet_state self.new ≡ self.new }
@@ -103,9 +104,13 @@ impl RunCheck {
     }
 
     /// The replies that the command may have next.
-    pub fn possible(&self, alloc: Global, command: &Command) -> Result<PossibleReplies, AllocError>
-        requires { IsCovered command.now }
-        ensures { IfOk result (AreRepliesTo self.now command.now) }
+    pub fn possible(
+        &self,
+        alloc: Global,
+        command: &LineCommand,
+    ) -> Result<PossibleReplies, AllocError>
+        requires { IsCovered (command_of command.now) }
+        ensures { IfOk result (AreRepliesTo self.now (command_of command.now)) }
     {
         let replies = self
             .service

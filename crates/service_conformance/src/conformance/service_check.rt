@@ -9,6 +9,7 @@ ghost use Rattle.service_conformance.specs.Possible.{IsCovered};
 ghost use Rattle.service_conformance.specs.Quiet.{Checked, ports_at_rest, quiet};
 ghost use Rattle.service_conformance.specs.Sides.{ports_at, side_of};
 ghost use Rattle.service_conformance.specs.Words.{CheckedWords};
+ghost use Rattle.service_descriptions.specs.Lines.{command_of};
 ghost use Rattle.service_descriptions.specs.Steps.{Serves};
 
 mod following;
@@ -20,7 +21,7 @@ use iox2_config::hash::PatternKind;
 use iox2_container::container::{ContainerHandle, Role};
 use iox2_dynamic::dynamic_config::{MessagingPatternSettings, PortDetails, PortRoles};
 use iox2_ids::identifiers::UniqueNodeId;
-use service_descriptions::replay::{Command, Reply};
+use service_descriptions::replay::{Command, LineCommand, Reply};
 use std::alloc::{AllocError, Global};
 use std::marker::Model;
 
@@ -244,23 +245,24 @@ impl ServiceCheck {
         &mut self,
         alloc: Global,
         earlier: &[Option<ContainerHandle>],
-        command: &Command,
+        command: &LineCommand,
         words: &[u8],
     ) -> Result<Option<Reply>, AllocError>
-        requires { IsCovered command.now }
+        requires { IsCovered (command_of command.now) }
         ensures ok { IfOk result (λ found. CheckedWords
-            (Serves self.old None earlier.now command.now) words.now self.old found self.new) }
+            (Serves self.old None earlier.now (command_of command.now)) words.now self.old found
+            self.new) }
         ensures err { OnErr result (self.new ≡ self.old) }
         ensures kept { IsService self.new }
         ensures rest { quiet self.new ≡ self.new }
     {
         // For the proof: what is true of every check.
         let _pattern = &self.pattern;
-        let possible = self.possible(alloc, earlier, command)?;
+        let possible = self.possible_for_line(alloc, earlier, command)?;
         let Some(reply) = self.told(alloc, possible, words)? else {
             return Ok(None);
         };
-        self.follow(earlier, command, &reply)?;
+        self.follow_line(earlier, command, &reply)?;
         Ok(Some(reply))
     }
 }

@@ -7,8 +7,8 @@ mod reply_line;
 mod script;
 mod service_line;
 
-pub use line::read_line;
-pub(crate) use port::ScriptPort;
+pub use line::{command_before, read_line};
+pub use port::ScriptPort;
 pub use reply_line::write_reply;
 pub use script::{ScriptError, run_script};
 pub use service_line::{ServiceLine, service_before};

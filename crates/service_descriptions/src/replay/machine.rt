@@ -11,7 +11,7 @@ mod serve;
 mod state;
 
 pub use command::{Cleanup, Command, MessagePart};
-pub(crate) use line_command::LineCommand;
+pub use line_command::LineCommand;
 pub(crate) use line_reply::LineReply;
 pub use reply::Reply;
 pub use state::{ServiceState, replay};

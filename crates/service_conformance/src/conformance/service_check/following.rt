@@ -4,8 +4,10 @@ ghost use Rattle.iox2_dynamic.specs.Service.{IsService};
 ghost use Rattle.service_conformance.specs.Possible.{IsCovered};
 ghost use Rattle.service_conformance.specs.Quiet.{CanServe, LeadsTo};
 ghost use Rattle.service_descriptions.specs.Cleanups.{ServesDead};
+ghost use Rattle.service_descriptions.specs.Lines.{command_of};
 ghost use Rattle.service_descriptions.specs.Steps.{Serves, ServesAdd, ServesDeregister, ServesRegister, ServesRelease};
 ghost use Rattle.service_descriptions.specs.declared.replay.machine.command.Cleanup.TheVariants as cleanup;
+ghost use Rattle.service_descriptions.specs.declared.replay.machine.command.Command.TheVariants as command;
 
 use super::super::replies::{given, is_removal, named};
 use super::super::sides::side;
@@ -13,7 +15,7 @@ use super::{ServiceCheck, has_ports_in};
 use iox2_container::container::{ContainerHandle, ReleaseMode};
 use iox2_dynamic::dynamic_config::PortDetails;
 use iox2_ids::identifiers::UniqueNodeId;
-use service_descriptions::replay::{Cleanup, Command, Reply};
+use service_descriptions::replay::{Cleanup, Command, LineCommand, Reply};
 use std::alloc::AllocError;
 
 impl ServiceCheck {
@@ -111,6 +113,59 @@ impl ServiceCheck {
             return;
         }
         self.nodes.recover(dead);
+    }
+
+    /// The service after a dead node was removed with this cleanup.
+    fn follow_cleanup(&mut self, dead: &UniqueNodeId, cleanup: &Cleanup, reply: &Reply)
+        requires covered { IsCovered (command.Dead dead.now cleanup.now) }
+        requires can { CanServe (ServesDead self.old dead.now cleanup.now) reply.now }
+        ensures one { LeadsTo (ServesDead self.old dead.now cleanup.now) reply.now self.new }
+        ensures kept { IsService self.new }
+    {
+        match cleanup {
+            Cleanup::ByPort(kept) => self.follow_dead(dead, kept, reply),
+            Cleanup::ByOrder(_) => unreachable!(),
+        }
+    }
+
+    /// The service after a command that has a line, and its reply.
+    #[tactic(auto, using(crate::proofs::Following::reported))]
+    pub(super) fn follow_line(
+        &mut self,
+        earlier: &[Option<ContainerHandle>],
+        command: &LineCommand,
+        reply: &Reply,
+    ) -> Result<(), AllocError>
+        requires covered { IsCovered (command_of command.now) }
+        requires can { CanServe (Serves self.old None earlier.now (command_of command.now))
+            reply.now }
+        ensures ok { OnOk result
+            (LeadsTo (Serves self.old None earlier.now (command_of command.now)) reply.now
+            self.new) }
+        ensures err { OnErr result (self.new ≡ self.old) }
+        ensures kept { IsService self.new }
+    {
+        // For the proof: what is true of every check.
+        let _pattern = &self.pattern;
+        match command {
+            LineCommand::Register(id) => self.follow_register(*id, reply),
+            LineCommand::Deregister(k) => {
+                self.follow_deregister(named(earlier, *k), reply);
+                Ok(())
+            }
+            LineCommand::Add(port) => self.follow_attach(port.details(), reply),
+            LineCommand::Release(k) => {
+                self.follow_release(named(earlier, *k), reply);
+                Ok(())
+            }
+            LineCommand::Nodes => Ok(()),
+            LineCommand::List(_) => Ok(()),
+            LineCommand::Count(_) => Ok(()),
+            LineCommand::Dead(dead, cleanup) => {
+                self.follow_cleanup(dead, cleanup, reply);
+                Ok(())
+            }
+        }
     }
 
     /// The service after a command and its reply.

@@ -3,6 +3,7 @@ ghost use Rattle.std.specs.Prelude.{◌≡◌, ◌↔◌, IsTrue, IfOk, None};
 ghost use Rattle.service_conformance.specs.Possible.{Allows, ArePossible, IsCovered, MayGiveIn};
 ghost use Rattle.service_conformance.specs.Quiet.{Reports};
 ghost use Rattle.service_descriptions.specs.Cleanups.{ServesDead};
+ghost use Rattle.service_descriptions.specs.Lines.{command_of};
 ghost use Rattle.service_descriptions.specs.Listings.{ServesCount, ServesList, ServesNodes};
 ghost use Rattle.service_descriptions.specs.Steps.{Serves, ServesAdd, ServesDeregister, ServesRegister, ServesRelease};
 ghost use Rattle.service_descriptions.specs.declared.replay.machine.command.Cleanup.TheVariants as cleanup;
@@ -16,7 +17,7 @@ use iox2_container::container::{ContainerHandle, Role};
 use iox2_dynamic::dynamic_config::PortDetails;
 use iox2_ids::identifiers::UniqueNodeId;
 use service_descriptions::laws::replies_go_by_fields;
-use service_descriptions::replay::{Cleanup, Command, Reply};
+use service_descriptions::replay::{Cleanup, Command, LineCommand, Reply};
 use std::alloc::{AllocError, Global};
 
 impl ServiceCheck {
@@ -155,6 +156,29 @@ impl ServiceCheck {
             Command::Count(role) => Ok(self.possible_count(*role)),
             Command::Dead(dead, cleanup) => Ok(self.possible_cleanup(dead, cleanup)),
             _ => unreachable!(),
+        }
+    }
+
+    /// The same for a command that has a line.
+    pub(super) fn possible_for_line(
+        &self,
+        alloc: Global,
+        earlier: &[Option<ContainerHandle>],
+        command: &LineCommand,
+    ) -> Result<Possible, AllocError>
+        requires { IsCovered (command_of command.now) }
+        ensures { IfOk result (ArePossible self.now
+            (Serves self.now None earlier.now (command_of command.now))) }
+    {
+        match command {
+            LineCommand::Register(id) => Ok(self.possible_register(*id)),
+            LineCommand::Deregister(k) => Ok(self.possible_deregister(named(earlier, *k))),
+            LineCommand::Nodes => self.possible_nodes(alloc),
+            LineCommand::Add(port) => Ok(self.possible_attach(port.details())),
+            LineCommand::Release(k) => Ok(self.possible_release(named(earlier, *k))),
+            LineCommand::List(role) => self.possible_list(alloc, *role),
+            LineCommand::Count(role) => Ok(self.possible_count(*role)),
+            LineCommand::Dead(dead, cleanup) => Ok(self.possible_cleanup(dead, cleanup)),
         }
     }
 

@@ -3,6 +3,7 @@ ghost use Rattle.std.specs.Prelude.{◌≡◌, ◌++◌, IfOk, None};
 ghost use Rattle.iox2_container.specs.Steps.{listed};
 ghost use Rattle.service_conformance.specs.Possible.{IsCovered, MayGiveIn};
 ghost use Rattle.service_conformance.specs.Words.{ArePossibleWords, IsNextIn, Tells, TellsHandle};
+ghost use Rattle.service_descriptions.specs.Lines.{command_of};
 ghost use Rattle.service_descriptions.specs.Steps.{Serves};
 
 use super::super::possible::{NextHandle, Part, Possible, PossibleReplies};
@@ -11,7 +12,7 @@ use super::ServiceCheck;
 use iox2_container::container::ContainerHandle;
 use iox2_dynamic::dynamic_config::PortDetails;
 use iox2_ids::identifiers::UniqueNodeId;
-use service_descriptions::replay::{Command, Reply};
+use service_descriptions::replay::{LineCommand, Reply};
 use std::alloc::{AllocError, Global};
 
 impl ServiceCheck {
@@ -63,13 +64,13 @@ impl ServiceCheck {
         &self,
         alloc: Global,
         earlier: &[Option<ContainerHandle>],
-        command: &Command,
+        command: &LineCommand,
     ) -> Result<PossibleReplies, AllocError>
-        requires { IsCovered command.now }
+        requires { IsCovered (command_of command.now) }
         ensures { IfOk result
-            (ArePossibleWords (Serves self.now None earlier.now command.now)) }
+            (ArePossibleWords (Serves self.now None earlier.now (command_of command.now))) }
     {
-        match self.possible(alloc, earlier, command)? {
+        match self.possible_for_line(alloc, earlier, command)? {
             Possible::One(one) => Ok(PossibleReplies::One(one)),
             Possible::Given(part) => Ok(PossibleReplies::Handle(self.next_in(alloc, part)?)),
         }

@@ -15,7 +15,7 @@ const EARLIER: Number = Number(u64::MAX);
 
 /// The command whose line begins these bytes, and what follows its end.
 #[inline(always)]
-pub(super) fn command_before(
+pub fn command_before(
     alloc: Global,
     bytes: &[u8],
     end: LineEnd,

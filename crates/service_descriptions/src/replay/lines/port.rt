@@ -66,7 +66,7 @@ impl<'a> Phrase<'a> for RoleName {
 
 /// A port as a line has it.
 #[derive(Clone, Copy)]
-pub(crate) struct ScriptPort {
+pub struct ScriptPort {
     role: Role,
     port: Parts,
     node: UniqueNodeId,
@@ -74,7 +74,7 @@ pub(crate) struct ScriptPort {
 
 impl ScriptPort {
     /// The details that a script gives the port.
-    pub(crate) fn details(self) -> PortDetails
+    pub fn details(self) -> PortDetails
         ensures { result ≡ plain_of self }
     {
         match self.role {

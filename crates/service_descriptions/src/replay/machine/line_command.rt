@@ -9,20 +9,28 @@ use iox2_ids::identifiers::UniqueNodeId;
 
 /// A command that has a line. It is small; a [`Command`] can hold what a verifier requires.
 #[derive(Drop)]
-pub(crate) enum LineCommand {
+pub enum LineCommand {
+    /// As [`Command::Register`].
     Register(UniqueNodeId),
+    /// As [`Command::Deregister`].
     Deregister(usize),
+    /// As [`Command::Nodes`].
     Nodes,
+    /// As [`Command::Add`].
     Add(ScriptPort),
+    /// As [`Command::Release`].
     Release(usize),
+    /// As [`Command::List`].
     List(Role),
+    /// As [`Command::Count`].
     Count(Role),
+    /// As [`Command::Dead`].
     Dead(UniqueNodeId, Cleanup),
 }
 
 impl LineCommand {
     /// The command itself.
-    pub(crate) fn command(self) -> Command
+    pub fn command(self) -> Command
         ensures { result ≡ command_of self }
     {
         match self {

@@ -1,6 +1,7 @@
 use Rattle.std.proofs.Common.{◌≡◌, ◌++◌, ◌∷◌, [], List, Option, Some, true, false, None, sym, ◌∙◌, ap, subst}
 use Rattle.iox2_container.specs.Handle.{Handle}
 use Rattle.service_descriptions.specs.Handles.{KeepsHandles}
+use Rattle.service_descriptions.specs.Lines.{command_of}
 use Rattle.service_descriptions.specs.Steps.{Serves, handle_in}
 use Rattle.service_conformance.specs.Words.{CheckedWords, FollowsWords}
 use Rattle.service_conformance.proofs.Stepping.{bare, handles_kept, words_not, words_on}
@@ -9,7 +10,7 @@ use Rattle.service_conformance.proofs.conformance.run_check.RunCheck.check_words
 pub returns-in_default-clause-ok : goal.returns-in_default-clause-ok
 returns-in_default-clause-ok c =
     let old = c.self.inside in
-    let cm = c.args.command.now in
+    let cm = command_of c.args.command.now in
     let words = c.args.words.now in
     let same : c.deref.result.now ≡ old.earlier.items =
     c.deref.ensures.value ∙ c.reserve.ensures.items in
@@ -28,7 +29,7 @@ returns-in_default-clause-ok c =
 pub invariant_of-self-2 : goal.invariant_of-self-2
 invariant_of-self-2 c =
     let old = c.self.inside in
-    let cm = c.args.command.now in
+    let cm = command_of c.args.command.now in
     let words = c.args.words.now in
     let r = c.in-Some.reply in
     let same : c.deref.result.now ≡ old.earlier.items =
@@ -54,7 +55,7 @@ invariant_of-self-2 c =
 pub returns-clause-ok : goal.returns-clause-ok
 returns-clause-ok c =
     let old = c.self.inside in
-    let cm = c.args.command.now in
+    let cm = command_of c.args.command.now in
     let words = c.args.words.now in
     let r = c.in-Some.reply in
     let same : c.deref.result.now ≡ old.earlier.items =

@@ -1,0 +1,5 @@
+-- Promises: what a log is and is judged to be, and what is written of it.
+pub mod Logs
+pub mod Reports
+-- Inner facts: what begins the lines of a log.
+pub mod Fronts

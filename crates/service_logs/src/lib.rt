@@ -1,0 +1,4 @@
+//! Logs of what was seen of a service, judged by the steps of services.
+#![tactic(auto)]
+
+pub mod logs;

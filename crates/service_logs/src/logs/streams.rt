@@ -1,0 +1,120 @@
+//! Logs that come from a stream.
+ghost use Rattle.std.specs.Prelude.{◌≡◌, ◌++◌, ◌<◌, [], IfOk, IfSome, OnOk};
+ghost use Rattle.std.specs.Io.KnownBytes.{Appends, IsAtEnd};
+ghost use Rattle.service_logs.specs.Logs.{Judged};
+ghost use Rattle.service_logs.specs.Reports.{Reported, errors_text, output_text, report_text, status_of};
+
+use super::check_log;
+use super::report::append_report;
+use super::verdict::Verdict;
+use line_streams::{read_all, write_whole};
+use std::alloc::{AllocError, Global};
+use std::io;
+use std::io::{Read, Write};
+
+/// The status of a verdict.
+fn status(verdict: &Verdict) -> u8
+    ensures { result ≡ status_of verdict.now }
+{
+    match verdict {
+        Verdict::Conforms(_) => 0,
+        Verdict::NoRun(_) => 1,
+        Verdict::BadLine(_, _) => 2,
+    }
+}
+
+/// Judges a log, and writes the text of the verdict into an empty list.
+fn judge(alloc: Global, log: &[u8], text: &mut Vec<u8>) -> Result<Verdict, AllocError>
+    requires { text.old.items ≡ [] }
+    ensures judged { IfOk result (Judged log.now) }
+    ensures text { IfOk result (λ verdict. text.new.items ≡ report_text verdict) }
+{
+    let verdict = check_log(alloc, log)?;
+    append_report(&verdict, text)?;
+    Ok(verdict)
+}
+
+/// Writes the text of a verdict where it belongs, and flushes both writers.
+fn report<W: Write, E: Write>(
+    output: &mut W,
+    errors: &mut E,
+    verdict: &Verdict,
+    text: &[u8],
+) -> io::Result<()>
+    requires { text.now ≡ report_text verdict.now }
+    ensures output { OnOk result
+        (Appends (W.contents output.old) (W.contents output.new) (output_text verdict.now)) }
+    ensures errors { OnOk result
+        (Appends (E.contents errors.old) (E.contents errors.new) (errors_text verdict.now)) }
+{
+    match verdict {
+        Verdict::BadLine(_, _) => write_whole(errors, text)?,
+        Verdict::Conforms(_) => write_whole(output, text)?,
+        Verdict::NoRun(_) => write_whole(output, text)?,
+    }
+    output.flush()?;
+    errors.flush()
+}
+
+/// Judges the log that the reader gives, and answers the status unless a stream fails.
+fn run<R: Read, W: Write, E: Write>(
+    alloc: Global,
+    input: &mut R,
+    output: &mut W,
+    errors: &mut E,
+) -> io::Result<u8>
+    ensures range { IfOk result (λ status. status < 4) }
+    ensures reported { IfOk result (λ status. status < 3 → IfSome (R.remaining input.old)
+        (λ log. Reported log status (W.contents output.old) (W.contents output.new)
+        (E.contents errors.old) (E.contents errors.new))) }
+    ensures read { IfOk result (λ status. status < 3 → IsAtEnd (R.remaining input.new)) }
+{
+    let mut text = Vec::new(alloc);
+    let end = match read_all(alloc, input)? {
+        Ok(log) => judge(alloc, &log, &mut text),
+        Err(why) => Err(why),
+    };
+    match end {
+        Ok(verdict) => {
+            report(output, errors, &verdict, &text)?;
+            Ok(status(&verdict))
+        }
+        Err(_) => {
+            write_whole(errors, b"no memory\n")?;
+            errors.flush()?;
+            Ok(3)
+        }
+    }
+}
+
+/// Judges the log that the reader gives, and answers the status of the program.
+///
+/// - 0: the replies are those of a run. `conforms, N calls on 1 service` was written to `output`.
+/// - 1: they are none. The first that no run gives was written to `output`: its line, its words,
+///   every reply that a run gives instead, and the nodes and ports that are there then.
+/// - 2: a line is not what it should be. Which one, and what is expected, was written to `errors`.
+/// - 3: memory was refused, and `no memory` was written to `errors`; or a read, a write or a flush
+///   failed, for any cause, and it was tried to write `a stream failed` to `errors`.
+pub fn check_streams<R: Read, W: Write, E: Write>(
+    alloc: Global,
+    input: &mut R,
+    output: &mut W,
+    errors: &mut E,
+) -> u8
+    ensures range { result < 4 }
+    // A status below 3 is that of a verdict on the log, and the writers got what fits it.
+    ensures reported { result < 3 → IfSome (R.remaining input.old) (λ log. Reported log result
+        (W.contents output.old) (W.contents output.new)
+        (E.contents errors.old) (E.contents errors.new)) }
+    // All input was read.
+    ensures read { result < 3 → IsAtEnd (R.remaining input.new) }
+{
+    match run(alloc, input, output, errors) {
+        Ok(status) => status,
+        Err(_) => {
+            // Where this fails too, the status alone tells it.
+            let _told = write_whole(errors, b"a stream failed\n");
+            3
+        }
+    }
+}
