@@ -3,41 +3,39 @@
  *
  * Rules for every call
  *
- * - Values are plain structs, which a caller keeps, copies and compares as it likes. iox2sd_id and
- *   iox2sd_handle have no padding, so memcmp compares them; of the others the fields are compared.
+ * - Values are plain structs, which may be kept, copied and compared. iox2sd_id and iox2sd_handle
+ *   have no padding, so memcmp compares them; compare the others by their fields.
  * - A call returns a status (enum iox2sd_status), alone or as the first field of a struct. Where it
- *   is not IOX2SD_DONE, the other fields are 0 and nothing was changed, but where a function says
- *   otherwise. A refused answer's handle is IOX2SD_HANDLE_NONE, which no call accepts. Each
- *   function names its refusals in the order in which they are reported.
+ *   is not IOX2SD_DONE, the other fields are 0 and nothing has changed, unless a function says
+ *   otherwise. The handle of a refused call is IOX2SD_HANDLE_NONE, which no call accepts. Each
+ *   function lists its errors in the order in which they are checked.
  * - An array, a buffer or a text is a pointer and a number of elements. NULL with the number 0 is
  *   an empty one. NULL with another number is IOX2SD_NULL, as is NULL where one struct is expected;
  *   it is reported before all else. Where a function ends in `_str`, a text is a pointer to bytes
  *   that end in a zero byte, and NULL is IOX2SD_NULL.
- * - What is written overlaps no other argument of the call. No call writes past the number of
- *   elements that it was given, keeps a pointer, or calls back.
+ * - An array that a call writes overlaps no other argument of the call. No call writes past the
+ *   number of elements that is passed, keeps a pointer, or calls back.
  * - No call starts a thread, takes a lock, or reads a file, the clock or the environment. There is
- *   no global state: calls may run on several threads at once, where none writes to what another is
- *   given. A question takes a `const iox2sd_service *`, and each other call on a service changes
- *   it. On one service any number of questions may run at once, or one change alone. A service may
- *   be moved to another thread; a move and a change are ordered with other calls by a lock or by a
+ *   no global state: calls may run on several threads at once, where none writes to an argument of
+ *   another. A query takes a `const iox2sd_service *`; each other call on a service changes it. On
+ *   one service any number of queries may run at once, or one change alone. A service may be moved
+ *   to another thread. The caller orders moves and changes with other calls, by a lock or by a
  *   thread's start or join.
- * - iox2sd_service_create alone takes memory, by malloc; iox2sd_service_free alone gives it back.
- *   Nothing is kept for a call.
+ * - Only iox2sd_service_create takes memory, by malloc, and only iox2sd_service_free frees it.
  *
  * What is proved, and what not
  *
- * Each function of the library is proved to answer what the layer's own definitions say, to touch
- * nothing outside its arguments, and to return; each question, to leave the service as it was, its
- * own bytes and what it holds; and what a service holds, to be such as may be sent to another
- * thread. The proof takes this header's rules for granted: that a pointer points to as many
- * elements as it is said to, that no other thread touches them during the call, and that the bytes
- * of a service are zeros or what the last call left there. So it speaks of one question at a time.
- * That a question writes nothing to a service meanwhile either, so that several may run at once, is
- * tested and not proved: all questions are asked of services in pages that may only be read, by
- * sixteen threads at once. No proof says that a caller frees a service, that no other call runs
- * beside a change, or what a caller does with a pointer; nor that the declarations below are those
- * of the library, nor that its inline functions pass the numbers that they say. That NULL with the
- * number 0 is an empty array is tested, not proved.
+ * It is proved that each function of the library returns what the layer's definitions say, touches
+ * nothing outside its arguments, and returns; that a query leaves the service as it was, its own
+ * bytes and what it holds; and that what a service holds may be sent to another thread. The proof
+ * assumes this header's rules: a pointer points to as many elements as are passed, no other thread
+ * touches them during the call, and the bytes of a service are zeros or what the last call left
+ * there. So it covers one query at a time. It is tested, not proved, that a query writes nothing to
+ * a service while it runs, so that several may run at once: all queries are made on services in
+ * pages that may only be read, by sixteen threads at once. It is also tested, not proved, that the
+ * declarations below are those of the library, that the inline functions pass the numbers that they
+ * say, and that NULL with the number 0 is an empty array. Not covered: that a caller frees a
+ * service and runs no other call beside a change, and what a caller does with a pointer.
  */
 #ifndef IOX2SD_H
 #define IOX2SD_H
@@ -65,22 +63,22 @@ extern "C" {
  * iox2sd_status_text has a text for each. */
 enum iox2sd_status {
     IOX2SD_DONE = 0,
-    /* It was done, and the service is locked for good: no node registers any more. */
+    /* Success, and the service is locked for good: no node registers any more. */
     IOX2SD_DONE_LOCKED = 1,
-    IOX2SD_BUFFER_TOO_SHORT = 2, /* The answer has the length that is needed. */
+    IOX2SD_BUFFER_TOO_SHORT = 2, /* The length that is needed is returned. */
     IOX2SD_NO_MEMORY = 3,
-    IOX2SD_NO_SERVICE = 4,  /* The place holds none. */
-    IOX2SD_HAS_SERVICE = 5, /* The place holds one already. */
+    IOX2SD_NO_SERVICE = 4,  /* The object holds no service. */
+    IOX2SD_HAS_SERVICE = 5, /* The object holds a service already. */
     IOX2SD_UNKNOWN_PATTERN = 6,
-    /* The number is not that of a role, or that of nodes where a port is meant. */
+    /* The number is that of no role, or that of nodes where a port is expected. */
     IOX2SD_UNKNOWN_ROLE = 7,
     IOX2SD_NO_NODE = 8,      /* The id is that of no node: its process and its counter are 0. */
     IOX2SD_IS_LOCKED = 9,
-    IOX2SD_OUT_OF_SPACE = 10,         /* No place or no ticket is left. */
+    IOX2SD_OUT_OF_SPACE = 10,         /* No slot or no ticket is left. */
     IOX2SD_FOREIGN_HANDLE = 11,       /* No entry has the handle. */
     /* Some port has the node, and the handle is the node's only one. */
     IOX2SD_PORTS_STILL_ATTACHED = 12,
-    IOX2SD_NODE_NOT_REGISTERED = 13,  /* The node of the port is not. */
+    IOX2SD_NODE_NOT_REGISTERED = 13,  /* The port's node is not registered. */
     IOX2SD_ROLE_NOT_IN_PATTERN = 14,
     IOX2SD_UNKNOWN_SEGMENT = 15,
     IOX2SD_BAD_KEY = 16,   /* A key of a pair is invalid: iox2sd_attribute_key_check says why. */
@@ -108,7 +106,7 @@ enum iox2sd_status {
     IOX2SD_MISSING_KEY = 55,
     IOX2SD_NO_SUCH_VALUE = 56,
     IOX2SD_BAD_ALIGNMENT = 57, /* An alignment is no power of two. */
-    IOX2SD_TOO_LARGE = 58,     /* The answer would pass its range. */
+    IOX2SD_TOO_LARGE = 58,     /* The result would pass its range. */
     IOX2SD_UNKNOWN_VARIANT = 59,
     IOX2SD_OTHER_NAME = 60,
     IOX2SD_OTHER_VARIANT = 61,
@@ -121,7 +119,7 @@ enum iox2sd_status {
     IOX2SD_BAD_DURATION = 68 /* The nanoseconds beside the seconds are 1,000,000,000 or more. */
 };
 
-/* Whether a call was done: IOX2SD_DONE and IOX2SD_DONE_LOCKED, and no other status. */
+/* Whether a call succeeded: with IOX2SD_DONE or IOX2SD_DONE_LOCKED. */
 #define IOX2SD_OK(status) ((uint32_t)(status) <= 1)
 
 /* Messaging patterns. */
@@ -147,8 +145,8 @@ enum iox2sd_role {
     IOX2SD_WRITER = 8
 };
 
-/* The role of no entry and of no port, which each call with a role or a handle refuses by
- * IOX2SD_UNKNOWN_ROLE. */
+/* The role of no entry and of no port. Each call with it, or with a handle that has it, is refused
+ * with IOX2SD_UNKNOWN_ROLE. */
 #define IOX2SD_NO_ROLE UINT64_MAX
 
 /* Whether a data segment may grow. */
@@ -165,12 +163,12 @@ typedef struct iox2sd_id {
     uint32_t counter;
 } iox2sd_id;
 
-/* What registering and attaching give, and what deregistering and releasing take. */
+/* Registering and attaching return a handle; deregistering and releasing take it. */
 typedef struct iox2sd_handle {
     uint64_t service; /* The number of the service. */
     uint64_t role;    /* Of enum iox2sd_role; IOX2SD_NO_ROLE where it stands for nothing. */
     size_t slot;
-    uint64_t ticket; /* How many entries of its kind the service had been given before. */
+    uint64_t ticket; /* The number of entries of its kind that the service had before, also of those removed. */
 } iox2sd_handle;
 
 /* A handle that stands for nothing. One whose bytes are all 0 is that of the first node of a
@@ -193,7 +191,7 @@ typedef struct iox2sd_port_details {
     uint8_t max_number_of_segments; /* Of publishers, servers and clients. */
 } iox2sd_port_details;
 
-/* For how many nodes and ports at a time a service has room. */
+/* How many nodes and ports a service can have at a time. */
 typedef struct iox2sd_capacities {
     size_t nodes;
     size_t first;  /* For publishers, listeners, servers or readers. */
@@ -256,9 +254,9 @@ iox2sd_capacities_of_blackboard(iox2sd_blackboard_capacities capacities) {
 }
 
 /* A service object. An all-zero one (IOX2SD_SERVICE_NONE, a memset) holds no service. The caller
- * owns these bytes and neither reads nor changes them but to zero them before the first call; a
- * place that holds a service may be moved, but not copied: one copy alone is ever used again. What
- * it holds is freed by iox2sd_service_free alone. */
+ * owns these bytes, zeroes them before the first call, and does not read or change them otherwise.
+ * An object that holds a service may be moved; do not use two copies of it. Only
+ * iox2sd_service_free frees what it holds. */
 typedef struct iox2sd_service {
     bool full;
     void *at;
@@ -316,7 +314,7 @@ typedef struct iox2sd_port_answer {
     iox2sd_port_details port;
 } iox2sd_port_answer;
 
-/* How many ports went with a dead node, also with IOX2SD_DONE_LOCKED. */
+/* How many ports of a dead node were removed, also with IOX2SD_DONE_LOCKED. */
 typedef struct iox2sd_dead_node_removal {
     uint32_t status;
     size_t first;  /* Publishers, listeners, servers or readers. */
@@ -333,7 +331,7 @@ iox2sd_text_answer iox2sd_status_text_at(uint32_t status, uint8_t *out, size_t c
 iox2sd_text_answer iox2sd_id_text_at(iox2sd_id id, uint8_t *out, size_t capacity);
 iox2sd_id_answer iox2sd_id_from_text_at(const uint8_t *text, size_t length);
 
-/* Writes what a status says to the front of `out`, without a zero byte, where all of it fits.
+/* Writes the text of a status to the front of `out`, without a zero byte, where all of it fits.
  * Errors: IOX2SD_NULL; IOX2SD_UNKNOWN_STATUS; IOX2SD_BUFFER_TOO_SHORT with the length that it
  * needs. */
 static inline iox2sd_text_answer iox2sd_status_text(uint32_t status, uint8_t *out,
@@ -343,21 +341,21 @@ static inline iox2sd_text_answer iox2sd_status_text(uint32_t status, uint8_t *ou
     return iox2sd_status_text_at(status, out, capacity);
 }
 
-/* What a status says, as iox2sd_status_text has it, ended by a zero byte. Of a number that is not
- * that of a status, that it is unknown. */
+/* The text of a status, that of iox2sd_status_text, ended by a zero byte; "unknown status" for any
+ * other number. */
 static inline const char *iox2sd_status_str(uint32_t status) {
     switch (status) {
         case IOX2SD_DONE: return "done";
         case IOX2SD_DONE_LOCKED: return "done, and the service is locked for good";
         case IOX2SD_BUFFER_TOO_SHORT: return "the buffer is too short";
         case IOX2SD_NO_MEMORY: return "no memory";
-        case IOX2SD_NO_SERVICE: return "the place holds no service";
-        case IOX2SD_HAS_SERVICE: return "the place holds a service already";
+        case IOX2SD_NO_SERVICE: return "the object holds no service";
+        case IOX2SD_HAS_SERVICE: return "the object holds a service already";
         case IOX2SD_UNKNOWN_PATTERN: return "unknown messaging pattern";
         case IOX2SD_UNKNOWN_ROLE: return "unknown role";
         case IOX2SD_NO_NODE: return "not the id of a node";
         case IOX2SD_IS_LOCKED: return "the service is locked for good";
-        case IOX2SD_OUT_OF_SPACE: return "no place or no ticket is left";
+        case IOX2SD_OUT_OF_SPACE: return "no slot or no ticket is left";
         case IOX2SD_FOREIGN_HANDLE: return "no entry has the handle";
         case IOX2SD_PORTS_STILL_ATTACHED: return "ports are still attached";
         case IOX2SD_NODE_NOT_REGISTERED: return "the node is not registered";
@@ -380,7 +378,7 @@ static inline const char *iox2sd_status_str(uint32_t status) {
         case IOX2SD_ILLEGAL_HASH: return "the hash text cannot be the name of a file";
         case IOX2SD_BAD_REQUIRED_KEY: return "not a key of a required pair";
         case IOX2SD_BAD_REQUIRED_VALUE: return "not a value of a required pair";
-        case IOX2SD_BAD_ASKED_KEY: return "not a key that may be asked for";
+        case IOX2SD_BAD_ASKED_KEY: return "not a key that may be searched for";
         case IOX2SD_TOO_MANY_REQUIRED: return "more than sixteen pairs and keys are required";
         case IOX2SD_MISSING_PAIR: return "a required pair is not in the set";
         case IOX2SD_MISSING_KEY: return "no pair of the set has a required key";
@@ -437,8 +435,8 @@ static inline size_t iox2sd_length(const char *text) { return text != NULL ? str
 /* Whether an id is that of a node: its process or its counter is not 0. */
 bool iox2sd_id_is_node(iox2sd_id id);
 
-/* process * 2^32 + counter, which is 0 for an id of no node alone. Nodes of one process with one
- * counter share it. */
+/* process * 2^32 + counter, which is 0 only where the id is that of no node. Nodes of one process
+ * with the same counter share it. */
 uint64_t iox2sd_id_owner_id(iox2sd_id id);
 
 /* Whether the number process * 2^96 + seconds * 2^64 + nanoseconds * 2^32 + counter of the first is
@@ -466,8 +464,8 @@ static inline iox2sd_id_answer iox2sd_id_from_text_str(const char *text) {
     return iox2sd_id_from_text((const uint8_t *)text, iox2sd_length(text));
 }
 
-/* The library's own functions on a service take, in place of one pointer, an array of 0 or 1
- * elements: 0 where the pointer is NULL. Callers use the functions below, which give the number. */
+/* The library's own functions on a service take an array of 0 or 1 elements instead of a pointer: 0
+ * where the pointer is NULL. Callers use the functions below, which pass the number. */
 uint32_t iox2sd_service_create_at(iox2sd_service *places, size_t count, uint32_t pattern,
                                   uint64_t number, iox2sd_capacities capacities, uint64_t tickets);
 uint32_t iox2sd_service_free_at(iox2sd_service *places, size_t count);
@@ -501,10 +499,10 @@ iox2sd_count_answer iox2sd_ports_at(const iox2sd_service *places, size_t count, 
 iox2sd_count_answer iox2sd_ports_of_at(const iox2sd_service *places, size_t count, iox2sd_id node,
                                        iox2sd_port_details *out, size_t capacity);
 
-/* Makes a service with nothing attached. `number` stands in its handles. `tickets` tickets are
- * given out for nodes and for each kind of ports: each registering and each attaching takes one,
- * and none comes back. UINT64_MAX is for all.
- * Errors: IOX2SD_NULL; IOX2SD_HAS_SERVICE, and the place keeps what it holds;
+/* Creates a service with nothing attached. `number` is part of its handles. It has `tickets`
+ * tickets for nodes, and as many for each kind of ports: each registering and each attaching uses
+ * one, and tickets are never reused. UINT64_MAX is no limit.
+ * Errors: IOX2SD_NULL; IOX2SD_HAS_SERVICE, and the object keeps what it holds;
  * IOX2SD_UNKNOWN_PATTERN; IOX2SD_NO_MEMORY. */
 static inline uint32_t iox2sd_service_create(iox2sd_service *service, uint32_t pattern,
                                              uint64_t number, iox2sd_capacities capacities,
@@ -553,9 +551,9 @@ static inline uint32_t iox2sd_release_port(iox2sd_service *service, iox2sd_handl
     return iox2sd_release_port_at(service, service != NULL, handle);
 }
 
-/* Removes those ports of a dead node whose ids are not among `kept`, and returns how many went.
- * Where none of its ports is left, the node goes too, with all its handles. IOX2SD_DONE_LOCKED
- * where the service is locked: it has no node any more.
+/* Removes those ports of a dead node whose ids are not among `kept`, and returns how many it
+ * removed. Where none of its ports is left, the node is removed too, with all its handles.
+ * IOX2SD_DONE_LOCKED where the service is locked: it has no node any more.
  * Errors: IOX2SD_NULL; IOX2SD_NO_SERVICE; IOX2SD_NO_NODE. */
 static inline iox2sd_dead_node_removal
 iox2sd_remove_dead_node_id(iox2sd_service *service, iox2sd_id dead, const iox2sd_id *kept,
@@ -565,7 +563,7 @@ iox2sd_remove_dead_node_id(iox2sd_service *service, iox2sd_id dead, const iox2sd
     return iox2sd_remove_dead_node_id_at(service, service != NULL, dead, kept, kept_count);
 }
 
-/* Lists the ports of a role by rising slot at the front of `out`, whose other places stay as they
+/* Lists the ports of a role by rising slot at the front of `out`, whose other elements stay as they
  * were.
  * Errors: IOX2SD_NULL; IOX2SD_NO_SERVICE; IOX2SD_UNKNOWN_ROLE; IOX2SD_ROLE_NOT_IN_PATTERN, also for
  * IOX2SD_NODE; IOX2SD_BUFFER_TOO_SHORT with the number of ports that there are. Then `out` is as it
@@ -577,7 +575,7 @@ static inline iox2sd_count_answer iox2sd_ports(const iox2sd_service *service, ui
     return iox2sd_ports_at(service, service != NULL, role, out, capacity);
 }
 
-/* Lists the ports of a node, by its whole id, at the front of `out`, whose other places stay as
+/* Lists the ports of a node, by its whole id, at the front of `out`, whose other elements stay as
  * they were: those of the pattern's first kind before those of its second, each kind by rising
  * slot. These are the ports that iox2sd_remove_dead_node_id removes or keeps.
  * Errors: IOX2SD_NULL; IOX2SD_NO_SERVICE; IOX2SD_NO_NODE; IOX2SD_BUFFER_TOO_SHORT with the number
@@ -612,7 +610,7 @@ static inline iox2sd_flag_answer iox2sd_has_role(const iox2sd_service *service, 
     return iox2sd_has_role_at(service, service != NULL, role);
 }
 
-/* Whether the service is locked for good: it has no node and no port, and takes none any more.
+/* Whether the service is locked for good: it has no node and no port, and none can join it.
  * Errors: IOX2SD_NULL; IOX2SD_NO_SERVICE. */
 static inline iox2sd_flag_answer iox2sd_is_locked(const iox2sd_service *service) {
     return iox2sd_is_locked_at(service, service != NULL);
@@ -629,7 +627,7 @@ static inline iox2sd_count_answer iox2sd_max_nodes(const iox2sd_service *service
     return iox2sd_max_nodes_at(service, service != NULL);
 }
 
-/* Whether iox2sd_register_node_id would register a node: the service is not locked, and a place and
+/* Whether iox2sd_register_node_id would register a node: the service is not locked, and a slot and
  * a ticket are left.
  * Errors: IOX2SD_NULL; IOX2SD_NO_SERVICE. */
 static inline iox2sd_flag_answer iox2sd_has_room_for_node(const iox2sd_service *service) {
@@ -672,7 +670,7 @@ static inline iox2sd_port_answer iox2sd_port(const iox2sd_service *service, iox2
 }
 
 /* Lists the ids of the nodes by rising slot, one for each handle, at the front of `out`, whose
- * other places stay as they were.
+ * other elements stay as they were.
  * Errors: IOX2SD_NULL; IOX2SD_NO_SERVICE; IOX2SD_BUFFER_TOO_SHORT with the number of handles that
  * there are. Then `out` is as it was. */
 static inline iox2sd_count_answer

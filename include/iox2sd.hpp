@@ -5,18 +5,19 @@
 /// libiox2sd.so. Names are those of the ported middleware.
 ///
 /// - Values live in C++. Each rule (which text is legal, how a set is sorted, what is compatible,
-///   how large a message is, who may attach) is asked of the library, and stands nowhere here.
-/// - A call that may be refused answers a `Result`, with a `Status` or with an error that has one.
-///   The refusals of a call are named in the order in which they are reported.
-/// - No call throws, and exceptions may be switched off. `Service::create`, the lists, a death with
-///   ports to keep and `run_script` take memory; where it is refused, they answer
-///   `Status::NoMemory`. No other call takes any: texts and sets have their room in place.
+///   how large a message is, who may attach) is checked by the library alone.
+/// - A call that may be refused returns a `Result`, with a `Status` or with an error that has one.
+///   The errors of a call are listed in the order in which they are checked.
+/// - No call throws, and exceptions may be switched off. `Service::create`, the lists,
+///   `remove_dead_node_id` with ports to keep and `run_script` take memory; where it is refused,
+///   they return `Status::NoMemory`. No other call takes any: texts and sets hold their bytes
+///   themselves.
 /// - Calls may run on several threads at once. On one `Service` any number of `const` calls may run
 ///   at once, or one other call alone. It may be moved from thread to thread; docs/C.md has what is
 ///   proved of that, and what is tested.
 ///
-/// What is proved is what the library answers, under the rules of the C headers. This header is
-/// tested, not proved.
+/// The library's results are proved, under the rules of the C headers. This header is tested, not
+/// proved.
 #ifndef IOX2SD_HPP
 #define IOX2SD_HPP
 
@@ -329,7 +330,7 @@ public:
 
     bool has_value() const noexcept { return state_.has_value(); }
     /// Whether there is a value. A `Result<bool>` has no such conversion: it would be true for the
-    /// answer `false`. Ask `has_value`, or take the answer by `*`.
+    /// value `false`. Call `has_value`, or take the value by `*`.
     template <class U = T, class = std::enable_if_t<!std::is_same_v<U, bool>>>
     explicit operator bool() const noexcept {
         return has_value();
@@ -341,7 +342,7 @@ public:
     }
 
     /// The value, by itself where the result is a temporary. Where there is none the program prints
-    /// the error's text and is aborted: ask `has_value` first.
+    /// the error's text and is aborted: call `has_value` first.
     T& value() & noexcept { return the_value(*this); }
     const T& value() const& noexcept { return the_value(*this); }
     T value() && noexcept { return std::move(the_value(*this)); }
@@ -503,14 +504,14 @@ public:
     }
     ~List() { ::operator delete(items_); }
 
-    /// What a function makes of each of `count` items. Refusal: `NoMemory`.
+    /// What a function makes of each of `count` items. Error: `NoMemory`.
     template <class From, class Make>
     static Result<List> of(const From* items, std::size_t count, Make make) noexcept {
         return made_of(items, items + count, count, make);
     }
 
-    /// What a function makes of each item of a range, which is read once. Memory is taken once where
-    /// the range says its size. Refusal: `NoMemory`.
+    /// What a function makes of each item of a range, which is read once. Memory is taken once
+    /// where the range says its size. Error: `NoMemory`.
     template <class Range, class Make>
     static Result<List> of_range(Range& range, Make make) noexcept {
         using std::begin, std::end;
@@ -520,7 +521,7 @@ public:
     }
 
     /// The items that a call of the C headers writes into a buffer, where it says first how many
-    /// there are. Refusals: those of the call; `NoMemory`.
+    /// there are. Errors: those of the call; `NoMemory`.
     template <class Call>
     static Result<List> written_by(Call call) noexcept {
         List made;
@@ -570,7 +571,7 @@ private:
         return made;
     }
 
-    /// Moves the items to a place that has room for so many: whether there was one.
+    /// Moves the items to memory for so many, and returns whether there was some.
     bool move_to(std::size_t room) noexcept {
         if (room > SIZE_MAX / sizeof(T)) return false;
         T* const place = static_cast<T*>(::operator new(room * sizeof(T), std::nothrow));
@@ -641,7 +642,7 @@ public:
     /// The empty text.
     Text() noexcept = default;
 
-    /// The text that a call of the C headers writes into a buffer. Refusals: those of the call.
+    /// The text that a call of the C headers writes into a buffer. Errors: those of the call.
     template <class Write>
     static Result<Text> written_by(Write write) noexcept {
         Text text;
@@ -714,7 +715,7 @@ inline void no_value(Status status) noexcept {
 /// Why a text was refused.
 struct TextError {
     Status status;
-    /// The byte that is illegal, or the greatest length; 0 where the status speaks of no place.
+    /// The byte that is illegal, or the greatest length; 0 where the status has no index.
     std::size_t at = 0;
 
     template <class F>
@@ -726,7 +727,7 @@ template <std::size_t Capacity,
           iox2sd_place_answer (*Check)(const std::uint8_t* text, std::size_t length)>
 class SemanticString : public Text<Capacity> {
 public:
-    /// The text as such a one. Refusals, with their place: those of the check.
+    /// The text as one of this kind. Errors, with their index: those of the check.
     static Result<SemanticString, TextError> create(std::string_view text) noexcept {
         const iox2sd_place_answer answer = Check(detail::bytes(text), text.size());
         if (answer.status != IOX2SD_DONE) return TextError{Status{answer.status}, answer.at};
@@ -744,23 +745,23 @@ protected:
     friend class AttributeVerifier;
 };
 
-/// The key of an attribute: 1 to 64 bytes, each from 1 to 127. Refusals: `Empty`; `TooLong`, with
-/// `at` 64; `IllegalByte`, with the place of the first one.
+/// The key of an attribute: 1 to 64 bytes, each from 1 to 127. Errors: `Empty`; `TooLong`, with
+/// `at` 64; `IllegalByte`, with the index of the first one.
 using AttributeKey = SemanticString<64, iox2sd_attribute_key_check_at>;
 
-/// The value of an attribute: 1 to 256 bytes, each from 1 to 127. Refusals as of a key.
+/// The value of an attribute: 1 to 256 bytes, each from 1 to 127. Errors as of a key.
 using AttributeValue = SemanticString<256, iox2sd_attribute_value_check_at>;
 
 /// The name of a file: 1 to 255 bytes, each from 1 to 127 and none a `/`, and neither "." nor "..".
-/// Refusals: `Empty`; `TooLong`, with `at` 255; `IllegalByte`, with its place; `NoFileName`.
+/// Errors: `Empty`; `TooLong`, with `at` 255; `IllegalByte`, with its index; `NoFileName`.
 using FileName = SemanticString<255, iox2sd_file_name_check_at>;
 
 /// A restricted name of a file, as hash texts are: 1 to 64 letters A to Z and a to z, digits, `-`,
-/// `.`, `:` and `_`, and neither "." nor "..". Refusals as of the name of a file.
+/// `.`, `:` and `_`, and neither "." nor "..". Errors as of the name of a file.
 using RestrictedFileName = SemanticString<64, iox2sd_restricted_file_name_check_at>;
 
-/// A path: at most 255 bytes, each from 1 to 127. Refusals: `TooLong`, with `at` 255;
-/// `IllegalByte`, with the place of the first one.
+/// A path: at most 255 bytes, each from 1 to 127. Errors: `TooLong`, with `at` 255; `IllegalByte`,
+/// with the index of the first one.
 class Path : public SemanticString<255, iox2sd_path_check_at> {
 public:
     using Base = SemanticString<255, iox2sd_path_check_at>;
@@ -776,7 +777,7 @@ public:
     Path(const Text<255>& text, detail::FromLibrary mark) noexcept : Base(text, mark) {}
 
     /// Joins an entry to the path, with one `/` between them unless the path is empty or ends in
-    /// `/`. Refusal: `TooLong`, past 255 bytes; then the path is as it was.
+    /// `/`. Error: `TooLong`, past 255 bytes; then the path is as it was.
     Result<void> add_path_entry(const Path& entry) noexcept {
         const auto joined = written_by([&](std::uint8_t* out, std::size_t capacity) {
             return iox2sd_path_add_path_entry(detail::bytes(*this), size(), detail::bytes(entry),
@@ -789,7 +790,7 @@ public:
 };
 
 /// The path of a file: 1 to 255 bytes, each from 1 to 127, of which those after the last `/` are
-/// the name of a file. Refusals as of the name of a file; a `/` is no illegal byte.
+/// the name of a file. Errors as of the name of a file; a `/` is no illegal byte.
 class FilePath : public SemanticString<255, iox2sd_file_path_check_at> {
 public:
     using Base = SemanticString<255, iox2sd_file_path_check_at>;
@@ -803,7 +804,7 @@ public:
     FilePath(const Text<255>& text, detail::FromLibrary mark) noexcept : Base(text, mark) {}
 
     /// The path of a file in a directory, joined as `Path::add_path_entry` does.
-    /// Refusal: `TooLong`, past 255 bytes.
+    /// Error: `TooLong`, past 255 bytes.
     static Result<FilePath> from_path_and_file(const Path& path, const FileName& file) noexcept {
         const auto joined = written_by([&](std::uint8_t* out, std::size_t capacity) {
             return iox2sd_file_path_from_path_and_file(
@@ -820,8 +821,8 @@ class ServiceName : public SemanticString<255, iox2sd_internal_service_name_chec
 public:
     using Base = SemanticString<255, iox2sd_internal_service_name_check_at>;
 
-    /// The name that a user gives. Refusals: `ReservedPrefix`; `Empty`; `TooLong`, with `at` 255;
-    /// `IllegalByte`, with the place of the first one.
+    /// The name that a user gives. Errors: `ReservedPrefix`; `Empty`; `TooLong`, with `at` 255;
+    /// `IllegalByte`, with the index of the first one.
     static Result<ServiceName, TextError> create(std::string_view text) noexcept {
         const iox2sd_place_answer answer =
             iox2sd_service_name_check(detail::bytes(text), text.size());
@@ -829,7 +830,7 @@ public:
         return ServiceName(text);
     }
 
-    /// A name that may be one of the system's own. Refusals as above, but for `ReservedPrefix`.
+    /// A name that may be one of the system's own. Errors as above, but for `ReservedPrefix`.
     static Result<ServiceName, TextError> internal_new(std::string_view text) noexcept {
         const Result<Base, TextError> made = Base::create(text);
         if (!made) return made.error();
@@ -837,7 +838,7 @@ public:
     }
 
     /// The name of one of the system's own services: "iox2://" and the text.
-    /// Refusals: `NotUtf8`; `TooLong`, for more than 248 bytes; `IllegalByte`.
+    /// Errors: `NotUtf8`; `TooLong`, for more than 248 bytes; `IllegalByte`.
     static Result<ServiceName> internal_new_prefixed(std::string_view text) noexcept {
         const auto made = written_by([text](std::uint8_t* out, std::size_t capacity) {
             return iox2sd_internal_service_name(detail::bytes(text), text.size(), out, capacity);
@@ -866,7 +867,7 @@ enum class PatternKind : std::uint32_t {
 /// The hash text of a service's pattern and name by SHA-1, under which its files are found.
 class ServiceHash : public RestrictedFileName {
 public:
-    /// Refusals: `UnknownPattern`; `IllegalHash`, which was never seen.
+    /// Errors: `UnknownPattern`; `IllegalHash`, which was never seen.
     static Result<ServiceHash> create(const ServiceName& name, PatternKind kind) noexcept {
         const auto made = written_by([&](std::uint8_t* out, std::size_t capacity) {
             return iox2sd_internal_hash_text(static_cast<std::uint32_t>(kind), detail::bytes(name),
@@ -974,7 +975,7 @@ using UniqueWriterId = PortId<Role::Writer>;
 /// The id of a node.
 class UniqueNodeId : public UniqueId<detail::IdKind<Role::Node>> {
 public:
-    /// The id with these parts. Refusal: `NoNode`, where process and counter are both 0.
+    /// The id with these parts. Error: `NoNode`, where process and counter are both 0.
     static Result<UniqueNodeId> create(std::uint32_t process, std::uint32_t seconds,
                                        std::uint32_t nanoseconds, std::uint32_t counter) noexcept {
         const iox2sd_id parts{process, seconds, nanoseconds, counter};
@@ -1042,7 +1043,7 @@ namespace detail {
 
 constexpr std::size_t max_attributes = 16;
 
-/// Attributes as the C header takes them, with room for one more than a set may have.
+/// Attributes as the C header takes them, with capacity for one more than a set may have.
 struct Pairs {
     iox2sd_attribute items[max_attributes + 1];
     std::size_t size = 0;
@@ -1061,7 +1062,7 @@ public:
     /// The empty set.
     AttributeSet() noexcept = default;
 
-    /// Adds a pair. Refusal: `TooMany`; then the set is as it was.
+    /// Adds a pair. Error: `TooMany`; then the set is as it was.
     Result<void> add(const AttributeKey& key, const AttributeValue& value) noexcept {
         const Attribute added(key, value);
         detail::Pairs pairs = as_pairs();
@@ -1090,7 +1091,7 @@ public:
     }
 
     /// The value at an index, from 0 on, of the values of a key, from the least on.
-    /// Refusal: `NoSuchValue`.
+    /// Error: `NoSuchValue`.
     Result<AttributeValue> key_value(const AttributeKey& key, std::size_t index) const noexcept {
         const detail::Pairs pairs = as_pairs();
         const auto found = Text<256>::written_by([&](std::uint8_t* out, std::size_t capacity) {
@@ -1163,7 +1164,7 @@ public:
     /// A verifier that requires nothing.
     AttributeVerifier() noexcept = default;
 
-    /// Requires a pair. Refusal: `TooManyRequired`; then the verifier is as it was.
+    /// Requires a pair. Error: `TooManyRequired`; then the verifier is as it was.
     Result<void> require(const AttributeKey& key, const AttributeValue& value) noexcept {
         detail::Pairs pairs = required_.as_pairs();
         const Attribute added(key, value);
@@ -1172,7 +1173,7 @@ public:
         return room ? required_.add(key, value) : room;
     }
 
-    /// Requires that a key has some value. Refusal: `TooManyRequired`; then the verifier is as it
+    /// Requires that a key has some value. Error: `TooManyRequired`; then the verifier is as it
     /// was.
     Result<void> require_key(const AttributeKey& key) noexcept {
         Keys keys = keys_as_c();
@@ -1270,7 +1271,7 @@ class TypeDetail {
 public:
     /// The type with this name, of at most 256 bytes, each from 1 to 127, with a size in bytes and
     /// an alignment that is a power of two.
-    /// Refusals: `UnknownVariant`; `NotUtf8`, `TooLong`, `IllegalByte` of the name; `BadAlignment`.
+    /// Errors: `UnknownVariant`; `NotUtf8`, `TooLong`, `IllegalByte` of the name; `BadAlignment`.
     static Result<TypeDetail> create(TypeVariant variant, std::string_view type_name,
                                      std::size_t size, std::size_t alignment) noexcept {
         const iox2sd_type_detail detail{detail::bytes(type_name), type_name.size(),
@@ -1280,7 +1281,7 @@ public:
         return TypeDetail(variant, TypeName(type_name), size, alignment);
     }
 
-    /// The C++ type `T` under a name that its users agree on. Refusals as above.
+    /// The C++ type `T` under a name that its users agree on. Errors as above.
     template <class T>
     static Result<TypeDetail> of(TypeVariant variant, std::string_view type_name) noexcept {
         return create(variant, type_name, sizeof(T), alignof(T));
@@ -1316,16 +1317,16 @@ private:
     std::size_t alignment_;
 };
 
-/// The room for a message, in bytes.
+/// The layout of a message, in bytes.
 struct Layout {
     std::size_t size;       ///< At most 2^63 - 1.
-    std::size_t alignment;  ///< The number of which the message's place is to be a multiple.
+    std::size_t alignment;  ///< The alignment of the message.
 
     template <class F>
     auto fields(F f) const noexcept { return f(size, alignment); }
 };
 
-/// The places of two parts of a message. They are numbers: nothing is read there.
+/// The offsets of two parts of a message. Nothing is read there.
 struct MessagePlaces {
     std::size_t user_header;
     std::size_t payload;
@@ -1353,9 +1354,9 @@ struct MessageTypeDetails {
     template <class F>
     auto fields(F f) const noexcept { return f(header, user_header, payload); }
 
-    /// The room for a message whose payload has so many elements. All parts lie in it, apart and
+    /// The layout of a message whose payload has so many elements. All parts lie in it, apart and
     /// aligned, for the service and for every compatible opener.
-    /// Refusal: `TooLarge` past 2^63 - 1 bytes.
+    /// Error: `TooLarge` past 2^63 - 1 bytes.
     Result<Layout> sample_layout(std::size_t number_of_elements) const noexcept {
         const iox2sd_message_details details = as_c();
         const iox2sd_layout_answer answer =
@@ -1363,8 +1364,9 @@ struct MessageTypeDetails {
         return detail::result(answer.status, Layout{answer.size, answer.alignment});
     }
 
-    /// The places of user header and payload in a message that begins at the place `start`.
-    /// Refusal: `TooLarge` where the payload's place would pass 2^64 - 1.
+    /// The offsets of user header and payload in a message that begins at the offset or address
+    /// `start`.
+    /// Error: `TooLarge` where the payload's offset would pass 2^64 - 1.
     Result<MessagePlaces> places(std::size_t start) const noexcept {
         const iox2sd_message_details details = as_c();
         const iox2sd_places_answer answer = iox2sd_message_places(&details, start);
@@ -1393,10 +1395,10 @@ struct MessageTypeDetails {
 /// What a sender does where a receiver's buffer is full and may not overflow.
 enum class BackpressureStrategy : std::uint32_t {
     RetryUntilDelivered = IOX2SD_RETRY_UNTIL_DELIVERED,  ///< It tries until there is room.
-    DiscardData = IOX2SD_DISCARD_DATA,                   ///< It leaves the receiver out.
+    DiscardData = IOX2SD_DISCARD_DATA,                   ///< It skips this receiver.
 };
 
-/// How the room for messages grows where their length is known at run time alone.
+/// How a data segment grows for messages whose length is known only at run time.
 enum class AllocationStrategy : std::uint32_t {
     BestFit = IOX2SD_ALLOCATION_BEST_FIT,         ///< By as much as the message needs.
     PowerOfTwo = IOX2SD_ALLOCATION_POWER_OF_TWO,  ///< To the next power of two.
@@ -1406,7 +1408,8 @@ enum class AllocationStrategy : std::uint32_t {
 namespace detail {
 
 /// Where a type is a `std::chrono::duration` of whole numbers, in steps from a nanosecond to years.
-/// It is told by its members: `<chrono>` takes long to compile, and is left to those who use it.
+/// It is recognised by its members: `<chrono>` takes long to compile, and is left to those who use
+/// it.
 template <class Span>
 using IfSpan =
     std::enable_if_t<std::is_integral_v<typename Span::rep> &&
@@ -1439,7 +1442,7 @@ struct Duration {
         nanoseconds = static_cast<std::uint32_t>(parts % den * 1000000000 / den);
     }
 
-    /// The span as a `std::chrono::duration` of whole numbers, cut to whole ones. Refusals:
+    /// The span as a `std::chrono::duration` of whole numbers, cut to whole ones. Errors:
     /// `BadDuration` of nanoseconds of 1,000,000,000 or more; `TooLarge`, past the type's range.
     template <class Span, class = detail::IfSpan<Span>>
     constexpr Result<Span> to() const noexcept {
@@ -1524,8 +1527,8 @@ inline iox2sd_optional_duration as_c(const std::optional<Duration>& duration) no
 /// The settings that all services and nodes of one system share, beside its texts.
 struct GlobalSettings {
     Duration creation_timeout;  ///< How long an opener waits until the creator is ready.
-    /// Whether what dead nodes left is removed first when a service is opened; when a node is
-    /// created; when a node goes.
+    /// Whether the remains of dead nodes are removed first when a service is opened; when a node is
+    /// created; when a node is dropped.
     bool cleanup_dead_nodes_on_open;
     bool cleanup_dead_nodes_on_creation;
     bool cleanup_dead_nodes_on_destruction;
@@ -1788,7 +1791,7 @@ enum class ConfigEntry : std::uint32_t {
     UserConfigFilePath = IOX2SD_USER_CONFIG_FILE_PATH,
 };
 
-/// A text of the configuration where nothing else is said. Refusal: `UnknownText`.
+/// A default text of the configuration. Error: `UnknownText`.
 inline Result<Text<255>> default_text(ConfigEntry entry) noexcept {
     return Text<255>::written_by([entry](std::uint8_t* out, std::size_t capacity) {
         return iox2sd_default_text(static_cast<std::uint32_t>(entry), out, capacity);
@@ -1809,12 +1812,12 @@ Result<Path> directory(const Path& root, Write write) noexcept {
 
 }  // namespace detail
 
-/// The directory of services below a root path. Refusal: `TooLong`, past 255 bytes.
+/// The directory of services below a root path. Error: `TooLong`, past 255 bytes.
 inline Result<Path> service_dir(const Path& root) noexcept {
     return detail::directory(root, iox2sd_service_dir);
 }
 
-/// The directory of nodes below a root path. Refusal: `TooLong`, past 255 bytes.
+/// The directory of nodes below a root path. Error: `TooLong`, past 255 bytes.
 inline Result<Path> node_dir(const Path& root) noexcept {
     return detail::directory(root, iox2sd_node_dir);
 }
@@ -1851,7 +1854,7 @@ struct PublishSubscribeStaticConfig {
     }
 
     /// The greatest number of one publisher's samples that can be in use at once, where it may have
-    /// so many loaned. Refusal: `TooLarge` past 2^64 - 1.
+    /// so many loaned. Error: `TooLarge` past 2^64 - 1.
     Result<std::size_t> required_amount_of_samples_per_data_segment(
         std::size_t publisher_max_loaned_data) const noexcept {
         const iox2sd_count_answer answer = iox2sd_required_amount_of_samples_per_data_segment(
@@ -1906,7 +1909,7 @@ struct RequestResponseStaticConfig {
     }
 
     /// The greatest number of one client's requests that can be in use at once, where it may have
-    /// so many loaned. Refusal: `TooLarge` past 2^64 - 1.
+    /// so many loaned. Error: `TooLarge` past 2^64 - 1.
     Result<std::size_t> required_amount_of_chunks_per_client_data_segment(
         std::size_t client_max_loaned_data) const noexcept {
         const iox2sd_count_answer answer = iox2sd_required_amount_of_chunks_per_client_data_segment(
@@ -1915,7 +1918,7 @@ struct RequestResponseStaticConfig {
     }
 
     /// The greatest number of one server's responses that can be in use at once, where it may have
-    /// so many loaned for each request. Refusal: `TooLarge` past 2^64 - 1.
+    /// so many loaned for each request. Error: `TooLarge` past 2^64 - 1.
     Result<std::size_t> required_amount_of_chunks_per_server_data_segment(
         std::size_t server_max_loaned_responses_per_request) const noexcept {
         const iox2sd_count_answer answer = iox2sd_required_amount_of_chunks_per_server_data_segment(
@@ -2045,7 +2048,7 @@ class StaticConfig {
 public:
     /// What the library makes of the name, the id and the pattern's part, with these attributes and
     /// the part's types. A blackboard has one writer, whatever the part says.
-    /// Refusals: `BadDuration` of a deadline; `IllegalHash`, which was never seen.
+    /// Errors: `BadDuration` of a deadline; `IllegalHash`, which was never seen.
     static Result<StaticConfig> create(const ServiceName& name, const UniqueServiceId& id,
                                        const AttributeSet& attributes,
                                        const MessagingPattern& pattern) noexcept {
@@ -2405,7 +2408,7 @@ inline UniqueNodeId node_id(const PortDetails& details) noexcept {
 
 // ---- Services ----
 
-/// What registering and attaching give, and what deregistering and releasing take. No handle is
+/// Registering and attaching return a handle; deregistering and releasing take it. No handle is
 /// given twice by a service, and a removed one is refused for good. `ContainerHandle()` stands for
 /// nothing: each call refuses it by `UnknownRole`.
 struct ContainerHandle {
@@ -2425,7 +2428,7 @@ struct ContainerHandle {
     }
 };
 
-/// For how many nodes and ports at a time a service has room.
+/// How many nodes and ports a service can have at a time.
 struct Capacities {
     std::size_t nodes;
     std::size_t first;   ///< For publishers, listeners, servers or readers.
@@ -2465,7 +2468,7 @@ enum class DeregisterNodeState {
     NoMoreOwners,  ///< The service is locked for good: no node is registered any more.
 };
 
-/// What a death took from a service.
+/// What the removal of a dead node took from a service.
 struct DeadNodeRemoval {
     DeregisterNodeState state;
     std::size_t first;   ///< How many publishers, listeners, servers or readers went.
@@ -2475,11 +2478,11 @@ struct DeadNodeRemoval {
     auto fields(F f) const noexcept { return f(state, first, second); }
 };
 
-/// Who is attached to a service: nodes and ports of its pattern, and what it has room for.
+/// Who is attached to a service: nodes and ports of its pattern, and its capacities.
 ///
 /// A service is moved and not copied, and freed at the end of its life. One that was moved from, or
-/// that was made by `Service()`, holds none, and each call on it is refused by `NoService`, before
-/// any other refusal.
+/// that was made by `Service()`, holds none, and each call on it is refused with `NoService`,
+/// before any other error.
 class Service {
 public:
     /// All tickets that there are.
@@ -2488,7 +2491,7 @@ public:
     /// Makes a service with nothing attached. `number` is part of its handles, and the caller takes
     /// care that it is unique. For nodes and for each kind of ports `tickets` tickets are given
     /// out: each registering and each attaching takes one, and none comes back.
-    /// Refusals: `UnknownPattern`; `NoMemory`.
+    /// Errors: `UnknownPattern`; `NoMemory`.
     static Result<Service> create(PatternKind pattern, std::uint64_t number,
                                   const Capacities& capacities,
                                   std::uint64_t tickets = all_tickets) noexcept {
@@ -2500,7 +2503,7 @@ public:
         return made;
     }
 
-    /// Makes a service of the pattern and with the room that are described. Refusal: `NoMemory`.
+    /// Makes a service of the pattern and with the room that are described. Error: `NoMemory`.
     static Result<Service> create(const MessagingPattern& described, std::uint64_t number,
                                   std::uint64_t tickets = all_tickets) noexcept {
         return create(iox2sd::kind(described), number, capacities(described), tickets);
@@ -2517,14 +2520,14 @@ public:
     }
     ~Service() { free(); }
 
-    /// Registers a node, which may have several handles. Refusals: `IsLocked`; `OutOfSpace`.
+    /// Registers a node, which may have several handles. Errors: `IsLocked`; `OutOfSpace`.
     Result<ContainerHandle> register_node_id(const UniqueNodeId& node) noexcept {
         const iox2sd_handle_answer answer = iox2sd_register_node_id(&place_, node.parts());
         return detail::result(answer.status, ContainerHandle::from_c(answer.handle));
     }
 
     /// Deregisters the node with this handle.
-    /// Refusals: `UnknownRole`; `ForeignHandle`, also for a port's handle; `PortsStillAttached`,
+    /// Errors: `UnknownRole`; `ForeignHandle`, also for a port's handle; `PortsStillAttached`,
     /// where it is the only handle of its node and some port has that node.
     Result<DeregisterNodeState> deregister_node_id(const ContainerHandle& handle) noexcept {
         const std::uint32_t status = iox2sd_deregister_node_id(&place_, handle.as_c());
@@ -2533,8 +2536,8 @@ public:
     }
 
     /// Attaches a port.
-    /// Refusals: `UnknownSegment`; `RoleNotInPattern`; `IsLocked`; `NodeNotRegistered`, by the
-    /// whole id; `OutOfSpace`.
+    /// Errors: `UnknownSegment`; `RoleNotInPattern`; `IsLocked`; `NodeNotRegistered`, by the whole
+    /// id; `OutOfSpace`.
     Result<ContainerHandle> attach(const PortDetails& details) noexcept {
         const iox2sd_port_details port = detail::as_c(details);
         const iox2sd_handle_answer answer = iox2sd_attach(&place_, &port);
@@ -2542,17 +2545,16 @@ public:
     }
 
     /// Releases the port with this handle.
-    /// Refusals: `UnknownRole`; `ForeignHandle`, also for a node's handle.
+    /// Errors: `UnknownRole`; `ForeignHandle`, also for a node's handle.
     Result<void> release_port(const ContainerHandle& handle) noexcept {
         return detail::result(iox2sd_release_port(&place_, handle.as_c()));
     }
 
-    /// Removes those ports of a dead node whose ids are not among `kept`: any range of ids of ports,
-    /// which is read once.
-    /// The numbers of ids are looked at and not their roles: a listener that is kept keeps the
-    /// notifier of the same number too, though their `UniquePortId`s are not equal.
-    /// Where none of its ports is left, the node goes too, with all its handles.
-    /// Refusal: `NoMemory`, before `NoService`; never where nothing is to be kept.
+    /// Removes those ports of a dead node whose ids are not among `kept`: any range of ids of
+    /// ports, which is read once. The numbers of ids are compared, and not their roles: a listener
+    /// that is kept keeps the notifier of the same number too, though their `UniquePortId`s are not
+    /// equal. Where none of its ports is left, the node goes too, with all its handles.
+    /// Error: `NoMemory`, before `NoService`; never where nothing is to be kept.
     template <class Range>
     Result<DeadNodeRemoval> remove_dead_node_id(const UniqueNodeId& dead, Range&& kept) noexcept {
         const auto ids = List<iox2sd_id>::of_range(
@@ -2587,12 +2589,12 @@ public:
         return detail::result(answer.status, PortRoles{Role{answer.first}, Role{answer.second}});
     }
 
-    /// Whether the pattern has ports of the role; no for `Role::Node`. Refusal: `UnknownRole`.
+    /// Whether the pattern has ports of the role; no for `Role::Node`. Error: `UnknownRole`.
     Result<bool> has_role(Role role) const noexcept {
         return flag(iox2sd_has_role(&place_, number(role)));
     }
 
-    /// Whether the service is locked for good: it has no node and no port, and takes none any more.
+    /// Whether the service is locked for good: it has no node and no port, and none can join it.
     Result<bool> is_locked() const noexcept { return flag(iox2sd_is_locked(&place_)); }
 
     /// How many handles of nodes there are: a node that is registered twice counts twice.
@@ -2603,45 +2605,45 @@ public:
     /// How many handles of nodes there may be at a time.
     Result<std::size_t> max_nodes() const noexcept { return count(iox2sd_max_nodes(&place_)); }
 
-    /// Whether a node would be registered: the service is not locked, and a place and a ticket are
+    /// Whether a node would be registered: the service is not locked, and a slot and a ticket are
     /// left.
     Result<bool> has_room_for_node() const noexcept {
         return flag(iox2sd_has_room_for_node(&place_));
     }
 
     /// How many ports of the role there are.
-    /// Refusals: `UnknownRole`; `RoleNotInPattern`, also for `Role::Node`.
+    /// Errors: `UnknownRole`; `RoleNotInPattern`, also for `Role::Node`.
     Result<std::size_t> count_ports(Role role) const noexcept {
         return count(iox2sd_count_ports(&place_, number(role)));
     }
 
-    /// How many ports of the role there may be at a time. Refusals as of `count_ports`.
+    /// How many ports of the role there may be at a time. Errors as of `count_ports`.
     Result<std::size_t> max_ports(Role role) const noexcept {
         return count(iox2sd_max_ports(&place_, number(role)));
     }
 
-    /// Whether a port of the role would be attached, if its node is registered. Refusals as of
+    /// Whether a port of the role would be attached, if its node is registered. Errors as of
     /// `count_ports`.
     Result<bool> has_room(Role role) const noexcept {
         return flag(iox2sd_has_room(&place_, number(role)));
     }
 
     /// The node that was registered with this handle and is still there.
-    /// Refusals: `UnknownRole`; `ForeignHandle`, also for a port's handle.
+    /// Errors: `UnknownRole`; `ForeignHandle`, also for a port's handle.
     Result<UniqueNodeId> node(const ContainerHandle& handle) const noexcept {
         const iox2sd_id_answer answer = iox2sd_node(&place_, handle.as_c());
         return detail::result(answer.status, UniqueNodeId(answer.id, detail::FromLibrary{}));
     }
 
     /// The port that was attached with this handle and is still there.
-    /// Refusals: `UnknownRole`; `ForeignHandle`, also for a node's handle.
+    /// Errors: `UnknownRole`; `ForeignHandle`, also for a node's handle.
     Result<PortDetails> port(const ContainerHandle& handle) const noexcept {
         const iox2sd_port_answer answer = iox2sd_port(&place_, handle.as_c());
         if (answer.status != IOX2SD_DONE) return Status{answer.status};
         return detail::port_details(answer.port);
     }
 
-    /// The ids of the nodes by rising slot, one for each handle. Refusal: `NoMemory`.
+    /// The ids of the nodes by rising slot, one for each handle. Error: `NoMemory`.
     Result<List<UniqueNodeId>> nodes() const noexcept {
         const auto ids =
             List<iox2sd_id>::written_by([this](iox2sd_id* out, std::size_t capacity) {
@@ -2651,13 +2653,13 @@ public:
     }
 
     /// The ports of a role by rising slot.
-    /// Refusals: `UnknownRole`; `RoleNotInPattern`, also for `Role::Node`; `NoMemory`.
+    /// Errors: `UnknownRole`; `RoleNotInPattern`, also for `Role::Node`; `NoMemory`.
     Result<List<PortDetails>> ports(Role role) const noexcept {
         return listed(ports_as_c(role), detail::port_details);
     }
 
     /// The ports of a node, with exactly this id, those of the first role first, by rising slot.
-    /// Refusals: `TooLarge` for more than 2^64 - 1 ports; `NoMemory`.
+    /// Errors: `TooLarge` for more than 2^64 - 1 ports; `NoMemory`.
     Result<List<PortDetails>> ports_of(const UniqueNodeId& node) const noexcept {
         const auto ports =
             PortsAsC::written_by([this, &node](iox2sd_port_details* out, std::size_t capacity) {
@@ -2666,7 +2668,7 @@ public:
         return listed(ports, detail::port_details);
     }
 
-    /// The ports of one kind by rising slot. Refusals: `RoleNotInPattern`; `NoMemory`.
+    /// The ports of one kind by rising slot. Errors: `RoleNotInPattern`; `NoMemory`.
     Result<List<PublisherDetails>> list_publishers() const noexcept {
         return ports_as<PublisherDetails>();
     }
@@ -2724,7 +2726,7 @@ private:
         return listed(ports_as_c(Details::role), Details::from_c);
     }
 
-    /// Frees what the place holds; `NoService` where it holds none, which is as good.
+    /// Frees what the object holds, if it holds a service.
     void free() noexcept { iox2sd_service_free(&place_); }
 
     iox2sd_service place_ = IOX2SD_SERVICE_NONE;

@@ -2,7 +2,7 @@
  * replies. The rules of iox2sd.h for every call, and what it says of what is proved, hold here too.
  * docs/SCRIPT.md has all lines and replies.
  *
- * A run takes memory by malloc and realloc, and gives it all back by free before it returns.
+ * A run takes memory by malloc and realloc, and frees all of it before it returns.
  */
 #ifndef IOX2SD_SCRIPT_H
 #define IOX2SD_SCRIPT_H

@@ -1,12 +1,11 @@
-/* The proved layer of service_descriptions, for C99 and C++: values. The statuses stand in
- * iox2sd.h.
+/* The proved layer of service_descriptions, for C99 and C++: values. The statuses are in iox2sd.h.
  *
  * Rules for every call
  *
  * - A text is a pointer and a length in bytes; it needs no zero byte at its end. NULL with length 0
  *   is an empty text, and an array of length 0. Where a function ends in `_str`, its texts are
  *   pointers to bytes that end in a zero byte.
- * - A buffer is a pointer to `capacity` bytes that the caller owns, and that overlap no other
+ * - A buffer is a pointer to `capacity` bytes that the caller owns, and that overlaps no other
  *   argument of the call. A text is written to its front, without a zero byte, where all of it
  *   fits. Where it does not, nothing is written, the status is IOX2SD_BUFFER_TOO_SHORT, and
  *   `length` is the size that it needs. NULL with capacity 0 is a buffer.
@@ -14,10 +13,10 @@
  *   is NULL with another number than 0, and NULL for a text of a function that ends in `_str`. It
  *   is reported before all else; the comments below do not name it again for texts and buffers. A
  *   text within a struct that is NULL with another length than 0 is not caught.
- * - A status other than IOX2SD_DONE is an error: nothing was written, and the other fields of an
- *   answer are 0, but where a function says otherwise. Errors are checked in the order in which
- *   they are named.
- * - No call writes past the length that it was given, keeps a pointer, takes memory, or calls back.
+ * - A status other than IOX2SD_DONE is an error: nothing was written, and the other fields of a
+ *   result are 0, unless a function says otherwise. Errors are checked in the order in which they
+ *   are listed.
+ * - No call writes past the length that is passed, keeps a pointer, takes memory, or calls back.
  *   There is no global state: calls may run on several threads at once, where they share no buffer.
  *
  * An answer has padding: compare its fields.
@@ -31,10 +30,10 @@
 extern "C" {
 #endif
 
-/* A place in what the caller gave: of a byte in a text, or of an element in an array. */
+/* An index in an argument: of a byte in a text, or of an element in an array. */
 typedef struct iox2sd_place_answer {
     uint32_t status;
-    size_t at; /* 0 where the status speaks of no place. */
+    size_t at; /* 0 where the status has no index. */
 } iox2sd_place_answer;
 
 /* ---- Texts ---- */
@@ -73,7 +72,7 @@ iox2sd_text_answer iox2sd_layer_version_at(uint8_t *out, size_t capacity);
 /* Whether a text is the name that a user gives to a service: 1 to 255 bytes, each from 1 to 127,
  * not beginning with "iox2://".
  * Errors: IOX2SD_RESERVED_PREFIX; IOX2SD_EMPTY; IOX2SD_TOO_LONG, with `at` 255;
- * IOX2SD_ILLEGAL_BYTE, with the place of the first one. */
+ * IOX2SD_ILLEGAL_BYTE, with the index of the first one. */
 static inline iox2sd_place_answer iox2sd_service_name_check(const uint8_t *text, size_t length) {
     iox2sd_place_answer refused = {IOX2SD_NULL, 0};
     if (text == NULL && length != 0) return refused;
@@ -119,7 +118,7 @@ iox2sd_internal_service_name_str(const char *text, uint8_t *out, size_t capacity
 }
 
 /* Whether a text is the key of an attribute: 1 to 64 bytes, each from 1 to 127.
- * Errors: IOX2SD_EMPTY; IOX2SD_TOO_LONG, with `at` 64; IOX2SD_ILLEGAL_BYTE, with the place of the
+ * Errors: IOX2SD_EMPTY; IOX2SD_TOO_LONG, with `at` 64; IOX2SD_ILLEGAL_BYTE, with the index of the
  * first one. */
 static inline iox2sd_place_answer iox2sd_attribute_key_check(const uint8_t *text, size_t length) {
     iox2sd_place_answer refused = {IOX2SD_NULL, 0};
@@ -142,7 +141,7 @@ static inline iox2sd_place_answer iox2sd_attribute_value_check_str(const char *t
 }
 
 /* Whether a text is a path: at most 255 bytes, each from 1 to 127. It may be empty.
- * Errors: IOX2SD_TOO_LONG, with `at` 255; IOX2SD_ILLEGAL_BYTE, with the place of the first one. */
+ * Errors: IOX2SD_TOO_LONG, with `at` 255; IOX2SD_ILLEGAL_BYTE, with the index of the first one. */
 static inline iox2sd_place_answer iox2sd_path_check(const uint8_t *text, size_t length) {
     iox2sd_place_answer refused = {IOX2SD_NULL, 0};
     if (text == NULL && length != 0) return refused;
@@ -154,7 +153,7 @@ static inline iox2sd_place_answer iox2sd_path_check_str(const char *text) {
 
 /* Whether a text is the name of a file: 1 to 255 bytes, each from 1 to 127 and none a `/`, and
  * neither "." nor "..".
- * Errors: IOX2SD_EMPTY; IOX2SD_TOO_LONG, with `at` 255; IOX2SD_ILLEGAL_BYTE, with the place of the
+ * Errors: IOX2SD_EMPTY; IOX2SD_TOO_LONG, with `at` 255; IOX2SD_ILLEGAL_BYTE, with the index of the
  * first one; IOX2SD_NO_FILE_NAME. */
 static inline iox2sd_place_answer iox2sd_file_name_check(const uint8_t *text, size_t length) {
     iox2sd_place_answer refused = {IOX2SD_NULL, 0};
@@ -306,7 +305,7 @@ iox2sd_place_answer iox2sd_attributes_verify_at(const iox2sd_attribute *pairs, s
                                                 size_t keys_length);
 
 /* Whether pairs are a set: at most sixteen, each of legal texts, in any order and with repeats.
- * Errors: IOX2SD_NULL; of the first pair that is wrong, with its place: IOX2SD_BAD_KEY;
+ * Errors: IOX2SD_NULL; of the first pair that is wrong, with its index: IOX2SD_BAD_KEY;
  * IOX2SD_BAD_VALUE; IOX2SD_TOO_MANY, of the seventeenth. */
 static inline iox2sd_place_answer
 iox2sd_attributes_check(const iox2sd_attribute *pairs, size_t length) {
@@ -315,8 +314,8 @@ iox2sd_attributes_check(const iox2sd_attribute *pairs, size_t length) {
     return iox2sd_attributes_check_at(pairs, length);
 }
 
-/* Sorts the pairs of a set by the bytes of their keys, and then of their values. The array's
- * pointers are moved, and the texts stay where they are. Errors as above; the array is then as it
+/* Sorts the pairs of a set by the bytes of their keys, and then of their values. Only the elements
+ * of the array are moved; the texts stay where they are. Errors as above; the array is then as it
  * was. */
 static inline iox2sd_place_answer iox2sd_attributes_sort(iox2sd_attribute *pairs, size_t length) {
     iox2sd_place_answer refused = {IOX2SD_NULL, 0};
@@ -324,7 +323,7 @@ static inline iox2sd_place_answer iox2sd_attributes_sort(iox2sd_attribute *pairs
     return iox2sd_attributes_sort_at(pairs, length);
 }
 
-/* How many values a key has in a set. Errors: those of iox2sd_attributes_check, without a place;
+/* How many values a key has in a set. Errors: those of iox2sd_attributes_check, without an index;
  * IOX2SD_BAD_ASKED_KEY. */
 static inline iox2sd_count_answer
 iox2sd_attributes_number_of_key_values(const iox2sd_attribute *pairs, size_t length,
@@ -337,7 +336,7 @@ iox2sd_attributes_number_of_key_values(const iox2sd_attribute *pairs, size_t len
 
 /* Writes the value at `index`, counted from 0, of the values that a key has in a set, by their
  * bytes from the least.
- * Errors: those of iox2sd_attributes_check, without a place; IOX2SD_BAD_ASKED_KEY;
+ * Errors: those of iox2sd_attributes_check, without an index; IOX2SD_BAD_ASKED_KEY;
  * IOX2SD_NO_SUCH_VALUE; IOX2SD_BUFFER_TOO_SHORT. */
 static inline iox2sd_text_answer
 iox2sd_attributes_key_value(const iox2sd_attribute *pairs, size_t length, const uint8_t *key,
@@ -362,7 +361,7 @@ iox2sd_attributes_key_value(const iox2sd_attribute *pairs, size_t length, const 
  *   `required`;
  * - IOX2SD_MISSING_KEY, of the first required key that the set lacks, with its first index in
  *   `keys`.
- * So an invalid required key is not reported where a seventeenth required pair stands before it. */
+ * So an invalid required key is not reported after a seventeenth required pair. */
 static inline iox2sd_place_answer
 iox2sd_attributes_verify(const iox2sd_attribute *pairs, size_t length,
                          const iox2sd_attribute *required, size_t required_length,
@@ -414,17 +413,17 @@ typedef struct iox2sd_message_details {
 typedef struct iox2sd_layout_answer {
     uint32_t status;
     size_t size;      /* In bytes, at most 2^63 - 1. */
-    size_t alignment; /* The number of which the message's place is to be a multiple. */
+    size_t alignment; /* The alignment of the message. */
 } iox2sd_layout_answer;
 
-/* The places of two parts of a message. */
+/* The offsets of two parts of a message. */
 typedef struct iox2sd_places_answer {
     uint32_t status;
     size_t user_header;
     size_t payload;
 } iox2sd_places_answer;
 
-/* The parts of a message, as answers name them. */
+/* The parts of a message, as results name them. */
 enum iox2sd_message_part {
     IOX2SD_HEADER = 0,
     IOX2SD_USER_HEADER = 1,
@@ -464,9 +463,9 @@ iox2sd_message_sample_layout(const iox2sd_message_details *details, size_t eleme
     return iox2sd_message_sample_layout_at(details, details != NULL, elements);
 }
 
-/* The places of user header and payload in a message whose header is at the place `header`. They
- * are numbers: nothing is read there. Names and variants are ignored.
- * Errors: IOX2SD_NULL; IOX2SD_BAD_ALIGNMENT; IOX2SD_TOO_LARGE where the payload's place would pass
+/* The offsets of user header and payload in a message whose header is at the offset or address
+ * `header`. Nothing is read there. Names and variants are ignored.
+ * Errors: IOX2SD_NULL; IOX2SD_BAD_ALIGNMENT; IOX2SD_TOO_LARGE where the payload's offset would pass
  * 2^64 - 1. */
 static inline iox2sd_places_answer
 iox2sd_message_places(const iox2sd_message_details *details, size_t header) {
@@ -477,11 +476,10 @@ iox2sd_message_places(const iox2sd_message_details *details, size_t header) {
  * and user headers and payloads that are equal but for alignments, which are at most those of the
  * service.
  * Errors, each with its side and its part: IOX2SD_NULL, the opener's before the service's; of the
- * first part that is no type, the opener's before the service's: IOX2SD_UNKNOWN_VARIANT;
- * IOX2SD_NOT_UTF8, IOX2SD_TOO_LONG, IOX2SD_ILLEGAL_BYTE of its name; IOX2SD_BAD_ALIGNMENT; and of
- * the first part that keeps the opener out: IOX2SD_OTHER_NAME; IOX2SD_OTHER_VARIANT;
- * IOX2SD_OTHER_SIZE; IOX2SD_OTHER_ALIGNMENT of the header; IOX2SD_GREATER_ALIGNMENT of another
- * part. */
+ * first invalid part, the opener's before the service's: IOX2SD_UNKNOWN_VARIANT; IOX2SD_NOT_UTF8,
+ * IOX2SD_TOO_LONG, IOX2SD_ILLEGAL_BYTE of its name; IOX2SD_BAD_ALIGNMENT; and of the first part
+ * that differs: IOX2SD_OTHER_NAME; IOX2SD_OTHER_VARIANT; IOX2SD_OTHER_SIZE; IOX2SD_OTHER_ALIGNMENT
+ * of the header; IOX2SD_GREATER_ALIGNMENT of another part. */
 static inline iox2sd_part_answer
 iox2sd_message_is_compatible_to(const iox2sd_message_details *opener,
                                 const iox2sd_message_details *service) {
@@ -508,11 +506,11 @@ iox2sd_count_answer iox2sd_required_amount_of_chunks_per_server_data_segment(
 
 /* What a sender does where a receiver's buffer is full and may not overflow. */
 enum iox2sd_backpressure_strategy {
-    IOX2SD_RETRY_UNTIL_DELIVERED = 0, /* It tries again until the receiver has room. */
-    IOX2SD_DISCARD_DATA = 1           /* It leaves the receiver out. */
+    IOX2SD_RETRY_UNTIL_DELIVERED = 0, /* It tries again until the receiver can take the message. */
+    IOX2SD_DISCARD_DATA = 1           /* It skips this receiver. */
 };
 
-/* How a data segment grows where the length of messages is known at run time alone. */
+/* How a data segment grows for messages whose length is known only at run time. */
 enum iox2sd_allocation_strategy {
     IOX2SD_ALLOCATION_BEST_FIT = 0,     /* By as much as the message needs. */
     IOX2SD_ALLOCATION_POWER_OF_TWO = 1, /* To the next power of two. */
@@ -541,8 +539,8 @@ typedef struct iox2sd_optional_event_id {
 /* The settings that all services and nodes of one system share, beside its texts. */
 typedef struct iox2sd_global_settings {
     iox2sd_duration creation_timeout; /* How long an opener waits until the creator is ready. */
-    /* Whether what dead nodes left is removed first when a service is opened; when a node is
-     * created; when a node goes. */
+    /* Whether the remains of dead nodes are removed first when a service is opened; when a node is
+     * created; when a node is dropped. */
     bool cleanup_dead_nodes_on_open;
     bool cleanup_dead_nodes_on_creation;
     bool cleanup_dead_nodes_on_destruction;
@@ -557,7 +555,7 @@ typedef struct iox2sd_publish_subscribe_settings {
     size_t subscriber_max_buffer_size;
     /* How many samples a subscriber may hold at once. */
     size_t subscriber_max_borrowed_samples;
-    /* How many a publisher may have taken and not yet sent. */
+    /* How many samples a publisher may have loaned and not yet sent. */
     size_t publisher_max_loaned_samples;
     /* How many a publisher keeps for subscribers that come later. */
     size_t publisher_history_size;
@@ -565,7 +563,7 @@ typedef struct iox2sd_publish_subscribe_settings {
     size_t subscriber_expired_connection_buffer;
     uint32_t backpressure_strategy;
     uint32_t publisher_allocation_strategy;
-    /* Whether a new sample takes the oldest one's place where a buffer is full. */
+    /* Whether a new sample replaces the oldest one where a buffer is full. */
     bool enable_safe_overflow;
 } iox2sd_publish_subscribe_settings;
 
@@ -591,7 +589,7 @@ typedef struct iox2sd_request_response_settings {
     size_t max_clients;
     size_t max_nodes;
     size_t max_borrowed_responses_per_pending_response; /* How many a client may hold at once. */
-    /* How many a client may have taken and not yet sent. */
+    /* How many requests a client may have loaned and not yet sent. */
     size_t max_loaned_requests;
     /* The same of a server's responses to one request. */
     size_t server_max_loaned_responses_per_request;
@@ -614,16 +612,16 @@ typedef struct iox2sd_blackboard_settings {
     size_t max_nodes;
 } iox2sd_blackboard_settings;
 
-/* The settings that a system has where nothing else is said. */
+/* The default settings of a system. */
 iox2sd_global_settings iox2sd_global_defaults(void);
 
-/* The settings that a service of each pattern gets where nothing else is said. */
+/* The default settings of a service of each pattern. */
 iox2sd_publish_subscribe_settings iox2sd_publish_subscribe_defaults(void);
 iox2sd_event_settings iox2sd_event_defaults(void);
 iox2sd_request_response_settings iox2sd_request_response_defaults(void);
 iox2sd_blackboard_settings iox2sd_blackboard_defaults(void);
 
-/* The fields of settings that may be invalid, as answers name them. */
+/* The fields of settings that may be invalid, as results name them. */
 enum iox2sd_settings_field {
     IOX2SD_BACKPRESSURE_STRATEGY = 0, /* Of publish-subscribe; so is the next. */
     IOX2SD_PUBLISHER_ALLOCATION_STRATEGY = 1,
@@ -638,7 +636,7 @@ enum iox2sd_settings_field {
 /* Which field of settings is invalid, and why. */
 typedef struct iox2sd_field_answer {
     uint32_t status;
-    uint32_t field; /* 0 where the status speaks of no field. */
+    uint32_t field; /* 0 where the status has no field. */
 } iox2sd_field_answer;
 
 /* Functions that end in `_at` take a pointer and a count of 0 for NULL or 1; call those below. */
@@ -655,7 +653,7 @@ iox2sd_request_response_settings_check_at(const iox2sd_request_response_settings
 
 /* Whether settings are valid. Where `is_some` of a deadline or an event is false, there is none,
  * whatever the other fields are. The settings of a blackboard service are always valid.
- * Errors: IOX2SD_NULL; of the first invalid field, which the answer names: IOX2SD_UNKNOWN_STRATEGY;
+ * Errors: IOX2SD_NULL; of the first invalid field, which is returned: IOX2SD_UNKNOWN_STRATEGY;
  * IOX2SD_BAD_DURATION, of nanoseconds of 1,000,000,000 or more. */
 static inline iox2sd_field_answer
 iox2sd_global_settings_check(const iox2sd_global_settings *settings) {
@@ -701,7 +699,7 @@ enum iox2sd_text_number {
     IOX2SD_USER_CONFIG_FILE_PATH = 19
 };
 
-/* Writes a text of the configuration that stands where nothing else is said.
+/* Writes a default text of the configuration.
  * Errors: IOX2SD_UNKNOWN_TEXT; IOX2SD_BUFFER_TOO_SHORT. */
 static inline iox2sd_text_answer
 iox2sd_default_text(uint32_t which, uint8_t *out, size_t capacity) {
@@ -765,8 +763,8 @@ typedef struct iox2sd_event_config {
 /* What is fixed of a request-response service, beside the types of its messages. */
 typedef struct iox2sd_request_response_config {
     size_t max_active_requests_per_client; /* How many may be open at each server at once. */
-    size_t max_loaned_requests;      /* How many a client may have taken and not yet sent. */
-    size_t max_response_buffer_size; /* For how many responses to one request there is room. */
+    size_t max_loaned_requests;      /* How many requests a client may have loaned and not yet sent. */
+    size_t max_response_buffer_size; /* The capacity for responses to one request. */
     size_t max_servers;              /* How many may be attached at once; so are the next two. */
     size_t max_clients;
     size_t max_nodes;
@@ -821,10 +819,10 @@ iox2sd_field_answer iox2sd_describe_blackboard_at(const iox2sd_blackboard_settin
 /* Fills a description from a service's settings, its name and its id. Where `internal` is true, the
  * name may be one of the system's own. The hash text is that of iox2sd_internal_hash_text, which
  * for a name that a user may give is that of iox2sd_hash_text.
- * Errors, with which the place is as it was: IOX2SD_NULL, of the settings or the place;
+ * Errors, after which `out` is as it was: IOX2SD_NULL, of the settings or of `out`;
  * IOX2SD_NOT_UTF8; IOX2SD_BAD_SERVICE_NAME, of which iox2sd_service_name_check has the reason, or
  * iox2sd_internal_service_name_check where `internal` is true; IOX2SD_UNKNOWN_STRATEGY or
- * IOX2SD_BAD_DURATION with the field, as the checks of settings answer; IOX2SD_ILLEGAL_HASH. */
+ * IOX2SD_BAD_DURATION with the field, as the checks of settings report; IOX2SD_ILLEGAL_HASH. */
 static inline iox2sd_field_answer
 iox2sd_describe_publish_subscribe(const iox2sd_publish_subscribe_settings *settings,
                                   const uint8_t *name, size_t length, bool internal, iox2sd_id id,

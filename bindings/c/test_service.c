@@ -99,7 +99,7 @@ static void statuses(void) {
         }
     }
     CHECK(same_text(out, iox2sd_status_text(IOX2SD_DONE, out, sizeof out), "done"));
-    CHECK(same_text(out, iox2sd_status_text(IOX2SD_OUT_OF_SPACE, out, sizeof out), "no place or no ticket is left"));
+    CHECK(same_text(out, iox2sd_status_text(IOX2SD_OUT_OF_SPACE, out, sizeof out), "no slot or no ticket is left"));
     CHECK(same_text(out, iox2sd_status_text(IOX2SD_NULL, out, sizeof out), "NULL"));
     CHECK(same_text(out, iox2sd_status_text(IOX2SD_BAD_KEY, out, sizeof out), "not a key of a pair"));
     CHECK(same_text(out, iox2sd_status_text(IOX2SD_TOO_LARGE, out, sizeof out), "the answer would pass its range"));

@@ -16,6 +16,6 @@ int main() {
     CHECK(std::format("{}", version()) == "0.1.0");
     CHECK(std::format("{} {}", node, UniqueListenerId(0, 0, 0, 7)) == "100000000000000000000000a 7");
     CHECK(std::format("{:*^5}", UniquePortId(UniqueWriterId(0, 0, 0, 11))) == "**b**");
-    CHECK(std::format("{}", Status::OutOfSpace) == "no place or no ticket is left");
+    CHECK(std::format("{}", Status::OutOfSpace) == "no slot or no ticket is left");
     return end_of_checks();
 }

@@ -105,7 +105,7 @@ void statuses() {
         CHECK(texts.insert(string(text(status))).second);
     }
     CHECK(text(Status::Done) == "done");
-    CHECK(text(Status::OutOfSpace) == "no place or no ticket is left");
+    CHECK(text(Status::OutOfSpace) == "no slot or no ticket is left");
     CHECK(text(Status{4000000000}) == "unknown status" &&
           text(Status::UnknownStatus) == text(Status{1000}));
     CHECK(abi() == IOX2SD_ABI && version() == "0.1.0" && layer_version() == "0.9.3");

@@ -5,7 +5,7 @@
 //     opened with slot 0, a message takes 40 bytes at multiples of 8
 //     refused: the service has no attribute color=blue
 //     refused: the alignment of part 2 is greater than the service's
-//     refused: no place or no ticket is left
+//     refused: no slot or no ticket is left
 #include <iostream>
 #include <string>
 

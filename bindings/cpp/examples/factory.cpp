@@ -4,7 +4,7 @@
 // It prints:
 //     slot 0: 34 blocks of 1048 bytes, 35632 bytes at multiples of 8
 //     slot 1: 34 blocks of 1048 bytes, 35632 bytes at multiples of 8
-//     refused: no place or no ticket is left
+//     refused: no slot or no ticket is left
 //     refused: the answer would pass its range
 #include <cstdint>
 #include <iostream>

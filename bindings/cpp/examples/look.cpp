@@ -2,7 +2,7 @@
 //
 // It prints:
 //     slot 0, ticket 0
-//     no place or no ticket is left
+//     no slot or no ticket is left
 //     1000000000000000000000001
 //     the service is locked
 #include "iox2sd.hpp"

@@ -10,8 +10,8 @@ attached to it, over the proved library libiox2sd.
     DeregisterNodeState.NO_MORE_OWNERS
 
 Values check themselves when they are made, and never change. What is refused raises an `Error`,
-whose text says what was wrong and where. Each rule is the library's; this package hands over what
-it is given, or refuses it.
+whose text says what was wrong and where. Each rule is the library's; this package passes its
+arguments on, or refuses them.
 """
 
 from dataclasses import is_dataclass

@@ -1,4 +1,4 @@
-"""What an argument is to be before it is handed to the library: whole, and of its type."""
+"""What an argument must be before it is passed to the library: whole, and of its type."""
 
 import ast
 import ctypes
@@ -116,7 +116,7 @@ def unchecked(kind: "type[_Kind]", values: "Iterable[object]") -> _Kind:
 
 class _FieldTexts(dict[str, str]):
     """The slots of a class with what `help` prints of each: the text that stands below a field in
-    the source, which is read when it is asked for.
+    the source, which is read when it is needed.
     """
 
     def __init__(self, kind: Any) -> None:

@@ -478,8 +478,8 @@ node_dir_at = _export("node_dir_at", TextAnswer, *_TEXT, *_OUT)
 
 
 def written(function: Any, *arguments: Any) -> "tuple[int, str]":
-    """The status of a call that writes a text, and the text; it is called again with the room
-    that it asks for.
+    """The status of a call that writes a text, and the text; it is called again with the capacity
+    that it needs.
     """
     capacity = 64
     while True:

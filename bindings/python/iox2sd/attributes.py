@@ -164,9 +164,9 @@ class AttributeVerifier:
         return unchecked(AttributeVerifier, (self.required_attributes, keys))
 
     def verify_requirements(self, attributes: AttributeSet) -> None:
-        """Raises `MissingPair` of the least required pair that the set lacks, with its place in
+        """Raises `MissingPair` for the least required pair that the set lacks, with its index in
         `required_attributes`, and then `MissingKey` of the first required key that no pair has,
-        with its place in `required_keys`.
+        with its index in `required_keys`.
         """
         instance(attributes, AttributeSet, "AttributeVerifier.verify_requirements")
         answer = self._verified(attributes)

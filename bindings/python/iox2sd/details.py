@@ -80,7 +80,7 @@ class SubscriberDetails(Details):
     subscriber_id: UniqueSubscriberId
     node_id: UniqueNodeId
     buffer_size: Size
-    """How many samples its buffer has room for."""
+    """The capacity of its buffer, in samples."""
 
 
 @dataclass(frozen=True, slots=True, kw_only=True)
@@ -111,7 +111,7 @@ class ClientDetails(Details):
     number_of_requests: Size
     """How many requests its data segment has."""
     response_buffer_size: Size
-    """How many responses to one request its buffer has room for."""
+    """The capacity of its buffer for the responses to one request."""
     max_slice_len: Size
     """How many values a request has at most."""
     data_segment_type: DataSegmentType
@@ -126,7 +126,7 @@ class ServerDetails(Details):
     server_id: UniqueServerId
     node_id: UniqueNodeId
     request_buffer_size: Size
-    """How many requests its buffer has room for."""
+    """The capacity of its buffer, in requests."""
     number_of_responses: Size
     """How many responses its data segment has."""
     max_slice_len: Size

@@ -34,7 +34,7 @@ _node_id = maker(UniqueNodeId)
 
 @dataclass(frozen=True, slots=True)
 class ContainerHandle(Checked):
-    """What registering and attaching give, and what deregistering and releasing take. A service
+    """Registering and attaching return a handle; deregistering and releasing take it. A service
     never gives the same one twice.
     """
 
@@ -42,7 +42,7 @@ class ContainerHandle(Checked):
     role: Role
     slot: Size
     ticket: U64
-    """How many entries of its kind the service had been given before."""
+    """The number of entries of its kind that the service had before, also of those removed."""
 
     def _lent(self) -> _native.Handle:
         return _native.Handle(self.service_number, self.role.value, self.slot, self.ticket)
@@ -302,7 +302,7 @@ class DynamicConfig:
 
     @property
     def is_locked(self) -> bool:
-        """Whether the service is locked: it has no node and no port, and takes none any more."""
+        """Whether the service is locked: it has no node and no port, and none can join it."""
         return self._flag("is_locked", _native.is_locked_at)
 
     @property
@@ -317,7 +317,7 @@ class DynamicConfig:
 
     @property
     def has_room_for_node(self) -> bool:
-        """Whether a node could register: the service is not locked, and a place and a ticket are
+        """Whether a node could register: the service is not locked, and a slot and a ticket are
         left.
         """
         return self._flag("has_room_for_node", _native.has_room_for_node_at)
@@ -439,7 +439,7 @@ class DynamicConfig:
         self.close()
 
     def __repr__(self) -> str:
-        """What makes an empty service of this pattern, number and room; tickets are not named."""
+        """Makes an empty service of this pattern, number and capacities; tickets are left out."""
         if self.closed:
             return "<a closed DynamicConfig>"
         room = Capacities(self.max_nodes, *(self.max_ports(role) for role in self.port_roles))

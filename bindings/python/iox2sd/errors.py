@@ -1,8 +1,8 @@
 """What a call raises. `Error` is the base of all.
 
-`WrongType`, `OutOfRange`, `NotUtf8` and `NoIdText` are raised before the library is asked: what was
-given has no whole form that it takes. All others are its refusals, one class a status of `include/iox2sd.h`.
-The text of a status is the library's own.
+`WrongType`, `OutOfRange`, `NotUtf8` and `NoIdText` are raised before the library is called: the
+argument has no form that it takes. All others are its errors, one class for each status of
+`include/iox2sd.h`. The text of a status is the library's own.
 """
 
 from typing import ClassVar
@@ -35,7 +35,7 @@ class Refused(Error):
     """The number of the status in `include/iox2sd.h`."""
 
     def __init__(self, what: str, at: "int | None" = None, unit: str = "byte") -> None:
-        """`what` was refused, at the place `at`, counted from 0, where the status has one."""
+        """`what` was refused, at the index `at` where the status has one."""
         super().__init__(what, at, unit)
         self.what = what
         self.at = at
@@ -83,7 +83,7 @@ class IsLocked(Refused):
 
 
 class OutOfSpace(Refused):
-    """No place or no ticket is left."""
+    """No slot or no ticket is left."""
 
     status = 10
 
@@ -115,7 +115,7 @@ class RoleNotInPattern(Refused, ValueError):
 
 
 class TooMany(Refused, ValueError):
-    """There are more pairs than a set has room for; `at` is the first one too many."""
+    """There are more pairs than a set can have; `at` is the first one too many."""
 
     status = 18
     at: int
@@ -134,7 +134,7 @@ class TooLong(Refused, ValueError):
 
 
 class IllegalByte(Refused, ValueError):
-    """A byte may not stand in the text; `at` is the place of the first one."""
+    """A byte may not stand in the text; `at` is the index of the first one."""
 
     status = 42
     at: int
@@ -165,7 +165,7 @@ class IllegalHash(Refused):
 
 
 class TooManyRequired(Refused, ValueError):
-    """More pairs and keys are required than a set has room for; `at` is the first one too many."""
+    """More pairs and keys are required than a set can have; `at` is the first one too many."""
 
     status = 53
     at: int
@@ -192,7 +192,7 @@ class BadAlignment(Refused, ValueError):
 
 
 class TooLarge(Refused, OverflowError):
-    """The answer would pass its range."""
+    """The result would pass its range."""
 
     status = 58
 
@@ -238,7 +238,7 @@ class BadDuration(Refused, ValueError):
 
 
 class BadLine(Refused, ValueError):
-    """A line of a script has no meaning at its place, or no newline."""
+    """A line of a script is not one that may stand there, or has no newline."""
 
     status = 66
 

@@ -33,7 +33,8 @@ class Role(Choice):
 @functools.total_ordering
 @dataclass(frozen=True, slots=True)
 class UniqueId(Checked):
-    """The id of a node, a port or a service, which its maker hands in: this layer has no clock.
+    """The id of a node, a port or a service, whose parts the caller passes: this layer has no
+    clock.
 
     Ids of one class are compared by `value`; ids of two classes are never equal. `str` is `value`
     in lower-case hexadecimal digits without leading zeros.

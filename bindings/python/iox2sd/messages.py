@@ -30,7 +30,7 @@ class TypeDetail(Checked):
     size: Size
     """In bytes."""
     alignment: Size
-    """A power of two, of which the place of each value is a multiple."""
+    """The alignment of each value, a power of two."""
     variant: TypeVariant = TypeVariant.FIXED_SIZE
 
     def __post_init__(self) -> None:
@@ -47,17 +47,17 @@ class TypeDetail(Checked):
 
 @dataclass(frozen=True, slots=True)
 class Layout(Checked):
-    """The room for a message."""
+    """The layout of a message."""
 
     size: Size
     """In bytes, at most 2^63 - 1."""
     alignment: Size
-    """The number of which the message's place is to be a multiple."""
+    """The alignment of the message."""
 
 
 @dataclass(frozen=True, slots=True)
 class Places(Checked):
-    """The places of two parts of a message."""
+    """The offsets of two parts of a message."""
 
     user_header: Size
     payload: Size
@@ -72,9 +72,9 @@ class MessageTypeDetails(Checked):
     payload: TypeDetail
 
     def sample_layout(self, number_of_elements: int) -> Layout:
-        """The room for a message whose payload has so many elements. All parts lie in it, apart and
-        aligned, for the service and for every compatible opener. Raises `TooLarge` past 2^63 - 1
-        bytes.
+        """The layout of a message whose payload has so many elements. All parts lie in it, apart
+        and aligned, for the service and for every compatible opener. Raises `TooLarge` past
+        2^63 - 1 bytes.
         """
         what = "MessageTypeDetails.sample_layout"
         elements = number(number_of_elements, Size, what)
@@ -83,8 +83,8 @@ class MessageTypeDetails(Checked):
         return Layout(answer.size, answer.alignment)
 
     def places(self, header: int) -> Places:
-        """The places of user header and payload in a message whose header is at a place. They are
-        numbers: nothing is read there. Raises `TooLarge` where the payload's would pass 2^64 - 1.
+        """The offsets of user header and payload in a message whose header is at an offset or
+        address. Nothing is read there. Raises `TooLarge` where the payload's would pass 2^64 - 1.
         """
         what = "MessageTypeDetails.places"
         answer = _native.message_places_at(self._lent(), 1, number(header, Size, what))

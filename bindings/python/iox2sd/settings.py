@@ -20,13 +20,13 @@ class BackpressureStrategy(Choice):
     """What a sender does where a receiver's buffer is full and may not overflow."""
 
     RETRY_UNTIL_DELIVERED = 0
-    """It tries again until the receiver has room."""
+    """It tries again until the receiver can take the message."""
     DISCARD_DATA = 1
-    """It leaves the receiver out."""
+    """It skips this receiver."""
 
 
 class AllocationStrategy(Choice):
-    """How the room for messages grows where their length is known at run time alone."""
+    """How a data segment grows for messages whose length is known only at run time."""
 
     BEST_FIT = 0
     """By as much as the message needs."""
@@ -117,11 +117,11 @@ class PublishSubscribeSettings(Checked):
     max_publishers: Size = _publish_subscribe.max_publishers
     max_nodes: Size = _publish_subscribe.max_nodes
     subscriber_max_buffer_size: Size = _publish_subscribe.subscriber_max_buffer_size
-    """How many samples a subscriber's buffer has room for."""
+    """The capacity of a subscriber's buffer, in samples."""
     subscriber_max_borrowed_samples: Size = _publish_subscribe.subscriber_max_borrowed_samples
     """How many samples a subscriber may hold at once."""
     publisher_max_loaned_samples: Size = _publish_subscribe.publisher_max_loaned_samples
-    """How many a publisher may have taken and not yet sent."""
+    """How many samples a publisher may have loaned and not yet sent."""
     publisher_history_size: Size = _publish_subscribe.publisher_history_size
     """How many a publisher keeps for subscribers that come later."""
     subscriber_expired_connection_buffer: Size = (
@@ -135,7 +135,7 @@ class PublishSubscribeSettings(Checked):
         _publish_subscribe.publisher_allocation_strategy
     )
     enable_safe_overflow: bool = _publish_subscribe.enable_safe_overflow
-    """Whether a new sample takes the oldest one's place where a buffer is full."""
+    """Whether a new sample replaces the oldest one where a buffer is full."""
 
     def required_amount_of_samples_per_data_segment(self) -> int:
         """The greatest number of one publisher's samples that can be in use at once. Raises
@@ -178,7 +178,7 @@ class RequestResponseSettings(Checked):
     max_active_requests_per_client: Size = _request_response.max_active_requests_per_client
     """How many may be open at each server at once."""
     max_response_buffer_size: Size = _request_response.max_response_buffer_size
-    """How many responses to one request a client's buffer has room for."""
+    """The capacity of a client's buffer for the responses to one request."""
     max_servers: Size = _request_response.max_servers
     """How many may be attached at once; so are the next two."""
     max_clients: Size = _request_response.max_clients

@@ -224,7 +224,7 @@ _PORTS = {
 
 @dataclass(frozen=True, slots=True)
 class Capacities(Checked):
-    """For how many nodes and ports at a time a service has room."""
+    """How many nodes and ports a service can have at a time."""
 
     nodes: Size
     """Handles of nodes: a node that is registered twice counts twice."""

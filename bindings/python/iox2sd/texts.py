@@ -15,7 +15,7 @@ class MessagingPattern(Choice):
     PUBLISH_SUBSCRIBE = 0
     """Publishers send samples to subscribers."""
     EVENT = 1
-    """Notifiers tell listeners of events."""
+    """Notifiers send events to listeners."""
     REQUEST_RESPONSE = 2
     """Clients send requests, to which servers send responses."""
     BLACKBOARD = 3

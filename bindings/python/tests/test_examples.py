@@ -50,7 +50,7 @@ BLACKBOARD found
 FACTORY = """\
 publisher in slot 0: 58 samples of 12064 bytes
 subscriber in slot 0: a buffer of 5 samples
-attach publisher 1f000003e80000000000000004: no place or no ticket is left
+attach publisher 1f000003e80000000000000004: no slot or no ticket is left
 0 ports are left
 """
 

@@ -1,4 +1,4 @@
-//! What the entries of a service are, and the handles by which they are given back.
+//! What the entries of a service are, and the handles by which they are removed.
 //!
 //! ```
 //! use iox2sd::container::Role;
@@ -133,7 +133,7 @@ impl ContainerHandle {
         self.role
     }
 
-    /// The place among the entries of its role.
+    /// The slot among the entries of its role.
     ///
     /// ```
     /// use iox2sd::container::{ContainerHandle, Role};
@@ -174,7 +174,7 @@ impl ContainerHandle {
     }
 }
 
-/// Why nothing was given back.
+/// Why nothing was released.
 ///
 /// ```
 /// use iox2sd::container::{ContainerHandle, Role};

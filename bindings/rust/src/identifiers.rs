@@ -1,8 +1,8 @@
 //! The ids of nodes, of ports and of services.
 //!
 //! An id has four parts: the number of the process that made it, the time when it did, and a
-//! counter. They are handed in: nothing here reads the process, the clock or a counter, and that
-//! ids are unique is up to those who make them.
+//! counter. The caller passes them: nothing here reads the process, the clock or a counter, and
+//! that ids are unique is up to those who make them.
 //!
 //! ```
 //! use iox2sd::identifiers::{UniqueNodeId, UniquePublisherId};

@@ -30,10 +30,10 @@
 //! # What is proved
 //!
 //! The library `libiox2sd` is proved to answer each call as its definitions say. This crate keeps
-//! values, and asks the library for each rule: what a legal text is, how a set is sorted and
-//! verified, how a message is laid out, who may attach. That it asks rightly is tested, not proved.
-//! It is plain Rust with `unsafe` calls of C, all of them in one module; its users need none, and
-//! may write `#![forbid(unsafe_code)]`.
+//! values, and calls the library for each rule: what a legal text is, how a set is sorted and
+//! verified, how a message is laid out, who may attach. That it calls the library rightly is
+//! tested, not proved. It is plain Rust with `unsafe` calls of C, all of them in one module; its
+//! users need none, and may write `#![forbid(unsafe_code)]`.
 
 #![deny(unsafe_code, unsafe_op_in_unsafe_fn)]
 #![warn(

@@ -1,6 +1,6 @@
 //! Safe calls of the library. All `unsafe` code of this crate stands here and below.
 //!
-//! A call answers `Err` with the status where the library reports a refusal.
+//! A call answers `Err` with the status where the library reports an error.
 
 mod attributes;
 mod descriptions;

@@ -22,7 +22,7 @@ use std::fmt;
 /// ```
 #[derive(Clone, Debug, PartialEq, Eq, Hash)]
 pub enum ScriptError {
-    /// A line has no meaning at its place, or no newline.
+    /// A line is not one that may stand there, or has no newline.
     BadLine {
         /// The number of the line, from 1 on.
         line: usize,

@@ -3,8 +3,8 @@
 use std::cmp::Ordering;
 use std::hash::{Hash, Hasher};
 
-/// How many bytes a short text has room for: enough for each text that the library takes, which
-/// says itself how long each kind may be.
+/// The capacity of a short text in bytes: enough for each text that the library takes, which says
+/// itself how long each kind may be.
 const ROOM: usize = 256;
 
 /// A text that the library took.
@@ -21,7 +21,7 @@ impl Text {
         length: 0,
     };
 
-    /// A copy of a text that the library took. Panics where there is no room for it.
+    /// A copy of a text that the library took. Panics where it does not fit.
     pub(crate) fn copy_of(text: &str) -> Self {
         let mut bytes = [0; ROOM];
         bytes[..text.len()].copy_from_slice(text.as_bytes());

@@ -1,4 +1,4 @@
-//! How many messages a port's data segment has room for.
+//! How many messages a port's data segment must hold.
 ghost use Rattle.iox2_static.specs.Chunks.{TellsGreatest};
 ghost use Rattle.config_report.specs.Limits.{sample_limits_of, request_limits_of};
 ghost use Rattle.config_report.specs.Limits.{response_limits_of};

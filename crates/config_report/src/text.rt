@@ -92,7 +92,7 @@ fn write_files(out: &mut String, config: &Config) -> Result<(), AllocError> {
     let node = &config.global.node;
     writeln!(
         out,
-        "\nfiles, with * for what the configuration does not tell"
+        "\nfiles, with * for what the configuration does not fix"
     )?;
     for (name, suffix) in [
         (

@@ -246,7 +246,7 @@ const PUBLISH_SUBSCRIBE: [Row; 11] = [
     Row {
         key: "subscriber-max-buffer-size",
         kind: Kind::Number,
-        about: "How many samples a subscriber's buffer has room for.",
+        about: "The capacity of a subscriber's buffer, in samples.",
     },
     Row {
         key: "subscriber-max-borrowed-samples",
@@ -266,7 +266,7 @@ const PUBLISH_SUBSCRIBE: [Row; 11] = [
     Row {
         key: "enable-safe-overflow",
         kind: Kind::Flag,
-        about: "Whether a new sample takes the oldest one's place where a buffer is full.",
+        about: "Whether a new sample replaces the oldest one where a buffer is full.",
     },
     Row {
         key: "backpressure-strategy",
@@ -281,7 +281,7 @@ const PUBLISH_SUBSCRIBE: [Row; 11] = [
     Row {
         key: "publisher-allocation-strategy",
         kind: Kind::Allocation,
-        about: "How a publisher's room grows for payloads of any length.",
+        about: "How a publisher's data segment grows for payloads of any length.",
     },
 ];
 
@@ -332,12 +332,12 @@ const REQUEST_RESPONSE: [Row; 17] = [
     Row {
         key: "enable-safe-overflow-for-requests",
         kind: Kind::Flag,
-        about: "Whether a new request takes the oldest's place where a server's buffer is full.",
+        about: "Whether a new request replaces the oldest one where a server's buffer is full.",
     },
     Row {
         key: "enable-safe-overflow-for-responses",
         kind: Kind::Flag,
-        about: "Whether a new response takes the oldest's place where a client's buffer is full.",
+        about: "Whether a new response replaces the oldest one where a client's buffer is full.",
     },
     Row {
         key: "max-active-requests-per-client",
@@ -347,7 +347,7 @@ const REQUEST_RESPONSE: [Row; 17] = [
     Row {
         key: "max-response-buffer-size",
         kind: Kind::Number,
-        about: "How many responses to one request a client's buffer has room for.",
+        about: "The capacity of a client's buffer for the responses to one request.",
     },
     Row {
         key: "max-servers",
@@ -407,12 +407,12 @@ const REQUEST_RESPONSE: [Row; 17] = [
     Row {
         key: "client-allocation-strategy",
         kind: Kind::Allocation,
-        about: "How a client's room grows for payloads of any length.",
+        about: "How a client's data segment grows for payloads of any length.",
     },
     Row {
         key: "server-allocation-strategy",
         kind: Kind::Allocation,
-        about: "How a server's room grows for payloads of any length.",
+        about: "How a server's data segment grows for payloads of any length.",
     },
 ];
 

@@ -1,4 +1,4 @@
-//! What is told of ids.
+//! What exports return of ids.
 ghost use Rattle.std.specs.Prelude.{◌≡◌};
 ghost use Rattle.iox2_ids.specs.Packing.{hexadecimal, owner_of};
 ghost use Rattle.iox2sd_common.specs.Answers.{Written};

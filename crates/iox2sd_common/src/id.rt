@@ -16,7 +16,7 @@ pub struct Id {
     pub seconds: u32,
     /// When it was made: the nanoseconds beside the seconds.
     pub nanoseconds: u32,
-    /// The number that tells it from others.
+    /// The number that distinguishes it from others.
     pub counter: u32,
 }
 

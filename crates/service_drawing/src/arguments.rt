@@ -1,4 +1,4 @@
-//! What the program's arguments ask for.
+//! The request in the program's arguments.
 ghost use Rattle.std.specs.Prelude.{[], ◌∷◌, drop};
 ghost use Rattle.service_drawing.specs.Arguments.{Asks, AsksFor, words_of};
 
@@ -16,7 +16,7 @@ pub(crate) enum Form {
     Svg,
 }
 
-/// What is asked for.
+/// What is requested.
 #[derive(Clone, Copy)]
 pub(crate) enum Asked {
     /// To draw the description that is read.
@@ -56,7 +56,7 @@ a drawing, settings or a file, 1 after a bad argument, line or setting, 2 where 
 /// The version of the program, and that of the iceoryx2 whose layer it draws.
 pub(crate) const VERSION: &str = "iox2-describe 0.1.0 (iceoryx2 0.9.3)\n";
 
-/// What the arguments, of which the first is the program's name, ask for.
+/// What the arguments request. The first is the program's name.
 pub(crate) fn asked_by(arguments: io::Result<Args>) -> Result<Asked, Fault>
     ensures { AsksFor arguments result }
 {
@@ -67,7 +67,7 @@ pub(crate) fn asked_by(arguments: io::Result<Args>) -> Result<Asked, Fault>
     }
 }
 
-/// What the words after the first ask for.
+/// What the words after the first request.
 fn asked_in(words: Args) -> Result<Asked, Fault>
     ensures { Asks (drop 1 (words_of words)) result }
 {

@@ -41,7 +41,7 @@ fn line_number(bytes: &[u8], rest: &[u8]) -> usize
     bytes[..read].iter().filter(|b| **b == b'\n').count() + 1
 }
 
-/// The fault of a line in whose place something else was expected.
+/// The fault of a line where another was expected.
 pub(crate) fn bad_line(bytes: &[u8], expected: Expected<'_>) -> Fault
     ensures { TellsBadLine bytes.now expected.entry result }
 {
@@ -62,7 +62,7 @@ fn write_both<W: Write>(writer: &mut W, first: &[u8], second: &[u8]) -> io::Resu
     write_whole(writer, second)
 }
 
-/// Writes what was expected in the place of a bad line, and a newline.
+/// Writes what was expected instead of a bad line, and a newline.
 fn write_expected<E: Write>(errors: &mut E, prefix: &str, form: &str) -> io::Result<()>
     ensures { OnOk result
         (Appends (E.contents errors.old) (E.contents errors.new)

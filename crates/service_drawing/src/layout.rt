@@ -7,7 +7,7 @@ ghost use Rattle.service_drawing.specs.Layout.{IsLayoutOf, IsWhole, IsPartAt, Is
 use super::span::Span;
 use iox2_config::types::MessageTypeDetails;
 
-/// Where the parts of a message lie, counted from its header, and the room that it is given.
+/// The offsets of the parts of a message from its header, and its layout.
 #[derive(Clone, Copy)]
 pub(crate) struct MessageLayout {
     pub(crate) header: Span,
@@ -36,7 +36,7 @@ pub(crate) enum Part {
     Element(usize),
     /// Nothing: the next part begins at a later multiple of its alignment.
     Gap,
-    /// Nothing: the message is given more room than it takes.
+    /// Nothing: the layout is larger than the message.
     Spare,
 }
 

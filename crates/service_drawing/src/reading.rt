@@ -96,7 +96,7 @@ fn exchange_before(bytes: &[u8], kind: PatternKind) -> Result<(Exchange, &[u8]),
     }
 }
 
-/// The service that the lines describe, or what was expected in the place of the first bad one.
+/// The service that the lines describe, or what was expected instead of the first bad one.
 pub(crate) fn read_description(bytes: &[u8]) -> Result<Description, Expected<'_>>
     ensures { MatchResult result (λ d. HasDescription d bytes.now)
         (λ expected. StopsReading expected.rest.now bytes.now

@@ -1,5 +1,5 @@
-//! The messages that the ports of a service send, and
-//! how many of them a port's data segment has room for.
+//! The messages that the ports of a service send, and how many of them fit in a port's data
+//! segment.
 ghost use Rattle.service_drawing.specs.Segments.{AreSegments};
 
 use crate::description::{Description, Exchange, Message};
@@ -13,7 +13,7 @@ pub(crate) struct Segment<'a> {
     /// What such a port is called.
     pub(crate) port: &'static str,
     pub(crate) message: &'a Message,
-    /// How many messages the data segment of a port has room for, if that fits 64 bits.
+    /// How many messages fit in the data segment of a port, if that number fits 64 bits.
     pub(crate) chunks: Option<usize>,
 }
 

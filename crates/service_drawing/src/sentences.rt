@@ -52,8 +52,7 @@ pub(crate) fn opener_sentence(message: &Message) -> Option<&'static str> {
     })
 }
 
-/// Appends how many messages the data segment of a
-/// port has room for, and the memory that they take.
+/// Appends how many messages fit in the data segment of a port, and the memory that they take.
 pub(crate) fn write_memory(
     out: &mut String,
     segment: Segment<'_>,

@@ -148,7 +148,7 @@ fn text_of(alloc: Global, text: &str) -> Result<Written, Fault>
     }
 }
 
-/// Does what is asked for, and answers the status unless a stream fails.
+/// Does what is requested, and returns the status unless a stream fails.
 fn run<R: Read, W: Write, E: Write>(
     alloc: Global,
     arguments: io::Result<Args>,

@@ -145,8 +145,7 @@ impl AttributeSet {
         library::attribute_values(self, key).unwrap_or_else(|status| library::unexpected(status))
     }
 
-    /// The value at this place, counted from 0, among the values that a key has, or `None` where
-    /// it has no more.
+    /// The value with this index among the values that a key has, or `None` where it has no more.
     ///
     /// ```
     /// use iox2sd::attribute::AttributeSet;

@@ -15,9 +15,9 @@ use std::fmt;
 #[derive(Clone, Copy, Debug, PartialEq, Eq, Hash)]
 #[repr(u32)]
 pub enum BackpressureStrategy {
-    /// It tries again until the receiver has room.
+    /// It tries again until the receiver can take the message.
     RetryUntilDelivered = sys::IOX2SD_RETRY_UNTIL_DELIVERED,
-    /// It leaves the receiver out.
+    /// It skips this receiver.
     DiscardData = sys::IOX2SD_DISCARD_DATA,
 }
 
@@ -30,7 +30,7 @@ impl BackpressureStrategy {
     }
 }
 
-/// How the room for messages grows where their length is known only at run time.
+/// How a data segment grows for messages whose length is known only at run time.
 ///
 /// ```
 /// use iox2sd::config::{AllocationStrategy, PublishSubscribe};
@@ -85,7 +85,7 @@ impl DataSegmentType {
     }
 }
 
-/// The number by which listeners tell the events of one service apart.
+/// The number by which listeners distinguish the events of one service.
 ///
 /// ```
 /// use iox2sd::config::EventId;

@@ -32,7 +32,7 @@ pub struct Global {
     pub creation_timeout: Duration,
 }
 
-/// The defaults, for which the library is asked once.
+/// The defaults, which are read from the library once.
 fn defaults() -> &'static Global {
     static DEFAULTS: OnceLock<Global> = OnceLock::new();
     DEFAULTS.get_or_init(|| {

@@ -19,7 +19,7 @@ pub struct PublishSubscribe {
     pub max_publishers: usize,
     /// How many nodes may use the service at once.
     pub max_nodes: usize,
-    /// How many samples a subscriber's buffer has room for.
+    /// The capacity of a subscriber's buffer, in samples.
     pub subscriber_max_buffer_size: usize,
     /// How many samples a subscriber may hold at once.
     pub subscriber_max_borrowed_samples: usize,
@@ -27,13 +27,13 @@ pub struct PublishSubscribe {
     pub publisher_max_loaned_samples: usize,
     /// How many of the last samples a publisher keeps for subscribers that come later.
     pub publisher_history_size: usize,
-    /// Whether a new sample takes the oldest one's place where a buffer is full.
+    /// Whether a new sample replaces the oldest one where a buffer is full.
     pub enable_safe_overflow: bool,
     /// What a publisher does where a buffer is full and may not overflow.
     pub backpressure_strategy: BackpressureStrategy,
     /// How many connections of publishers that are gone a subscriber keeps.
     pub subscriber_expired_connection_buffer: usize,
-    /// How a publisher's room grows for payloads whose length is known only at run time.
+    /// How a publisher's data segment grows for payloads whose length is known only at run time.
     pub publisher_allocation_strategy: AllocationStrategy,
 }
 
@@ -106,8 +106,8 @@ impl Default for Event {
     }
 }
 
-/// The settings that a request-response service gets by default. The name is spelt as iceoryx2
-/// spells it.
+/// The settings that a request-response service gets by default. The name is that of iceoryx2,
+/// misspelt as there.
 ///
 /// ```
 /// use iox2sd::config::RequestResonse;
@@ -117,13 +117,13 @@ impl Default for Event {
 /// ```
 #[derive(Clone, Debug, PartialEq, Eq, Hash)]
 pub struct RequestResonse {
-    /// Whether a new request takes the oldest one's place where a server's buffer is full.
+    /// Whether a new request replaces the oldest one where a server's buffer is full.
     pub enable_safe_overflow_for_requests: bool,
-    /// Whether a new response takes the oldest one's place where a client's buffer is full.
+    /// Whether a new response replaces the oldest one where a client's buffer is full.
     pub enable_safe_overflow_for_responses: bool,
     /// How many requests of one client may be open at each server at once.
     pub max_active_requests_per_client: usize,
-    /// How many responses to one request a client's buffer has room for.
+    /// The capacity of a client's buffer for the responses to one request.
     pub max_response_buffer_size: usize,
     /// How many servers may be attached at once.
     pub max_servers: usize,
@@ -147,9 +147,9 @@ pub struct RequestResonse {
     pub server_expired_connection_buffer: usize,
     /// Whether a client may send a request and take no response.
     pub enable_fire_and_forget_requests: bool,
-    /// How a client's room grows for requests whose length is known only at run time.
+    /// How a client's data segment grows for requests whose length is known only at run time.
     pub client_allocation_strategy: AllocationStrategy,
-    /// How a server's room grows for responses whose length is known only at run time.
+    /// How a server's data segment grows for responses whose length is known only at run time.
     pub server_allocation_strategy: AllocationStrategy,
 }
 

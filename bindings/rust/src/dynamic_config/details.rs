@@ -1,4 +1,4 @@
-//! What ports tell of themselves.
+//! The details of ports.
 
 use crate::config::DataSegmentType;
 use crate::container::Role;
@@ -255,7 +255,7 @@ details! {
     WriterDetails of Writer with writer_id: UniqueWriterId;
 }
 
-/// What a port of any kind tells of itself.
+/// The details of a port of any kind.
 ///
 /// ```
 /// use iox2sd::container::Role;

@@ -16,7 +16,7 @@ pub(super) fn count<T: Details>(service: &Service) -> usize {
     service.count_ports(T::ROLE as u64).unwrap_or_default()
 }
 
-/// Defines the questions about the two kinds of ports of one pattern.
+/// Defines the queries about the two kinds of ports of one pattern.
 macro_rules! ports_of_pattern {
     (
         $(#[$example:meta])*

@@ -13,7 +13,7 @@ use crate::CallbackProgression;
 use std::fmt;
 use std::vec;
 
-/// For how many ports of each kind a service has room, by its pattern.
+/// How many ports of each kind a service can have at a time, by its pattern.
 ///
 /// ```
 /// use iox2sd::dynamic_config::{event, DynamicConfig, MessagingPatternSettings};
@@ -35,7 +35,7 @@ pub enum MessagingPatternSettings {
     Blackboard(blackboard::DynamicConfigSettings),
 }
 
-/// Defines how the room of each pattern becomes that of a service.
+/// Defines how the capacities of each pattern become those of a service.
 macro_rules! settings_of {
     ($($variant:ident: $module:ident)*) => {
         $(
@@ -48,7 +48,7 @@ macro_rules! settings_of {
     };
 }
 
-/// The room that a service of the pattern is described to have.
+/// The capacities in the description of a service of the pattern.
 impl From<&Pattern> for MessagingPatternSettings {
     fn from(pattern: &Pattern) -> Self {
         match pattern {
@@ -68,7 +68,7 @@ settings_of! {
 }
 
 impl MessagingPatternSettings {
-    /// The pattern, with the room for its two kinds of ports.
+    /// The pattern, with the capacities of its two kinds of ports.
     fn parts(&self) -> (Kind, usize, usize) {
         match self {
             Self::RequestResponse(room) => (
@@ -95,7 +95,7 @@ impl MessagingPatternSettings {
     }
 }
 
-/// The service, as the questions about its pattern's ports want it.
+/// The service, as the queries about its pattern's ports want it.
 enum MessagingPattern {
     RequestResponse(request_response::DynamicConfig),
     PublishSubscribe(publish_subscribe::DynamicConfig),
@@ -106,9 +106,9 @@ enum MessagingPattern {
 /// Who is attached to a service: nodes, and ports that belong to them.
 ///
 /// A port stands only on a registered node. When the last node has gone, the service is locked for
-/// good. No handle is ever given twice, and one that was given back is refused for good.
+/// good. No handle is ever reused, and one that was removed is refused for good.
 ///
-/// A service may be sent to another thread, and many threads may ask it at once:
+/// A service may be sent to another thread, and many threads may query it at once:
 ///
 /// ```
 /// use iox2sd::dynamic_config::{event, DynamicConfig, MessagingPatternSettings};
@@ -320,7 +320,7 @@ impl DynamicConfig {
     /// # Errors
     ///
     /// Refused where the pattern has no such ports, else where the service is locked, else where
-    /// the port's node is not registered, by its whole id, and else where there is no place or no
+    /// the port's node is not registered, by its whole id, and else where there is no slot or no
     /// ticket for the port.
     ///
     /// # Examples
@@ -392,7 +392,7 @@ impl DynamicConfig {
         })
     }
 
-    /// Asks the callback once about each port of the dead node, in the order of
+    /// Calls the callback once for each port of the dead node, in the order of
     /// [`ports_of`](Self::ports_of), and removes those that it answers with
     /// [`RemovePort`](PortCleanupAction::RemovePort). Where none of its ports is left, the node
     /// goes too, with all its handles; where it was the last one, the service is locked for good.
@@ -400,8 +400,8 @@ impl DynamicConfig {
     ///
     /// Nothing is changed before the callback has answered for all ports.
     ///
-    /// What stays is told by the [`value`](UniquePortId::value) of an id, whatever its kind: ports
-    /// of the node with one value stay together where the callback answers
+    /// What stays goes by the [`value`](UniquePortId::value) of an id, whatever its kind: ports of
+    /// the node with one value stay together where the callback answers
     /// [`SkipPort`](PortCleanupAction::SkipPort) for one of them. A listener that is skipped keeps
     /// the notifier of the same value too, though their [`UniquePortId`]s are not equal. Where ids
     /// are unique, each port is answered for alone.
@@ -858,7 +858,7 @@ impl DynamicConfig {
     }
 }
 
-/// Defines, for one pattern, whether a service has it and the questions about its ports.
+/// Defines, for one pattern, whether a service has it and the queries about its ports.
 macro_rules! of_pattern {
     ($kind:literal $variant:ident $module:ident $is:ident $number:ident $(#[$made:meta])*) => {
         #[doc = concat!("Whether it is ", $kind, " service.")]

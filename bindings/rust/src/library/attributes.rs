@@ -4,7 +4,7 @@ use super::{done, text};
 use crate::attribute::{Attribute, AttributeKey};
 use crate::sys;
 
-/// What a set lacks, by its place among what is required.
+/// What a set lacks, by its index among what is required.
 pub(crate) enum Missing {
     Pair(usize),
     Key(usize),

@@ -32,7 +32,7 @@ pub(crate) fn layout(details: &MessageTypeDetails, elements: usize) -> Result<(u
     Ok((answer.size, answer.alignment))
 }
 
-/// The places of user header and payload of a message with its header at this place.
+/// The offsets of user header and payload of a message with its header at this offset.
 pub(crate) fn places(details: &MessageTypeDetails, header: usize) -> Result<(usize, usize), u32> {
     let parts = parts(details);
     // SAFETY: as above.

@@ -28,7 +28,7 @@ macro_rules! change {
     }};
 }
 
-/// Calls an export that asks a service, by a pointer to `const`.
+/// Calls an export that queries a service, by a pointer to `const`.
 macro_rules! ask {
     ($service:expr, $export:ident $(, $argument:expr)*) => {{
         // SAFETY: the place is one service, which no call changes while there is a `&` to it. The
@@ -200,7 +200,7 @@ fn locked(status: u32) -> Result<bool, u32> {
     }
 }
 
-/// The answer to a question that is never refused.
+/// The answer to a query that is never refused.
 fn granted<T>(status: u32, answer: T) -> T {
     match status {
         sys::IOX2SD_DONE => answer,
@@ -208,7 +208,7 @@ fn granted<T>(status: u32, answer: T) -> T {
     }
 }
 
-/// The answer to a question about a role, or `None` where the pattern has no such ports.
+/// The answer to a query about a role, or `None` where the pattern has no such ports.
 fn of_role<T>(status: u32, answer: T) -> Option<T> {
     match status {
         sys::IOX2SD_DONE => Some(answer),
@@ -217,7 +217,7 @@ fn of_role<T>(status: u32, answer: T) -> Option<T> {
     }
 }
 
-/// The answer to a question about a handle, or `None` where nothing has it.
+/// The answer to a query about a handle, or `None` where nothing has it.
 fn of_handle<T>(status: u32, answer: T) -> Option<T> {
     match status {
         sys::IOX2SD_DONE => Some(answer),

@@ -1,4 +1,4 @@
-//! The types of the parts of messages, where these lie, and how much room a message needs.
+//! The types of the parts of messages, where these lie, and the layout of a message.
 //!
 //! ```
 //! use iox2sd::static_config::message_type_details::{MessageTypeDetails, TypeVariant};
@@ -151,7 +151,7 @@ pub enum TypeDetailError {
 error_by_path!(TypeDetailError);
 
 /// What a service knows of a type: its name, how many of its values a message has, their size in
-/// bytes, and the number of which their places are multiples.
+/// bytes, and their alignment.
 ///
 /// The alignment is a power of two, but for the default details, which stand where none were given:
 /// their alignment and size are 0, and their name is empty.
@@ -275,8 +275,7 @@ impl TypeDetail {
         self.size
     }
 
-    /// The number of which the place of each value is a multiple: a power of two, or 0 in the
-    /// default details.
+    /// The alignment of each value: a power of two, or 0 in the default details.
     ///
     /// ```
     /// use iox2sd::static_config::message_type_details::{TypeDetail, TypeVariant};
@@ -311,7 +310,7 @@ pub struct MessageTypeDetails {
     pub payload: TypeDetail,
 }
 
-/// Why a message has no layout or no places.
+/// Why a message has no layout or no offsets.
 ///
 /// ```
 /// use iox2sd::static_config::message_type_details::{LayoutError, MessageTypeDetails};
@@ -324,7 +323,7 @@ pub struct MessageTypeDetails {
 pub enum LayoutError {
     /// The details of a part were not given: they are the default ones.
     DetailsNotGiven,
-    /// A message would need more than 2^63 - 1 bytes, or the place of its payload would pass
+    /// A message would need more than 2^63 - 1 bytes, or the offset of its payload would pass
     /// 2^64 - 1.
     TooLarge,
 }
@@ -384,7 +383,7 @@ impl MessageTypeDetails {
         library::layout(self, 0) != Err(sys::IOX2SD_BAD_ALIGNMENT)
     }
 
-    /// Whether a message with its header at the place `header` has a place for its payload.
+    /// Whether a message with its header at the offset `header` has an offset for its payload.
     ///
     /// ```
     /// use iox2sd::static_config::message_type_details::{MessageTypeDetails, TypeVariant};
@@ -399,13 +398,13 @@ impl MessageTypeDetails {
         library::places(self, header).is_ok()
     }
 
-    /// The place of the user header in a message with its header at the place `header`. Places are
-    /// numbers: nothing is read there.
+    /// The offset of the user header in a message with its header at the offset `header`. Offsets
+    /// are numbers: nothing is read there.
     ///
     /// # Errors
     ///
-    /// Refused where the details of a part were not given, and where the place of the payload would
-    /// pass 2^64 - 1.
+    /// Refused where the details of a part were not given, and where the offset of the payload
+    /// would pass 2^64 - 1.
     ///
     /// # Examples
     ///
@@ -425,7 +424,7 @@ impl MessageTypeDetails {
         Ok(user_header)
     }
 
-    /// The place of the payload in a message with its header at the place `header`.
+    /// The offset of the payload in a message with its header at the offset `header`.
     ///
     /// # Errors
     ///
@@ -445,11 +444,11 @@ impl MessageTypeDetails {
         Ok(payload)
     }
 
-    /// The room for a message whose payload has so many elements.
+    /// The layout of a message whose payload has so many elements.
     ///
-    /// Wherever the header lies at a multiple of its alignment, all parts lie in the room, apart
-    /// and aligned, for the service and for every compatible opener; so they do in rooms that lie
-    /// end to end. The room need not be the least.
+    /// Wherever the header begins at a multiple of its alignment, all parts lie inside the layout,
+    /// apart and aligned, for the service and for every compatible opener. The same holds of
+    /// messages that lie end to end. A smaller layout may be possible.
     ///
     /// # Errors
     ///

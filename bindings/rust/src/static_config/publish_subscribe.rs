@@ -33,11 +33,11 @@ pub struct StaticConfig {
     pub max_nodes: usize,
     /// How many of the last samples a publisher keeps for subscribers that come later.
     pub history_size: usize,
-    /// How many samples a subscriber's buffer has room for.
+    /// The capacity of a subscriber's buffer, in samples.
     pub subscriber_max_buffer_size: usize,
     /// How many samples a subscriber may hold at once.
     pub subscriber_max_borrowed_samples: usize,
-    /// Whether a new sample takes the oldest one's place where a buffer is full.
+    /// Whether a new sample replaces the oldest one where a buffer is full.
     pub enable_safe_overflow: bool,
     /// The types of a message's parts.
     pub message_type_details: MessageTypeDetails,
@@ -158,7 +158,7 @@ impl StaticConfig {
         self.history_size
     }
 
-    /// How many samples a subscriber's buffer has room for.
+    /// The capacity of a subscriber's buffer, in samples.
     ///
     /// ```
     /// use iox2sd::config::Config;
@@ -188,7 +188,7 @@ impl StaticConfig {
         self.subscriber_max_borrowed_samples
     }
 
-    /// Whether a new sample takes the oldest one's place where a buffer is full.
+    /// Whether a new sample replaces the oldest one where a buffer is full.
     ///
     /// ```
     /// use iox2sd::config::Config;

@@ -25,9 +25,9 @@ use crate::sys;
 /// ```
 #[derive(Clone, Copy, Debug, PartialEq, Eq, Hash)]
 pub struct StaticConfig {
-    /// Whether a new request takes the oldest one's place where a server's buffer is full.
+    /// Whether a new request replaces the oldest one where a server's buffer is full.
     pub enable_safe_overflow_for_requests: bool,
-    /// Whether a new response takes the oldest one's place where a client's buffer is full.
+    /// Whether a new response replaces the oldest one where a client's buffer is full.
     pub enable_safe_overflow_for_responses: bool,
     /// Whether a client may send a request and take no response.
     pub enable_fire_and_forget_requests: bool,
@@ -35,7 +35,7 @@ pub struct StaticConfig {
     pub max_active_requests_per_client: usize,
     /// How many requests a client may have taken and not yet sent.
     pub max_loaned_requests: usize,
-    /// How many responses to one request a client's buffer has room for.
+    /// The capacity of a client's buffer for the responses to one request.
     pub max_response_buffer_size: usize,
     /// How many servers there may be at once.
     pub max_servers: usize,
@@ -168,7 +168,7 @@ impl StaticConfig {
         &self.response_message_type_details
     }
 
-    /// Whether a new request takes the oldest one's place where a server's buffer is full.
+    /// Whether a new request replaces the oldest one where a server's buffer is full.
     ///
     /// ```
     /// use iox2sd::config::Config;
@@ -184,7 +184,7 @@ impl StaticConfig {
         self.enable_safe_overflow_for_requests
     }
 
-    /// Whether a new response takes the oldest one's place where a client's buffer is full.
+    /// Whether a new response replaces the oldest one where a client's buffer is full.
     ///
     /// ```
     /// use iox2sd::config::Config;
@@ -246,7 +246,7 @@ impl StaticConfig {
         self.max_active_requests_per_client
     }
 
-    /// How many responses to one request a client's buffer has room for.
+    /// The capacity of a client's buffer for the responses to one request.
     ///
     /// ```
     /// use iox2sd::config::Config;

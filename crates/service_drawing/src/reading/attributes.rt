@@ -10,7 +10,7 @@ use super::message::line_after;
 use iox2_texts::attribute::{AttributeKey, AttributeSet, AttributeValue, AttributeVerifier};
 use line_streams::{after_word, before_byte};
 
-/// The key and the value that a text spells. The key has no space.
+/// The key and the value of a text. The key has no space.
 fn pair_in(text: &[u8]) -> Option<(AttributeKey, AttributeValue)>
     ensures { MatchOption result
         ((pair : Pair) → IsPair pair → ¬ (text.now ≡ pair_text pair))
@@ -29,7 +29,7 @@ fn pair_in(text: &[u8]) -> Option<(AttributeKey, AttributeValue)>
     }
 }
 
-/// The key that a text spells. It has no space.
+/// The key of a text. It has no space.
 fn key_in(text: &[u8]) -> Option<AttributeKey>
     ensures { MatchOption result ((key : List ℕ) → IsKey key → ¬ (text.now ≡ key))
         (λ key. IsKey key × (text.now ≡ key)) }
@@ -89,7 +89,7 @@ pub(super) fn required_before(bytes: &[u8]) -> Result<(AttributeVerifier, &[u8])
     Ok((required, rest))
 }
 
-/// The verifier that requires also what a text spells after `require`.
+/// The verifier that requires also what a text has after `require`.
 fn requiring(required: AttributeVerifier, text: &[u8]) -> Option<AttributeVerifier>
     ensures { MatchOption result (RequiresNoMore required text.now)
         (RequiresMore required text.now) }

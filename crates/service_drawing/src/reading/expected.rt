@@ -3,7 +3,7 @@ ghost use Rattle.std.specs.Prelude.{◌≡◌};
 
 use super::cause::Reason;
 
-/// What was expected in the place of what is left.
+/// What was expected instead of what is left.
 #[derive(Clone, Copy)]
 pub(crate) struct Expected<'a> {
     /// What is left, from the beginning of the bad line on.

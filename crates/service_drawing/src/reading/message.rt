@@ -59,7 +59,7 @@ fn numbers_in(text: &[u8]) -> Option<(usize, usize, &[u8])>
     Some((first, second, rest))
 }
 
-/// The type whose size, alignment and name the text spells.
+/// The type with the size, the alignment and the name of the text.
 fn type_in(text: &[u8], variant: TypeVariant) -> Option<TypeDetail>
     ensures { MatchOption result
         ((t : TypeDetailParts) → t.variant ≡ variant → IsDescribed t → ¬ (text.now ≡ type_text t))

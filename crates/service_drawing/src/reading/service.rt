@@ -46,7 +46,7 @@ pub(super) struct Service {
     pub(super) hash: ServiceHash,
 }
 
-/// The service that a line spells, or why it spells none.
+/// The service of a line, or why it has none.
 fn service_in(line: &[u8]) -> Result<Service, Reason>
     ensures spelled { IfOk result (λ service.
         line.now ≡ pattern_word service.kind ++ 32 ∷ service.name) }

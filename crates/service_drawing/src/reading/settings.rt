@@ -12,14 +12,14 @@ use super::message::line_after;
 use crate::settings::{Settings, Value};
 use line_streams::before_byte;
 
-/// The byte, or a dash in the place of an underscore.
+/// The byte, or a dash instead of an underscore.
 fn with_dash(byte: u8) -> u8
     ensures { result ≡ dash_for byte }
 {
     if byte == b'_' { b'-' } else { byte }
 }
 
-/// Whether the word is this name with dashes in the place of underscores.
+/// Whether the word is this name with dashes instead of underscores.
 fn is_dashed(word: &[u8], name: &str) -> bool
     ensures { IsTrue result ↔ IsDashed word.now name.now }
 {
@@ -35,7 +35,7 @@ fn is_dashed(word: &[u8], name: &str) -> bool
     true
 }
 
-/// Whether the word is this name, as the code or as configuration files spell it.
+/// Whether the word is this name, as the code or as configuration files have it.
 fn is_named(word: &[u8], name: &str) -> bool
     ensures { IsTrue result ↔ IsNamed word.now name.now }
 {
@@ -59,8 +59,8 @@ fn find<S: Settings>(settings: &S, word: &[u8]) -> Option<(usize, Value)>
     None
 }
 
-/// Sets the setting whose name and value the text spells,
-/// and marks it as set, or answers why it does not.
+/// Sets the setting with the name and the value of the text, and marks it as set, or returns why it
+/// does not.
 fn set<S: Settings>(settings: &mut S, given: &mut [bool; 32], text: &[u8]) -> Result<(), Reason>
     ensures set { IfOk result (λ done. Sets S.names (S.values settings.old) given.old text.now
         (S.values settings.new) given.new) }
@@ -86,7 +86,7 @@ fn set<S: Settings>(settings: &mut S, given: &mut [bool; 32], text: &[u8]) -> Re
     }
 }
 
-/// What was expected in the place of a line that sets nothing.
+/// What was expected instead of a line that sets nothing.
 fn expected<S: Settings>(bytes: &[u8], reason: Reason) -> Expected<'_>
     ensures place { result.rest.now ≡ bytes.now }
     ensures reason { result.reason ≡ reason }

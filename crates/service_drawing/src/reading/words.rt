@@ -1,4 +1,4 @@
-//! Lines and numbers, each in one spelling.
+//! Lines and numbers, each with one text.
 ghost use Rattle.std.specs.Prelude.{◌≡◌, ◌∷◌, ◌++◌, ◌<◌, ◌^◌, ◌↔◌, ℕ, List, length};
 ghost use Rattle.std.specs.Prelude.{IsTrue, IfSome, MatchOption, decimal};
 ghost use Rattle.service_drawing.specs.Lines.{IsPlain, IsLine};
@@ -28,7 +28,7 @@ pub(super) fn next_line(bytes: &[u8]) -> Option<(&[u8], &[u8])>
     Some((line, rest))
 }
 
-/// The number that the text spells: no sign and no leading zero.
+/// The number of the text: no sign and no leading zero.
 pub(crate) fn number(text: &[u8]) -> Option<usize>
     ensures { MatchOption result ((n : ℕ) → n < 2 ^ 64 → ¬ (text.now ≡ decimal n))
         (λ n. text.now ≡ decimal n) }

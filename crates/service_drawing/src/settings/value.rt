@@ -58,7 +58,7 @@ impl fmt::Display for Value {
 }
 
 impl Value {
-    /// The value of the same kind that the text spells.
+    /// The value of the same kind that the text has.
     pub(crate) fn of_kind(self, text: &[u8]) -> Option<Value>
         ensures { MatchOption result
             ((value : Value) → MayBecome self value → ¬ (text.now ≡ value_text value))

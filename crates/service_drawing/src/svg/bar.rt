@@ -22,7 +22,7 @@ const LEAST: usize = 120;
 /// How wide a digit or a letter is at most.
 const LETTER: usize = 70;
 
-/// How much room stands beside an offset.
+/// The width that is kept free beside an offset.
 const MARGIN: usize = 40;
 
 /// How far to the right the byte at this offset is drawn.
@@ -34,8 +34,8 @@ fn place(offset: usize, size: usize) -> usize
     LEFT + (offset as u128 * WIDTH as u128 / size.max(1) as u128) as usize
 }
 
-/// How many elements are drawn one by one, the first ones:
-/// none where they would be too narrow to be told apart.
+/// How many elements are drawn one by one, the first ones: none where they would be too narrow to
+/// be distinguished.
 pub(super) fn drawn_apart(layout: &MessageLayout) -> usize
     ensures apart { LEAST * max layout.now.size 1 ≤ layout.now.element * WIDTH
         → result ≡ min layout.now.elements APART }
@@ -97,8 +97,8 @@ fn write_elements(out: &mut String, layout: &MessageLayout) -> Result<(), AllocE
     }
 }
 
-/// Appends how many elements are drawn as one: with what they are where there is room for it, or
-/// else the number alone.
+/// Appends how many elements are drawn as one: with what they are where that fits, or else the
+/// number alone.
 fn write_label(
     out: &mut String,
     span: Span,
@@ -135,8 +135,8 @@ fn number_width(number: usize) -> usize
     LETTER * digits.format(number).len()
 }
 
-/// Appends an offset below its place in the bar, where it does not reach left of `free` or into the
-/// last offset. Answers what is left free then.
+/// Appends an offset below its position in the bar, where it does not reach left of `free` or into
+/// the last offset. Returns what is left free then.
 fn write_mark(
     out: &mut String,
     offset: usize,
@@ -159,7 +159,7 @@ fn write_mark(
 }
 
 /// Appends the offsets of the elements that are drawn one by one and of the next one, as far as
-/// there is room for them.
+/// they fit.
 #[tactic(auto, using(crate::proofs::Inside::element_inside, crate::proofs::Inside::elements_inside))]
 fn write_element_marks(
     out: &mut String,
@@ -176,8 +176,8 @@ fn write_element_marks(
     write_mark(out, layout.elements_from(apart).start(), layout.size, free)
 }
 
-/// Appends the offsets at which parts begin and end: the first
-/// and the last, and the others as far as there is room.
+/// Appends the offsets at which parts begin and end: the first and the last, and the others as far
+/// as they fit.
 fn write_marks(out: &mut String, layout: &MessageLayout) -> Result<(), AllocError>
     requires { IsWhole layout.now }
 {

@@ -111,7 +111,7 @@ fn write_typed(
     Ok(())
 }
 
-/// Draws a row for each part of a message, and for each gap that has bytes.
+/// Draws a row for each part of a message, and for each padding that has bytes.
 fn write_rows(
     sheet: &mut Sheet,
     message: &Message,

@@ -50,7 +50,7 @@ pub(super) struct Sheet {
 }
 
 impl Sheet {
-    /// An empty sheet, with room above the first line.
+    /// An empty sheet, with a margin above the first line.
     pub(super) fn new(alloc: Global) -> Self {
         Sheet {
             alloc,
@@ -69,7 +69,7 @@ impl Sheet {
         self.drawn.as_str()
     }
 
-    /// To append what stands at a place of its own.
+    /// To append what has a position of its own.
     pub(super) fn text(&mut self) -> &mut String {
         &mut self.drawn
     }
@@ -79,12 +79,12 @@ impl Sheet {
         self.top
     }
 
-    /// How high the picture is, with room below the last line.
+    /// How high the picture is, with a margin below the last line.
     pub(super) fn height(&self) -> usize {
         self.top.saturating_add(100)
     }
 
-    /// Leaves room.
+    /// Leaves a margin.
     pub(super) fn skip(&mut self, height: usize) {
         self.top = self.top.saturating_add(height);
     }

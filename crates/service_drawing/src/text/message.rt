@@ -149,8 +149,8 @@ fn opener_alignments(opener: Option<&MessageTypeDetails>) -> [Option<usize>; 3] 
     }
 }
 
-/// Appends a row for each part of a message, for the gaps
-/// between them and for the first elements of the payload.
+/// Appends a row for each part of a message, for the padding between them and for the first
+/// elements of the payload.
 fn write_table(
     out: &mut String,
     message: &Message,

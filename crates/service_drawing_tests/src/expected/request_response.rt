@@ -22,7 +22,7 @@ response-opener 16 1 8
 pattern    request-response
 hash text  R5Xl9SNXYuJ72IX0rCSbvnqsbhE
 
-files, with * for what the configuration does not tell
+files, with * for what the configuration does not fix
   static configuration   /tmp/iceoryx2/services/iox2_R5Xl9SNXYuJ72IX0rCSbvnqsbhE.service
   dynamic configuration  iox2_R5Xl9SNXYuJ72IX0rCSbvnqsbhE.dynamic
   data segments          iox2_*.data
@@ -106,7 +106,7 @@ response-elements 9223372036854775792
 pattern    request-response
 hash text  zsx5ZUcuLwg2JhZitIp6IcAqrx4
 
-files, with * for what the configuration does not tell
+files, with * for what the configuration does not fix
   static configuration   /tmp/iceoryx2/services/iox2_zsx5ZUcuLwg2JhZitIp6IcAqrx4.service
   dynamic configuration  iox2_zsx5ZUcuLwg2JhZitIp6IcAqrx4.dynamic
   data segments          iox2_*.data

@@ -24,7 +24,7 @@ directories
   services               /tmp/iceoryx2/services
   nodes                  /tmp/iceoryx2/nodes
 
-files, with * for what the configuration does not tell
+files, with * for what the configuration does not fix
   static configuration   own_*.service
   dynamic configuration  own_*.dynamic
   data segments          own_*.data
