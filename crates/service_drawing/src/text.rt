@@ -30,7 +30,7 @@ fn write_files(out: &mut String, service: &Description) -> Result<(), AllocError
     let names = &global.service;
     writeln!(
         out,
-        "\nfiles, with * for what the configuration does not tell"
+        "\nfiles, with * for what the configuration does not fix"
     )?;
     write!(out, "  static configuration   ")?;
     let name = file_name(

@@ -23,7 +23,7 @@ require-key resolution
 pattern    publish-subscribe
 hash text  Tqyt8mlaP0suuVSFdZJGzhoqqQY
 
-files, with * for what the configuration does not tell
+files, with * for what the configuration does not fix
   static configuration   /tmp/iceoryx2/services/iox2_Tqyt8mlaP0suuVSFdZJGzhoqqQY.service
   dynamic configuration  iox2_Tqyt8mlaP0suuVSFdZJGzhoqqQY.dynamic
   data segments          iox2_*.data
@@ -84,7 +84,7 @@ require camera back
 pattern    event
 hash text  u7hW7p2WFNt9k39F0CpvIbP8DmU
 
-files, with * for what the configuration does not tell
+files, with * for what the configuration does not fix
   static configuration   /tmp/iceoryx2/services/iox2_u7hW7p2WFNt9k39F0CpvIbP8DmU.service
   dynamic configuration  iox2_u7hW7p2WFNt9k39F0CpvIbP8DmU.dynamic
   connections            iox2_*.event
@@ -124,7 +124,7 @@ require-key unit
 pattern    blackboard
 hash text  evmpuz_8WVQ_r5yQJUvPx5DgzPo
 
-files, with * for what the configuration does not tell
+files, with * for what the configuration does not fix
   static configuration   /tmp/iceoryx2/services/iox2_evmpuz_8WVQ_r5yQJUvPx5DgzPo.service
   dynamic configuration  iox2_evmpuz_8WVQ_r5yQJUvPx5DgzPo.dynamic
   management segment     iox2_*.blackboard_mgmt
@@ -161,7 +161,7 @@ opener 2 1 1
 pattern    publish-subscribe
 hash text  61BUcLsrM8j39tX_dWweernL58M
 
-files, with * for what the configuration does not tell
+files, with * for what the configuration does not fix
   static configuration   /tmp/iceoryx2/services/iox2_61BUcLsrM8j39tX_dWweernL58M.service
   dynamic configuration  iox2_61BUcLsrM8j39tX_dWweernL58M.dynamic
   data segments          iox2_*.data
@@ -216,7 +216,7 @@ opener 8 2 1
 pattern    publish-subscribe
 hash text  ejo0NwGqwNrzbHs6gRjckqDAlYQ
 
-files, with * for what the configuration does not tell
+files, with * for what the configuration does not fix
   static configuration   /tmp/iceoryx2/services/iox2_ejo0NwGqwNrzbHs6gRjckqDAlYQ.service
   dynamic configuration  iox2_ejo0NwGqwNrzbHs6gRjckqDAlYQ.dynamic
   data segments          iox2_*.data
