@@ -124,7 +124,7 @@ for compiler in gcc clang; do
         runs "$compiler" iox2sd "$source" -std=c99 -D_GNU_SOURCE "$wrapped"
     done
 done
-wrapped_settings=-Wl,--wrap=iox2sd_script_run
+wrapped_settings=-Wl,--wrap=iox2sd_script_run_at
 for name in {global,publish_subscribe,event,request_response}_{defaults,settings_check_at} \
     blackboard_defaults; do
     wrapped_settings+=,--wrap=iox2sd_$name

@@ -426,8 +426,8 @@ iox2sd_field_answer __wrap_iox2sd_request_response_settings_check_at(
 /// How a script's calls end: the first, which asks for room, and the second.
 static iox2sd_script_answer first_run, second_run;
 
-iox2sd_script_answer __wrap_iox2sd_script_run(const uint8_t*, size_t, uint8_t* out,
-                                              size_t capacity) {
+iox2sd_script_answer __wrap_iox2sd_script_run_at(const uint8_t*, size_t, uint8_t* out,
+                                                 size_t capacity) {
     if (out == nullptr) return first_run;
     for (std::size_t i = 0; i < second_run.length && i < capacity; ++i) {
         out[i] = static_cast<std::uint8_t>('a' + i);

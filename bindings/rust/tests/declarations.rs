@@ -202,9 +202,9 @@ fn words(text: &str) -> String {
 #[test]
 fn a_service_is_sent_and_shared_because_the_header_says_so() {
     let sentences = [
-        "On one service any number of questions may run at once, or one change alone.",
-        "A service may be moved to another thread; a move and a change are ordered with other calls \
-         by a lock or by a thread's start or join.",
+        "On one service any number of queries may run at once, or one change alone.",
+        "A service may be moved to another thread. The caller orders moves and changes with other \
+         calls, by a lock or by a thread's start or join.",
     ];
     for sentence in sentences {
         assert!(words(&read("../../include/iox2sd.h")).contains(sentence));

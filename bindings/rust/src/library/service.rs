@@ -9,13 +9,13 @@ pub(crate) struct Service {
     place: sys::iox2sd_service,
 }
 
-// SAFETY: `iox2sd.h` says: "A service may be moved to another thread; a move and a change are ordered
-// with other calls by a lock or by a thread's start or join." Values of Rust are moved and changed in
-// such an order alone.
+// SAFETY: `iox2sd.h` says: "A service may be moved to another thread. The caller orders moves and
+// changes with other calls, by a lock or by a thread's start or join." Values of Rust are moved and
+// changed in such an order alone.
 unsafe impl Send for Service {}
 
-// SAFETY: `iox2sd.h` says: "On one service any number of questions may run at once, or one change
-// alone." A `&` runs questions alone, and a `&mut`, which changes need, excludes all others.
+// SAFETY: `iox2sd.h` says: "On one service any number of queries may run at once, or one change
+// alone." A `&` makes queries alone, and a `&mut`, which changes need, excludes all others.
 unsafe impl Sync for Service {}
 
 /// Calls an export that changes a service.
