@@ -115,7 +115,9 @@ install -m 644 "$prefix"/include/* "$dev/include"
 install -m 644 out/libiox2sd.a "$dev/lib/$triplet"
 strip --strip-debug "$dev/lib/$triplet/libiox2sd.a"
 ln -s libiox2sd.so.0 "$dev/lib/$triplet/libiox2sd.so"
+# Where the system finds the library without a path in the program.
 sed -e 's|^prefix=.*|prefix=/usr|' -e "s|^libdir=.*|libdir=\${prefix}/lib/$triplet|" \
+    -e 's| -Wl,-rpath,[^ ]*||' \
     "$prefix/lib/pkgconfig/iox2sd.pc" > "$dev/lib/$triplet/pkgconfig/iox2sd.pc"
 sed -e 's|/../../.."|/../../../.."|' -e "s|/lib/libiox2sd|/lib/$triplet/libiox2sd|" \
     "$prefix/lib/cmake/iox2sd/iox2sdConfig.cmake" > "$dev/lib/$triplet/cmake/iox2sd/iox2sdConfig.cmake"

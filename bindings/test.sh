@@ -42,9 +42,9 @@ caller() {
     runs "$@" && if has valgrind; then run "$1 $3 under valgrind" leaks "$work/caller"; fi
 }
 
-# compiler, sanitizers, source and standard
+# compiler, sanitizers, source, standard and further options
 sanitized() {
-    runs "$1" iox2sd "$3" "$4" "-fsanitize=$2" -fno-sanitize-recover=all -g -O1
+    runs "$1" iox2sd "$3" "${@:4}" "-fsanitize=$2" -fno-sanitize-recover=all -g -O1
 }
 
 # The names that a library exports, from outside.
@@ -112,14 +112,32 @@ packaged() {
             --manifest-path "$work"/iox2sd-*/Cargo.toml
 }
 
+# Each C header, included alone.
+headers_compile() {
+    local header
+    for header in ../include/*.h; do
+        echo "#include \"$(basename "$header")\"" |
+            "$1" "$2" "${warnings[@]}" -fsyntax-only -I../include "${@:3}" - || return 1
+    done
+}
+
 wrapped=-Wl,--wrap=malloc,--wrap=calloc,--wrap=realloc,--wrap=free
 for compiler in gcc clang; do
+    if has "$compiler"; then
+        run "$compiler: each header compiles alone, in C99" headers_compile "$compiler" -std=c99 -x c
+        run "$compiler: each header compiles alone, in C++11" \
+            headers_compile "$compiler" -std=c++11 -x c++
+    fi
     for source in c/test_service.c c/test_values.c c/test_walk.c c/test_threads.c c/test_header.c; do
         caller "$compiler" iox2sd "$source" -std=c99
         sanitized "$compiler" address,undefined "$source" -std=c99
     done
     sanitized "$compiler" thread c/test_threads.c -std=c99
-    caller "$compiler" iox2sd c/test_script.c -std=c99 -Wl,--wrap=malloc,--wrap=realloc
+    for source in c/test_script.c c/test_config.c; do
+        caller "$compiler" iox2sd "$source" -std=c99 -Wl,--wrap=malloc,--wrap=realloc
+    done
+    sanitized "$compiler" address,undefined c/test_config.c -std=c99 \
+        -Wl,--wrap=malloc,--wrap=realloc
     for source in c/test_memory.c c/test_questions.c; do
         runs "$compiler" iox2sd "$source" -std=c99 -D_GNU_SOURCE "$wrapped"
     done
@@ -148,15 +166,17 @@ if has g++ && has /usr/bin/time; then
 fi
 for compiler in g++ clang++; do
     for standard in c++17 c++20 c++2b; do
-        run "$compiler -std=$standard has no warning about iox2sd.hpp" "$compiler" \
-            -std=$standard "${warnings[@]}" -Wconversion -Wshadow -fsyntax-only -I../include \
-            -x c++ ../include/iox2sd.hpp
+        for header in iox2sd.hpp iox2sd_config.hpp; do
+            run "$compiler -std=$standard has no warning about $header" "$compiler" \
+                -std=$standard "${warnings[@]}" -Wconversion -Wshadow -fsyntax-only -I../include \
+                -x c++ "../include/$header"
+        done
     done
     if has_format "$compiler"; then runs "$compiler" iox2sd cpp/test_format.cpp -std=c++20; fi
     runs "$compiler" iox2sd cpp/test_enumerators.cpp -std=c++17
     runs "$compiler" iox2sd cpp/test_fields.cpp -std=c++17 "$wrapped_settings"
     caller "$compiler" iox2sd c/test_values.cpp -std=c++11
-    for source in cpp/test_values.cpp cpp/test_service.cpp; do
+    for source in cpp/test_values.cpp cpp/test_service.cpp cpp/test_config.cpp; do
         caller "$compiler" iox2sd "$source" -std=c++17
         runs "$compiler" iox2sd "$source" -std=c++20
         sanitized "$compiler" address,undefined "$source" -std=c++17
@@ -167,6 +187,7 @@ for compiler in g++ clang++; do
     for source in cpp/examples/*.cpp; do example "$compiler" "$source"; done
 done
 run "statuses agree" same_statuses
+if has python3; then run "the structs are those of the table" ./fields; fi
 if has objdump && [ "$(uname -m)" = x86_64 ]; then
     run "libiox2sd runs on every x86-64" baseline
 fi
@@ -250,7 +271,7 @@ outside() {
 by_pkg_config() {
     local flags
     flags=$(PKG_CONFIG_PATH=$1/lib/pkgconfig pkg-config --cflags --libs 'iox2sd >= 0.1') &&
-        LD_LIBRARY_PATH=$1/lib outside $flags
+        outside $flags
 }
 
 by_find_package() {

@@ -62,8 +62,7 @@ cpp_static() {
 by_pkg_config() {
     PKG_CONFIG_PATH=$prefix/lib/pkgconfig
     export PKG_CONFIG_PATH
-    gcc short.c $(pkg-config --cflags --libs iox2sd) -o c &&
-        LD_LIBRARY_PATH=$prefix/lib prints "$work/short" ./c
+    gcc short.c $(pkg-config --cflags --libs iox2sd) -o c && prints "$work/short" ./c
 }
 examples=$prefix/share/doc/iox2sd/examples
 by_make() { make -C "$examples" && prints "$work/short" "$examples/short_c" && make -C "$examples" clean; }
@@ -128,6 +127,7 @@ used() {
     gcc "-I$root/usr/include" short.c "$lib/libiox2sd.a" -o c && prints "$work/short" ./c &&
         gcc "-I$root/usr/include" short.c "-L$lib" -liox2sd -o c &&
         LD_LIBRARY_PATH=$lib prints "$work/short" ./c &&
+        ! grep rpath "$lib/pkgconfig/iox2sd.pc" &&
         "$root/usr/bin/iox2-replay" < "$work/replay/stdin" | diff - "$work/replay/stdout" &&
         PYTHONPATH=$root/usr/lib/python3/dist-packages prints "$work/short" \
             python3 "$work/examples/short.py"

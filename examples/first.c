@@ -1,6 +1,6 @@
-/* A first program: a service is described, verified against two openers, joined by a node with a
- * port, listed, and recovered from the node's death. It stands here in four languages, and
- * prints the same lines in each. */
+/* A first program: it describes a service, verifies two openers, lets a node join with a port,
+ * lists both, and removes the node when it is dead. In each of four languages it prints the same
+ * lines. */
 #include "iox2sd.h"
 #include "iox2sd_values.h"
 
@@ -39,7 +39,7 @@ static void describe(const char *name, const iox2sd_publish_subscribe_settings *
     if (iox2sd_service_name_check_str(name).status != IOX2SD_DONE) exit(EXIT_FAILURE);
     printf("service: %s\n", name);
     print_text("hash", iox2sd_hash_text_str(IOX2SD_PUBLISH_SUBSCRIBE, name, out, sizeof out), out);
-    printf("room: %zu nodes, %zu publishers, %zu subscribers\n", settings->max_nodes,
+    printf("capacities: %zu nodes, %zu publishers, %zu subscribers\n", settings->max_nodes,
            settings->max_publishers, settings->max_subscribers);
     printf("samples: %zu\n",
            iox2sd_required_amount_of_samples_per_data_segment(
@@ -61,7 +61,7 @@ static void verify(const iox2sd_attribute *attributes, size_t number_of_attribut
     const iox2sd_message_details service = {
         type_of("Header", 8, 8), type_of("UserHeader", 4, 4), type_of("Payload", 8, 8)};
     iox2sd_message_details opener = service;
-    const iox2sd_layout_answer room = iox2sd_message_sample_layout(&service, 2);
+    const iox2sd_layout_answer layout = iox2sd_message_sample_layout(&service, 2);
     iox2sd_place_answer verified =
         iox2sd_attributes_verify(attributes, number_of_attributes, &required, 1, keys, 1);
     print_answer("an opener of color = red, unit", verified.status == IOX2SD_DONE);
@@ -74,7 +74,7 @@ static void verify(const iox2sd_attribute *attributes, size_t number_of_attribut
     opener.payload.alignment = 16;
     print_answer("an opener with a wider payload",
                  iox2sd_message_is_compatible_to(&opener, &service).status == IOX2SD_DONE);
-    printf("a message: %zu bytes at a multiple of %zu\n", room.size, room.alignment);
+    printf("a message: %zu bytes, alignment %zu\n", layout.size, layout.alignment);
 }
 
 /* A node joins with a publisher, is listed, and dies. */
@@ -108,12 +108,12 @@ int main(void) {
     const iox2sd_publish_subscribe_capacities ports = {.nodes = settings.max_nodes,
                                                        .publishers = settings.max_publishers,
                                                        .subscribers = settings.max_subscribers};
-    const iox2sd_capacities room = iox2sd_capacities_of_publish_subscribe(ports);
+    const iox2sd_capacities capacities = iox2sd_capacities_of_publish_subscribe(ports);
     iox2sd_service service = IOX2SD_SERVICE_NONE;
     if (iox2sd_attributes_sort(attributes, 2).status != IOX2SD_DONE) return EXIT_FAILURE;
     describe("My/Service", &settings, attributes, 2);
     verify(attributes, 2);
-    if (iox2sd_service_create(&service, IOX2SD_PUBLISH_SUBSCRIBE, 7, room, UINT64_MAX) !=
+    if (iox2sd_service_create(&service, IOX2SD_PUBLISH_SUBSCRIBE, 7, capacities, UINT64_MAX) !=
         IOX2SD_DONE) {
         return EXIT_FAILURE;
     }

@@ -1,6 +1,6 @@
-// A first program: a service is described, verified against two openers, joined by a node with a
-// port, listed, and recovered from the node's death. It stands here in four languages, and
-// prints the same lines in each.
+// A first program: it describes a service, verifies two openers, lets a node join with a port,
+// lists both, and removes the node when it is dead. In each of four languages it prints the same
+// lines.
 #include <iostream>
 #include <string_view>
 
@@ -27,7 +27,7 @@ void describe(const StaticConfig& description, std::size_t loans) {
     const PublishSubscribeStaticConfig& config = *description.publish_subscribe();
     std::cout << "service: " << description.name() << '\n'
               << "hash: " << description.service_hash() << '\n'
-              << "room: " << config.max_nodes << " nodes, " << config.max_publishers
+              << "capacities: " << config.max_nodes << " nodes, " << config.max_publishers
               << " publishers, " << config.max_subscribers << " subscribers\n"
               << "samples: " << config.required_amount_of_samples_per_data_segment(loans).value()
               << '\n';
@@ -41,7 +41,7 @@ void verify(const StaticConfig& description, AttributeVerifier verifier) {
     const AttributeKey rate = AttributeKey::create("rate").value();
     const MessageTypeDetails& service = description.publish_subscribe()->message_type_details;
     MessageTypeDetails opener = service;
-    const Layout room = service.sample_layout(2).value();
+    const Layout layout = service.sample_layout(2).value();
     print_answer("an opener of color = red, unit",
                  verifier.verify_requirements(description.attributes()).has_value());
     if (!verifier.require_key(rate)) return;
@@ -51,7 +51,7 @@ void verify(const StaticConfig& description, AttributeVerifier verifier) {
     print_answer("an opener with these types", opener.is_compatible_to(service).has_value());
     opener.payload = type("Payload", 8, 16);
     print_answer("an opener with a wider payload", opener.is_compatible_to(service).has_value());
-    std::cout << "a message: " << room.size << " bytes at a multiple of " << room.alignment << '\n';
+    std::cout << "a message: " << layout.size << " bytes, alignment " << layout.alignment << '\n';
 }
 
 /// A node joins with a publisher, is listed, and dies.

@@ -1,6 +1,6 @@
-"""A first program: a service is described, verified against two openers, joined by a node with a
-port, listed, and recovered from the node's death. It stands here in four languages, and prints
-the same lines in each."""
+"""A first program: it describes a service, verifies two openers, lets a node join with a port,
+lists both, and removes the node when it is dead. In each of four languages it prints the same
+lines."""
 
 from iox2sd import (
     Attribute,
@@ -48,7 +48,7 @@ def describe(
     print(f"service: {description.name}")
     print(f"hash: {description.service_hash}")
     print(
-        f"room: {config.max_nodes} nodes, {config.max_publishers} publishers, "
+        f"capacities: {config.max_nodes} nodes, {config.max_publishers} publishers, "
         f"{config.max_subscribers} subscribers"
     )
     print(f"samples: {config.required_amount_of_samples_per_data_segment(loans)}")
@@ -70,8 +70,8 @@ def verify(attributes: AttributeSet, service: MessageTypeDetails) -> None:
     same, wider = types(8).is_compatible_to(service), types(16).is_compatible_to(service)
     print(f"an opener with these types: {answer(same)}")
     print(f"an opener with a wider payload: {answer(wider)}")
-    room = service.sample_layout(2)
-    print(f"a message: {room.size} bytes at a multiple of {room.alignment}")
+    layout = service.sample_layout(2)
+    print(f"a message: {layout.size} bytes, alignment {layout.alignment}")
 
 
 def live(service: DynamicConfig) -> None:

@@ -1,6 +1,6 @@
-//! A first program: a service is described, verified against two openers, joined by a node with a
-//! port, listed, and recovered from the node's death. It stands here in four languages, and
-//! prints the same lines in each.
+//! A first program: it describes a service, verifies two openers, lets a node join with a port,
+//! lists both, and removes the node when it is dead. In each of four languages it prints the same
+//! lines.
 #![forbid(unsafe_code)]
 
 use iox2sd::attribute::{AttributeKey, AttributeVerificationError};
@@ -39,7 +39,7 @@ fn describe(description: &StaticConfig, loans: usize) -> Result<(), Box<dyn Erro
     println!("service: {}", description.name());
     println!("hash: {}", description.service_hash());
     println!(
-        "room: {} nodes, {} publishers, {} subscribers",
+        "capacities: {} nodes, {} publishers, {} subscribers",
         config.max_nodes(),
         config.max_publishers(),
         config.max_subscribers()
@@ -74,11 +74,11 @@ fn verify(description: &StaticConfig) -> Result<(), Box<dyn Error>> {
     let wider = types(16)?.is_compatible_to(service);
     println!("an opener with these types: {}", answer(same));
     println!("an opener with a wider payload: {}", answer(wider));
-    let room = service.sample_layout(2)?;
+    let layout = service.sample_layout(2)?;
     println!(
-        "a message: {} bytes at a multiple of {}",
-        room.size(),
-        room.align()
+        "a message: {} bytes, alignment {}",
+        layout.size(),
+        layout.align()
     );
     Ok(())
 }
@@ -143,8 +143,8 @@ fn main() -> Result<(), Box<dyn Error>> {
             .publisher_max_loaned_samples,
     )?;
     verify(&description)?;
-    let room = description.messaging_pattern().into();
+    let capacities = description.messaging_pattern().into();
     let max_nodes = description.publish_subscribe().max_nodes();
-    let mut service = DynamicConfig::new(&room, max_nodes, 7)?;
+    let mut service = DynamicConfig::new(&capacities, max_nodes, 7)?;
     live(&mut service)
 }

@@ -1,18 +1,18 @@
-/* The proved layer of service_descriptions, for C99 and C++: what a service is, and who is attached
- * to it.
+/* Services, and the nodes and ports attached to them: the proved layer of service_descriptions, for
+ * C99 and C++. iox2sd_values.h has names, settings, messages and descriptions.
  *
  * Rules for every call
  *
  * - Values are plain structs, which may be kept, copied and compared. iox2sd_id and iox2sd_handle
  *   have no padding, so memcmp compares them; compare the others by their fields.
- * - A call returns a status (enum iox2sd_status), alone or as the first field of a struct. Where it
- *   is not IOX2SD_DONE, the other fields are 0 and nothing has changed, unless a function says
- *   otherwise. The handle of a refused call is IOX2SD_HANDLE_NONE, which no call accepts. Each
- *   function lists its errors in the order in which they are checked.
- * - An array, a buffer or a text is a pointer and a number of elements. NULL with the number 0 is
- *   an empty one. NULL with another number is IOX2SD_NULL, as is NULL where one struct is expected;
- *   it is reported before all else. Where a function ends in `_str`, a text is a pointer to bytes
- *   that end in a zero byte, and NULL is IOX2SD_NULL.
+ * - A call returns a status (enum iox2sd_status), alone or as the first field of a struct. Each
+ *   function lists its errors in the order in which they are checked. After an error nothing has
+ *   changed, and the other fields are 0, unless a function says otherwise. A handle is then
+ *   IOX2SD_HANDLE_NONE, which no call accepts.
+ * - An array, a buffer or a text is a pointer and a number of elements. NULL is an empty one where
+ *   the number is 0. With another number, NULL is IOX2SD_NULL, and so it is where one struct is
+ *   expected; this is checked before all else. A function that ends in `_str` takes texts that end
+ *   in a zero byte, without a number; there NULL is IOX2SD_NULL.
  * - An array that a call writes overlaps no other argument of the call. No call writes past the
  *   number of elements that is passed, keeps a pointer, or calls back.
  * - No call starts a thread, takes a lock, or reads a file, the clock or the environment. There is
@@ -25,17 +25,18 @@
  *
  * What is proved, and what not
  *
- * It is proved that each function of the library returns what the layer's definitions say, touches
- * nothing outside its arguments, and returns; that a query leaves the service as it was, its own
- * bytes and what it holds; and that what a service holds may be sent to another thread. The proof
- * assumes this header's rules: a pointer points to as many elements as are passed, no other thread
- * touches them during the call, and the bytes of a service are zeros or what the last call left
- * there. So it covers one query at a time. It is tested, not proved, that a query writes nothing to
- * a service while it runs, so that several may run at once: all queries are made on services in
- * pages that may only be read, by sixteen threads at once. It is also tested, not proved, that the
- * declarations below are those of the library, that the inline functions pass the numbers that they
- * say, and that NULL with the number 0 is an empty array. Not covered: that a caller frees a
- * service and runs no other call beside a change, and what a caller does with a pointer.
+ * - Proved: each function of the library returns what the layer's definitions say, touches nothing
+ *   outside its arguments, and comes to an end. A query leaves the service as it was: its own bytes
+ *   and what it holds. What a service holds may be sent to another thread.
+ * - Assumed: a pointer points to as many elements as are passed, no other thread touches them
+ *   during the call, and the bytes of a service are zeros or what the last call left there. So the
+ *   proof covers one query at a time.
+ * - Tested: a query writes nothing to a service while it runs, so several may run at once. All
+ *   queries are made on services in pages that may only be read, by sixteen threads at once. The
+ *   declarations below are those of the library, the inline functions pass the numbers that they
+ *   say, and NULL with the number 0 is an empty array.
+ * - Left to the caller: to free a service, to run no other call beside a change, and what is done
+ *   with a pointer.
  */
 #ifndef IOX2SD_H
 #define IOX2SD_H
@@ -44,6 +45,8 @@
 #include <stddef.h>
 #include <stdint.h>
 #include <string.h>
+
+#include "iox2sd_raw.h"
 
 #if SIZE_MAX != UINT64_MAX
 #error "the library is built for a size_t of 64 bits"
@@ -59,7 +62,7 @@
 extern "C" {
 #endif
 
-/* What a call of this header, of iox2sd_values.h or of iox2sd_script.h returns.
+/* What a call of this header, of iox2sd_values.h, of iox2sd_script.h or of iox2sd_config.h returns.
  * iox2sd_status_text has a text for each. */
 enum iox2sd_status {
     IOX2SD_DONE = 0,
@@ -76,7 +79,7 @@ enum iox2sd_status {
     IOX2SD_IS_LOCKED = 9,
     IOX2SD_OUT_OF_SPACE = 10,         /* No slot or no ticket is left. */
     IOX2SD_FOREIGN_HANDLE = 11,       /* No entry has the handle. */
-    /* Some port has the node, and the handle is the node's only one. */
+    /* The handle is its node's only one, and some port belongs to the node. */
     IOX2SD_PORTS_STILL_ATTACHED = 12,
     IOX2SD_NODE_NOT_REGISTERED = 13,  /* The port's node is not registered. */
     IOX2SD_ROLE_NOT_IN_PATTERN = 14,
@@ -116,7 +119,13 @@ enum iox2sd_status {
     IOX2SD_UNKNOWN_TEXT = 65,
     IOX2SD_BAD_LINE = 66, /* A line of a script is not valid. */
     IOX2SD_UNKNOWN_STRATEGY = 67,
-    IOX2SD_BAD_DURATION = 68 /* The nanoseconds beside the seconds are 1,000,000,000 or more. */
+    IOX2SD_BAD_DURATION = 68, /* The nanoseconds beside the seconds are 1,000,000,000 or more. */
+    IOX2SD_NOT_TOML = 80,
+    IOX2SD_WRONG_TYPE = 81,     /* The value of a key is of another type than the wanted one. */
+    IOX2SD_BELOW_ZERO = 82,     /* The value of a key is below 0. */
+    IOX2SD_NO_DURATION = 83,    /* The value of a key is no table of the integers secs and nanos. */
+    IOX2SD_NO_TOML_INTEGER = 84, /* A number is above 2^63 - 1. */
+    IOX2SD_NO_FILE = 85          /* A file cannot be read: C++ alone returns it. */
 };
 
 /* Whether a call succeeded: with IOX2SD_DONE or IOX2SD_DONE_LOCKED. */
@@ -130,9 +139,9 @@ enum iox2sd_pattern_number {
     IOX2SD_BLACKBOARD = 3
 };
 
-/* What an entry of a service is. Each pattern has two kinds of ports, the first of which are
- * recovered first: publishers and subscribers, listeners and notifiers, servers and clients,
- * readers and writers. */
+/* What an entry of a service is. Each pattern has two kinds of ports: publishers and subscribers,
+ * listeners and notifiers, servers and clients, readers and writers. The ports of a dead node are
+ * removed in this order. */
 enum iox2sd_role {
     IOX2SD_NODE = 0,
     IOX2SD_PUBLISHER = 1,
@@ -166,13 +175,13 @@ typedef struct iox2sd_id {
 /* Registering and attaching return a handle; deregistering and releasing take it. */
 typedef struct iox2sd_handle {
     uint64_t service; /* The number of the service. */
-    uint64_t role;    /* Of enum iox2sd_role; IOX2SD_NO_ROLE where it stands for nothing. */
+    uint64_t role;    /* Of enum iox2sd_role; IOX2SD_NO_ROLE in a handle of no entry. */
     size_t slot;
-    uint64_t ticket; /* The number of entries of its kind that the service had before, also of those removed. */
+    uint64_t ticket; /* How many entries of its kind were made before it. */
 } iox2sd_handle;
 
-/* A handle that stands for nothing. One whose bytes are all 0 is that of the first node of a
- * service with the number 0. */
+/* A handle of no entry. A handle whose bytes are all 0 is that of the first node of a service with
+ * the number 0. */
 #define IOX2SD_HANDLE_NONE {0, IOX2SD_NO_ROLE, 0, 0}
 
 /* The details of a port. A field that its kind does not have is ignored, and is 0 in an answer. */
@@ -325,12 +334,6 @@ typedef struct iox2sd_dead_node_removal {
 #define IOX2SD_ABI 2
 uint32_t iox2sd_abi(void);
 
-/* The library's own functions on a text or a buffer. Callers use the functions below, which report
- * IOX2SD_NULL. */
-iox2sd_text_answer iox2sd_status_text_at(uint32_t status, uint8_t *out, size_t capacity);
-iox2sd_text_answer iox2sd_id_text_at(iox2sd_id id, uint8_t *out, size_t capacity);
-iox2sd_id_answer iox2sd_id_from_text_at(const uint8_t *text, size_t length);
-
 /* Writes the text of a status to the front of `out`, without a zero byte, where all of it fits.
  * Errors: IOX2SD_NULL; IOX2SD_UNKNOWN_STATUS; IOX2SD_BUFFER_TOO_SHORT with the length that it
  * needs. */
@@ -396,6 +399,12 @@ static inline const char *iox2sd_status_str(uint32_t status) {
         case IOX2SD_BAD_LINE: return "a line of the script is not valid";
         case IOX2SD_UNKNOWN_STRATEGY: return "unknown strategy";
         case IOX2SD_BAD_DURATION: return "the nanoseconds of a duration are a second or more";
+        case IOX2SD_NOT_TOML: return "not TOML";
+        case IOX2SD_WRONG_TYPE: return "a value of another type is wanted";
+        case IOX2SD_BELOW_ZERO: return "the number is below 0";
+        case IOX2SD_NO_DURATION: return "not a duration: the integers secs and nanos";
+        case IOX2SD_NO_TOML_INTEGER: return "TOML has no integer above 2^63 - 1";
+        case IOX2SD_NO_FILE: return "the file cannot be read";
         default: return "unknown status";
     }
 }
@@ -435,8 +444,8 @@ static inline size_t iox2sd_length(const char *text) { return text != NULL ? str
 /* Whether an id is that of a node: its process or its counter is not 0. */
 bool iox2sd_id_is_node(iox2sd_id id);
 
-/* process * 2^32 + counter, which is 0 only where the id is that of no node. Nodes of one process
- * with the same counter share it. */
+/* process * 2^32 + counter. It is 0 only for the id of no node. Nodes of one process with the same
+ * counter share it. */
 uint64_t iox2sd_id_owner_id(iox2sd_id id);
 
 /* Whether the number process * 2^96 + seconds * 2^64 + nanoseconds * 2^32 + counter of the first is
@@ -464,41 +473,6 @@ static inline iox2sd_id_answer iox2sd_id_from_text_str(const char *text) {
     return iox2sd_id_from_text((const uint8_t *)text, iox2sd_length(text));
 }
 
-/* The library's own functions on a service take an array of 0 or 1 elements instead of a pointer: 0
- * where the pointer is NULL. Callers use the functions below, which pass the number. */
-uint32_t iox2sd_service_create_at(iox2sd_service *places, size_t count, uint32_t pattern,
-                                  uint64_t number, iox2sd_capacities capacities, uint64_t tickets);
-uint32_t iox2sd_service_free_at(iox2sd_service *places, size_t count);
-iox2sd_handle_answer
-iox2sd_register_node_id_at(iox2sd_service *places, size_t count, iox2sd_id node);
-uint32_t iox2sd_deregister_node_id_at(iox2sd_service *places, size_t count, iox2sd_handle handle);
-iox2sd_handle_answer iox2sd_attach_at(iox2sd_service *places, size_t count,
-                                      const iox2sd_port_details *ports, size_t port_count);
-uint32_t iox2sd_release_port_at(iox2sd_service *places, size_t count, iox2sd_handle handle);
-iox2sd_dead_node_removal iox2sd_remove_dead_node_id_at(iox2sd_service *places, size_t count,
-                                                       iox2sd_id dead, const iox2sd_id *kept,
-                                                       size_t kept_count);
-iox2sd_number_answer iox2sd_messaging_pattern_at(const iox2sd_service *places, size_t count);
-iox2sd_number_answer iox2sd_service_number_at(const iox2sd_service *places, size_t count);
-iox2sd_roles_answer iox2sd_port_roles_at(const iox2sd_service *places, size_t count);
-iox2sd_flag_answer iox2sd_has_role_at(const iox2sd_service *places, size_t count, uint64_t role);
-iox2sd_flag_answer iox2sd_is_locked_at(const iox2sd_service *places, size_t count);
-iox2sd_count_answer iox2sd_number_of_nodes_at(const iox2sd_service *places, size_t count);
-iox2sd_count_answer iox2sd_max_nodes_at(const iox2sd_service *places, size_t count);
-iox2sd_flag_answer iox2sd_has_room_for_node_at(const iox2sd_service *places, size_t count);
-iox2sd_count_answer
-iox2sd_count_ports_at(const iox2sd_service *places, size_t count, uint64_t role);
-iox2sd_count_answer iox2sd_max_ports_at(const iox2sd_service *places, size_t count, uint64_t role);
-iox2sd_flag_answer iox2sd_has_room_at(const iox2sd_service *places, size_t count, uint64_t role);
-iox2sd_id_answer iox2sd_node_at(const iox2sd_service *places, size_t count, iox2sd_handle handle);
-iox2sd_port_answer iox2sd_port_at(const iox2sd_service *places, size_t count, iox2sd_handle handle);
-iox2sd_count_answer
-iox2sd_nodes_at(const iox2sd_service *places, size_t count, iox2sd_id *out, size_t capacity);
-iox2sd_count_answer iox2sd_ports_at(const iox2sd_service *places, size_t count, uint64_t role,
-                                    iox2sd_port_details *out, size_t capacity);
-iox2sd_count_answer iox2sd_ports_of_at(const iox2sd_service *places, size_t count, iox2sd_id node,
-                                       iox2sd_port_details *out, size_t capacity);
-
 /* Creates a service with nothing attached. `number` is part of its handles. It has `tickets`
  * tickets for nodes, and as many for each kind of ports: each registering and each attaching uses
  * one, and tickets are never reused. UINT64_MAX is no limit.
@@ -510,8 +484,8 @@ static inline uint32_t iox2sd_service_create(iox2sd_service *service, uint32_t p
     return iox2sd_service_create_at(service, service != NULL, pattern, number, capacities, tickets);
 }
 
-/* Frees a service. Its place is IOX2SD_SERVICE_NONE afterwards, and may be used for another; a
- * second call reports IOX2SD_NO_SERVICE.
+/* Frees a service. The object is IOX2SD_SERVICE_NONE afterwards, and may be used for another
+ * service; a second call reports IOX2SD_NO_SERVICE.
  * Errors: IOX2SD_NULL; IOX2SD_NO_SERVICE. */
 static inline uint32_t iox2sd_service_free(iox2sd_service *service) {
     const uint32_t status = iox2sd_service_free_at(service, service != NULL);
@@ -563,7 +537,7 @@ iox2sd_remove_dead_node_id(iox2sd_service *service, iox2sd_id dead, const iox2sd
     return iox2sd_remove_dead_node_id_at(service, service != NULL, dead, kept, kept_count);
 }
 
-/* Lists the ports of a role by rising slot at the front of `out`, whose other elements stay as they
+/* Writes the ports of a role to the front of `out`, by rising slot. The other elements stay as they
  * were.
  * Errors: IOX2SD_NULL; IOX2SD_NO_SERVICE; IOX2SD_UNKNOWN_ROLE; IOX2SD_ROLE_NOT_IN_PATTERN, also for
  * IOX2SD_NODE; IOX2SD_BUFFER_TOO_SHORT with the number of ports that there are. Then `out` is as it
@@ -575,9 +549,9 @@ static inline iox2sd_count_answer iox2sd_ports(const iox2sd_service *service, ui
     return iox2sd_ports_at(service, service != NULL, role, out, capacity);
 }
 
-/* Lists the ports of a node, by its whole id, at the front of `out`, whose other elements stay as
- * they were: those of the pattern's first kind before those of its second, each kind by rising
- * slot. These are the ports that iox2sd_remove_dead_node_id removes or keeps.
+/* Writes the ports of a node, by its whole id, to the front of `out`: those of the pattern's first
+ * kind before those of its second, each kind by rising slot. The other elements of `out` stay as
+ * they were. These are the ports that iox2sd_remove_dead_node_id removes or keeps.
  * Errors: IOX2SD_NULL; IOX2SD_NO_SERVICE; IOX2SD_NO_NODE; IOX2SD_BUFFER_TOO_SHORT with the number
  * of ports that there are, or IOX2SD_TOO_LARGE where that number passes SIZE_MAX. Then `out` is as
  * it was. */
@@ -598,8 +572,8 @@ static inline iox2sd_number_answer iox2sd_service_number(const iox2sd_service *s
     return iox2sd_service_number_at(service, service != NULL);
 }
 
-/* The roles of the pattern's two kinds of ports, that first which is recovered first. Errors:
- * IOX2SD_NULL; IOX2SD_NO_SERVICE. */
+/* The roles of the pattern's two kinds of ports, in the order in which a dead node's ports are
+ * removed. Errors: IOX2SD_NULL; IOX2SD_NO_SERVICE. */
 static inline iox2sd_roles_answer iox2sd_port_roles(const iox2sd_service *service) {
     return iox2sd_port_roles_at(service, service != NULL);
 }
@@ -669,8 +643,8 @@ static inline iox2sd_port_answer iox2sd_port(const iox2sd_service *service, iox2
     return iox2sd_port_at(service, service != NULL, handle);
 }
 
-/* Lists the ids of the nodes by rising slot, one for each handle, at the front of `out`, whose
- * other elements stay as they were.
+/* Writes the ids of the nodes to the front of `out`, by rising slot, one for each handle. The other
+ * elements of `out` stay as they were.
  * Errors: IOX2SD_NULL; IOX2SD_NO_SERVICE; IOX2SD_BUFFER_TOO_SHORT with the number of handles that
  * there are. Then `out` is as it was. */
 static inline iox2sd_count_answer

@@ -2,7 +2,8 @@
 /// it.
 ///
 /// A header alone, over iox2sd.h, iox2sd_values.h and iox2sd_script.h; link libiox2sd.a or
-/// libiox2sd.so. Names are those of the ported middleware.
+/// libiox2sd.so. Names are those of the ported middleware. iox2sd_config.hpp reads and writes the
+/// file of settings.
 ///
 /// - Values live in C++. Each rule (which text is legal, how a set is sorted, what is compatible,
 ///   how large a message is, who may attach) is checked by the library alone.
@@ -104,6 +105,12 @@ enum class Status : std::uint32_t {
     BadLine = IOX2SD_BAD_LINE,
     UnknownStrategy = IOX2SD_UNKNOWN_STRATEGY,
     BadDuration = IOX2SD_BAD_DURATION,
+    NotToml = IOX2SD_NOT_TOML,
+    WrongType = IOX2SD_WRONG_TYPE,
+    BelowZero = IOX2SD_BELOW_ZERO,
+    NoDuration = IOX2SD_NO_DURATION,
+    NoTomlInteger = IOX2SD_NO_TOML_INTEGER,
+    NoFile = IOX2SD_NO_FILE,
 };
 
 namespace detail {
@@ -1394,7 +1401,7 @@ struct MessageTypeDetails {
 
 /// What a sender does where a receiver's buffer is full and may not overflow.
 enum class BackpressureStrategy : std::uint32_t {
-    RetryUntilDelivered = IOX2SD_RETRY_UNTIL_DELIVERED,  ///< It tries until there is room.
+    RetryUntilDelivered = IOX2SD_RETRY_UNTIL_DELIVERED,  ///< It tries until the message fits.
     DiscardData = IOX2SD_DISCARD_DATA,                   ///< It skips this receiver.
 };
 
@@ -1540,8 +1547,10 @@ struct GlobalSettings {
     }
 
     /// Those that a system has where nothing else is said.
-    static GlobalSettings defaults() noexcept {
-        const iox2sd_global_settings c = iox2sd_global_defaults();
+    static GlobalSettings defaults() noexcept { return from_c(iox2sd_global_defaults()); }
+
+    /// The settings that the C header gives.
+    static GlobalSettings from_c(const iox2sd_global_settings& c) noexcept {
         return {{c.creation_timeout.seconds, c.creation_timeout.nanoseconds},
                 c.cleanup_dead_nodes_on_open,
                 c.cleanup_dead_nodes_on_creation,
@@ -1550,11 +1559,16 @@ struct GlobalSettings {
 
     /// Whether all fields are valid.
     Result<void, SettingsError> check() const noexcept {
-        const iox2sd_global_settings c{{creation_timeout.seconds, creation_timeout.nanoseconds},
-                                       cleanup_dead_nodes_on_open,
-                                       cleanup_dead_nodes_on_creation,
-                                       cleanup_dead_nodes_on_destruction};
+        const iox2sd_global_settings c = as_c();
         return detail::valid(iox2sd_global_settings_check(&c));
+    }
+
+    /// The settings as the C header takes them.
+    iox2sd_global_settings as_c() const noexcept {
+        return {{creation_timeout.seconds, creation_timeout.nanoseconds},
+                cleanup_dead_nodes_on_open,
+                cleanup_dead_nodes_on_creation,
+                cleanup_dead_nodes_on_destruction};
     }
 };
 
@@ -1570,7 +1584,7 @@ struct PublishSubscribeSettings {
     std::size_t subscriber_expired_connection_buffer;  ///< Connections of publishers now gone.
     BackpressureStrategy backpressure_strategy;
     AllocationStrategy publisher_allocation_strategy;
-    bool enable_safe_overflow;  ///< Whether a new sample takes the oldest one's place.
+    bool enable_safe_overflow;  ///< Whether a new sample replaces the oldest one.
 
     template <class F>
     auto fields(F f) const noexcept {
@@ -1582,7 +1596,11 @@ struct PublishSubscribeSettings {
 
     /// Those that a service gets where nothing else is said.
     static PublishSubscribeSettings defaults() noexcept {
-        const iox2sd_publish_subscribe_settings c = iox2sd_publish_subscribe_defaults();
+        return from_c(iox2sd_publish_subscribe_defaults());
+    }
+
+    /// The settings that the C header gives.
+    static PublishSubscribeSettings from_c(const iox2sd_publish_subscribe_settings& c) noexcept {
         return {c.max_subscribers,
                 c.max_publishers,
                 c.max_nodes,
@@ -1636,8 +1654,10 @@ struct EventSettings {
     }
 
     /// Those that a service gets where nothing else is said.
-    static EventSettings defaults() noexcept {
-        const iox2sd_event_settings c = iox2sd_event_defaults();
+    static EventSettings defaults() noexcept { return from_c(iox2sd_event_defaults()); }
+
+    /// The settings that the C header gives.
+    static EventSettings from_c(const iox2sd_event_settings& c) noexcept {
         return {c.max_listeners,
                 c.max_notifiers,
                 c.max_nodes,
@@ -1701,7 +1721,11 @@ struct RequestResponseSettings {
 
     /// Those that a service gets where nothing else is said.
     static RequestResponseSettings defaults() noexcept {
-        const iox2sd_request_response_settings c = iox2sd_request_response_defaults();
+        return from_c(iox2sd_request_response_defaults());
+    }
+
+    /// The settings that the C header gives.
+    static RequestResponseSettings from_c(const iox2sd_request_response_settings& c) noexcept {
         return {c.max_active_requests_per_client,
                 c.max_response_buffer_size,
                 c.max_servers,
@@ -1758,8 +1782,10 @@ struct BlackboardSettings {
     auto fields(F f) const noexcept { return f(max_readers, max_nodes); }
 
     /// Those that a service gets where nothing else is said.
-    static BlackboardSettings defaults() noexcept {
-        const iox2sd_blackboard_settings c = iox2sd_blackboard_defaults();
+    static BlackboardSettings defaults() noexcept { return from_c(iox2sd_blackboard_defaults()); }
+
+    /// The settings that the C header gives.
+    static BlackboardSettings from_c(const iox2sd_blackboard_settings& c) noexcept {
         return {c.max_readers, c.max_nodes};
     }
 
@@ -1955,8 +1981,8 @@ inline PatternKind kind(const MessagingPattern& pattern) noexcept {
 
 namespace detail {
 
-/// What the library makes of the settings with which a pattern's part is made. In the part stands
-/// then what it says, beside the types.
+/// Describes a service with a pattern's part, and writes the library's answer into the part. The
+/// types stay as they were.
 inline iox2sd_field_answer describe(PublishSubscribeStaticConfig& part, const ServiceName& name,
                                     const iox2sd_id& id, iox2sd_description& made) noexcept {
     PublishSubscribeSettings settings = PublishSubscribeSettings::defaults();
@@ -2069,8 +2095,8 @@ public:
     const MessagingPattern& messaging_pattern() const noexcept { return messaging_pattern_; }
     PatternKind kind() const noexcept { return iox2sd::kind(messaging_pattern_); }
 
-    /// The part that only services of one pattern have, as long as the description is there; NULL for
-    /// the other patterns.
+    /// The part that only services of one pattern have, as long as the description is there; NULL
+    /// for the other patterns.
     const PublishSubscribeStaticConfig* publish_subscribe() const& noexcept {
         return std::get_if<PublishSubscribeStaticConfig>(&messaging_pattern_);
     }
@@ -2408,14 +2434,14 @@ inline UniqueNodeId node_id(const PortDetails& details) noexcept {
 
 // ---- Services ----
 
-/// Registering and attaching return a handle; deregistering and releasing take it. No handle is
-/// given twice by a service, and a removed one is refused for good. `ContainerHandle()` stands for
-/// nothing: each call refuses it by `UnknownRole`.
+/// Registering and attaching return a handle; deregistering and releasing take it. A service never
+/// reuses a handle, and refuses a stale one for good. `ContainerHandle()` is the handle of no
+/// entry: each call refuses it with `UnknownRole`.
 struct ContainerHandle {
     std::uint64_t service = 0;  ///< The number of the service.
     Role role = Role{IOX2SD_NO_ROLE};
     std::size_t slot = 0;
-    std::uint64_t ticket = 0;  ///< How many entries of its kind had been given before.
+    std::uint64_t ticket = 0;  ///< How many entries of its kind were made before it.
 
     template <class F>
     auto fields(F f) const noexcept { return f(service, role, slot, ticket); }
@@ -2438,7 +2464,7 @@ struct Capacities {
     auto fields(F f) const noexcept { return f(nodes, first, second); }
 };
 
-/// The room that a service is described to have.
+/// The capacities with which the described service is made.
 inline Capacities capacities(const MessagingPattern& described) noexcept {
     if (const auto* samples = std::get_if<PublishSubscribeStaticConfig>(&described)) {
         return {samples->max_nodes, samples->max_publishers, samples->max_subscribers};
@@ -2468,11 +2494,11 @@ enum class DeregisterNodeState {
     NoMoreOwners,  ///< The service is locked for good: no node is registered any more.
 };
 
-/// What the removal of a dead node took from a service.
+/// What the removal of a dead node removed, and what is left.
 struct DeadNodeRemoval {
     DeregisterNodeState state;
-    std::size_t first;   ///< How many publishers, listeners, servers or readers went.
-    std::size_t second;  ///< How many subscribers, notifiers, clients or writers went.
+    std::size_t first;   ///< How many publishers, listeners, servers or readers were removed.
+    std::size_t second;  ///< How many subscribers, notifiers, clients or writers were removed.
 
     template <class F>
     auto fields(F f) const noexcept { return f(state, first, second); }
@@ -2488,9 +2514,9 @@ public:
     /// All tickets that there are.
     static constexpr std::uint64_t all_tickets = UINT64_MAX;
 
-    /// Makes a service with nothing attached. `number` is part of its handles, and the caller takes
-    /// care that it is unique. For nodes and for each kind of ports `tickets` tickets are given
-    /// out: each registering and each attaching takes one, and none comes back.
+    /// Makes a service with nothing attached. `number` is part of its handles; the caller makes it
+    /// unique. The service has `tickets` tickets for nodes, and as many for each kind of ports:
+    /// each registering and each attaching uses one, and tickets are never reused.
     /// Errors: `UnknownPattern`; `NoMemory`.
     static Result<Service> create(PatternKind pattern, std::uint64_t number,
                                   const Capacities& capacities,
@@ -2503,7 +2529,7 @@ public:
         return made;
     }
 
-    /// Makes a service of the pattern and with the room that are described. Error: `NoMemory`.
+    /// Makes the described service: its pattern and its capacities. Error: `NoMemory`.
     static Result<Service> create(const MessagingPattern& described, std::uint64_t number,
                                   std::uint64_t tickets = all_tickets) noexcept {
         return create(iox2sd::kind(described), number, capacities(described), tickets);
@@ -2551,9 +2577,9 @@ public:
     }
 
     /// Removes those ports of a dead node whose ids are not among `kept`: any range of ids of
-    /// ports, which is read once. The numbers of ids are compared, and not their roles: a listener
-    /// that is kept keeps the notifier of the same number too, though their `UniquePortId`s are not
-    /// equal. Where none of its ports is left, the node goes too, with all its handles.
+    /// ports, which is read once. The numbers of ids are compared, not their roles: a listener that
+    /// is kept keeps the notifier of the same number too, though their `UniquePortId`s are not
+    /// equal. Where none of its ports is left, the node is removed too, with all its handles.
     /// Error: `NoMemory`, before `NoService`; never where nothing is to be kept.
     template <class Range>
     Result<DeadNodeRemoval> remove_dead_node_id(const UniqueNodeId& dead, Range&& kept) noexcept {

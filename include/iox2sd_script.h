@@ -21,10 +21,6 @@ typedef struct iox2sd_script_answer {
                     * IOX2SD_NO_MEMORY, of those that were written. */
 } iox2sd_script_answer;
 
-/* The library's own function. Callers use those below, which report IOX2SD_NULL. */
-iox2sd_script_answer iox2sd_script_run_at(const uint8_t *script, size_t length, uint8_t *out,
-                                          size_t capacity);
-
 /* Runs a whole script, and writes its reply lines to the front of `out`, without a zero byte, where
  * all of them fit. A script and a buffer of NULL and 0 are empty ones.
  * Errors: IOX2SD_NULL. IOX2SD_NO_MEMORY, with nothing or the whole reply lines of some first

@@ -1,25 +1,24 @@
-/* The proved layer of service_descriptions, for C99 and C++: values. The statuses are in iox2sd.h.
+/* Values: names, attributes, messages, settings and descriptions. The proved layer of
+ * service_descriptions, for C99 and C++. The statuses are in iox2sd.h, with what is proved.
  *
  * Rules for every call
  *
- * - A text is a pointer and a length in bytes; it needs no zero byte at its end. NULL with length 0
- *   is an empty text, and an array of length 0. Where a function ends in `_str`, its texts are
- *   pointers to bytes that end in a zero byte.
- * - A buffer is a pointer to `capacity` bytes that the caller owns, and that overlaps no other
- *   argument of the call. A text is written to its front, without a zero byte, where all of it
- *   fits. Where it does not, nothing is written, the status is IOX2SD_BUFFER_TOO_SHORT, and
- *   `length` is the size that it needs. NULL with capacity 0 is a buffer.
- * - NULL where one struct is expected is IOX2SD_NULL, and so is an array, a text or a buffer that
- *   is NULL with another number than 0, and NULL for a text of a function that ends in `_str`. It
- *   is reported before all else; the comments below do not name it again for texts and buffers. A
- *   text within a struct that is NULL with another length than 0 is not caught.
+ * - A text is a pointer and a length in bytes; it needs no zero byte at its end. A function that
+ *   ends in `_str` takes texts that end in a zero byte, without a length.
+ * - A buffer is a pointer to `capacity` bytes that the caller owns. It overlaps no other argument
+ *   of the call. A text that fits is written to its front, without a zero byte. Where a text does
+ *   not fit, nothing is written, the status is IOX2SD_BUFFER_TOO_SHORT, and `length` is the size
+ *   that it needs.
+ * - NULL is IOX2SD_NULL where one struct or a text of `_str` is expected. As an array, a text or a
+ *   buffer, NULL is an empty one where its number is 0, and else IOX2SD_NULL. This is checked
+ *   before all else; the comments below do not name it again for texts and buffers. A text within a
+ *   struct is not checked for NULL.
  * - A status other than IOX2SD_DONE is an error: nothing was written, and the other fields of a
  *   result are 0, unless a function says otherwise. Errors are checked in the order in which they
  *   are listed.
  * - No call writes past the length that is passed, keeps a pointer, takes memory, or calls back.
  *   There is no global state: calls may run on several threads at once, where they share no buffer.
- *
- * An answer has padding: compare its fields.
+ * - Results have padding: compare them by their fields.
  */
 #ifndef IOX2SD_VALUES_H
 #define IOX2SD_VALUES_H
@@ -37,37 +36,6 @@ typedef struct iox2sd_place_answer {
 } iox2sd_place_answer;
 
 /* ---- Texts ---- */
-
-/* The library's own functions on texts and buffers. Callers use the functions below, which report
- * IOX2SD_NULL. */
-iox2sd_place_answer iox2sd_service_name_check_at(const uint8_t *text, size_t length);
-iox2sd_place_answer iox2sd_internal_service_name_check_at(const uint8_t *text, size_t length);
-iox2sd_place_answer iox2sd_attribute_key_check_at(const uint8_t *text, size_t length);
-iox2sd_place_answer iox2sd_attribute_value_check_at(const uint8_t *text, size_t length);
-iox2sd_place_answer iox2sd_path_check_at(const uint8_t *text, size_t length);
-iox2sd_place_answer iox2sd_file_name_check_at(const uint8_t *text, size_t length);
-iox2sd_place_answer iox2sd_file_path_check_at(const uint8_t *text, size_t length);
-iox2sd_place_answer iox2sd_restricted_file_name_check_at(const uint8_t *text, size_t length);
-bool iox2sd_has_iox2_prefix_at(const uint8_t *text, size_t length);
-iox2sd_text_answer
-iox2sd_internal_service_name_at(const uint8_t *text, size_t length, uint8_t *out, size_t capacity);
-iox2sd_text_answer iox2sd_path_add_path_entry_at(const uint8_t *path, size_t path_length,
-                                                 const uint8_t *entry, size_t entry_length,
-                                                 uint8_t *out, size_t capacity);
-iox2sd_text_answer iox2sd_file_path_from_path_and_file_at(const uint8_t *path, size_t path_length,
-                                                          const uint8_t *file, size_t file_length,
-                                                          uint8_t *out, size_t capacity);
-iox2sd_text_answer iox2sd_hash_text_at(uint32_t pattern, const uint8_t *name, size_t length,
-                                       uint8_t *out, size_t capacity);
-iox2sd_text_answer iox2sd_internal_hash_text_at(uint32_t pattern, const uint8_t *name,
-                                                size_t length, uint8_t *out, size_t capacity);
-iox2sd_text_answer iox2sd_default_text_at(uint32_t which, uint8_t *out, size_t capacity);
-iox2sd_text_answer
-iox2sd_service_dir_at(const uint8_t *root, size_t length, uint8_t *out, size_t capacity);
-iox2sd_text_answer
-iox2sd_node_dir_at(const uint8_t *root, size_t length, uint8_t *out, size_t capacity);
-iox2sd_text_answer iox2sd_version_at(uint8_t *out, size_t capacity);
-iox2sd_text_answer iox2sd_layer_version_at(uint8_t *out, size_t capacity);
 
 /* Whether a text is the name that a user gives to a service: 1 to 255 bytes, each from 1 to 127,
  * not beginning with "iox2://".
@@ -289,21 +257,6 @@ static inline iox2sd_key iox2sd_key_str(const char *text) {
     return made;
 }
 
-/* The library's own functions on arrays of pairs and keys. Callers use the functions below, which
- * report IOX2SD_NULL. */
-iox2sd_place_answer iox2sd_attributes_check_at(const iox2sd_attribute *pairs, size_t length);
-iox2sd_place_answer iox2sd_attributes_sort_at(iox2sd_attribute *pairs, size_t length);
-iox2sd_count_answer iox2sd_attributes_number_of_key_values_at(const iox2sd_attribute *pairs,
-                                                              size_t length, const uint8_t *key,
-                                                              size_t key_length);
-iox2sd_text_answer iox2sd_attributes_key_value_at(const iox2sd_attribute *pairs, size_t length,
-                                                  const uint8_t *key, size_t key_length,
-                                                  size_t index, uint8_t *out, size_t capacity);
-iox2sd_place_answer iox2sd_attributes_verify_at(const iox2sd_attribute *pairs, size_t length,
-                                                const iox2sd_attribute *required,
-                                                size_t required_length, const iox2sd_key *keys,
-                                                size_t keys_length);
-
 /* Whether pairs are a set: at most sixteen, each of legal texts, in any order and with repeats.
  * Errors: IOX2SD_NULL; of the first pair that is wrong, with its index: IOX2SD_BAD_KEY;
  * IOX2SD_BAD_VALUE; IOX2SD_TOO_MANY, of the seventeenth. */
@@ -437,17 +390,6 @@ typedef struct iox2sd_part_answer {
     uint32_t part; /* IOX2SD_HEADER, IOX2SD_USER_HEADER or IOX2SD_PAYLOAD. */
 } iox2sd_part_answer;
 
-/* The functions that end in `_at` take a pointer and a count of 0 for NULL or 1; call those below
- * them. */
-uint32_t iox2sd_type_detail_check_at(const iox2sd_type_detail *detail, size_t count);
-iox2sd_layout_answer iox2sd_message_sample_layout_at(const iox2sd_message_details *details,
-                                                     size_t count, size_t elements);
-iox2sd_places_answer
-iox2sd_message_places_at(const iox2sd_message_details *details, size_t count, size_t header);
-iox2sd_part_answer
-iox2sd_message_is_compatible_to_at(const iox2sd_message_details *opener, size_t opener_count,
-                                   const iox2sd_message_details *service, size_t service_count);
-
 /* Whether the type of a part of a message is valid.
  * Errors: IOX2SD_NULL; IOX2SD_UNKNOWN_VARIANT; IOX2SD_NOT_UTF8, IOX2SD_TOO_LONG and
  * IOX2SD_ILLEGAL_BYTE of its name; IOX2SD_BAD_ALIGNMENT. */
@@ -472,9 +414,9 @@ iox2sd_message_places(const iox2sd_message_details *details, size_t header) {
     return iox2sd_message_places_at(details, details != NULL, header);
 }
 
-/* Whether an opener with these details may use the messages of a service with those: equal headers,
- * and user headers and payloads that are equal but for alignments, which are at most those of the
- * service.
+/* Whether an opener with these details may use the messages of a service with those. The headers
+ * must be equal. User headers and payloads must be equal but for their alignments, which are at
+ * most those of the service.
  * Errors, each with its side and its part: IOX2SD_NULL, the opener's before the service's; of the
  * first invalid part, the opener's before the service's: IOX2SD_UNKNOWN_VARIANT; IOX2SD_NOT_UTF8,
  * IOX2SD_TOO_LONG, IOX2SD_ILLEGAL_BYTE of its name; IOX2SD_BAD_ALIGNMENT; and of the first part
@@ -487,9 +429,9 @@ iox2sd_message_is_compatible_to(const iox2sd_message_details *opener,
 }
 
 /* How many chunks the data segment of a port needs: the greatest number of one publisher's samples,
- * one client's requests or one server's responses that can be in use at once. The numbers are the
- * fields of these names of the settings or of the config of a description, and how many the port
- * may have loaned at once to be written (a server, for each request): publisher_max_loaned_samples,
+ * one client's requests or one server's responses that can be in use at once. The arguments are the
+ * fields of the same names, of settings or of a description. The last one is how many the port may
+ * have loaned at once to be written (a server, for each request): publisher_max_loaned_samples,
  * max_loaned_requests or server_max_loaned_responses_per_request of the settings, or another
  * number.
  * Error: IOX2SD_TOO_LARGE past 2^64 - 1. */
@@ -639,18 +581,6 @@ typedef struct iox2sd_field_answer {
     uint32_t field; /* 0 where the status has no field. */
 } iox2sd_field_answer;
 
-/* Functions that end in `_at` take a pointer and a count of 0 for NULL or 1; call those below. */
-iox2sd_field_answer
-iox2sd_global_settings_check_at(const iox2sd_global_settings *settings, size_t count);
-iox2sd_field_answer
-iox2sd_publish_subscribe_settings_check_at(const iox2sd_publish_subscribe_settings *settings,
-                                           size_t count);
-iox2sd_field_answer
-iox2sd_event_settings_check_at(const iox2sd_event_settings *settings, size_t count);
-iox2sd_field_answer
-iox2sd_request_response_settings_check_at(const iox2sd_request_response_settings *settings,
-                                          size_t count);
-
 /* Whether settings are valid. Where `is_some` of a deadline or an event is false, there is none,
  * whatever the other fields are. The settings of a blackboard service are always valid.
  * Errors: IOX2SD_NULL; of the first invalid field, which is returned: IOX2SD_UNKNOWN_STRATEGY;
@@ -676,8 +606,8 @@ iox2sd_request_response_settings_check(const iox2sd_request_response_settings *s
 enum iox2sd_text_number {
     IOX2SD_ROOT_PATH = 0,         /* The path below which everything else lies. */
     IOX2SD_PREFIX = 1,            /* What the name of each file begins with. */
-    /* Below the root path. The ends of the names of services' files: */
-    IOX2SD_SERVICE_DIRECTORY = 2,
+    IOX2SD_SERVICE_DIRECTORY = 2, /* The directory of services, below the root path. */
+    /* The ends of the names of services' files. */
     IOX2SD_DATA_SEGMENT_SUFFIX = 3,
     IOX2SD_STATIC_CONFIG_STORAGE_SUFFIX = 4,
     IOX2SD_DYNAMIC_CONFIG_STORAGE_SUFFIX = 5,
@@ -685,15 +615,16 @@ enum iox2sd_text_number {
     IOX2SD_EVENT_CONNECTION_SUFFIX = 7,
     IOX2SD_BLACKBOARD_MGMT_SUFFIX = 8,
     IOX2SD_BLACKBOARD_DATA_SUFFIX = 9,
-    IOX2SD_NODE_DIRECTORY = 10, /* Below the root path. The ends of the names of nodes' files: */
+    IOX2SD_NODE_DIRECTORY = 10, /* The directory of nodes, below the root path. */
+    /* The ends of the names of nodes' files. */
     IOX2SD_MONITOR_SUFFIX = 11,
     IOX2SD_NODE_STATIC_CONFIG_SUFFIX = 12,
     IOX2SD_SERVICE_TAG_SUFFIX = 13,
     IOX2SD_PORT_TAG_SUFFIX = 14,
     IOX2SD_GLOBAL_MGMT_SUFFIX = 15,
     IOX2SD_CONFIG_FILE_NAME = 16,     /* The name of a configuration file. */
-    IOX2SD_CONFIG_FILE_PATH = 17,     /* The configuration file of a working directory. */
-    /* The directory of this system's, below one for configurations. */
+    IOX2SD_CONFIG_FILE_PATH = 17,     /* The configuration file in a working directory. */
+    /* The directory of this system's configuration, below a directory for configurations. */
     IOX2SD_RELATIVE_CONFIG_PATH = 18,
     /* The configuration file below a user's directory for configurations. */
     IOX2SD_USER_CONFIG_FILE_PATH = 19
@@ -763,7 +694,7 @@ typedef struct iox2sd_event_config {
 /* What is fixed of a request-response service, beside the types of its messages. */
 typedef struct iox2sd_request_response_config {
     size_t max_active_requests_per_client; /* How many may be open at each server at once. */
-    size_t max_loaned_requests;      /* How many requests a client may have loaned and not yet sent. */
+    size_t max_loaned_requests; /* How many requests a client may have loaned and not yet sent. */
     size_t max_response_buffer_size; /* The capacity for responses to one request. */
     size_t max_servers;              /* How many may be attached at once; so are the next two. */
     size_t max_clients;
@@ -796,25 +727,6 @@ typedef struct iox2sd_description {
     iox2sd_request_response_config request_response;
     iox2sd_blackboard_config blackboard;
 } iox2sd_description;
-
-/* Functions that end in `_at` take a pointer and a count of 0 for NULL or 1; call those below. */
-iox2sd_field_answer
-iox2sd_describe_publish_subscribe_at(const iox2sd_publish_subscribe_settings *settings,
-                                     size_t count, const uint8_t *name, size_t length,
-                                     bool internal, iox2sd_id id, iox2sd_description *out,
-                                     size_t out_count);
-iox2sd_field_answer iox2sd_describe_event_at(const iox2sd_event_settings *settings, size_t count,
-                                             const uint8_t *name, size_t length, bool internal,
-                                             iox2sd_id id, iox2sd_description *out,
-                                             size_t out_count);
-iox2sd_field_answer
-iox2sd_describe_request_response_at(const iox2sd_request_response_settings *settings, size_t count,
-                                    const uint8_t *name, size_t length, bool internal, iox2sd_id id,
-                                    iox2sd_description *out, size_t out_count);
-iox2sd_field_answer iox2sd_describe_blackboard_at(const iox2sd_blackboard_settings *settings,
-                                                  size_t count, const uint8_t *name, size_t length,
-                                                  bool internal, iox2sd_id id,
-                                                  iox2sd_description *out, size_t out_count);
 
 /* Fills a description from a service's settings, its name and its id. Where `internal` is true, the
  * name may be one of the system's own. The hash text is that of iox2sd_internal_hash_text, which

@@ -1,6 +1,7 @@
 /* Makes each call of the library that takes memory at the sizes that are named as arguments, with
  * ample memory, and fills and lists a service of each. The status is 1 where one does not answer
  * what it should, after a line for each. */
+#include "iox2sd_config.h"
 #include "iox2sd_script.h"
 
 #include <stdio.h>
@@ -53,6 +54,28 @@ static void script(size_t size, uint8_t *text, uint8_t *out, size_t capacity) {
     want("iox2sd_script_run", size, iox2sd_script_run(text, length, out, capacity).status);
 }
 
+/* A file with this many unknown keys, of which each has 9 bytes, and the text of its settings. */
+static void config(size_t size) {
+    enum { KEY = 9, LINE = KEY + 5 };
+    char *text = malloc(LINE * size + 1);
+    iox2sd_unknown_key *keys = malloc(size * sizeof *keys + 1);
+    uint8_t *paths = malloc(KEY * size + 1);
+    if (text == NULL || keys == NULL || paths == NULL) exit(1);
+    for (size_t times = 0; times < size; times++)
+        sprintf(text + LINE * times, "k%08zu = 1\n", times);
+    const uint8_t *bytes = (const uint8_t *)text;
+    iox2sd_config made;
+    want("iox2sd_config_read", size, iox2sd_config_read(bytes, LINE * size, &made).status);
+    want("iox2sd_config_faults", size, iox2sd_config_faults(bytes, LINE * size, NULL, 0).status);
+    want("iox2sd_config_unknown", size,
+         iox2sd_config_unknown(bytes, LINE * size, keys, size, paths, KEY * size).status);
+    uint8_t out[16384];
+    want("iox2sd_config_write", size, iox2sd_config_write(&made, out, sizeof out).status);
+    free(text);
+    free(keys);
+    free(paths);
+}
+
 int main(int count, char **sizes) {
     for (int k = 1; k < count; k++) {
         size_t size = strtoull(sizes[k], NULL, 10), capacity = LONGEST * (size + 4);
@@ -63,6 +86,7 @@ int main(int count, char **sizes) {
         make(size, (iox2sd_capacities){1, 1, size});
         nodes(size, (iox2sd_id *)(void *)out);
         script(size, text, out, capacity);
+        config(size);
         free(text);
         free(out);
     }

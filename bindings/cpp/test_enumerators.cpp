@@ -1,6 +1,7 @@
 // Each enumerator has the number that the C headers give its name, and each status its text. The
 // last line is 'N checks, N failed'.
 #include <iterator>
+#include <string_view>
 
 #include "check.hpp"
 #include "iox2sd.hpp"
@@ -66,6 +67,12 @@ constexpr StatusText texts[] = {
     {Status::BadLine, "a line of the script is not valid"},
     {Status::UnknownStrategy, "unknown strategy"},
     {Status::BadDuration, "the nanoseconds of a duration are a second or more"},
+    {Status::NotToml, "not TOML"},
+    {Status::WrongType, "a value of another type is wanted"},
+    {Status::BelowZero, "the number is below 0"},
+    {Status::NoDuration, "not a duration: the integers secs and nanos"},
+    {Status::NoTomlInteger, "TOML has no integer above 2^63 - 1"},
+    {Status::NoFile, "the file cannot be read"},
 };
 
 // The number of the C headers that each enumerator has. A switch that leaves one out does not
@@ -233,6 +240,12 @@ std::uint64_t of_header(Status status) {
         case Status::BadLine: return IOX2SD_BAD_LINE;
         case Status::UnknownStrategy: return IOX2SD_UNKNOWN_STRATEGY;
         case Status::BadDuration: return IOX2SD_BAD_DURATION;
+        case Status::NotToml: return IOX2SD_NOT_TOML;
+        case Status::WrongType: return IOX2SD_WRONG_TYPE;
+        case Status::BelowZero: return IOX2SD_BELOW_ZERO;
+        case Status::NoDuration: return IOX2SD_NO_DURATION;
+        case Status::NoTomlInteger: return IOX2SD_NO_TOML_INTEGER;
+        case Status::NoFile: return IOX2SD_NO_FILE;
     }
     return none;
 }
@@ -256,12 +269,14 @@ void enumerators() {
     numbers<AllocationStrategy>(IOX2SD_ALLOCATION_BEST_FIT, 3);
     numbers<SettingsField>(IOX2SD_BACKPRESSURE_STRATEGY, 8);
     numbers<ConfigEntry>(IOX2SD_ROOT_PATH, 20);
-    // The numbers of statuses have gaps.
+    // Some numbers are those of no status. C has a text for each status.
     std::size_t statuses = 0;
     for (std::uint32_t number = 0; number < 1000; ++number) {
         const std::uint64_t found = of_header(Status{number});
-        CHECK(found == number || found == none);
-        statuses += found != none;
+        const bool is_status = number == IOX2SD_UNKNOWN_STATUS ||
+                               std::string_view(iox2sd_status_str(number)) != "unknown status";
+        CHECK(found == (is_status ? number : none));
+        statuses += is_status;
     }
     CHECK(statuses == std::size(texts));
 }

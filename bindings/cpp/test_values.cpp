@@ -98,7 +98,13 @@ void statuses() {
                               Status::UnknownText,
                               Status::BadLine,
                               Status::UnknownStrategy,
-                              Status::BadDuration};
+                              Status::BadDuration,
+                              Status::NotToml,
+                              Status::WrongType,
+                              Status::BelowZero,
+                              Status::NoDuration,
+                              Status::NoTomlInteger,
+                              Status::NoFile};
     std::set<string> texts;
     for (Status status : all) {
         CHECK(text(status) != text(Status::UnknownStatus));

@@ -2,7 +2,7 @@
 // first cause for which it may not be opened. Nothing stays registered where it may not.
 //
 // It prints:
-//     opened with slot 0, a message takes 40 bytes at multiples of 8
+//     opened with slot 0, a message takes 40 bytes, alignment 8
 //     refused: the service has no attribute color=blue
 //     refused: the alignment of part 2 is greater than the service's
 //     refused: no slot or no ticket is left
@@ -23,7 +23,7 @@ struct Opener {
     UniqueNodeId node;
 };
 
-/// What it gets: the handle of its node, and the room for a message.
+/// What it gets: the handle of its node, and the layout of a message.
 struct Opened {
     ContainerHandle node;
     Layout message;
@@ -70,8 +70,7 @@ Result<Opened, Refusal> open(const StaticConfig& description, Service& service,
 void report(const Result<Opened, Refusal>& result) {
     if (result) {
         std::cout << "opened with slot " << result->node.slot << ", a message takes "
-                  << result->message.size << " bytes at multiples of " << result->message.alignment
-                  << '\n';
+                  << result->message.size << " bytes, alignment " << result->message.alignment << '\n';
     } else {
         std::cout << "refused: " << result.error().text << '\n';
     }

@@ -1,4 +1,4 @@
-// Discovery: who is attached to a service, by node, and what it has room for.
+// Discovery: who is attached to a service, by node, and its available capacities.
 //
 // It prints:
 //     pattern 2, 2 of 3 nodes, 1 of 1 servers, 2 of 8 clients

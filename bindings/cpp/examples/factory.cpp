@@ -2,8 +2,8 @@
 // can be in use at once, each of which holds a message.
 //
 // It prints:
-//     slot 0: 34 blocks of 1048 bytes, 35632 bytes at multiples of 8
-//     slot 1: 34 blocks of 1048 bytes, 35632 bytes at multiples of 8
+//     slot 0: 34 blocks of 1048 bytes, 35632 bytes, alignment 8
+//     slot 1: 34 blocks of 1048 bytes, 35632 bytes, alignment 8
 //     refused: no slot or no ticket is left
 //     refused: the answer would pass its range
 #include <cstdint>
@@ -55,7 +55,7 @@ void report(const Result<Publisher>& made) {
     }
     const DataSegment& segment = made->segment;
     std::cout << "slot " << made->handle.slot << ": " << segment.blocks << " blocks of "
-              << segment.block.size << " bytes, " << segment.size << " bytes at multiples of "
+              << segment.block.size << " bytes, " << segment.size << " bytes, alignment "
               << segment.block.alignment << '\n';
 }
 

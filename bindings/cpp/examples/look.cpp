@@ -1,4 +1,4 @@
-// A look: a service with room for one node, which joins and leaves.
+// A look: a service with a capacity of one node, which joins and leaves.
 //
 // It prints:
 //     slot 0, ticket 0
@@ -11,7 +11,7 @@
 
 int main() {
     using namespace iox2sd;
-    // Room for one node, two listeners and two notifiers; 7 is the service's number.
+    // One node, two listeners and two notifiers at a time; the service has the number 7.
     Service service = Service::create(PatternKind::Event, 7, {1, 2, 2}).value();
 
     const UniqueNodeId one = UniqueNodeId::create(1, 0, 0, 1).value();

@@ -1,5 +1,5 @@
-// A liveness monitor: removes nodes that have died, with their ports, but for those ports that are
-// still being read. The last death locks the service.
+// A liveness monitor: removes dead nodes with their ports, but keeps the ports that are still being
+// read. The service is locked when its last node is removed.
 //
 // It prints:
 //     dead 100000000000000000000000a: 1 publishers, 0 subscribers went, nodes are left

@@ -44,7 +44,7 @@ class PortFactory:
 
     @contextmanager
     def publisher(self, max_slice_len: int, max_loaned_samples: int) -> Iterator[ContainerHandle]:
-        """A publisher, whose data segment has room for all samples that can be in use at once."""
+        """A publisher, whose data segment holds all samples that can be in use at once."""
         samples = self.config.required_amount_of_samples_per_data_segment(max_loaned_samples)
         layout = self.config.message_type_details.sample_layout(max_slice_len)
         details = PublisherDetails(

@@ -1,5 +1,5 @@
-"""The layer of a zero-copy communication middleware that says what a service is, and who is
-attached to it, over the proved library libiox2sd.
+"""The service layer of the zero-copy middleware iceoryx2, over the proved library libiox2sd: what a
+service is, and which nodes and ports are attached to it.
 
     >>> import iox2sd
     >>> with iox2sd.DynamicConfig.event(
@@ -9,9 +9,9 @@ attached to it, over the proved library libiox2sd.
     ...     service.deregister_node_id(node)
     DeregisterNodeState.NO_MORE_OWNERS
 
-Values check themselves when they are made, and never change. What is refused raises an `Error`,
-whose text says what was wrong and where. Each rule is the library's; this package passes its
-arguments on, or refuses them.
+Values are checked when they are made, and never change. A refused call raises an `Error`, whose
+text says what was wrong and where. The library has all rules; this package checks the types of its
+arguments and passes them on.
 """
 
 from dataclasses import is_dataclass
@@ -19,7 +19,15 @@ from dataclasses import is_dataclass
 from . import _native
 from ._arguments import readable
 from .attributes import Attribute, AttributeSet, AttributeSpecifier, AttributeVerifier
-from .config import Config, Defaults, GlobalConfig, NodeConfig, ServiceConfig
+from .config import (
+    Config,
+    ConfigFile,
+    Defaults,
+    GlobalConfig,
+    NodeConfig,
+    ServiceConfig,
+    UnknownKey,
+)
 from .details import (
     ClientDetails,
     DataSegmentType,
@@ -40,8 +48,10 @@ from .dynamic_config import (
 )
 from .errors import (
     BadAlignment,
+    BadConfig,
     BadDuration,
     BadLine,
+    ConfigFault,
     Empty,
     Error,
     ForeignHandle,
@@ -59,6 +69,7 @@ from .errors import (
     NoMemory,
     NoNode,
     NoService,
+    NoTomlInteger,
     NotUtf8,
     OtherAlignment,
     OtherName,
@@ -148,6 +159,7 @@ __all__ = [
     "AttributeVerifier",
     "BackpressureStrategy",
     "BadAlignment",
+    "BadConfig",
     "BadDuration",
     "BadLine",
     "BlackboardSettings",
@@ -155,6 +167,8 @@ __all__ = [
     "Capacities",
     "ClientDetails",
     "Config",
+    "ConfigFault",
+    "ConfigFile",
     "ContainerHandle",
     "DataSegmentType",
     "DeadNodeRemoval",
@@ -197,6 +211,7 @@ __all__ = [
     "NoNode",
     "NoService",
     "NotifierDetails",
+    "NoTomlInteger",
     "NotUtf8",
     "OtherAlignment",
     "OtherName",
@@ -245,6 +260,7 @@ __all__ = [
     "UniqueServiceId",
     "UniqueSubscriberId",
     "UniqueWriterId",
+    "UnknownKey",
     "WriterDetails",
     "WrongType",
     "__version__",

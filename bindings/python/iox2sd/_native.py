@@ -310,11 +310,7 @@ class RequestResponseConfig(ctypes.Structure):
 
 
 class BlackboardConfig(ctypes.Structure):
-    _fields_ = [
-        ("max_readers", c_size_t),
-        ("max_writers", c_size_t),
-        ("max_nodes", c_size_t),
-    ]
+    _fields_ = [("max_readers", c_size_t), ("max_writers", c_size_t), ("max_nodes", c_size_t)]
 
 
 class Description(ctypes.Structure):
@@ -329,6 +325,82 @@ class Description(ctypes.Structure):
         ("event", EventConfig),
         ("request_response", RequestResponseConfig),
         ("blackboard", BlackboardConfig),
+    ]
+
+
+class ConfigText(ctypes.Structure):
+    _fields_ = [("bytes", c_uint8 * 256), ("length", c_size_t)]
+
+
+class ConfigTexts(ctypes.Structure):
+    _fields_ = [
+        ("root_path", ConfigText),
+        ("prefix", ConfigText),
+        ("service_directory", ConfigText),
+        ("data_segment_suffix", ConfigText),
+        ("static_config_storage_suffix", ConfigText),
+        ("dynamic_config_storage_suffix", ConfigText),
+        ("connection_suffix", ConfigText),
+        ("event_connection_suffix", ConfigText),
+        ("blackboard_mgmt_suffix", ConfigText),
+        ("blackboard_data_suffix", ConfigText),
+        ("node_directory", ConfigText),
+        ("monitor_suffix", ConfigText),
+        ("node_static_config_suffix", ConfigText),
+        ("service_tag_suffix", ConfigText),
+        ("port_tag_suffix", ConfigText),
+        ("global_mgmt_suffix", ConfigText),
+    ]
+
+
+class Config(ctypes.Structure):
+    _fields_ = [
+        ("global", GlobalSettings),
+        ("texts", ConfigTexts),
+        ("publish_subscribe", PublishSubscribeSettings),
+        ("event", EventSettings),
+        ("request_response", RequestResponseSettings),
+        ("blackboard", BlackboardSettings),
+    ]
+
+
+class ConfigFault(ctypes.Structure):
+    _fields_ = [
+        ("status", c_uint32),
+        ("table", c_uint32),
+        ("found", c_uint32),
+        ("wanted", c_uint32),
+        ("key", c_uint8 * 80),
+        ("key_length", c_size_t),
+        ("reason", c_uint8 * 256),
+        ("reason_length", c_size_t),
+    ]
+
+
+class ConfigAnswer(ctypes.Structure):
+    _fields_ = [("status", c_uint32), ("unknown", c_size_t), ("fault", ConfigFault)]
+
+
+class UnknownKey(ctypes.Structure):
+    _fields_ = [
+        ("table", c_uint32),
+        ("key_length", c_size_t),
+        ("meant", c_uint8 * 80),
+        ("meant_length", c_size_t),
+    ]
+
+
+class UnknownAnswer(ctypes.Structure):
+    _fields_ = [("status", c_uint32), ("count", c_size_t), ("length", c_size_t)]
+
+
+class ConfigWriteAnswer(ctypes.Structure):
+    _fields_ = [
+        ("status", c_uint32),
+        ("field", c_uint32),
+        ("length", c_size_t),
+        ("key", c_uint8 * 80),
+        ("key_length", c_size_t),
     ]
 
 
@@ -475,6 +547,17 @@ describe_blackboard_at = _export(
 default_text_at = _export("default_text_at", TextAnswer, c_uint32, *_OUT)
 service_dir_at = _export("service_dir_at", TextAnswer, *_TEXT, *_OUT)
 node_dir_at = _export("node_dir_at", TextAnswer, *_TEXT, *_OUT)
+
+config_read_at = _export("config_read_at", ConfigAnswer, *_TEXT, POINTER(Config), c_size_t)
+config_faults_at = _export(
+    "config_faults_at", CountAnswer, *_TEXT, POINTER(ConfigFault), c_size_t
+)
+config_unknown_at = _export(
+    "config_unknown_at", UnknownAnswer, *_TEXT, POINTER(UnknownKey), c_size_t, *_OUT
+)
+config_write_at = _export(
+    "config_write_at", ConfigWriteAnswer, POINTER(Config), c_size_t, *_OUT
+)
 
 
 def written(function: Any, *arguments: Any) -> "tuple[int, str]":

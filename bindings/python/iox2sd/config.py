@@ -1,14 +1,22 @@
 """The configuration of a system: where its files lie, how they are called, and what services get
-where nothing else is said.
+where nothing else is said; and the file that has it, `iceoryx2.toml`.
 
 The defaults of all fields are those of the library, and a `Config()` is what a system has without a
 configuration of its own.
 """
 
-from dataclasses import dataclass
+import ctypes
+import os
+import pathlib
+from dataclasses import dataclass, fields
+from typing import Any, NamedTuple, Optional, Union
 
-from ._arguments import Checked
+from . import _native
+from ._arguments import Checked, utf8
+from .errors import BadConfig, ConfigFault, NoMemory, Refused, check
 from .settings import (
+    AllocationStrategy,
+    BackpressureStrategy,
     BlackboardSettings,
     DefaultText,
     Duration,
@@ -17,6 +25,8 @@ from .settings import (
     PublishSubscribeSettings,
     RequestResponseSettings,
     default_text,
+    plain,
+    read,
 )
 from .texts import FileName, Path
 
@@ -74,7 +84,7 @@ class NodeConfig(Checked):
     cleanup_dead_nodes_on_creation: bool = _global.cleanup_dead_nodes_on_creation
     """Whether what dead nodes left is removed first when a node is created."""
     cleanup_dead_nodes_on_destruction: bool = _global.cleanup_dead_nodes_on_destruction
-    """The same when a node goes."""
+    """The same when a node is dropped."""
 
 
 @dataclass(frozen=True, slots=True, kw_only=True)
@@ -119,3 +129,200 @@ class Config(Checked):
 
     global_cfg: GlobalConfig = GlobalConfig()
     defaults: Defaults = Defaults()
+
+    @classmethod
+    def from_toml(cls, text: str) -> "ConfigFile":
+        """The settings of the text of a file, where each key that it does not have has its default,
+        and the keys that no setting has.
+
+        Raises `BadConfig` with all that is wrong, and `NoMemory`.
+        """
+        return _read_file(utf8(text, "Config.from_toml"))
+
+    @classmethod
+    def from_toml_file(cls, path: Union[str, "os.PathLike[str]"]) -> "ConfigFile":
+        """The same of a file, which is read whole. Raises `OSError` too."""
+        return _read_file(pathlib.Path(path).read_bytes())
+
+    def to_toml(self) -> str:
+        """The settings as the text of a file, each below a comment with what it is and its default.
+
+        Raises `NoTomlInteger`, of a number or of the seconds of a duration above 2^63 - 1, and
+        `NoMemory`.
+        """
+        given, capacity = _plain_config(self), 16384
+        while True:
+            out = (ctypes.c_uint8 * capacity)()
+            answer = _native.config_write_at(given, 1, out, capacity)
+            if answer.status != _native.BUFFER_TOO_SHORT:
+                break
+            capacity = answer.length
+        check(answer.status, _front(answer.key, answer.key_length) or "Config.to_toml")
+        return ctypes.string_at(out, answer.length).decode()
+
+
+class UnknownKey(NamedTuple):
+    """A key of a file that no setting has."""
+
+    key: str
+    """Its path, as `defaults.event.max-node`."""
+    meant: Optional[str]
+    """The path of the known key of the same table that was probably meant: the nearest, where at
+    most two characters must be inserted, removed or changed."""
+
+    def __str__(self) -> str:
+        return f"{self.key}: {self.meant} may be meant" if self.meant else self.key
+
+
+class ConfigFile(NamedTuple):
+    """What stands in a file of settings."""
+
+    config: Config
+    unknown: "tuple[UnknownKey, ...]"
+    """The keys that no setting has, in the order of the tables and of the keys in each."""
+
+
+_PATTERNS = (
+    ("publish_subscribe", PublishSubscribeSettings),
+    ("event", EventSettings),
+    ("request_response", RequestResponseSettings),
+    ("blackboard", BlackboardSettings),
+)
+
+_TEXTS = {
+    "root_path": "root_path",
+    "prefix": "prefix",
+    "service_directory": "service.directory",
+    "data_segment_suffix": "service.data_segment_suffix",
+    "static_config_storage_suffix": "service.static_config_storage_suffix",
+    "dynamic_config_storage_suffix": "service.dynamic_config_storage_suffix",
+    "connection_suffix": "service.connection_suffix",
+    "event_connection_suffix": "service.event_connection_suffix",
+    "blackboard_mgmt_suffix": "service.blackboard_mgmt_suffix",
+    "blackboard_data_suffix": "service.blackboard_data_suffix",
+    "node_directory": "node.directory",
+    "monitor_suffix": "node.monitor_suffix",
+    "node_static_config_suffix": "node.static_config_suffix",
+    "service_tag_suffix": "node.service_tag_suffix",
+    "port_tag_suffix": "node.port_tag_suffix",
+    "global_mgmt_suffix": "node.global_mgmt_suffix",
+}
+"""Where each text of the library stands in a `GlobalConfig`."""
+
+_FLAGS = {
+    "cleanup_dead_nodes_on_open": "service",
+    "cleanup_dead_nodes_on_creation": "node",
+    "cleanup_dead_nodes_on_destruction": "node",
+}
+"""In which part of a `GlobalConfig` each flag of the library stands."""
+
+
+def _front(array: Any, length: int) -> str:
+    """The text at the front of an array, of which there may be more than it holds."""
+    return bytes(array)[:length].decode(errors="ignore")
+
+
+def _field(name: str, value: Any) -> Any:
+    """A field of settings that the library answered."""
+    if name.endswith("backpressure_strategy"):
+        return BackpressureStrategy(value)
+    if name.endswith("allocation_strategy"):
+        return AllocationStrategy(value)
+    return read(value)
+
+
+def _settings(kind: Any, c: Any) -> Any:
+    """The settings of services of a pattern that the library answered."""
+    return kind(**{one.name: _field(one.name, getattr(c, one.name)) for one in fields(kind)})
+
+
+def _config(c: Any) -> Config:
+    """All settings that the library answered."""
+    parts: "dict[str, dict[str, Any]]" = {"": {}, "service": {}, "node": {}}
+    for name, place in _TEXTS.items():
+        part, _, own = place.rpartition(".")
+        kind = Path if own in ("root_path", "directory") else FileName
+        text = getattr(c.texts, name)
+        parts[part][own] = kind(_front(text.bytes, text.length))
+    shared = getattr(c, "global")
+    for name, part in _FLAGS.items():
+        parts[part][name] = getattr(shared, name)
+    timeout = shared.creation_timeout
+    return Config(
+        global_cfg=GlobalConfig(
+            **parts[""],
+            service=ServiceConfig(**parts["service"]),
+            node=NodeConfig(**parts["node"]),
+            creation_timeout=Duration(timeout.seconds, timeout.nanoseconds),
+        ),
+        defaults=Defaults(**{name: _settings(kind, getattr(c, name)) for name, kind in _PATTERNS}),
+    )
+
+
+def _plain_config(config: Config) -> Any:
+    """All settings as the library takes them."""
+    made, shared = _native.Config(), config.global_cfg
+    for name, place in _TEXTS.items():
+        text: Any = shared
+        for part in place.split("."):
+            text = getattr(text, part)
+        encoded = str.encode(text)
+        plain_text = getattr(made.texts, name)
+        ctypes.memmove(plain_text.bytes, encoded, len(encoded))
+        plain_text.length = len(encoded)
+    plain_shared = getattr(made, "global")
+    for name, part in _FLAGS.items():
+        setattr(plain_shared, name, getattr(getattr(shared, part), name))
+    timeout = shared.creation_timeout
+    plain_shared.creation_timeout = _native.Duration(timeout.seconds, timeout.nanoseconds)
+    for name, kind in _PATTERNS:
+        settings, c = getattr(config.defaults, name), getattr(made, name)
+        for one in fields(kind):
+            value = getattr(settings, one.name)
+            if value is not None:
+                setattr(c, one.name, plain(value))
+    return made
+
+
+def _fault(c: Any) -> ConfigFault:
+    reason = _front(c.reason, c.reason_length)
+    return ConfigFault(_front(c.key, c.key_length), reason, c.status)
+
+
+def _refused(text: bytes, first: Any) -> Refused:
+    """Why a text with this first fault gives no settings."""
+    found = [first]
+    if first.key_length != 0:
+        count = _native.config_faults_at(text, len(text), None, 0).count
+        faults = (_native.ConfigFault * count)()
+        answer = _native.config_faults_at(text, len(text), faults, count)
+        if answer.status == _native.DONE:
+            found = list(faults)
+    return BadConfig(tuple(map(_fault, found)))
+
+
+def _unknown(text: bytes) -> "tuple[UnknownKey, ...]":
+    """The unknown keys of a text that gives settings."""
+    needed = _native.config_unknown_at(text, len(text), None, 0, None, 0)
+    keys = (_native.UnknownKey * needed.count)()
+    paths = (ctypes.c_uint8 * needed.length)()
+    answer = _native.config_unknown_at(
+        text, len(text), keys, needed.count, paths, needed.length
+    )
+    check(answer.status, "Config.from_toml")
+    found, place, whole = [], 0, bytes(paths)
+    for key in keys:
+        path = whole[place : place + key.key_length].decode()
+        found.append(UnknownKey(path, _front(key.meant, key.meant_length) or None))
+        place += key.key_length
+    return tuple(found)
+
+
+def _read_file(text: bytes) -> ConfigFile:
+    made = _native.Config()
+    answer = _native.config_read_at(text, len(text), made, 1)
+    if answer.status == NoMemory.status:
+        check(answer.status, "Config.from_toml")
+    if answer.status != _native.DONE:
+        raise _refused(text, answer.fault)
+    return ConfigFile(_config(made), _unknown(text))

@@ -35,14 +35,14 @@ _node_id = maker(UniqueNodeId)
 @dataclass(frozen=True, slots=True)
 class ContainerHandle(Checked):
     """Registering and attaching return a handle; deregistering and releasing take it. A service
-    never gives the same one twice.
+    never reuses a handle.
     """
 
     service_number: U64
     role: Role
     slot: Size
     ticket: U64
-    """The number of entries of its kind that the service had before, also of those removed."""
+    """How many entries of its kind were made before it."""
 
     def _lent(self) -> _native.Handle:
         return _native.Handle(self.service_number, self.role.value, self.slot, self.ticket)
@@ -54,23 +54,23 @@ class ContainerHandle(Checked):
 
 
 class DeregisterNodeState(Choice):
-    """What is left when a node has gone."""
+    """Whether a service has nodes left."""
 
     HAS_OWNERS = _native.DONE
-    """The service goes on."""
+    """It has."""
     NO_MORE_OWNERS = _native.DONE_LOCKED
-    """The service has no node any more and is locked: nothing joins it again."""
+    """It has none and is locked for good: nothing joins it again."""
 
 
 @dataclass(frozen=True, slots=True)
 class DeadNodeRemoval(Checked):
-    """What went with a dead node, and what is left."""
+    """What the removal of a dead node removed, and what is left."""
 
     state: DeregisterNodeState
     first: Size
-    """How many publishers, listeners, servers or readers went."""
+    """How many publishers, listeners, servers or readers were removed."""
     second: Size
-    """How many subscribers, notifiers, clients or writers went."""
+    """How many subscribers, notifiers, clients or writers were removed."""
 
 
 class DynamicConfig:
@@ -100,9 +100,9 @@ class DynamicConfig:
         capacities: Capacities,
         tickets: int = _ALL_TICKETS,
     ) -> None:
-        """A service with nothing attached. `service_number` is in each of its handles. Each
-        registering takes one of `tickets` tickets, and each attaching one of as many for its kind
-        of ports; none comes back.
+        """A service with nothing attached. `service_number` is in each of its handles. It has
+        `tickets` tickets for nodes, and as many for each kind of ports: each registering and each
+        attaching uses one, and tickets are never reused.
 
         Raises `HasService` where the object has one already, and `NoMemory`.
         """
@@ -122,10 +122,10 @@ class DynamicConfig:
     def described(
         cls, description: StaticConfig, service_number: int, *, tickets: int = _ALL_TICKETS
     ) -> "DynamicConfig":
-        """A service of the pattern and with the room of a description. Raises `NoMemory`."""
+        """A service with the pattern and the capacities of a description. Raises `NoMemory`."""
         instance(description, StaticConfig, f"{cls.__name__}.described")
-        room = description.capacities
-        return cls(description.messaging_pattern, service_number, room, tickets)
+        capacities = description.capacities
+        return cls(description.messaging_pattern, service_number, capacities, tickets)
 
     @classmethod
     def publish_subscribe(
@@ -138,8 +138,8 @@ class DynamicConfig:
         tickets: int = _ALL_TICKETS,
     ) -> "DynamicConfig":
         """A publish-subscribe service. Raises `NoMemory`."""
-        room = Capacities(max_nodes, max_publishers, max_subscribers)
-        return cls(MessagingPattern.PUBLISH_SUBSCRIBE, service_number, room, tickets)
+        capacities = Capacities(max_nodes, max_publishers, max_subscribers)
+        return cls(MessagingPattern.PUBLISH_SUBSCRIBE, service_number, capacities, tickets)
 
     @classmethod
     def event(
@@ -152,8 +152,8 @@ class DynamicConfig:
         tickets: int = _ALL_TICKETS,
     ) -> "DynamicConfig":
         """An event service. Raises `NoMemory`."""
-        room = Capacities(max_nodes, max_listeners, max_notifiers)
-        return cls(MessagingPattern.EVENT, service_number, room, tickets)
+        capacities = Capacities(max_nodes, max_listeners, max_notifiers)
+        return cls(MessagingPattern.EVENT, service_number, capacities, tickets)
 
     @classmethod
     def request_response(
@@ -166,8 +166,8 @@ class DynamicConfig:
         tickets: int = _ALL_TICKETS,
     ) -> "DynamicConfig":
         """A request-response service. Raises `NoMemory`."""
-        room = Capacities(max_nodes, max_servers, max_clients)
-        return cls(MessagingPattern.REQUEST_RESPONSE, service_number, room, tickets)
+        capacities = Capacities(max_nodes, max_servers, max_clients)
+        return cls(MessagingPattern.REQUEST_RESPONSE, service_number, capacities, tickets)
 
     @classmethod
     def blackboard(
@@ -180,8 +180,8 @@ class DynamicConfig:
         tickets: int = _ALL_TICKETS,
     ) -> "DynamicConfig":
         """A blackboard service. Raises `NoMemory`."""
-        room = Capacities(max_nodes, max_readers, max_writers)
-        return cls(MessagingPattern.BLACKBOARD, service_number, room, tickets)
+        capacities = Capacities(max_nodes, max_readers, max_writers)
+        return cls(MessagingPattern.BLACKBOARD, service_number, capacities, tickets)
 
     # ---- Changes ----
 
@@ -228,9 +228,9 @@ class DynamicConfig:
         self, node_id: UniqueNodeId, keep: Iterable[UniquePortId] = ()
     ) -> DeadNodeRemoval:
         """Removes the ports of a dead node, but for those whose id has the number of one in `keep`,
-        and reports how many went. Numbers are looked at and not roles: a listener that is kept
+        and returns how many it removed. Numbers are compared, not roles: a listener that is kept
         keeps the notifier of the same number too, though their ids are not equal. Where no port is
-        left, the node goes too, with all its handles.
+        left, the node is removed too, with all its handles.
 
         Raises `NoService`.
         """
@@ -337,7 +337,7 @@ class DynamicConfig:
         `RoleNotInPattern`.
         """
         instance(role, Role, "has_room")
-        return self._flag(f"has room, {role}", _native.has_room_at, role.value)
+        return self._flag(f"has_room, {role}", _native.has_room_at, role.value)
 
     def node(self, handle: ContainerHandle) -> UniqueNodeId:
         """The node that was registered with a handle. Raises `ForeignHandle` where it is not there
@@ -442,8 +442,8 @@ class DynamicConfig:
         """Makes an empty service of this pattern, number and capacities; tickets are left out."""
         if self.closed:
             return "<a closed DynamicConfig>"
-        room = Capacities(self.max_nodes, *(self.max_ports(role) for role in self.port_roles))
-        return f"DynamicConfig({self.messaging_pattern!r}, {self.service_number}, {room})"
+        capacities = Capacities(self.max_nodes, *(self.max_ports(role) for role in self.port_roles))
+        return f"DynamicConfig({self.messaging_pattern!r}, {self.service_number}, {capacities})"
 
     def __reduce__(self) -> NoReturn:
         raise TypeError("a DynamicConfig cannot be copied or pickled")

@@ -5,9 +5,23 @@ argument has no form that it takes. All others are its errors, one class for eac
 `include/iox2sd.h`. The text of a status is the library's own.
 """
 
-from typing import ClassVar
+from typing import ClassVar, NamedTuple
 
 from . import _native
+
+
+class ConfigFault(NamedTuple):
+    """What is wrong with the text of a file of settings."""
+
+    key: str
+    """The path of the key whose value is not allowed, or nothing where the text is no TOML."""
+    reason: str
+    """What is wrong, in words."""
+    status: int
+    """The number of the status in `include/iox2sd.h`."""
+
+    def __str__(self) -> str:
+        return f"{self.key}: {self.reason}" if self.key else self.reason
 
 
 class Error(Exception):
@@ -77,7 +91,7 @@ class NoNode(Refused, ValueError):
 
 
 class IsLocked(Refused):
-    """The last node of the service has gone: nothing joins it any more."""
+    """The service is locked for good, since its last node left: nothing joins it any more."""
 
     status = 9
 
@@ -250,6 +264,27 @@ class BadLine(Refused, ValueError):
         self.unit = "line"
         self.line = line
         self.replies = replies
+
+
+class NoTomlInteger(Refused, OverflowError):
+    """A number, or the seconds of a duration, are above 2^63 - 1, which TOML does not have."""
+
+    status = 84
+
+
+class BadConfig(Refused, ValueError):
+    """The text of a file gives no settings: it is no UTF-8 or no TOML, or values are not allowed.
+    `faults` has all that is wrong, in the order of the settings.
+    """
+
+    def __init__(self, faults: "tuple[ConfigFault, ...]") -> None:
+        """What is wrong; the status is that of the first fault."""
+        Exception.__init__(self, faults)
+        self.faults = faults
+        self.status = faults[0].status
+
+    def __str__(self) -> str:
+        return "\n".join(map(str, self.faults))
 
 
 def _with_status(base: "type[Refused]") -> "dict[int, type[Refused]]":

@@ -47,7 +47,7 @@ class UniqueId(Checked):
     nanoseconds: U32
     """When it was made, beside the seconds."""
     counter: U32
-    """What keeps apart the ids that a process makes."""
+    """What distinguishes it from other ids of the process."""
 
     @property
     def value(self) -> int:

@@ -92,6 +92,26 @@ def deadline(given: _native.OptionalDuration) -> "Duration | None":
     return Duration(given.seconds, given.nanoseconds) if given.is_some else None
 
 
+def plain(value: Any) -> Any:
+    """A field as the library takes it."""
+    if isinstance(value, Duration):
+        return _native.OptionalDuration(value.seconds, value.nanoseconds, True)
+    if isinstance(value, EventId):
+        return _native.OptionalEventId(value.value, True)
+    if isinstance(value, Choice):
+        return value.value
+    return value
+
+
+def read(value: Any) -> Any:
+    """A field that the library answered."""
+    if isinstance(value, _native.OptionalDuration):
+        return deadline(value)
+    if isinstance(value, _native.OptionalEventId):
+        return event_id(value)
+    return value
+
+
 @dataclass(frozen=True, slots=True, kw_only=True)
 class GlobalSettings(Checked):
     """The settings that all services and nodes of one system share."""
@@ -105,7 +125,7 @@ class GlobalSettings(Checked):
     cleanup_dead_nodes_on_creation: bool = _global.cleanup_dead_nodes_on_creation
     """The same when a node is created."""
     cleanup_dead_nodes_on_destruction: bool = _global.cleanup_dead_nodes_on_destruction
-    """The same when a node goes."""
+    """The same when a node is dropped."""
 
 
 @dataclass(frozen=True, slots=True, kw_only=True)
@@ -166,7 +186,7 @@ class EventSettings(Checked):
     notifier_created_event: Optional[EventId] = event_id(_event.notifier_created_event)
     """The event that a new notifier sends, if any."""
     notifier_dropped_event: Optional[EventId] = event_id(_event.notifier_dropped_event)
-    """The event that a notifier sends when it goes, if any."""
+    """The event that a notifier sends when it is dropped, if any."""
     notifier_dead_event: Optional[EventId] = event_id(_event.notifier_dead_event)
     """The event that is sent when a notifier's node has died, if any."""
 
@@ -254,8 +274,9 @@ class DefaultText(Choice):
     PREFIX = 1
     """What the name of each file begins with."""
     SERVICE_DIRECTORY = 2
-    """Below the root path. The ends of the names of services' files:"""
+    """The directory of services, below the root path."""
     DATA_SEGMENT_SUFFIX = 3
+    """The end of the names of services' files; so are the next six."""
     STATIC_CONFIG_STORAGE_SUFFIX = 4
     DYNAMIC_CONFIG_STORAGE_SUFFIX = 5
     CONNECTION_SUFFIX = 6
@@ -263,8 +284,9 @@ class DefaultText(Choice):
     BLACKBOARD_MGMT_SUFFIX = 8
     BLACKBOARD_DATA_SUFFIX = 9
     NODE_DIRECTORY = 10
-    """Below the root path. The ends of the names of nodes' files:"""
+    """The directory of nodes, below the root path."""
     MONITOR_SUFFIX = 11
+    """The end of the names of nodes' files; so are the next four."""
     NODE_STATIC_CONFIG_SUFFIX = 12
     SERVICE_TAG_SUFFIX = 13
     PORT_TAG_SUFFIX = 14
@@ -272,9 +294,9 @@ class DefaultText(Choice):
     CONFIG_FILE_NAME = 16
     """The name of a configuration file."""
     CONFIG_FILE_PATH = 17
-    """The configuration file of a working directory."""
+    """The configuration file in a working directory."""
     RELATIVE_CONFIG_PATH = 18
-    """The directory of this system's, below one for configurations."""
+    """The directory of this system's configuration, below a directory for configurations."""
     USER_CONFIG_FILE_PATH = 19
     """The configuration file below a user's directory for configurations."""
 

@@ -16,8 +16,8 @@ from .settings import (
     EventSettings,
     PublishSubscribeSettings,
     RequestResponseSettings,
-    deadline,
-    event_id,
+    plain,
+    read,
 )
 from .texts import InternalServiceName, MessagingPattern, ServiceHash, ServiceName, lent
 
@@ -234,24 +234,6 @@ class Capacities(Checked):
     """Subscribers, notifiers, clients or writers."""
 
 
-def _plain(value: Any) -> Any:
-    """A field as the library takes it."""
-    if isinstance(value, Duration):
-        return _native.OptionalDuration(value.seconds, value.nanoseconds, True)
-    if isinstance(value, EventId):
-        return _native.OptionalEventId(value.value, True)
-    return value
-
-
-def _read(value: Any) -> Any:
-    """A field that the library answered."""
-    if isinstance(value, _native.OptionalDuration):
-        return deadline(value)
-    if isinstance(value, _native.OptionalEventId):
-        return event_id(value)
-    return value
-
-
 def _settings(config: Any, kind: Any) -> Any:
     """The settings of a service of which this is fixed; others are 0."""
     made = kind()
@@ -259,7 +241,7 @@ def _settings(config: Any, kind: Any) -> Any:
         name = "publisher_history_size" if one.name == "history_size" else one.name
         value = getattr(config, one.name)
         if hasattr(made, name) and value is not None:
-            setattr(made, name, _plain(value))
+            setattr(made, name, plain(value))
     return made
 
 
@@ -286,7 +268,7 @@ class StaticConfig(Checked):
         part = getattr(made, self.messaging_pattern.name.lower())
         config = self.pattern_config
         fixed = {one.name for one in fields(config) if hasattr(part, one.name)}
-        values = {name: _read(getattr(part, name)) for name in fixed}
+        values = {name: read(getattr(part, name)) for name in fixed}
         if any(getattr(config, name) != value for name, value in values.items()):
             object.__setattr__(self, "pattern_config", replace(config, **values))
         Checked.__post_init__(self)
@@ -315,7 +297,7 @@ class StaticConfig(Checked):
 
     @property
     def capacities(self) -> Capacities:
-        """The room that the service is described to have."""
+        """The capacities with which the described service is made."""
         config = self.pattern_config
         first, second = (getattr(config, name) for name in _PORTS[self.messaging_pattern])
         return Capacities(config.max_nodes, first, second)

@@ -21,5 +21,7 @@ STATUSES = {
 
 ABI = re.search(r"#define IOX2SD_ABI (\d+)", TEXT)
 
-EXPORTS = set(re.findall(r"^(?!static)[a-z]\w+\s+iox2sd_(\w+)\([^{]*?\);", TEXT, re.MULTILINE))
+EXPORTS = set(
+    re.findall(r"^(?!static)(?:struct )?[a-z]\w+\s+iox2sd_(\w+)\([^{]*?\);", TEXT, re.MULTILINE)
+)
 """The functions that the library has, without the inline ones."""

@@ -35,6 +35,11 @@ NO_CLASS = {
     "UNKNOWN_VARIANT": "variants are members of an enum",
     "UNKNOWN_TEXT": "texts of the configuration are members of an enum",
     "UNKNOWN_STRATEGY": "strategies are members of an enum",
+    "NOT_TOML": "it is a fault of a BadConfig; so are the next three",
+    "WRONG_TYPE": "",
+    "BELOW_ZERO": "",
+    "NO_DURATION": "",
+    "NO_FILE": "the system's own errors are raised",
 }
 """The statuses that no call of the package meets."""
 

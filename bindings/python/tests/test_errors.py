@@ -28,10 +28,10 @@ class Errors(unittest.TestCase):
     def test_bases_of_each_error(self):
         """Which classes of Python, and which of this package, an error is one of."""
         refused = {
-            ValueError: "BadAlignment BadDuration BadLine Empty IllegalByte NoFileName NoNode"
+            ValueError: "BadAlignment BadConfig BadDuration BadLine Empty IllegalByte NoFileName NoNode"
             " NotUtf8 ReservedPrefix RoleNotInPattern TooLong TooMany TooManyRequired",
             LookupError: "ForeignHandle NodeNotRegistered",
-            OverflowError: "TooLarge",
+            OverflowError: "NoTomlInteger TooLarge",
             MemoryError: "NoMemory",
             iox2sd.Incompatible: "OtherName OtherVariant OtherSize OtherAlignment"
             " GreaterAlignment",

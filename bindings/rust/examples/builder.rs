@@ -1,7 +1,7 @@
 //! A service builder: creates a publish-subscribe service, and opens it for another node.
 //!
-//! An opener is asked in turn: is it a publish-subscribe service, does it have the attributes, do
-//! the types suit, is there room for a message, is the node registered? The first refusal is
+//! An opener checks in turn: is it a publish-subscribe service, does it have the attributes, do the
+//! types suit, does a message have a layout, can the node be registered? The first error is
 //! reported, and nothing stays registered.
 #![forbid(unsafe_code)]
 
@@ -31,7 +31,7 @@ struct Opener {
     node: UniqueNodeId,
 }
 
-/// The description of a service with the default limits, and the service with room for as many.
+/// The description of a service with the default limits, and the service that it describes.
 fn create(
     name: &ServiceName,
     types: &MessageTypeDetails,
@@ -42,12 +42,12 @@ fn create(
         .with_attributes(attributes);
     description.publish_subscribe_mut().message_type_details = *types;
 
-    let room = description.messaging_pattern().into();
-    let service = DynamicConfig::new(&room, description.publish_subscribe().max_nodes(), 1)?;
+    let capacities = description.messaging_pattern().into();
+    let service = DynamicConfig::new(&capacities, description.publish_subscribe().max_nodes(), 1)?;
     Ok((description, service))
 }
 
-/// The handle of the opener's node, and the room of a message.
+/// The handle of the opener's node, and the layout of a message.
 fn open(
     description: &StaticConfig,
     service: &mut DynamicConfig,

@@ -38,8 +38,8 @@ fn main() -> Result<(), Box<dyn Error>> {
     );
 
     let limits = description.request_response();
-    let room = description.messaging_pattern().into();
-    let mut service = DynamicConfig::new(&room, limits.max_nodes(), 1)?;
+    let capacities = description.messaging_pattern().into();
+    let mut service = DynamicConfig::new(&capacities, limits.max_nodes(), 1)?;
     let server_node = UniqueNodeId::new(3, 0, 0, 1).ok_or("the id of no node")?;
     let client_node = UniqueNodeId::new(2, 0, 0, 1).ok_or("the id of no node")?;
     service.register_node_id(server_node)?;

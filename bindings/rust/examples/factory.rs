@@ -46,8 +46,8 @@ fn main() -> Result<(), Box<dyn Error>> {
     let mut description = StaticConfig::new(&Config::default());
     description.message_type_details =
         MessageTypeDetails::from::<u64, u32, [f32; 3]>(TypeVariant::Dynamic)?;
-    let room = DynamicConfigSettings::from(&description);
-    let mut service = DynamicConfig::new(&room.into(), description.max_nodes(), 1)?;
+    let ports = DynamicConfigSettings::from(&description);
+    let mut service = DynamicConfig::new(&ports.into(), description.max_nodes(), 1)?;
     let node = UniqueNodeId::new(2, 0, 0, 1).ok_or("the id of no node")?;
     service.register_node_id(node)?;
 

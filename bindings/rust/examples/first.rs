@@ -6,12 +6,12 @@ use iox2sd::prelude::*;
 
 fn main() -> Result<(), Box<dyn std::error::Error>> {
     let name = ServiceName::new("My/Funk/ServiceName")?;
-    let room = event::DynamicConfigSettings {
+    let ports = event::DynamicConfigSettings {
         number_of_listeners: 2,
         number_of_notifiers: 2,
     };
     // Room for one node; the number of the service is 7.
-    let mut service = DynamicConfig::new(&room.into(), 1, 7)?;
+    let mut service = DynamicConfig::new(&ports.into(), 1, 7)?;
 
     let node_id = UniqueNodeId::new(1, 0, 0, 1).ok_or("the id of no node")?;
     let node = service.register_node_id(node_id)?;

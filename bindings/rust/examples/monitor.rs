@@ -33,11 +33,11 @@ fn remove_dead_nodes(
 }
 
 fn main() -> Result<(), Box<dyn Error>> {
-    let room = event::DynamicConfigSettings {
+    let ports = event::DynamicConfigSettings {
         number_of_listeners: 4,
         number_of_notifiers: 4,
     };
-    let mut service = DynamicConfig::new(&room.into(), 4, 7)?;
+    let mut service = DynamicConfig::new(&ports.into(), 4, 7)?;
     let nodes = [1, 2].map(|process| UniqueNodeId::new(process, 0, 0, 1));
     let nodes: Vec<_> = nodes.into_iter().flatten().collect();
     for node_id in &nodes {

@@ -15,10 +15,15 @@
 mod choices;
 mod global;
 mod patterns;
+mod toml;
+mod toml_kinds;
 
 pub use choices::{AllocationStrategy, BackpressureStrategy, DataSegmentType, EventId};
 pub use global::{Global, Node, Service};
 pub use patterns::{Blackboard, Event, PublishSubscribe, RequestResonse};
+pub use toml::{ConfigError, ConfigFault, ConfigFile, ConfigFileError, ConfigWriteError};
+pub use toml::{Fault, UnknownKey};
+pub use toml_kinds::{SettingKind, TomlType};
 
 use crate::library;
 use crate::paths::{FileName, FilePath, Path};

@@ -5,8 +5,8 @@
 //! use iox2sd::dynamic_config::{event, DynamicConfig, MessagingPatternSettings};
 //! use iox2sd::identifiers::UniqueNodeId;
 //!
-//! let room = event::DynamicConfigSettings { number_of_listeners: 1, number_of_notifiers: 1 };
-//! let mut service = DynamicConfig::new(&MessagingPatternSettings::Event(room), 2, 7)?;
+//! let ports = event::DynamicConfigSettings { number_of_listeners: 1, number_of_notifiers: 1 };
+//! let mut service = DynamicConfig::new(&MessagingPatternSettings::Event(ports), 2, 7)?;
 //! let node = UniqueNodeId::new(1, 0, 0, 1).expect("the id of a node");
 //! service.register_node_id(node)?;
 //! let second = service.register_node_id(node)?;
@@ -73,8 +73,8 @@ impl Role {
 
 shown_by_name!(Role);
 
-/// What registering a node and attaching a port give, and what gives them back. No handle of a
-/// service is ever given twice. Handles are ordered by service, role, slot and ticket.
+/// Registering a node and attaching a port return a handle; deregistering and releasing take it. A
+/// service never reuses a handle. Handles are ordered by service, role, slot and ticket.
 ///
 /// ```
 /// use iox2sd::container::{ContainerHandle, Role};
@@ -92,7 +92,7 @@ pub struct ContainerHandle {
 }
 
 impl ContainerHandle {
-    /// The handle with these parts. Whether a service has given it is a matter of the service.
+    /// The handle with these parts. It need not be one that a service returned.
     ///
     /// ```
     /// use iox2sd::container::{ContainerHandle, Role};
@@ -144,7 +144,7 @@ impl ContainerHandle {
         self.slot
     }
 
-    /// How many entries of its role the service had been given before.
+    /// How many entries of its role were made before it.
     ///
     /// ```
     /// use iox2sd::container::{ContainerHandle, Role};
@@ -180,8 +180,8 @@ impl ContainerHandle {
 /// use iox2sd::container::{ContainerHandle, Role};
 /// use iox2sd::dynamic_config::{event, DynamicConfig, MessagingPatternSettings};
 ///
-/// let room = event::DynamicConfigSettings { number_of_listeners: 1, number_of_notifiers: 1 };
-/// let mut service = DynamicConfig::new(&MessagingPatternSettings::Event(room), 1, 7)?;
+/// let ports = event::DynamicConfigSettings { number_of_listeners: 1, number_of_notifiers: 1 };
+/// let mut service = DynamicConfig::new(&MessagingPatternSettings::Event(ports), 1, 7)?;
 /// let foreign = ContainerHandle::from_parts(8, Role::Listener, 0, 0);
 /// let refused = service.release_port(foreign).unwrap_err();
 /// assert_eq!(

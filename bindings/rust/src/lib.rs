@@ -1,9 +1,9 @@
-//! What a service of the zero-copy middleware iceoryx2 is, and who is attached to it: the layer of
-//! iceoryx2 0.9.3 that service builders, liveness monitors, discovery and port factories stand on,
-//! over a proved library.
+//! The service layer of the zero-copy middleware iceoryx2 0.9.3, over a proved library: what a
+//! service is, and which nodes and ports are attached to it. It is for service builders, liveness
+//! monitors, discovery and port factories.
 //!
-//! Modules, types, methods and texts have the names that they have in iceoryx2, where they stand in
-//! its module `service` for the most part; so do they here, in [`service`] and one level above.
+//! Modules, types, methods and texts have their names of iceoryx2. Most modules stand in its module
+//! `service`; here they stand in [`service`], and one level above.
 //!
 //! | Module | What it has |
 //! |---|---|
@@ -17,8 +17,8 @@
 //! use iox2sd::dynamic_config::{event, DynamicConfig, MessagingPatternSettings};
 //! use iox2sd::identifiers::UniqueNodeId;
 //!
-//! let room = event::DynamicConfigSettings { number_of_listeners: 2, number_of_notifiers: 2 };
-//! let mut service = DynamicConfig::new(&MessagingPatternSettings::Event(room), 1, 7)?;
+//! let ports = event::DynamicConfigSettings { number_of_listeners: 2, number_of_notifiers: 2 };
+//! let mut service = DynamicConfig::new(&MessagingPatternSettings::Event(ports), 1, 7)?;
 //! let node = UniqueNodeId::new(1, 0, 0, 1).expect("the id of a node");
 //! let handle = service.register_node_id(node)?;
 //! assert_eq!(service.nodes().collect::<Vec<_>>(), [node]);
@@ -29,11 +29,11 @@
 //!
 //! # What is proved
 //!
-//! The library `libiox2sd` is proved to answer each call as its definitions say. This crate keeps
-//! values, and calls the library for each rule: what a legal text is, how a set is sorted and
-//! verified, how a message is laid out, who may attach. That it calls the library rightly is
-//! tested, not proved. It is plain Rust with `unsafe` calls of C, all of them in one module; its
-//! users need none, and may write `#![forbid(unsafe_code)]`.
+//! Each call of the library `libiox2sd` is proved to return what its definitions say. This crate
+//! keeps values, and calls the library for each rule: which texts are legal, how a set is sorted and
+//! verified, how a message is laid out, who may attach. The crate itself is tested, not proved. Its
+//! `unsafe` calls of C are all in one module; users need none, and may write
+//! `#![forbid(unsafe_code)]`.
 
 #![deny(unsafe_code, unsafe_op_in_unsafe_fn)]
 #![warn(

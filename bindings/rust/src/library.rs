@@ -3,11 +3,13 @@
 //! A call answers `Err` with the status where the library reports an error.
 
 mod attributes;
+mod config;
 mod descriptions;
 mod messages;
 mod service;
 
 pub(crate) use attributes::{attribute_value, attribute_values, sorted, verify, Missing};
+pub(crate) use config::{config_faults, config_read, config_unknown, config_write};
 pub(crate) use descriptions::Settings;
 pub(crate) use messages::{check_type, check_type_name, compatible, layout, places};
 pub(crate) use service::Service;

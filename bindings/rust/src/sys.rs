@@ -20,6 +20,7 @@ pub const IOX2SD_TOO_LONG: u32 = 41;
 pub const IOX2SD_ILLEGAL_BYTE: u32 = 42;
 pub const IOX2SD_NO_FILE_NAME: u32 = 43;
 pub const IOX2SD_RESERVED_PREFIX: u32 = 44;
+pub const IOX2SD_BAD_PATH: u32 = 47;
 pub const IOX2SD_ILLEGAL_HASH: u32 = 49;
 pub const IOX2SD_TOO_MANY_REQUIRED: u32 = 53;
 pub const IOX2SD_MISSING_PAIR: u32 = 54;
@@ -27,12 +28,19 @@ pub const IOX2SD_MISSING_KEY: u32 = 55;
 pub const IOX2SD_NO_SUCH_VALUE: u32 = 56;
 pub const IOX2SD_BAD_ALIGNMENT: u32 = 57;
 pub const IOX2SD_TOO_LARGE: u32 = 58;
+pub const IOX2SD_UNKNOWN_VARIANT: u32 = 59;
 pub const IOX2SD_OTHER_NAME: u32 = 60;
 pub const IOX2SD_OTHER_VARIANT: u32 = 61;
 pub const IOX2SD_OTHER_SIZE: u32 = 62;
 pub const IOX2SD_OTHER_ALIGNMENT: u32 = 63;
 pub const IOX2SD_GREATER_ALIGNMENT: u32 = 64;
 pub const IOX2SD_BAD_LINE: u32 = 66;
+pub const IOX2SD_BAD_DURATION: u32 = 68;
+pub const IOX2SD_NOT_TOML: u32 = 80;
+pub const IOX2SD_WRONG_TYPE: u32 = 81;
+pub const IOX2SD_BELOW_ZERO: u32 = 82;
+pub const IOX2SD_NO_DURATION: u32 = 83;
+pub const IOX2SD_NO_TOML_INTEGER: u32 = 84;
 
 pub const IOX2SD_PUBLISH_SUBSCRIBE: u32 = 0;
 pub const IOX2SD_EVENT: u32 = 1;
@@ -86,6 +94,23 @@ pub const IOX2SD_CONFIG_FILE_NAME: u32 = 16;
 pub const IOX2SD_CONFIG_FILE_PATH: u32 = 17;
 pub const IOX2SD_RELATIVE_CONFIG_PATH: u32 = 18;
 pub const IOX2SD_USER_CONFIG_FILE_PATH: u32 = 19;
+
+pub const IOX2SD_TOML_STRING: u32 = 1;
+pub const IOX2SD_TOML_INTEGER: u32 = 2;
+pub const IOX2SD_TOML_FLOAT: u32 = 3;
+pub const IOX2SD_TOML_BOOLEAN: u32 = 4;
+pub const IOX2SD_TOML_DATETIME: u32 = 5;
+pub const IOX2SD_TOML_ARRAY: u32 = 6;
+pub const IOX2SD_TOML_TABLE: u32 = 7;
+
+pub const IOX2SD_KIND_TABLE: u32 = 1;
+pub const IOX2SD_KIND_NUMBER: u32 = 2;
+pub const IOX2SD_KIND_FLAG: u32 = 3;
+pub const IOX2SD_KIND_PATH: u32 = 4;
+pub const IOX2SD_KIND_FILE_NAME: u32 = 5;
+pub const IOX2SD_KIND_BACKPRESSURE: u32 = 6;
+pub const IOX2SD_KIND_ALLOCATION: u32 = 7;
+pub const IOX2SD_KIND_DURATION: u32 = 8;
 
 #[repr(C)]
 #[derive(Clone, Copy, Debug, Default, PartialEq, Eq, Hash)]
@@ -403,6 +428,85 @@ pub struct iox2sd_description {
     pub blackboard: iox2sd_blackboard_config,
 }
 
+#[repr(C)]
+pub struct iox2sd_config_text {
+    pub bytes: [u8; 256],
+    pub length: usize,
+}
+
+#[repr(C)]
+pub struct iox2sd_config_texts {
+    pub root_path: iox2sd_config_text,
+    pub prefix: iox2sd_config_text,
+    pub service_directory: iox2sd_config_text,
+    pub data_segment_suffix: iox2sd_config_text,
+    pub static_config_storage_suffix: iox2sd_config_text,
+    pub dynamic_config_storage_suffix: iox2sd_config_text,
+    pub connection_suffix: iox2sd_config_text,
+    pub event_connection_suffix: iox2sd_config_text,
+    pub blackboard_mgmt_suffix: iox2sd_config_text,
+    pub blackboard_data_suffix: iox2sd_config_text,
+    pub node_directory: iox2sd_config_text,
+    pub monitor_suffix: iox2sd_config_text,
+    pub node_static_config_suffix: iox2sd_config_text,
+    pub service_tag_suffix: iox2sd_config_text,
+    pub port_tag_suffix: iox2sd_config_text,
+    pub global_mgmt_suffix: iox2sd_config_text,
+}
+
+#[repr(C)]
+pub struct iox2sd_config {
+    pub global: iox2sd_global_settings,
+    pub texts: iox2sd_config_texts,
+    pub publish_subscribe: iox2sd_publish_subscribe_settings,
+    pub event: iox2sd_event_settings,
+    pub request_response: iox2sd_request_response_settings,
+    pub blackboard: iox2sd_blackboard_settings,
+}
+
+#[repr(C)]
+pub struct iox2sd_config_fault {
+    pub status: u32,
+    pub table: u32,
+    pub found: u32,
+    pub wanted: u32,
+    pub key: [u8; 80],
+    pub key_length: usize,
+    pub reason: [u8; 256],
+    pub reason_length: usize,
+}
+
+#[repr(C)]
+pub struct iox2sd_config_answer {
+    pub status: u32,
+    pub unknown: usize,
+    pub fault: iox2sd_config_fault,
+}
+
+#[repr(C)]
+pub struct iox2sd_unknown_key {
+    pub table: u32,
+    pub key_length: usize,
+    pub meant: [u8; 80],
+    pub meant_length: usize,
+}
+
+#[repr(C)]
+pub struct iox2sd_unknown_answer {
+    pub status: u32,
+    pub count: usize,
+    pub length: usize,
+}
+
+#[repr(C)]
+pub struct iox2sd_config_write_answer {
+    pub status: u32,
+    pub field: u32,
+    pub length: usize,
+    pub key: [u8; 80],
+    pub key_length: usize,
+}
+
 extern "C" {
     pub fn iox2sd_status_text_at(status: u32, out: *mut u8, capacity: usize) -> iox2sd_text_answer;
     pub fn iox2sd_version_at(out: *mut u8, capacity: usize) -> iox2sd_text_answer;
@@ -680,4 +784,30 @@ extern "C" {
         out_count: usize,
     ) -> iox2sd_field_answer;
     pub fn iox2sd_default_text_at(which: u32, out: *mut u8, capacity: usize) -> iox2sd_text_answer;
+    pub fn iox2sd_config_read_at(
+        text: *const u8,
+        length: usize,
+        out: *mut iox2sd_config,
+        out_count: usize,
+    ) -> iox2sd_config_answer;
+    pub fn iox2sd_config_faults_at(
+        text: *const u8,
+        length: usize,
+        out: *mut iox2sd_config_fault,
+        capacity: usize,
+    ) -> iox2sd_count_answer;
+    pub fn iox2sd_config_unknown_at(
+        text: *const u8,
+        length: usize,
+        out: *mut iox2sd_unknown_key,
+        capacity: usize,
+        paths: *mut u8,
+        paths_capacity: usize,
+    ) -> iox2sd_unknown_answer;
+    pub fn iox2sd_config_write_at(
+        settings: *const iox2sd_config,
+        count: usize,
+        out: *mut u8,
+        capacity: usize,
+    ) -> iox2sd_config_write_answer;
 }

@@ -5,29 +5,29 @@ use std::hash::{Hash, Hasher};
 
 /// The capacity of a short text in bytes: enough for each text that the library takes, which says
 /// itself how long each kind may be.
-const ROOM: usize = 256;
+const CAPACITY: usize = 256;
 
 /// A text that the library took.
 #[derive(Clone, Copy)]
 pub(crate) struct Text {
-    bytes: [u8; ROOM],
+    bytes: [u8; CAPACITY],
     length: u16,
 }
 
 impl Text {
     /// The empty text.
     pub(crate) const EMPTY: Text = Text {
-        bytes: [0; ROOM],
+        bytes: [0; CAPACITY],
         length: 0,
     };
 
     /// A copy of a text that the library took. Panics where it does not fit.
     pub(crate) fn copy_of(text: &str) -> Self {
-        let mut bytes = [0; ROOM];
+        let mut bytes = [0; CAPACITY];
         bytes[..text.len()].copy_from_slice(text.as_bytes());
         Text {
             bytes,
-            length: u16::try_from(text.len()).expect("there is room for the text"),
+            length: u16::try_from(text.len()).expect("the text fits"),
         }
     }
 

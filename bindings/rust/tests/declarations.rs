@@ -61,7 +61,7 @@ fn parts(list: &str, separator: char) -> String {
 /// after one type.
 fn declared(declaration: &str) -> Option<(String, String)> {
     let declaration = declaration.trim();
-    if let Some(rest) = declaration.strip_prefix("typedef struct ") {
+    if let Some(rest) = declaration.strip_prefix("typedef ") {
         let (name, fields) = rest.split_once('{')?;
         return Some((name.to_string(), parts(fields.split_once('}')?.0, ';')));
     }
@@ -78,7 +78,10 @@ fn declared(declaration: &str) -> Option<(String, String)> {
 
 /// The declarations of a header, in the order of its `;` outside of braces.
 fn of_header(header: &str) -> Declarations {
-    let text = squeezed(&without_comments(header)).replace("extern \"C\"{", "");
+    let text = squeezed(&without_comments(header))
+        .replace("extern \"C\"{", "")
+        .replace("typedef struct ", "typedef ")
+        .replace("struct ", "");
     let mut found = Declarations::new();
     let (mut depth, mut current) = (0, String::new());
     for letter in text.chars() {
@@ -176,7 +179,14 @@ fn of_sys(sys: &str) -> Declarations {
 
 #[test]
 fn each_declaration_is_that_of_the_headers() {
-    let headers: Declarations = ["iox2sd.h", "iox2sd_values.h", "iox2sd_script.h"]
+    let names = [
+        "iox2sd.h",
+        "iox2sd_raw.h",
+        "iox2sd_values.h",
+        "iox2sd_script.h",
+        "iox2sd_config.h",
+    ];
+    let headers: Declarations = names
         .iter()
         .flat_map(|name| of_header(&read(&format!("../../include/{name}"))))
         .collect();
@@ -268,6 +278,24 @@ fn field_of(before: &str) -> Option<&str> {
 
 #[test]
 fn each_field_of_a_struct_is_read_and_written_by_its_name() {
+    let sys = of_sys(&read("src/sys.rs"));
+    let fields = |names: [&str; 4]| -> usize {
+        let fields = |name| sys[&format!("iox2sd_{name}")].split(", ").count();
+        names.into_iter().map(fields).sum()
+    };
+    let settings = fields([
+        "publish_subscribe_settings",
+        "event_settings",
+        "request_response_settings",
+        "blackboard_settings",
+    ]);
+    let fixed = fields([
+        "publish_subscribe_config",
+        "event_config",
+        "request_response_config",
+        "blackboard_config",
+    ]);
+    assert!(settings > 30 && fixed > 25);
     let mut count = 0;
     // Where settings are read, where they are written, and where what they fix is read. A deadline
     // has fields of its own.
@@ -298,7 +326,7 @@ fn each_field_of_a_struct_is_read_and_written_by_its_name() {
             count += 1;
         }
     }
-    assert_eq!(count, 2 * (11 + 7 + 17 + 2) + 7 + 7 + 10 + 3);
+    assert_eq!(count, 2 * (settings - 1) + fixed - 1);
     let details = read("src/dynamic_config/details.rs");
     for line in details.lines().map(str::trim) {
         let Some((field, library)) = line.split_once(" = ") else {
@@ -317,5 +345,5 @@ fn each_field_of_a_struct_is_read_and_written_by_its_name() {
         }
         count += 1;
     }
-    assert_eq!(count, 101 + 4 + 1 + 5 + 5);
+    assert_eq!(count, 2 * (settings - 1) + fixed - 1 + 4 + 1 + 5 + 5);
 }

@@ -62,7 +62,7 @@ fn no_limit_stands_in_the_code() {
     // besides 0, 1 and 2.
     let expected = ["0", "1", "16", "2", "256", "9"].map(str::to_string);
     assert_eq!(numbers, BTreeSet::from(expected));
-    assert_eq!(places("256"), ["text.rs: const ROOM: usize = 256;"]);
+    assert_eq!(places("256"), ["text.rs: const CAPACITY: usize = 256;"]);
     assert_eq!(places(" 16;"), ["identifiers.rs: const RADIX: u32 = 16;"]);
     for limit in ["isize::MAX", "checked_", "wrapping_", "saturating_"] {
         assert_eq!(places(limit), Vec::<String>::new(), "{limit}");
@@ -101,7 +101,7 @@ fn no_text_of_the_layer_stands_in_the_code() {
         "\"iox2_",
         "iceoryx2",
         "services\"",
-        "toml",
+        ".toml",
         "/tmp",
         "\".",
         "'/'",

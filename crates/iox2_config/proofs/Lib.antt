@@ -2,3 +2,4 @@ pub mod Blocks
 pub mod Compatible
 pub mod Equality
 pub mod Powers
+pub mod Rounding

@@ -1,6 +1,11 @@
 pub mod Building
 pub mod Counting
+pub mod Filling
 pub mod First
 pub mod Legal
+pub mod ReadBack
+pub mod Reading
 pub mod Rowed
 pub mod Sections
+pub mod Written
+pub mod WrittenTables

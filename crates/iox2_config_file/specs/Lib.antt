@@ -1,5 +1,6 @@
 pub mod Answers
 pub mod Read
+pub mod ReadBack
 pub mod Rows
 pub mod Settings
 pub mod Unknown

@@ -5,6 +5,7 @@ mod build;
 mod error;
 mod fault;
 mod kind;
+pub mod laws;
 mod read;
 mod section;
 mod setting;

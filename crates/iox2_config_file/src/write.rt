@@ -4,9 +4,11 @@ ghost use Rattle.iox2_config_file.specs.Write.{value_view, entry_text, assignmen
 ghost use Rattle.iox2_config_file.specs.Write.{located_misfits, FirstMisfit, FirstMisfitOf};
 ghost use Rattle.iox2_config_file.specs.Write.{IsHeaderText, IsEntriesText, IsTableText};
 ghost use Rattle.iox2_config_file.specs.Write.{IsTablesText, IsConfigText, Writes, WritesOver};
+ghost use Rattle.iox2_config_file.specs.ReadBack.{ReadsBack};
 
 use crate::section::{Row, SECTIONS, Section, header, rows};
 use crate::setting::{SettingValue, value_at};
+use crate::texts::texts_are_legal;
 use iox2_config::config::Config;
 use std::alloc::{AllocError, Global};
 use std::fmt;
@@ -84,10 +86,13 @@ impl fmt::Display for Assignment<'_> {
 ///
 /// Refused is a configuration with a number of 2^63 or more, or with a duration of as many
 /// seconds, since TOML has no such integer: the first such setting is reported. A configuration
-/// for which memory is refused is refused at any point.
+/// for which memory is refused is refused at any point. `read_config` reads the text as the same
+/// configuration.
 pub fn write_config(alloc: Global, config: &Config) -> Result<String, ConfigWriteError>
-    ensures { Writes config.now result }
+    ensures written { Writes config.now result }
+    ensures reads_back { IfOk result (λ text. ReadsBack config.now (string_bytes text)) }
 {
+    texts_are_legal(config);
     written(alloc, config, &Config::default())
 }
 

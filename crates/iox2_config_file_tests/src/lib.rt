@@ -2,6 +2,8 @@
 #![tactic(auto)]
 
 #[cfg(test)]
+mod debugs;
+#[cfg(test)]
 mod faults;
 #[cfg(test)]
 mod memory;

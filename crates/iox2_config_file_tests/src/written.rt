@@ -1,4 +1,5 @@
 use iox2_config::config::Config;
+use iox2_config_file::laws::what_is_written_is_read_back;
 use iox2_config_file::{
     ConfigWriteError, FileSettings, Kind, Row, SECTIONS, Section, read_config, rows, write_config,
 };
@@ -34,8 +35,10 @@ fn settings(rt: &(impl Abort + AllocGlobal), text: &str) -> FileSettings {
 
 /// Whether the text of a configuration gives the same configuration, and no unknown key.
 fn comes_back(rt: &(impl Abort + AllocGlobal), config: &Config) -> bool {
-    let back = settings(rt, written(rt, config).as_str());
-    back.config == *config && back.unknown.is_empty()
+    match what_is_written_is_read_back(rt.alloc(), config) {
+        Ok(Ok(back)) => back.config == *config && back.unknown.is_empty(),
+        _ => false,
+    }
 }
 
 /// The next of a row of numbers without a pattern.

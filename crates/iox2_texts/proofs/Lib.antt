@@ -2,7 +2,7 @@ pub mod Callable
 pub mod ListingLemmas
 pub mod Multiple
 pub mod PathLemmas
-pub mod Searched
+pub mod Merging
 pub mod TextLemmas
 pub mod ValueLemmas
 pub mod VerifyLemmas

@@ -105,6 +105,13 @@ pair_tie p q e =
     let parts = both_equal (text_cmp p.key q.key) (text_cmp p.value q.value) e in
     λ j. record { key = text_tie p.key q.key parts.0 j; value = text_tie p.value q.value parts.1 j }
 
+-- and so are two of which neither is below the other
+pub level : (p q : Pair) → is_lt (pair_cmp p q) ≡ false → is_lt (pair_cmp q p) ≡ false → p ≡ q
+level p q above below =
+    pair_tie p q
+    (between pair_cmp pair_cmp_total pair_tie (pair_cmp p q) (pair_cmp q p)
+    (pair_cmp_total.antisymm p q) above below)
+
 -- rising lists with the same pairs are one
 pub listing_unique : (xs ys : List Pair) → IsSorted pair_cmp xs → IsSorted pair_cmp ys
     → IsPermutation xs ys

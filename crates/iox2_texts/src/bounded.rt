@@ -13,6 +13,7 @@ pub use alignment::align;
 use arrayvec::ArrayVec;
 pub use callback_progression::CallbackProgression;
 pub use semantic_string::{Content, SemanticString};
+use std::cmp::Ordering;
 use std::marker::Model;
 use std::{fmt, str};
 
@@ -49,8 +50,8 @@ impl From<StringModificationError> for SemanticStringError {
     }
 }
 
-/// A text of at most `N` bytes, each from 1 to 127.
-#[derive(Debug, Drop, PartialEq, Eq, PartialOrd, Ord, Hash)]
+/// A text of at most `N` bytes, each from 1 to 127. Comparisons go by its bytes.
+#[derive(Debug, Drop, Eq, Hash)]
 pub struct StaticString<const N: usize> {
     bytes: ArrayVec<u8, N>,
 }
@@ -129,10 +130,8 @@ impl<const N: usize> StaticString<N> {
         ensures value { result.now ≡ self.now }
         ensures legal { IsTextUpTo N result.now }
     {
-        match str::from_utf8(self.bytes.as_slice()) {
-            Ok(text) => text,
-            Err(_) => unreachable!(),
-        }
+        // A text is ASCII, and so UTF-8: no byte is looked at.
+        unsafe { str::from_utf8_unchecked(self.bytes.as_slice()) }
     }
 
     /// The bytes of the text.
@@ -172,6 +171,53 @@ impl<const N: usize> StaticString<N> {
         let mut text = StaticString::new();
         text.push_bytes(self.as_bytes());
         text
+    }
+}
+
+/// As of `&str`, which compares many bytes at a time.
+impl<const N: usize> PartialEq for StaticString<N> {
+    ghost use Rattle.std.specs.Prelude.{nat_eq};
+    ghost use Rattle.std.specs.Cmp.{partial_equiv_from_equiv};
+    ghost use Rattle.std.specs.Cmp.Lexicographic.{pointwise, nat_list_eq_equiv};
+
+    ghost eq = { λ a b. pointwise nat_eq a b };
+
+    ghost laws = { partial_equiv_from_equiv nat_list_eq_equiv };
+
+    fn eq(&self, other: &Self) -> bool {
+        self.as_str() == other.as_str()
+    }
+}
+
+impl<const N: usize> PartialOrd for StaticString<N> {
+    ghost use Rattle.std.specs.Ordering.{nat_cmp};
+    ghost use Rattle.std.specs.Cmp.Lexicographic.{slice_cmp, texts_po};
+
+    ghost partial_cmp = { λ a b. Some (slice_cmp nat_cmp a b) };
+
+    ghost laws = { texts_po };
+
+    fn partial_cmp(&self, other: &Self) -> Option<Ordering> {
+        Some(self.cmp(other))
+    }
+}
+
+/// As of `&str`, which compares many bytes at a time.
+impl<const N: usize> Ord for StaticString<N> {
+    ghost use Rattle.std.specs.Prelude.{refl};
+    ghost use Rattle.std.specs.Ordering.{nat_cmp};
+    ghost use Rattle.std.specs.Cmp.Lexicographic.{slice_cmp, nat_list_cmp_total, texts_ties};
+
+    ghost cmp = { λ a b. slice_cmp nat_cmp a b };
+
+    ghost total = { nat_list_cmp_total };
+
+    ghost matches_partial_cmp = { λ a b. refl };
+
+    ghost matches_eq = { λ a b. texts_ties a b };
+
+    fn cmp(&self, other: &Self) -> Ordering {
+        self.as_str().cmp(other.as_str())
     }
 }
 

@@ -29,10 +29,12 @@ text_answer s n = record { status = code s; length = n }
 abbrev pub zero_padded : ℕ → List ℕ → List ℕ
 zero_padded n text = text ++ drop (length text) (replicate n 0)
 
--- the text stands at the front of the buffer, or does not fit there and the buffer is as it was
-abbrev pub Writes : List ℕ → List ℕ → Bool → List ℕ → Type 0
-Writes text old true new = (length text ≤ length old) × (new ≡ text ++ drop (length text) old)
-Writes text old false new = (length old < length text) × (new ≡ old)
+-- the elements stand at the front of the array, as a text at that of a buffer, or they do not fit
+-- there and the array is as it was
+abbrev pub Writes : {A : Type 0} → List A → List A → Bool → List A → Type 0
+Writes items old true new =
+    (length items ≤ length old) × (new ≡ items ++ drop (length items) old)
+Writes items old false new = (length old < length items) × (new ≡ old)
 
 -- the status of a text that fits the buffer or does not
 abbrev pub fit_status : Bool → Status

@@ -55,6 +55,12 @@ code status.UnknownText = 65
 code status.BadLine = 66
 code status.UnknownStrategy = 67
 code status.BadDuration = 68
+code status.NotToml = 80
+code status.WrongType = 81
+code status.BelowZero = 82
+code status.NoDuration = 83
+code status.NoTomlInteger = 84
+code status.NoFile = 85
 
 -- the status of a number
 abbrev pub ReadsStatus : ℕ → Option Status → Type 0
@@ -114,6 +120,12 @@ status_text status.UnknownText = codes "unknown text of the configuration"
 status_text status.BadLine = codes "a line of the script is not valid"
 status_text status.UnknownStrategy = codes "unknown strategy"
 status_text status.BadDuration = codes "the nanoseconds of a duration are a second or more"
+status_text status.NotToml = codes "not TOML"
+status_text status.WrongType = codes "a value of another type is wanted"
+status_text status.BelowZero = codes "the number is below 0"
+status_text status.NoDuration = codes "not a duration: the integers secs and nanos"
+status_text status.NoTomlInteger = codes "TOML has no integer above 2^63 - 1"
+status_text status.NoFile = codes "the file cannot be read"
 
 -- the number at the end of a call that makes something or is refused
 abbrev pub end_code : {A : Type 0} → Result A Status → ℕ

@@ -93,13 +93,13 @@ pub fn no_text(status: Status) -> TextAnswer
     }
 }
 
-/// Writes the text to the front of the bytes.
-fn write_front(text: &[u8], out: &mut [u8])
-    requires { length text.now ≤ length out.old }
-    ensures { out.new ≡ text.now ++ drop (length text.now) out.old }
+/// Writes the elements to the front of the array.
+fn write_front<T: Copy>(items: &[T], out: &mut [T])
+    requires { length items.now ≤ length out.old }
+    ensures { out.new ≡ items.now ++ drop (length items.now) out.old }
 {
-    let (front, _) = out.split_at_mut(text.len());
-    front.copy_from_slice(text);
+    let (front, _) = out.split_at_mut(items.len());
+    front.copy_from_slice(items);
 }
 
 /// The text in an array, followed by zeros.
@@ -112,15 +112,15 @@ pub fn zero_padded<const N: usize>(text: &[u8]) -> [u8; N]
     bytes
 }
 
-/// Writes the text to the front of the buffer, or nothing where it does not fit, and says whether
-/// it fits.
-pub fn put(text: &[u8], out: &mut [u8]) -> bool
-    ensures { Writes text.now out.old result out.new }
+/// Writes the elements to the front of the array, as a text to that of a buffer, or nothing where
+/// they do not fit, and says whether they fit.
+pub fn put<T: Copy>(items: &[T], out: &mut [T]) -> bool
+    ensures { Writes items.now out.old result out.new }
 {
-    if text.len() > out.len() {
+    if items.len() > out.len() {
         return false;
     }
-    write_front(text, out);
+    write_front(items, out);
     true
 }
 

@@ -105,6 +105,18 @@ pub enum Status {
     UnknownStrategy = 67,
     /// The nanoseconds beside the seconds are 1,000,000,000 or more.
     BadDuration = 68,
+    /// The text is no TOML.
+    NotToml = 80,
+    /// The value of a key is of another type than the one that is wanted.
+    WrongType = 81,
+    /// The value of a key is below 0.
+    BelowZero = 82,
+    /// The value of a key is no table of the integers `secs` and `nanos`.
+    NoDuration = 83,
+    /// A number, or the seconds of a duration, is above the greatest integer of TOML.
+    NoTomlInteger = 84,
+    /// A file cannot be read. No export answers it: wrappers that read files do.
+    NoFile = 85,
 }
 
 impl Status {
@@ -171,6 +183,12 @@ impl Status {
             Status::BadLine => "a line of the script is not valid",
             Status::UnknownStrategy => "unknown strategy",
             Status::BadDuration => "the nanoseconds of a duration are a second or more",
+            Status::NotToml => "not TOML",
+            Status::WrongType => "a value of another type is wanted",
+            Status::BelowZero => "the number is below 0",
+            Status::NoDuration => "not a duration: the integers secs and nanos",
+            Status::NoTomlInteger => "TOML has no integer above 2^63 - 1",
+            Status::NoFile => "the file cannot be read",
         }
     }
 }
@@ -230,6 +248,12 @@ pub fn status_of(number: u32) -> Option<Status>
         66 => Some(Status::BadLine),
         67 => Some(Status::UnknownStrategy),
         68 => Some(Status::BadDuration),
+        80 => Some(Status::NotToml),
+        81 => Some(Status::WrongType),
+        82 => Some(Status::BelowZero),
+        83 => Some(Status::NoDuration),
+        84 => Some(Status::NoTomlInteger),
+        85 => Some(Status::NoFile),
         _ => None,
     }
 }

@@ -1,6 +1,7 @@
+pub mod Describing
 pub mod Faults
 pub mod Legal
 pub mod Listings
 pub mod Missing
-pub mod Sets
+pub mod Values
 pub mod Verdicts

@@ -13,41 +13,48 @@ use Rattle.iox2_static.specs.declared.static_config.messaging_pattern.MessagingP
 use Rattle.iox2sd_common.specs.Ids.{number_of}
 use Rattle.iox2sd_values.specs.Descriptions.{told_description}
 use Rattle.iox2sd_values.specs.Names.{ReadsAnyName}
-use Rattle.iox2sd_values.specs.ReadSettings.{field_answer, no_field, ReadsPublishSubscribe, ReadsEvent, ReadsRequestResponse, ReadsBlackboard}
-use Rattle.iox2sd_values.specs.declared.describe.Refusal.{Refusal}
-use Rattle.iox2sd_values.specs.declared.describe.Refusal.TheVariants as refusal
+use Rattle.iox2sd_settings.specs.ReadSettings.{no_field, refusal_answer, ReadsPublishSubscribe, ReadsEvent, ReadsRequestResponse, ReadsBlackboard}
+use Rattle.iox2sd_settings.specs.declared.read_settings.Refusal.{Refusal}
+use Rattle.iox2sd_settings.specs.declared.read_settings.Refusal.TheVariants as refusal
 use Rattle.iox2sd_common.specs.declared.id.Id.{Id}
 use Rattle.iox2sd_values.specs.declared.descriptions.ServiceDescription.{ServiceDescription}
-use Rattle.iox2sd_values.specs.declared.read_settings.Field.{Field}
-use Rattle.iox2sd_values.specs.declared.read_settings.FieldAnswer.{FieldAnswer}
-use Rattle.iox2sd_values.specs.declared.settings.BlackboardSettings.{BlackboardSettings}
-use Rattle.iox2sd_values.specs.declared.settings.EventSettings.{EventSettings}
-use Rattle.iox2sd_values.specs.declared.settings.PublishSubscribeSettings.{PublishSubscribeSettings}
-use Rattle.iox2sd_values.specs.declared.settings.RequestResponseSettings.{RequestResponseSettings}
+use Rattle.iox2sd_settings.specs.declared.read_settings.Field.{Field}
+use Rattle.iox2sd_settings.specs.declared.read_settings.FieldAnswer.{FieldAnswer}
+use Rattle.iox2sd_settings.specs.declared.settings.BlackboardSettings.{BlackboardSettings}
+use Rattle.iox2sd_settings.specs.declared.settings.EventSettings.{EventSettings}
+use Rattle.iox2sd_settings.specs.declared.settings.PublishSubscribeSettings.{PublishSubscribeSettings}
+use Rattle.iox2sd_settings.specs.declared.settings.RequestResponseSettings.{RequestResponseSettings}
 use Rattle.iox2sd_common.specs.declared.status.Status.{Status}
 use Rattle.iox2sd_common.specs.declared.status.Status.TheVariants as status
-
--- the answer on a refusal
-abbrev pub refusal_answer : Refusal → FieldAnswer
-refusal_answer (refusal.Cause s) = no_field s
-refusal_answer (refusal.Invalid f) = field_answer f
 
 -- the layer's description of a service without attributes, by SHA-1, which refuses no input
 abbrev pub DescribesBySha1 : List ℕ → ℕ → MessagingPattern
     → Result Description ServiceHashError → Type 0
 DescribesBySha1 name id p made = Describes sha1_text (λ input. ⊥) name id p made
 
--- the description of a service whose settings are read so and are those of a pattern: the settings
--- are looked at first, and then the hash text
+-- the description of a service of a pattern that was read, or of which a field is invalid
+abbrev pub MakesOf : Result MessagingPattern Field → List ℕ → ℕ → Result Description Refusal
+    → Type 0
+MakesOf (Ok p) name id (Ok d) = DescribesBySha1 name id p (Ok d)
+MakesOf (Ok p) name id (Err (refusal.Cause status.IllegalHash)) =
+    DescribesBySha1 name id p (Err IllegalText)
+MakesOf (Err field) name id (Err (refusal.Invalid f)) = f ≡ field
+MakesOf _ name id _ = ⊥
+
+-- the pattern of settings that are read so, or the field that is invalid
+abbrev pub ReadsAs : {A : Type 0} → (Result A Field → Type 0) → (A → MessagingPattern)
+    → Result MessagingPattern Field → Type 0
+ReadsAs {A} Reads pattern_of (Ok p) =
+    (settings : A) × Reads (Ok settings) × (p ≡ pattern_of settings)
+ReadsAs Reads pattern_of (Err f) = Reads (Err f)
+
+-- the description of a service whose settings are read so: they are looked at first, and then the
+-- hash text
 abbrev pub MakesBy : {A : Type 0} → (Result A Field → Type 0) → (A → MessagingPattern) → List ℕ → ℕ
     → Result Description Refusal → Type 0
-MakesBy {A} Reads pattern_of name id (Ok d) =
-    (settings : A) × Reads (Ok settings) × DescribesBySha1 name id (pattern_of settings) (Ok d)
-MakesBy Reads pattern_of name id (Err (refusal.Invalid f)) = Reads (Err f)
-MakesBy {A} Reads pattern_of name id (Err (refusal.Cause status.IllegalHash)) =
-    (settings : A) × Reads (Ok settings)
-    × DescribesBySha1 name id (pattern_of settings) (Err IllegalText)
-MakesBy Reads pattern_of name id (Err (refusal.Cause _)) = ⊥
+MakesBy Reads pattern_of name id made =
+    (read : Result MessagingPattern Field) × ReadsAs Reads pattern_of read
+    × MakesOf read name id made
 
 -- the same where there is a name
 abbrev pub MakesNamed : (List ℕ → Result Description Refusal → Type 0) → Result (List ℕ) Status
@@ -79,14 +86,19 @@ abbrev pub MakesBlackboard : Result (List ℕ) Status → BlackboardSettings →
 MakesBlackboard name s id made = MakesNamed (λ n m. MakesBy (ReadsBlackboard s)
     (λ settings. pattern.Blackboard (blackboard_of settings)) n id m) name made
 
+-- what the description that is made says of the service that has this id
+abbrev pub DescribesAs : (Result Description Refusal → Type 0) → Id
+    → Result ServiceDescription Refusal → Type 0
+DescribesAs Makes id (Ok told) = (d : Description) × Makes (Ok d) × (told ≡ told_description d id)
+DescribesAs Makes id (Err r) = Makes (Err r)
+
 -- the first place holds what was made, or is as it was
-abbrev pub Fills : List ServiceDescription → Result Description Refusal → Id → FieldAnswer
+abbrev pub Fills : List ServiceDescription → Result ServiceDescription Refusal → FieldAnswer
     → List ServiceDescription → Type 0
-Fills [] made id answer new = (answer ≡ no_field status.Null) × (new ≡ [])
-Fills (place ∷ rest) (Ok d) id answer new =
-    (answer ≡ no_field status.Done) × (new ≡ told_description d id ∷ rest)
-Fills (place ∷ rest) (Err r) id answer new =
-    (answer ≡ refusal_answer r) × (new ≡ place ∷ rest)
+Fills [] made answer new = (answer ≡ no_field status.Null) × (new ≡ [])
+Fills (place ∷ rest) (Ok told) answer new =
+    (answer ≡ no_field status.Done) × (new ≡ told ∷ rest)
+Fills (place ∷ rest) (Err r) answer new = (answer ≡ refusal_answer r) × (new ≡ place ∷ rest)
 
 -- the same, where there are settings: the name is read first, which may be one of the system's own
 -- where the flag says so
@@ -97,5 +109,5 @@ FillsNamed Makes [] internal bytes id old answer new =
     (answer ≡ no_field status.Null) × (new ≡ old)
 FillsNamed Makes (s ∷ others) internal bytes id old answer new =
     (name : Result (List ℕ) Status) × ReadsAnyName internal bytes name
-    × (made : Result Description Refusal) × Makes name s (number_of id) made
-    × Fills old made id answer new
+    × (told : Result ServiceDescription Refusal) × DescribesAs (Makes name s (number_of id)) id told
+    × Fills old told answer new

@@ -8,7 +8,7 @@ use Rattle.iox2_static.specs.MessagingPattern.{kind_of}
 use Rattle.iox2_static.specs.declared.static_config.messaging_pattern.MessagingPattern.{MessagingPattern}
 use Rattle.iox2_static.specs.declared.static_config.messaging_pattern.MessagingPattern.TheVariants as pattern
 use Rattle.iox2sd_common.specs.Answers.{flag_answer, zero_padded}
-use Rattle.iox2sd_values.specs.Settings.{told_duration, told_event_id}
+use Rattle.iox2sd_settings.specs.Settings.{told_duration, told_event_id}
 use Rattle.iox2sd_common.specs.Status.{code}
 use Rattle.iox2sd_common.specs.declared.answers.FlagAnswer.{FlagAnswer}
 use Rattle.iox2sd_values.specs.declared.descriptions.BlackboardConfig.{BlackboardConfig}

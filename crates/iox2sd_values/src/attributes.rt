@@ -4,14 +4,14 @@ ghost use Rattle.iox2sd_values.specs.Requirements.{VerifiesSet};
 
 mod faults;
 mod missing;
-mod sets;
+mod values;
 
 use faults::{check_keys, check_required, check_set};
 use iox2_texts::attribute::AttributeKey;
-use iox2sd_common::answers::{CountAnswer, PlaceAnswer, TextAnswer, count, no_text, place, write};
+use iox2sd_common::answers::{CountAnswer, PlaceAnswer, TextAnswer, count, no_text, place};
 use iox2sd_common::status::Status;
 use missing::verify;
-use sets::read_set;
+use values::{count_values, write_value};
 
 /// A key and its value, each in the caller's memory.
 #[repr(C)]
@@ -76,9 +76,9 @@ pub extern "C" fn iox2sd_attributes_number_of_key_values_at(
     ensures { CountsValues pairs.now key.now result }
 {
     let mut at = 0;
-    match read_set(pairs, &mut at) {
-        Ok(set) => match AttributeKey::new(key) {
-            Ok(key) => count(Status::Done, set.number_of_key_values(&key)),
+    match check_set(pairs, &mut at) {
+        Ok(()) => match AttributeKey::new(key) {
+            Ok(_) => count(Status::Done, count_values(pairs, key)),
             Err(_) => count(Status::BadAskedKey, 0),
         },
         Err(status) => count(status, 0),
@@ -100,16 +100,12 @@ pub extern "C" fn iox2sd_attributes_key_value_at(
     ensures { TellsValue pairs.now key.now index out.old result out.new }
 {
     let mut at = 0;
-    let set = match read_set(pairs, &mut at) {
-        Ok(set) => set,
-        Err(status) => return no_text(status),
-    };
-    let Ok(key) = AttributeKey::new(key) else {
-        return no_text(Status::BadAskedKey);
-    };
-    match set.key_value(&key, index) {
-        Some(value) => write(value.as_bytes(), out),
-        None => no_text(Status::NoSuchValue),
+    match check_set(pairs, &mut at) {
+        Ok(()) => match AttributeKey::new(key) {
+            Ok(_) => write_value(pairs, key, index, out),
+            Err(_) => no_text(Status::BadAskedKey),
+        },
+        Err(status) => no_text(status),
     }
 }
 

@@ -1,76 +1,60 @@
 //! Descriptions of services, from their names and settings.
 ghost use Rattle.std.specs.Prelude.{◌≡◌};
-ghost use Rattle.iox2sd_values.specs.Describe.{refusal_answer, Fills, FillsNamed};
+ghost use Rattle.iox2sd_common.specs.Ids.{number_of};
+ghost use Rattle.iox2_static.specs.PublishSubscribe.{publish_subscribe_of};
+ghost use Rattle.iox2_static.specs.RequestResponse.{request_response_of};
+ghost use Rattle.iox2_static.specs.Event.{event_of};
+ghost use Rattle.iox2_static.specs.Blackboard.{blackboard_of};
+ghost use Rattle.iox2_static.specs.declared.static_config.messaging_pattern.MessagingPattern.TheVariants as pattern;
+ghost use Rattle.iox2sd_values.specs.Describe.{DescribesAs, Fills, FillsNamed};
+ghost use Rattle.iox2sd_values.specs.Describe.{MakesNamed, MakesOf, ReadsAs};
 ghost use Rattle.iox2sd_values.specs.Describe.{MakesPublishSubscribe, MakesEvent};
 ghost use Rattle.iox2sd_values.specs.Describe.{MakesRequestResponse, MakesBlackboard};
+ghost use Rattle.iox2sd_settings.specs.ReadSettings.{ReadsPublishSubscribe, ReadsEvent};
+ghost use Rattle.iox2sd_settings.specs.ReadSettings.{ReadsRequestResponse, ReadsBlackboard};
 
 use super::descriptions::{ServiceDescription, told_description};
 use super::names::any_service_name;
-use super::read_settings::{
-    Field, FieldAnswer, no_field, read_blackboard, read_event, read_publish_subscribe,
-    read_request_response,
-};
-use super::settings::{
-    BlackboardSettings, EventSettings, PublishSubscribeSettings, RequestResponseSettings,
-};
-use iox2_config::config::Config;
-use iox2_config::hash::{ServiceHashError, Sha1Hasher};
-use iox2_ids::identifiers::UniqueServiceId;
-use iox2_static::static_config::StaticConfig;
+use iox2_config::hash::{ServiceHash, ServiceHashError, Sha1Hasher};
+use iox2_static::static_config::messaging_pattern::MessagingPattern;
+use iox2_static::static_config::{blackboard, event, publish_subscribe, request_response};
 use iox2_texts::service_name::ServiceName;
 use iox2sd_common::id::Id;
 use iox2sd_common::status::Status;
+use iox2sd_settings::read_settings::{
+    Field, FieldAnswer, Refusal, no_field, read_blackboard, read_event, read_publish_subscribe,
+    read_request_response,
+};
+use iox2sd_settings::settings::{
+    BlackboardSettings, EventSettings, PublishSubscribeSettings, RequestResponseSettings,
+};
 
-/// Why there is no description.
-#[derive(Clone, Copy)]
-pub(super) enum Refusal {
-    /// For this cause.
-    Cause(Status),
-    /// This field of the settings is invalid.
-    Invalid(Field),
-}
-
-impl From<Status> for Refusal {
-    ghost use Rattle.iox2sd_values.specs.declared.describe.Refusal.{Refusal};
-
-    ghost from_gives = { λ status refusal. refusal ≡ Refusal.Cause status };
-
-    fn from(status: Status) -> Self {
-        Refusal::Cause(status)
-    }
-}
-
-impl From<Field> for Refusal {
-    ghost use Rattle.iox2sd_values.specs.declared.describe.Refusal.{Refusal};
-
-    ghost from_gives = { λ field refusal. refusal ≡ Refusal.Invalid field };
-
-    fn from(field: Field) -> Self {
-        Refusal::Invalid(field)
-    }
-}
-
-impl Refusal {
-    /// The answer that says so.
-    fn answer(self) -> FieldAnswer
-        ensures { result ≡ refusal_answer self }
-    {
-        match self {
-            Refusal::Cause(status) => no_field(status),
-            Refusal::Invalid(field) => field.answer(),
-        }
+/// The description of a service with this name and this pattern, each of which may be refused.
+fn describe(
+    name: Result<ServiceName, Status>,
+    pattern: Result<MessagingPattern, Field>,
+    id: Id,
+) -> Result<ServiceDescription, Refusal>
+    ensures { DescribesAs (MakesNamed (λ n m. MakesOf pattern n (number_of id) m) name) id result }
+{
+    let name = name?;
+    let pattern = pattern?;
+    match ServiceHash::new::<Sha1Hasher>(&name, pattern.kind()) {
+        Ok(hash) => Ok(told_description(&name, &hash, &pattern, id)),
+        Err(ServiceHashError::IllegalText) => Err(Refusal::Cause(Status::IllegalHash)),
+        Err(ServiceHashError::HasherFailed) => unreachable!(),
     }
 }
 
 /// Fills the first struct with what was made, or leaves it as it is.
-fn fill(made: Result<StaticConfig, Refusal>, id: Id, out: &mut [ServiceDescription]) -> FieldAnswer
-    ensures { Fills out.old made id result out.new }
+fn fill(made: Result<ServiceDescription, Refusal>, out: &mut [ServiceDescription]) -> FieldAnswer
+    ensures { Fills out.old made result out.new }
 {
     match out {
         [] => no_field(Status::Null),
         [place, ..] => match made {
-            Ok(described) => {
-                *place = told_description(&described, id);
+            Ok(description) => {
+                *place = description;
                 no_field(Status::Done)
             }
             Err(refusal) => refusal.answer(),
@@ -78,22 +62,15 @@ fn fill(made: Result<StaticConfig, Refusal>, id: Id, out: &mut [ServiceDescripti
     }
 }
 
-/// The description of a publish-subscribe service.
-fn make_publish_subscribe(
-    name: Result<ServiceName, Status>,
-    settings: &PublishSubscribeSettings,
-    id: UniqueServiceId,
-) -> Result<StaticConfig, Refusal>
-    ensures { MakesPublishSubscribe name settings.now id result }
+/// The pattern of a publish-subscribe service with these settings, or the first invalid field.
+fn publish_subscribe_pattern(settings: &PublishSubscribeSettings) -> Result<MessagingPattern, Field>
+    ensures { ReadsAs (ReadsPublishSubscribe settings.now)
+        (λ s. pattern.PublishSubscribe (publish_subscribe_of s)) result }
 {
-    let name = name?;
-    let mut config = Config::default();
-    config.defaults.publish_subscribe = read_publish_subscribe(settings)?;
-    match StaticConfig::new_publish_subscribe::<Sha1Hasher>(&name, &config, id) {
-        Ok(described) => Ok(described),
-        Err(ServiceHashError::IllegalText) => Err(Refusal::Cause(Status::IllegalHash)),
-        Err(ServiceHashError::HasherFailed) => unreachable!(),
-    }
+    let settings = read_publish_subscribe(settings)?;
+    Ok(MessagingPattern::PublishSubscribe(publish_subscribe::StaticConfig::with_settings(
+        &settings,
+    )))
 }
 
 /// Describes a publish-subscribe service. Its name may be one of the system's own where `internal`
@@ -119,29 +96,16 @@ pub extern "C" fn iox2sd_describe_publish_subscribe_at(
         return no_field(Status::Null);
     };
     let name = any_service_name(name, internal);
-    fill(
-        make_publish_subscribe(name, settings, id.of_kind()),
-        id,
-        out,
-    )
+    fill(describe(name, publish_subscribe_pattern(settings), id), out)
 }
 
-/// The description of an event service.
-fn make_event(
-    name: Result<ServiceName, Status>,
-    settings: &EventSettings,
-    id: UniqueServiceId,
-) -> Result<StaticConfig, Refusal>
-    ensures { MakesEvent name settings.now id result }
+/// The pattern of an event service with these settings, or the first invalid field.
+fn event_pattern(settings: &EventSettings) -> Result<MessagingPattern, Field>
+    ensures { ReadsAs (ReadsEvent settings.now)
+        (λ s. pattern.Event (event_of s)) result }
 {
-    let name = name?;
-    let mut config = Config::default();
-    config.defaults.event = read_event(settings)?;
-    match StaticConfig::new_event::<Sha1Hasher>(&name, &config, id) {
-        Ok(described) => Ok(described),
-        Err(ServiceHashError::IllegalText) => Err(Refusal::Cause(Status::IllegalHash)),
-        Err(ServiceHashError::HasherFailed) => unreachable!(),
-    }
+    let settings = read_event(settings)?;
+    Ok(MessagingPattern::Event(event::StaticConfig::with_settings(&settings)))
 }
 
 /// Describes an event service. Names are read, and calls refused, as of a publish-subscribe
@@ -154,31 +118,23 @@ pub extern "C" fn iox2sd_describe_event_at(
     id: Id,
     out: &mut [ServiceDescription],
 ) -> FieldAnswer
-    ensures { FillsNamed MakesEvent settings.now internal name.now id out.old result out.new }
+    ensures { FillsNamed MakesEvent settings.now internal name.now id
+        out.old result out.new }
 {
     let [settings, ..] = settings else {
         return no_field(Status::Null);
     };
     let name = any_service_name(name, internal);
-    fill(make_event(name, settings, id.of_kind()), id, out)
+    fill(describe(name, event_pattern(settings), id), out)
 }
 
-/// The description of a request-response service.
-fn make_request_response(
-    name: Result<ServiceName, Status>,
-    settings: &RequestResponseSettings,
-    id: UniqueServiceId,
-) -> Result<StaticConfig, Refusal>
-    ensures { MakesRequestResponse name settings.now id result }
+/// The pattern of a request-response service with these settings, or the first invalid field.
+fn request_response_pattern(settings: &RequestResponseSettings) -> Result<MessagingPattern, Field>
+    ensures { ReadsAs (ReadsRequestResponse settings.now)
+        (λ s. pattern.RequestResponse (request_response_of s)) result }
 {
-    let name = name?;
-    let mut config = Config::default();
-    config.defaults.request_response = read_request_response(settings)?;
-    match StaticConfig::new_request_response::<Sha1Hasher>(&name, &config, id) {
-        Ok(described) => Ok(described),
-        Err(ServiceHashError::IllegalText) => Err(Refusal::Cause(Status::IllegalHash)),
-        Err(ServiceHashError::HasherFailed) => unreachable!(),
-    }
+    let settings = read_request_response(settings)?;
+    Ok(MessagingPattern::RequestResponse(request_response::StaticConfig::with_settings(&settings)))
 }
 
 /// Describes a request-response service. Names are read, and calls refused, as of a
@@ -198,25 +154,16 @@ pub extern "C" fn iox2sd_describe_request_response_at(
         return no_field(Status::Null);
     };
     let name = any_service_name(name, internal);
-    fill(make_request_response(name, settings, id.of_kind()), id, out)
+    fill(describe(name, request_response_pattern(settings), id), out)
 }
 
-/// The description of a blackboard service.
-fn make_blackboard(
-    name: Result<ServiceName, Status>,
-    settings: &BlackboardSettings,
-    id: UniqueServiceId,
-) -> Result<StaticConfig, Refusal>
-    ensures { MakesBlackboard name settings.now id result }
+/// The pattern of a blackboard service with these settings, which are always valid.
+fn blackboard_pattern(settings: &BlackboardSettings) -> Result<MessagingPattern, Field>
+    ensures { ReadsAs (ReadsBlackboard settings.now)
+        (λ s. pattern.Blackboard (blackboard_of s)) result }
 {
-    let name = name?;
-    let mut config = Config::default();
-    config.defaults.blackboard = read_blackboard(settings);
-    match StaticConfig::new_blackboard::<Sha1Hasher>(&name, &config, id) {
-        Ok(described) => Ok(described),
-        Err(ServiceHashError::IllegalText) => Err(Refusal::Cause(Status::IllegalHash)),
-        Err(ServiceHashError::HasherFailed) => unreachable!(),
-    }
+    let settings = read_blackboard(settings);
+    Ok(MessagingPattern::Blackboard(blackboard::StaticConfig::with_settings(&settings)))
 }
 
 /// Describes a blackboard service. Names are read, and calls refused, as of a publish-subscribe
@@ -229,11 +176,12 @@ pub extern "C" fn iox2sd_describe_blackboard_at(
     id: Id,
     out: &mut [ServiceDescription],
 ) -> FieldAnswer
-    ensures { FillsNamed MakesBlackboard settings.now internal name.now id out.old result out.new }
+    ensures { FillsNamed MakesBlackboard settings.now internal name.now id
+        out.old result out.new }
 {
     let [settings, ..] = settings else {
         return no_field(Status::Null);
     };
     let name = any_service_name(name, internal);
-    fill(make_blackboard(name, settings, id.of_kind()), id, out)
+    fill(describe(name, blackboard_pattern(settings), id), out)
 }

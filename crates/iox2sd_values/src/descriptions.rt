@@ -1,17 +1,18 @@
 //! What is fixed of a service, as plain values.
-ghost use Rattle.std.specs.Prelude.{◌≡◌};
+ghost use Rattle.std.specs.Prelude.{◌≡◌, []};
+ghost use Rattle.iox2sd_common.specs.Ids.{number_of};
 ghost use Rattle.iox2_config.specs.Hashing.{pattern_number};
 ghost use Rattle.iox2sd_values.specs.Descriptions.{told_description, ComparesPatterns};
 ghost use Rattle.iox2sd_values.specs.Descriptions.{publish_subscribe_config, event_config};
 ghost use Rattle.iox2sd_values.specs.Descriptions.{request_response_config, blackboard_config};
 
-use super::settings::{OptionalDuration, OptionalEventId, duration_of, event_id_of};
-use iox2_config::hash::PatternKind;
-use iox2_static::static_config::StaticConfig;
+use iox2_config::hash::{PatternKind, ServiceHash};
 use iox2_static::static_config::messaging_pattern::MessagingPattern;
+use iox2_texts::service_name::ServiceName;
 use iox2sd_common::answers::{FlagAnswer, zero_padded};
 use iox2sd_common::id::Id;
 use iox2sd_common::status::Status;
+use iox2sd_settings::settings::{OptionalDuration, OptionalEventId, duration_of, event_id_of};
 
 /// What is fixed of a publish-subscribe service, beside the types of its messages.
 #[repr(C)]
@@ -199,13 +200,23 @@ fn blackboard_config(pattern: &MessagingPattern) -> BlackboardConfig
     }
 }
 
-/// The description of the service that has this id.
-pub(super) fn told_description(described: &StaticConfig, id: Id) -> ServiceDescription
-    ensures { result ≡ told_description described.now id }
+/// The description of the service that has this name, this hash text, this pattern and this id.
+pub(super) fn told_description(
+    name: &ServiceName,
+    hash: &ServiceHash,
+    pattern: &MessagingPattern,
+    id: Id,
+) -> ServiceDescription
+    ensures { result ≡ told_description (record {
+      name = name.now;
+      id = number_of id;
+      hash = hash.now;
+      attributes = [];
+      pattern = pattern.now;
+    }) id }
 {
-    let name = described.name().as_str().as_bytes();
-    let hash = described.service_hash().as_str().as_bytes();
-    let pattern = described.messaging_pattern();
+    let name = name.as_str().as_bytes();
+    let hash = hash.as_str().as_bytes();
     ServiceDescription {
         name: zero_padded(name),
         name_length: name.len(),

@@ -89,7 +89,7 @@ fn asked_in(words: Args) -> Result<Asked, Fault>
     }
 }
 
-/// What one word asks for.
+/// What one word requests.
 fn asked_by_word(word: &str) -> Result<Asked, Fault>
     ensures { Asks (word.now ∷ []) result }
 {

@@ -150,7 +150,7 @@ fn write_exchange(out: &mut String, service: &Description) -> Result<(), AllocEr
         Exchange::Event => writeln!(out, "\nno messages"),
         Exchange::Blackboard(key) => writeln!(
             out,
-            "\nno messages, but values whose keys are of the type {}, {} bytes at multiples of {}",
+            "\nno messages, but values whose keys are of the type {}, {} bytes, alignment {}",
             key.type_name(),
             key.size(),
             key.alignment()

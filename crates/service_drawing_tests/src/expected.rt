@@ -42,20 +42,20 @@ settings, with ! where they differ from the defaults
   subscriber_expired_connection_buffer         128
   publisher_allocation_strategy                Static
 
-message: 96 bytes at multiples of 8
+message: 96 bytes, alignment 8
 
   HHHHHHHHHHHHHHHHUU..000000001111111122222222----
-  a character for each 2 bytes, which tells what lies at the first
+  a character for each 2 bytes, which shows what lies at the first
 
     offset       size  alignment   opener's  part
          0         32          8          8  H header Header
         32          4          4          2  U user header Counter
-        36          4                        . gap
+        36          4                        . padding
         40         48          8          4    payload 3 of Distance
         40         16                        0   element 0
         56         16                        1   element 1
         72         16                        2   element 2
-        88          8                        - spare
+        88          8                        - padding
         96                                     end
   the opener is compatible
   data segment of a publisher: 18 chunks of 96 bytes, 1728 bytes
@@ -134,7 +134,7 @@ settings, with ! where they differ from the defaults
 ! max_readers                                  2, by default 8
   max_nodes                                    20
 
-no messages, but values whose keys are of the type [u32; 3], 12 bytes at multiples of 4
+no messages, but values whose keys are of the type [u32; 3], 12 bytes, alignment 4
 
 attributes
   unit = metre
@@ -180,7 +180,7 @@ settings, with ! where they differ from the defaults
   subscriber_expired_connection_buffer         128
 ! publisher_allocation_strategy                BestFit, by default Static
 
-message: 0 bytes at multiples of 1
+message: 0 bytes, alignment 1
 
   
   a character for each byte
@@ -235,10 +235,10 @@ settings, with ! where they differ from the defaults
   subscriber_expired_connection_buffer         128
   publisher_allocation_strategy                Static
 
-message: 112 bytes at multiples of 8
+message: 112 bytes, alignment 8
 
   HHHH02468024680246802468024680246802468024680246802468--
-  a character for each 2 bytes, which tells what lies at the first
+  a character for each 2 bytes, which shows what lies at the first
 
     offset       size  alignment   opener's  part
          0          8          8          8  H header u64
@@ -249,7 +249,7 @@ message: 112 bytes at multiples of 8
         10          1                        2   element 2
         11          1                        3   element 3
                                                  and 96 more
-       108          4                        - spare
+       108          4                        - padding
        112                                     end
   the opener is not compatible: its user header has a greater alignment
   data segment of a publisher: more than 18446744073709551615 chunks, too many

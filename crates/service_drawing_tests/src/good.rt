@@ -43,7 +43,7 @@ fn longest_texts(rt: HostRuntime) -> Result<(), Fail> {
     let name = letters(alloc, '~', 256)?;
     let input = format!(in alloc; "blackboard A\nkey 4 4 {name}\n")?;
     let line = format!(in alloc;
-        "no messages, but values whose keys are of the type {name}, 4 bytes at multiples of 4"
+        "no messages, but values whose keys are of the type {name}, 4 bytes, alignment 4"
     )?;
     assert_line(&rt, alloc, input.as_str(), line.as_str());
     let key = letters(alloc, '~', 64)?;
@@ -92,15 +92,15 @@ const GOOD: [(&str, &str); 13] = [
     ),
     (
         "blackboard A\nkey 0 9223372036854775808 K\n",
-        "no messages, but values whose keys are of the type K, 0 bytes at multiples of 9223372036854775808",
+        "no messages, but values whose keys are of the type K, 0 bytes, alignment 9223372036854775808",
     ),
     (
         "publish-subscribe A\nheader 0 9223372036854775808 H\nuser-header 0 1 ()\npayload fixed 0 1 ()\nopener 9223372036854775808 1 1\n",
-        "message: 0 bytes at multiples of 9223372036854775808",
+        "message: 0 bytes, alignment 9223372036854775808",
     ),
     (
         "publish-subscribe A\nheader 0 1 ()\nuser-header 0 1 ()\npayload dynamic 1 1 u8\nelements 9223372036854775807\n",
-        "message: 9223372036854775807 bytes at multiples of 1",
+        "message: 9223372036854775807 bytes, alignment 1",
     ),
     (
         "publish-subscribe A\nheader 8 8 u64\nuser-header 0 1 ()\npayload dynamic 8 8 f64\nelements 17\n",
@@ -108,7 +108,7 @@ const GOOD: [(&str, &str); 13] = [
     ),
     (
         "publish-subscribe A\nheader 8 8 u64\nuser-header 0 1 ()\npayload dynamic 8 8 f64\nelements 0\n",
-        "message: 16 bytes at multiples of 8",
+        "message: 16 bytes, alignment 8",
     ),
 ];
 

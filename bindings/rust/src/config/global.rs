@@ -1,8 +1,9 @@
 use super::default_text;
 use crate::library;
 use crate::paths::{FileName, Path};
-use crate::semantic_string::SemanticStringError;
+use crate::semantic_string::{Content, SemanticString, SemanticStringError};
 use crate::sys;
+use std::str;
 use std::sync::OnceLock;
 use std::time::Duration;
 
@@ -89,7 +90,47 @@ impl Default for Node {
     }
 }
 
+/// A path or the name of a file that the library gave.
+fn text_of<C: Content>(text: &sys::iox2sd_config_text) -> SemanticString<C> {
+    let bytes = &text.bytes[..text.length];
+    SemanticString::of_legal(str::from_utf8(bytes).expect("the library writes texts"))
+}
+
 impl Global {
+    /// The settings that the library gives.
+    pub(super) fn of(
+        settings: &sys::iox2sd_global_settings,
+        texts: &sys::iox2sd_config_texts,
+    ) -> Self {
+        let timeout = &settings.creation_timeout;
+        Global {
+            root_path: text_of(&texts.root_path),
+            prefix: text_of(&texts.prefix),
+            service: Service {
+                directory: text_of(&texts.service_directory),
+                data_segment_suffix: text_of(&texts.data_segment_suffix),
+                static_config_storage_suffix: text_of(&texts.static_config_storage_suffix),
+                dynamic_config_storage_suffix: text_of(&texts.dynamic_config_storage_suffix),
+                connection_suffix: text_of(&texts.connection_suffix),
+                event_connection_suffix: text_of(&texts.event_connection_suffix),
+                blackboard_mgmt_suffix: text_of(&texts.blackboard_mgmt_suffix),
+                blackboard_data_suffix: text_of(&texts.blackboard_data_suffix),
+                cleanup_dead_nodes_on_open: settings.cleanup_dead_nodes_on_open,
+            },
+            node: Node {
+                directory: text_of(&texts.node_directory),
+                monitor_suffix: text_of(&texts.monitor_suffix),
+                static_config_suffix: text_of(&texts.node_static_config_suffix),
+                service_tag_suffix: text_of(&texts.service_tag_suffix),
+                port_tag_suffix: text_of(&texts.port_tag_suffix),
+                global_mgmt_suffix: text_of(&texts.global_mgmt_suffix),
+                cleanup_dead_nodes_on_creation: settings.cleanup_dead_nodes_on_creation,
+                cleanup_dead_nodes_on_destruction: settings.cleanup_dead_nodes_on_destruction,
+            },
+            creation_timeout: Duration::new(timeout.seconds, timeout.nanoseconds),
+        }
+    }
+
     /// The path below which everything else lies.
     ///
     /// ```
@@ -220,6 +261,6 @@ pub struct Node {
     pub global_mgmt_suffix: FileName,
     /// Whether somebody who creates a node first removes what dead nodes left; so by default.
     pub cleanup_dead_nodes_on_creation: bool,
-    /// Whether a node that goes removes what dead nodes left; so by default.
+    /// Whether a node that is dropped removes what dead nodes left; so by default.
     pub cleanup_dead_nodes_on_destruction: bool,
 }

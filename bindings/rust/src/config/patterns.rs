@@ -39,7 +39,13 @@ pub struct PublishSubscribe {
 
 impl Default for PublishSubscribe {
     fn default() -> Self {
-        let settings = library::publish_subscribe_defaults();
+        Self::of(&library::publish_subscribe_defaults())
+    }
+}
+
+impl PublishSubscribe {
+    /// The settings that the library gives.
+    pub(crate) fn of(settings: &sys::iox2sd_publish_subscribe_settings) -> Self {
         PublishSubscribe {
             max_subscribers: settings.max_subscribers,
             max_publishers: settings.max_publishers,
@@ -80,7 +86,7 @@ pub struct Event {
     pub deadline: Option<Duration>,
     /// The number of the event that reports a new notifier, if any does.
     pub notifier_created_event: Option<usize>,
-    /// The number of the event that reports that a notifier went, if any does.
+    /// The number of the event that reports that a notifier was dropped, if any does.
     pub notifier_dropped_event: Option<usize>,
     /// The number of the event that reports a notifier whose node died, if any does.
     pub notifier_dead_event: Option<usize>,
@@ -88,9 +94,15 @@ pub struct Event {
 
 impl Default for Event {
     fn default() -> Self {
-        let settings = library::event_defaults();
-        let deadline = settings.deadline;
-        let number = |event: sys::iox2sd_optional_event_id| event.is_some.then_some(event.number);
+        Self::of(&library::event_defaults())
+    }
+}
+
+impl Event {
+    /// The settings that the library gives.
+    pub(crate) fn of(settings: &sys::iox2sd_event_settings) -> Self {
+        let deadline = &settings.deadline;
+        let number = |event: &sys::iox2sd_optional_event_id| event.is_some.then_some(event.number);
         Event {
             max_listeners: settings.max_listeners,
             max_notifiers: settings.max_notifiers,
@@ -99,9 +111,9 @@ impl Default for Event {
             deadline: deadline
                 .is_some
                 .then(|| Duration::new(deadline.seconds, deadline.nanoseconds)),
-            notifier_created_event: number(settings.notifier_created_event),
-            notifier_dropped_event: number(settings.notifier_dropped_event),
-            notifier_dead_event: number(settings.notifier_dead_event),
+            notifier_created_event: number(&settings.notifier_created_event),
+            notifier_dropped_event: number(&settings.notifier_dropped_event),
+            notifier_dead_event: number(&settings.notifier_dead_event),
         }
     }
 }
@@ -155,7 +167,13 @@ pub struct RequestResonse {
 
 impl Default for RequestResonse {
     fn default() -> Self {
-        let settings = library::request_response_defaults();
+        Self::of(&library::request_response_defaults())
+    }
+}
+
+impl RequestResonse {
+    /// The settings that the library gives.
+    pub(crate) fn of(settings: &sys::iox2sd_request_response_settings) -> Self {
         RequestResonse {
             enable_safe_overflow_for_requests: settings.enable_safe_overflow_for_requests,
             enable_safe_overflow_for_responses: settings.enable_safe_overflow_for_responses,
@@ -202,7 +220,13 @@ pub struct Blackboard {
 
 impl Default for Blackboard {
     fn default() -> Self {
-        let settings = library::blackboard_defaults();
+        Self::of(&library::blackboard_defaults())
+    }
+}
+
+impl Blackboard {
+    /// The settings that the library gives.
+    pub(crate) fn of(settings: &sys::iox2sd_blackboard_settings) -> Self {
         Blackboard {
             max_readers: settings.max_readers,
             max_nodes: settings.max_nodes,

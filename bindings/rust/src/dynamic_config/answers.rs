@@ -9,8 +9,8 @@ use std::fmt;
 /// ```
 /// use iox2sd::dynamic_config::{event, AllocError, DynamicConfig, MessagingPatternSettings};
 ///
-/// let room = event::DynamicConfigSettings { number_of_listeners: 1, number_of_notifiers: 1 };
-/// let refused = DynamicConfig::new(&MessagingPatternSettings::Event(room), usize::MAX, 7);
+/// let ports = event::DynamicConfigSettings { number_of_listeners: 1, number_of_notifiers: 1 };
+/// let refused = DynamicConfig::new(&MessagingPatternSettings::Event(ports), usize::MAX, 7);
 /// assert_eq!(refused.unwrap_err(), AllocError);
 /// assert_eq!(AllocError.to_string(), "memory allocation failed");
 /// ```
@@ -32,8 +32,8 @@ impl Error for AllocError {}
 /// # use iox2sd::identifiers::UniqueNodeId;
 /// # use iox2sd::dynamic_config::{event, DynamicConfig, MessagingPatternSettings};
 /// # let (number_of_listeners, number_of_notifiers) = (2, 3);
-/// # let room = event::DynamicConfigSettings { number_of_listeners, number_of_notifiers };
-/// # let settings = MessagingPatternSettings::Event(room);
+/// # let ports = event::DynamicConfigSettings { number_of_listeners, number_of_notifiers };
+/// # let settings = MessagingPatternSettings::Event(ports);
 /// let mut service = DynamicConfig::new(&settings, 1, 7)?;
 /// let node = UniqueNodeId::new(1, 0, 0, 1).expect("the id of a node");
 /// let handle = service.register_node_id(node)?;
@@ -48,7 +48,7 @@ impl Error for AllocError {}
 pub enum RegisterNodeResult {
     /// The service is locked for good, since its last node left. This is reported first.
     MarkedForDestruction,
-    /// There are as many nodes as there may be, or every ticket was given out.
+    /// There are as many nodes as there may be, or no ticket is left.
     ExceedsMaxNumberOfNodes,
 }
 
@@ -71,8 +71,8 @@ impl RegisterNodeResult {
 /// # use iox2sd::identifiers::UniqueNodeId;
 /// # use iox2sd::dynamic_config::{event, DynamicConfig, MessagingPatternSettings};
 /// # let (number_of_listeners, number_of_notifiers) = (2, 3);
-/// # let room = event::DynamicConfigSettings { number_of_listeners, number_of_notifiers };
-/// # let settings = MessagingPatternSettings::Event(room);
+/// # let ports = event::DynamicConfigSettings { number_of_listeners, number_of_notifiers };
+/// # let settings = MessagingPatternSettings::Event(ports);
 /// let mut service = DynamicConfig::new(&settings, 2, 7)?;
 /// let node = UniqueNodeId::new(1, 0, 0, 1).expect("the id of a node");
 /// let (first, second) = (service.register_node_id(node)?, service.register_node_id(node)?);
@@ -107,8 +107,8 @@ impl DeregisterNodeState {
 /// # use iox2sd::identifiers::{UniqueListenerId, UniqueNodeId};
 /// # use iox2sd::dynamic_config::{event, DynamicConfig, MessagingPatternSettings};
 /// # let (number_of_listeners, number_of_notifiers) = (2, 3);
-/// # let room = event::DynamicConfigSettings { number_of_listeners, number_of_notifiers };
-/// # let settings = MessagingPatternSettings::Event(room);
+/// # let ports = event::DynamicConfigSettings { number_of_listeners, number_of_notifiers };
+/// # let settings = MessagingPatternSettings::Event(ports);
 /// let mut service = DynamicConfig::new(&settings, 1, 7)?;
 /// let node_id = UniqueNodeId::new(1, 0, 0, 1).expect("the id of a node");
 /// let node = service.register_node_id(node_id)?;
@@ -147,8 +147,8 @@ impl DeregisterError {
 /// # use iox2sd::identifiers::{UniqueListenerId, UniqueNodeId, UniqueReaderId};
 /// # use iox2sd::dynamic_config::{event, DynamicConfig, MessagingPatternSettings};
 /// # let (number_of_listeners, number_of_notifiers) = (2, 3);
-/// # let room = event::DynamicConfigSettings { number_of_listeners, number_of_notifiers };
-/// # let settings = MessagingPatternSettings::Event(room);
+/// # let ports = event::DynamicConfigSettings { number_of_listeners, number_of_notifiers };
+/// # let settings = MessagingPatternSettings::Event(ports);
 /// let mut service = DynamicConfig::new(&settings, 1, 7)?;
 /// let node_id = UniqueNodeId::new(1, 0, 0, 1).expect("the id of a node");
 /// let reader = ReaderDetails { reader_id: UniqueReaderId::new(1, 0, 0, 2), node_id };
@@ -168,7 +168,7 @@ pub enum AttachError {
     ServiceIsLocked,
     /// The port's node is not registered.
     NodeNotRegistered,
-    /// There are as many ports of this kind as there may be, or every ticket was given out.
+    /// There are as many ports of this kind as there may be, or no ticket is left.
     OutOfSpace,
 }
 
@@ -193,8 +193,8 @@ impl AttachError {
 /// # use iox2sd::identifiers::{UniqueListenerId, UniqueNodeId};
 /// # use iox2sd::dynamic_config::{event, DynamicConfig, MessagingPatternSettings};
 /// # let (number_of_listeners, number_of_notifiers) = (2, 3);
-/// # let room = event::DynamicConfigSettings { number_of_listeners, number_of_notifiers };
-/// # let settings = MessagingPatternSettings::Event(room);
+/// # let ports = event::DynamicConfigSettings { number_of_listeners, number_of_notifiers };
+/// # let settings = MessagingPatternSettings::Event(ports);
 /// let mut service = DynamicConfig::new(&settings, 1, 7)?;
 /// let node_id = UniqueNodeId::new(1, 0, 0, 1).expect("the id of a node");
 /// service.register_node_id(node_id)?;

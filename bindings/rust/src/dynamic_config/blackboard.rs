@@ -3,11 +3,11 @@
 //! ```
 //! use iox2sd::dynamic_config::{blackboard, DynamicConfig, MessagingPatternSettings};
 //!
-//! let room = blackboard::DynamicConfigSettings {
+//! let ports = blackboard::DynamicConfigSettings {
 //!     number_of_readers: 2,
 //!     number_of_writers: 1,
 //! };
-//! let service = DynamicConfig::new(&MessagingPatternSettings::Blackboard(room), 1, 7)?;
+//! let service = DynamicConfig::new(&MessagingPatternSettings::Blackboard(ports), 1, 7)?;
 //! assert_eq!(service.blackboard().readers().count(), 0);
 //! # Ok::<(), iox2sd::dynamic_config::AllocError>(())
 //! ```
@@ -29,11 +29,11 @@ use std::vec;
 /// use iox2sd::container::Role;
 /// use iox2sd::dynamic_config::{blackboard, DynamicConfig, MessagingPatternSettings};
 ///
-/// let room = blackboard::DynamicConfigSettings {
+/// let ports = blackboard::DynamicConfigSettings {
 ///     number_of_readers: 2,
 ///     number_of_writers: 1,
 /// };
-/// let service = DynamicConfig::new(&MessagingPatternSettings::Blackboard(room), 1, 7)?;
+/// let service = DynamicConfig::new(&MessagingPatternSettings::Blackboard(ports), 1, 7)?;
 /// assert_eq!(service.max_ports(Role::Reader), Some(2));
 /// # Ok::<(), iox2sd::dynamic_config::AllocError>(())
 /// ```
@@ -66,8 +66,8 @@ ports_of_pattern! {
     /// use iox2sd::dynamic_config::{blackboard, DynamicConfig, MessagingPatternSettings};
     ///
     /// # let (number_of_readers, number_of_writers) = (1, 1);
-    /// # let room = blackboard::DynamicConfigSettings { number_of_readers, number_of_writers };
-    /// # let settings = MessagingPatternSettings::Blackboard(room);
+    /// # let ports = blackboard::DynamicConfigSettings { number_of_readers, number_of_writers };
+    /// # let settings = MessagingPatternSettings::Blackboard(ports);
     /// let service = DynamicConfig::new(&settings, 1, 7)?;
     /// assert_eq!(service.blackboard().readers().count(), 0);
     /// # Ok::<(), iox2sd::dynamic_config::AllocError>(())
@@ -78,8 +78,8 @@ ports_of_pattern! {
     /// use iox2sd::identifiers::{UniqueNodeId, UniqueReaderId};
     ///
     /// # let (number_of_readers, number_of_writers) = (1, 1);
-    /// # let room = blackboard::DynamicConfigSettings { number_of_readers, number_of_writers };
-    /// # let settings = MessagingPatternSettings::Blackboard(room);
+    /// # let ports = blackboard::DynamicConfigSettings { number_of_readers, number_of_writers };
+    /// # let settings = MessagingPatternSettings::Blackboard(ports);
     /// let mut service = DynamicConfig::new(&settings, 1, 7)?;
     /// let node_id = UniqueNodeId::new(1, 0, 0, 1).expect("the id of a node");
     /// service.register_node_id(node_id)?;
@@ -91,8 +91,8 @@ ports_of_pattern! {
     /// use iox2sd::identifiers::{UniqueNodeId, UniqueWriterId};
     ///
     /// # let (number_of_readers, number_of_writers) = (1, 1);
-    /// # let room = blackboard::DynamicConfigSettings { number_of_readers, number_of_writers };
-    /// # let settings = MessagingPatternSettings::Blackboard(room);
+    /// # let ports = blackboard::DynamicConfigSettings { number_of_readers, number_of_writers };
+    /// # let settings = MessagingPatternSettings::Blackboard(ports);
     /// let mut service = DynamicConfig::new(&settings, 1, 7)?;
     /// let node_id = UniqueNodeId::new(1, 0, 0, 1).expect("the id of a node");
     /// service.register_node_id(node_id)?;

@@ -3,11 +3,11 @@
 //! ```
 //! use iox2sd::dynamic_config::{event, DynamicConfig, MessagingPatternSettings};
 //!
-//! let room = event::DynamicConfigSettings {
+//! let ports = event::DynamicConfigSettings {
 //!     number_of_listeners: 2,
 //!     number_of_notifiers: 1,
 //! };
-//! let service = DynamicConfig::new(&MessagingPatternSettings::Event(room), 1, 7)?;
+//! let service = DynamicConfig::new(&MessagingPatternSettings::Event(ports), 1, 7)?;
 //! assert_eq!(service.event().listeners().count(), 0);
 //! # Ok::<(), iox2sd::dynamic_config::AllocError>(())
 //! ```
@@ -29,11 +29,11 @@ use std::vec;
 /// use iox2sd::container::Role;
 /// use iox2sd::dynamic_config::{event, DynamicConfig, MessagingPatternSettings};
 ///
-/// let room = event::DynamicConfigSettings {
+/// let ports = event::DynamicConfigSettings {
 ///     number_of_listeners: 2,
 ///     number_of_notifiers: 1,
 /// };
-/// let service = DynamicConfig::new(&MessagingPatternSettings::Event(room), 1, 7)?;
+/// let service = DynamicConfig::new(&MessagingPatternSettings::Event(ports), 1, 7)?;
 /// assert_eq!(service.max_ports(Role::Listener), Some(2));
 /// # Ok::<(), iox2sd::dynamic_config::AllocError>(())
 /// ```
@@ -66,8 +66,8 @@ ports_of_pattern! {
     /// use iox2sd::dynamic_config::{event, DynamicConfig, MessagingPatternSettings};
     ///
     /// # let (number_of_listeners, number_of_notifiers) = (1, 1);
-    /// # let room = event::DynamicConfigSettings { number_of_listeners, number_of_notifiers };
-    /// # let settings = MessagingPatternSettings::Event(room);
+    /// # let ports = event::DynamicConfigSettings { number_of_listeners, number_of_notifiers };
+    /// # let settings = MessagingPatternSettings::Event(ports);
     /// let service = DynamicConfig::new(&settings, 1, 7)?;
     /// assert_eq!(service.event().listeners().count(), 0);
     /// # Ok::<(), iox2sd::dynamic_config::AllocError>(())
@@ -78,8 +78,8 @@ ports_of_pattern! {
     /// use iox2sd::identifiers::{UniqueListenerId, UniqueNodeId};
     ///
     /// # let (number_of_listeners, number_of_notifiers) = (1, 1);
-    /// # let room = event::DynamicConfigSettings { number_of_listeners, number_of_notifiers };
-    /// # let settings = MessagingPatternSettings::Event(room);
+    /// # let ports = event::DynamicConfigSettings { number_of_listeners, number_of_notifiers };
+    /// # let settings = MessagingPatternSettings::Event(ports);
     /// let mut service = DynamicConfig::new(&settings, 1, 7)?;
     /// let node_id = UniqueNodeId::new(1, 0, 0, 1).expect("the id of a node");
     /// service.register_node_id(node_id)?;
@@ -91,8 +91,8 @@ ports_of_pattern! {
     /// use iox2sd::identifiers::{UniqueNodeId, UniqueNotifierId};
     ///
     /// # let (number_of_listeners, number_of_notifiers) = (1, 1);
-    /// # let room = event::DynamicConfigSettings { number_of_listeners, number_of_notifiers };
-    /// # let settings = MessagingPatternSettings::Event(room);
+    /// # let ports = event::DynamicConfigSettings { number_of_listeners, number_of_notifiers };
+    /// # let settings = MessagingPatternSettings::Event(ports);
     /// let mut service = DynamicConfig::new(&settings, 1, 7)?;
     /// let node_id = UniqueNodeId::new(1, 0, 0, 1).expect("the id of a node");
     /// service.register_node_id(node_id)?;

@@ -3,11 +3,11 @@
 //! ```
 //! use iox2sd::dynamic_config::{publish_subscribe, DynamicConfig, MessagingPatternSettings};
 //!
-//! let room = publish_subscribe::DynamicConfigSettings {
+//! let ports = publish_subscribe::DynamicConfigSettings {
 //!     number_of_publishers: 2,
 //!     number_of_subscribers: 1,
 //! };
-//! let service = DynamicConfig::new(&MessagingPatternSettings::PublishSubscribe(room), 1, 7)?;
+//! let service = DynamicConfig::new(&MessagingPatternSettings::PublishSubscribe(ports), 1, 7)?;
 //! assert_eq!(service.publish_subscribe().publishers().count(), 0);
 //! # Ok::<(), iox2sd::dynamic_config::AllocError>(())
 //! ```
@@ -29,11 +29,11 @@ use std::vec;
 /// use iox2sd::container::Role;
 /// use iox2sd::dynamic_config::{publish_subscribe, DynamicConfig, MessagingPatternSettings};
 ///
-/// let room = publish_subscribe::DynamicConfigSettings {
+/// let ports = publish_subscribe::DynamicConfigSettings {
 ///     number_of_publishers: 2,
 ///     number_of_subscribers: 1,
 /// };
-/// let service = DynamicConfig::new(&MessagingPatternSettings::PublishSubscribe(room), 1, 7)?;
+/// let service = DynamicConfig::new(&MessagingPatternSettings::PublishSubscribe(ports), 1, 7)?;
 /// assert_eq!(service.max_ports(Role::Publisher), Some(2));
 /// # Ok::<(), iox2sd::dynamic_config::AllocError>(())
 /// ```
@@ -65,11 +65,11 @@ impl From<&StaticConfig> for DynamicConfigSettings {
 ports_of_pattern! {
     /// use iox2sd::dynamic_config::{publish_subscribe, DynamicConfig, MessagingPatternSettings};
     ///
-    /// # let room = publish_subscribe::DynamicConfigSettings {
+    /// # let ports = publish_subscribe::DynamicConfigSettings {
     /// #     number_of_publishers: 1,
     /// #     number_of_subscribers: 1,
     /// # };
-    /// # let settings = MessagingPatternSettings::PublishSubscribe(room);
+    /// # let settings = MessagingPatternSettings::PublishSubscribe(ports);
     /// let service = DynamicConfig::new(&settings, 1, 7)?;
     /// assert_eq!(service.publish_subscribe().publishers().count(), 0);
     /// # Ok::<(), iox2sd::dynamic_config::AllocError>(())
@@ -80,11 +80,11 @@ ports_of_pattern! {
     /// use iox2sd::dynamic_config::PublisherDetails;
     /// use iox2sd::identifiers::{UniqueNodeId, UniquePublisherId};
     ///
-    /// # let room = publish_subscribe::DynamicConfigSettings {
+    /// # let ports = publish_subscribe::DynamicConfigSettings {
     /// #     number_of_publishers: 1,
     /// #     number_of_subscribers: 1,
     /// # };
-    /// # let settings = MessagingPatternSettings::PublishSubscribe(room);
+    /// # let settings = MessagingPatternSettings::PublishSubscribe(ports);
     /// let mut service = DynamicConfig::new(&settings, 1, 7)?;
     /// let node_id = UniqueNodeId::new(1, 0, 0, 1).expect("the id of a node");
     /// service.register_node_id(node_id)?;
@@ -102,11 +102,11 @@ ports_of_pattern! {
     /// use iox2sd::dynamic_config::SubscriberDetails;
     /// use iox2sd::identifiers::{UniqueNodeId, UniqueSubscriberId};
     ///
-    /// # let room = publish_subscribe::DynamicConfigSettings {
+    /// # let ports = publish_subscribe::DynamicConfigSettings {
     /// #     number_of_publishers: 1,
     /// #     number_of_subscribers: 1,
     /// # };
-    /// # let settings = MessagingPatternSettings::PublishSubscribe(room);
+    /// # let settings = MessagingPatternSettings::PublishSubscribe(ports);
     /// let mut service = DynamicConfig::new(&settings, 1, 7)?;
     /// let node_id = UniqueNodeId::new(1, 0, 0, 1).expect("the id of a node");
     /// service.register_node_id(node_id)?;

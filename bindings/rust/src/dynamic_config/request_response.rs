@@ -3,11 +3,11 @@
 //! ```
 //! use iox2sd::dynamic_config::{request_response, DynamicConfig, MessagingPatternSettings};
 //!
-//! let room = request_response::DynamicConfigSettings {
+//! let ports = request_response::DynamicConfigSettings {
 //!     number_of_servers: 2,
 //!     number_of_clients: 1,
 //! };
-//! let service = DynamicConfig::new(&MessagingPatternSettings::RequestResponse(room), 1, 7)?;
+//! let service = DynamicConfig::new(&MessagingPatternSettings::RequestResponse(ports), 1, 7)?;
 //! assert_eq!(service.request_response().servers().count(), 0);
 //! # Ok::<(), iox2sd::dynamic_config::AllocError>(())
 //! ```
@@ -29,11 +29,11 @@ use std::vec;
 /// use iox2sd::container::Role;
 /// use iox2sd::dynamic_config::{request_response, DynamicConfig, MessagingPatternSettings};
 ///
-/// let room = request_response::DynamicConfigSettings {
+/// let ports = request_response::DynamicConfigSettings {
 ///     number_of_servers: 2,
 ///     number_of_clients: 1,
 /// };
-/// let service = DynamicConfig::new(&MessagingPatternSettings::RequestResponse(room), 1, 7)?;
+/// let service = DynamicConfig::new(&MessagingPatternSettings::RequestResponse(ports), 1, 7)?;
 /// assert_eq!(service.max_ports(Role::Server), Some(2));
 /// # Ok::<(), iox2sd::dynamic_config::AllocError>(())
 /// ```
@@ -65,11 +65,11 @@ impl From<&StaticConfig> for DynamicConfigSettings {
 ports_of_pattern! {
     /// use iox2sd::dynamic_config::{request_response, DynamicConfig, MessagingPatternSettings};
     ///
-    /// # let room = request_response::DynamicConfigSettings {
+    /// # let ports = request_response::DynamicConfigSettings {
     /// #     number_of_servers: 1,
     /// #     number_of_clients: 1,
     /// # };
-    /// # let settings = MessagingPatternSettings::RequestResponse(room);
+    /// # let settings = MessagingPatternSettings::RequestResponse(ports);
     /// let service = DynamicConfig::new(&settings, 1, 7)?;
     /// assert_eq!(service.request_response().servers().count(), 0);
     /// # Ok::<(), iox2sd::dynamic_config::AllocError>(())
@@ -80,11 +80,11 @@ ports_of_pattern! {
     /// use iox2sd::dynamic_config::ServerDetails;
     /// use iox2sd::identifiers::{UniqueNodeId, UniqueServerId};
     ///
-    /// # let room = request_response::DynamicConfigSettings {
+    /// # let ports = request_response::DynamicConfigSettings {
     /// #     number_of_servers: 1,
     /// #     number_of_clients: 1,
     /// # };
-    /// # let settings = MessagingPatternSettings::RequestResponse(room);
+    /// # let settings = MessagingPatternSettings::RequestResponse(ports);
     /// let mut service = DynamicConfig::new(&settings, 1, 7)?;
     /// let node_id = UniqueNodeId::new(1, 0, 0, 1).expect("the id of a node");
     /// service.register_node_id(node_id)?;
@@ -104,11 +104,11 @@ ports_of_pattern! {
     /// use iox2sd::dynamic_config::ClientDetails;
     /// use iox2sd::identifiers::{UniqueClientId, UniqueNodeId};
     ///
-    /// # let room = request_response::DynamicConfigSettings {
+    /// # let ports = request_response::DynamicConfigSettings {
     /// #     number_of_servers: 1,
     /// #     number_of_clients: 1,
     /// # };
-    /// # let settings = MessagingPatternSettings::RequestResponse(room);
+    /// # let settings = MessagingPatternSettings::RequestResponse(ports);
     /// let mut service = DynamicConfig::new(&settings, 1, 7)?;
     /// let node_id = UniqueNodeId::new(1, 0, 0, 1).expect("the id of a node");
     /// service.register_node_id(node_id)?;

@@ -18,8 +18,8 @@ use std::vec;
 /// ```
 /// use iox2sd::dynamic_config::{event, DynamicConfig, MessagingPatternSettings};
 ///
-/// let room = event::DynamicConfigSettings { number_of_listeners: 1, number_of_notifiers: 1 };
-/// let service = DynamicConfig::new(&MessagingPatternSettings::Event(room), 1, 7)?;
+/// let ports = event::DynamicConfigSettings { number_of_listeners: 1, number_of_notifiers: 1 };
+/// let service = DynamicConfig::new(&MessagingPatternSettings::Event(ports), 1, 7)?;
 /// assert!(service.is_event());
 /// # Ok::<(), iox2sd::dynamic_config::AllocError>(())
 /// ```
@@ -105,8 +105,8 @@ enum MessagingPattern {
 
 /// Who is attached to a service: nodes, and ports that belong to them.
 ///
-/// A port stands only on a registered node. When the last node has gone, the service is locked for
-/// good. No handle is ever reused, and one that was removed is refused for good.
+/// A port exists only with a registered node. When the last node leaves, the service is locked for
+/// good. No handle is ever reused, and a stale one is refused for good.
 ///
 /// A service may be sent to another thread, and many threads may query it at once:
 ///
@@ -115,8 +115,8 @@ enum MessagingPattern {
 /// use iox2sd::identifiers::UniqueNodeId;
 /// use std::thread;
 ///
-/// let room = event::DynamicConfigSettings { number_of_listeners: 1, number_of_notifiers: 1 };
-/// let mut service = DynamicConfig::new(&MessagingPatternSettings::Event(room), 1, 7)?;
+/// let ports = event::DynamicConfigSettings { number_of_listeners: 1, number_of_notifiers: 1 };
+/// let mut service = DynamicConfig::new(&MessagingPatternSettings::Event(ports), 1, 7)?;
 /// let node = UniqueNodeId::new(1, 0, 0, 1).expect("the id of a node");
 /// let other = thread::spawn(move || service.register_node_id(node).map(|_| service));
 /// let service = other.join().expect("it ends")?;
@@ -136,8 +136,8 @@ impl DynamicConfig {
     ///
     /// # Errors
     ///
-    /// Refused where there is no memory for so many nodes and ports; no later call takes memory of
-    /// the library.
+    /// Refused where memory for so many nodes and ports is refused. The library takes no memory in
+    /// a later call.
     ///
     /// # Examples
     ///
@@ -145,13 +145,13 @@ impl DynamicConfig {
     /// use iox2sd::dynamic_config::{blackboard, AllocError, DynamicConfig};
     /// use iox2sd::dynamic_config::MessagingPatternSettings::Blackboard;
     ///
-    /// let mut room = blackboard::DynamicConfigSettings {
+    /// let mut ports = blackboard::DynamicConfigSettings {
     ///     number_of_readers: 8,
     ///     number_of_writers: 1,
     /// };
-    /// assert_eq!(DynamicConfig::new(&Blackboard(room), 20, 7)?.max_nodes(), 20);
-    /// room.number_of_readers = usize::MAX;
-    /// assert_eq!(DynamicConfig::new(&Blackboard(room), 20, 7).unwrap_err(), AllocError);
+    /// assert_eq!(DynamicConfig::new(&Blackboard(ports), 20, 7)?.max_nodes(), 20);
+    /// ports.number_of_readers = usize::MAX;
+    /// assert_eq!(DynamicConfig::new(&Blackboard(ports), 20, 7).unwrap_err(), AllocError);
     /// # Ok::<(), AllocError>(())
     /// ```
     pub fn new(
@@ -332,11 +332,11 @@ impl DynamicConfig {
     /// };
     /// use iox2sd::identifiers::{UniqueNodeId, UniqueSubscriberId};
     ///
-    /// let room = publish_subscribe::DynamicConfigSettings {
+    /// let ports = publish_subscribe::DynamicConfigSettings {
     ///     number_of_publishers: 1,
     ///     number_of_subscribers: 1,
     /// };
-    /// let settings = MessagingPatternSettings::PublishSubscribe(room);
+    /// let settings = MessagingPatternSettings::PublishSubscribe(ports);
     /// let mut service = DynamicConfig::new(&settings, 1, 7)?;
     /// let subscriber = SubscriberDetails {
     ///     subscriber_id: UniqueSubscriberId::new(1, 0, 0, 2),
@@ -394,17 +394,17 @@ impl DynamicConfig {
 
     /// Calls the callback once for each port of the dead node, in the order of
     /// [`ports_of`](Self::ports_of), and removes those that it answers with
-    /// [`RemovePort`](PortCleanupAction::RemovePort). Where none of its ports is left, the node
-    /// goes too, with all its handles; where it was the last one, the service is locked for good.
-    /// Where one is left, no node goes.
+    /// [`RemovePort`](PortCleanupAction::RemovePort). Where none of its ports is left, the node is
+    /// removed too, with all its handles; where it was the last one, the service is locked for
+    /// good. Where a port is left, the node stays.
     ///
     /// Nothing is changed before the callback has answered for all ports.
     ///
-    /// What stays goes by the [`value`](UniquePortId::value) of an id, whatever its kind: ports of
-    /// the node with one value stay together where the callback answers
-    /// [`SkipPort`](PortCleanupAction::SkipPort) for one of them. A listener that is skipped keeps
-    /// the notifier of the same value too, though their [`UniquePortId`]s are not equal. Where ids
-    /// are unique, each port is answered for alone.
+    /// Ports are kept by the [`value`](UniquePortId::value) of their ids, whatever their kinds:
+    /// where the callback answers [`SkipPort`](PortCleanupAction::SkipPort) for one port, all ports
+    /// of the node with its value stay. A listener that is skipped keeps the notifier of the same
+    /// value too, though their [`UniquePortId`]s are not equal. Where ids are unique, each answer
+    /// is for one port.
     ///
     /// ```
     /// use iox2sd::dynamic_config::{
@@ -413,11 +413,11 @@ impl DynamicConfig {
     /// };
     /// use iox2sd::identifiers::{UniqueNodeId, UniqueNotifierId};
     ///
-    /// let room = event::DynamicConfigSettings {
+    /// let ports = event::DynamicConfigSettings {
     ///     number_of_listeners: 1,
     ///     number_of_notifiers: 1,
     /// };
-    /// let mut service = DynamicConfig::new(&MessagingPatternSettings::Event(room), 1, 7)?;
+    /// let mut service = DynamicConfig::new(&MessagingPatternSettings::Event(ports), 1, 7)?;
     /// let node_id = UniqueNodeId::new(1, 0, 0, 1).expect("the id of a node");
     /// service.register_node_id(node_id)?;
     /// let notifier_id = UniqueNotifierId::new(1, 0, 0, 2);
@@ -458,8 +458,8 @@ impl DynamicConfig {
     ///
     /// # use iox2sd::dynamic_config::{event, DynamicConfig, MessagingPatternSettings};
     /// # let (number_of_listeners, number_of_notifiers) = (2, 3);
-    /// # let room = event::DynamicConfigSettings { number_of_listeners, number_of_notifiers };
-    /// # let settings = MessagingPatternSettings::Event(room);
+    /// # let ports = event::DynamicConfigSettings { number_of_listeners, number_of_notifiers };
+    /// # let settings = MessagingPatternSettings::Event(ports);
     /// let service = DynamicConfig::new(&settings, 1, 7)?;
     /// assert_eq!(service.kind(), MessagingPattern::Event);
     /// # Ok::<(), Box<dyn std::error::Error>>(())
@@ -479,8 +479,8 @@ impl DynamicConfig {
     /// ```
     /// # use iox2sd::dynamic_config::{event, DynamicConfig, MessagingPatternSettings};
     /// # let (number_of_listeners, number_of_notifiers) = (2, 3);
-    /// # let room = event::DynamicConfigSettings { number_of_listeners, number_of_notifiers };
-    /// # let settings = MessagingPatternSettings::Event(room);
+    /// # let ports = event::DynamicConfigSettings { number_of_listeners, number_of_notifiers };
+    /// # let settings = MessagingPatternSettings::Event(ports);
     /// let service = DynamicConfig::new(&settings, 1, 7)?;
     /// assert_eq!(service.service_number(), 7);
     /// # Ok::<(), Box<dyn std::error::Error>>(())
@@ -497,8 +497,8 @@ impl DynamicConfig {
     ///
     /// # use iox2sd::dynamic_config::{event, DynamicConfig, MessagingPatternSettings};
     /// # let (number_of_listeners, number_of_notifiers) = (2, 3);
-    /// # let room = event::DynamicConfigSettings { number_of_listeners, number_of_notifiers };
-    /// # let settings = MessagingPatternSettings::Event(room);
+    /// # let ports = event::DynamicConfigSettings { number_of_listeners, number_of_notifiers };
+    /// # let settings = MessagingPatternSettings::Event(ports);
     /// let service = DynamicConfig::new(&settings, 1, 7)?;
     /// assert_eq!(service.port_roles(), (Role::Listener, Role::Notifier));
     /// # Ok::<(), Box<dyn std::error::Error>>(())
@@ -516,8 +516,8 @@ impl DynamicConfig {
     ///
     /// # use iox2sd::dynamic_config::{event, DynamicConfig, MessagingPatternSettings};
     /// # let (number_of_listeners, number_of_notifiers) = (2, 3);
-    /// # let room = event::DynamicConfigSettings { number_of_listeners, number_of_notifiers };
-    /// # let settings = MessagingPatternSettings::Event(room);
+    /// # let ports = event::DynamicConfigSettings { number_of_listeners, number_of_notifiers };
+    /// # let settings = MessagingPatternSettings::Event(ports);
     /// let service = DynamicConfig::new(&settings, 1, 7)?;
     /// assert!(service.has_role(Role::Notifier));
     /// assert!(!service.has_role(Role::Reader) && !service.has_role(Role::Node));
@@ -536,8 +536,8 @@ impl DynamicConfig {
     ///
     /// # use iox2sd::dynamic_config::{event, DynamicConfig, MessagingPatternSettings};
     /// # let (number_of_listeners, number_of_notifiers) = (2, 3);
-    /// # let room = event::DynamicConfigSettings { number_of_listeners, number_of_notifiers };
-    /// # let settings = MessagingPatternSettings::Event(room);
+    /// # let ports = event::DynamicConfigSettings { number_of_listeners, number_of_notifiers };
+    /// # let settings = MessagingPatternSettings::Event(ports);
     /// let mut service = DynamicConfig::new(&settings, 1, 7)?;
     /// assert!(!service.is_locked());
     /// let node = UniqueNodeId::new(1, 0, 0, 1).expect("the id of a node");
@@ -558,8 +558,8 @@ impl DynamicConfig {
     ///
     /// # use iox2sd::dynamic_config::{event, DynamicConfig, MessagingPatternSettings};
     /// # let (number_of_listeners, number_of_notifiers) = (2, 3);
-    /// # let room = event::DynamicConfigSettings { number_of_listeners, number_of_notifiers };
-    /// # let settings = MessagingPatternSettings::Event(room);
+    /// # let ports = event::DynamicConfigSettings { number_of_listeners, number_of_notifiers };
+    /// # let settings = MessagingPatternSettings::Event(ports);
     /// let mut service = DynamicConfig::new(&settings, 3, 7)?;
     /// let node = UniqueNodeId::new(1, 0, 0, 1).expect("the id of a node");
     /// service.register_node_id(node)?;
@@ -577,8 +577,8 @@ impl DynamicConfig {
     /// ```
     /// # use iox2sd::dynamic_config::{event, DynamicConfig, MessagingPatternSettings};
     /// # let (number_of_listeners, number_of_notifiers) = (2, 3);
-    /// # let room = event::DynamicConfigSettings { number_of_listeners, number_of_notifiers };
-    /// # let settings = MessagingPatternSettings::Event(room);
+    /// # let ports = event::DynamicConfigSettings { number_of_listeners, number_of_notifiers };
+    /// # let settings = MessagingPatternSettings::Event(ports);
     /// assert_eq!(DynamicConfig::new(&settings, 3, 7)?.max_nodes(), 3);
     /// # Ok::<(), Box<dyn std::error::Error>>(())
     /// ```
@@ -594,8 +594,8 @@ impl DynamicConfig {
     ///
     /// # use iox2sd::dynamic_config::{event, DynamicConfig, MessagingPatternSettings};
     /// # let (number_of_listeners, number_of_notifiers) = (2, 3);
-    /// # let room = event::DynamicConfigSettings { number_of_listeners, number_of_notifiers };
-    /// # let settings = MessagingPatternSettings::Event(room);
+    /// # let ports = event::DynamicConfigSettings { number_of_listeners, number_of_notifiers };
+    /// # let settings = MessagingPatternSettings::Event(ports);
     /// let mut service = DynamicConfig::new(&settings, 1, 7)?;
     /// assert!(service.has_room_for_node());
     /// service.register_node_id(UniqueNodeId::new(1, 0, 0, 1).expect("the id of a node"))?;
@@ -614,8 +614,8 @@ impl DynamicConfig {
     ///
     /// # use iox2sd::dynamic_config::{event, DynamicConfig, MessagingPatternSettings};
     /// # let (number_of_listeners, number_of_notifiers) = (2, 3);
-    /// # let room = event::DynamicConfigSettings { number_of_listeners, number_of_notifiers };
-    /// # let settings = MessagingPatternSettings::Event(room);
+    /// # let ports = event::DynamicConfigSettings { number_of_listeners, number_of_notifiers };
+    /// # let settings = MessagingPatternSettings::Event(ports);
     /// let service = DynamicConfig::new(&settings, 1, 7)?;
     /// assert_eq!(service.count_ports(Role::Listener), Some(0));
     /// assert_eq!(service.count_ports(Role::Reader), None);
@@ -634,8 +634,8 @@ impl DynamicConfig {
     ///
     /// # use iox2sd::dynamic_config::{event, DynamicConfig, MessagingPatternSettings};
     /// # let (number_of_listeners, number_of_notifiers) = (2, 3);
-    /// # let room = event::DynamicConfigSettings { number_of_listeners, number_of_notifiers };
-    /// # let settings = MessagingPatternSettings::Event(room);
+    /// # let ports = event::DynamicConfigSettings { number_of_listeners, number_of_notifiers };
+    /// # let settings = MessagingPatternSettings::Event(ports);
     /// let service = DynamicConfig::new(&settings, 1, 7)?;
     /// assert_eq!(service.max_ports(Role::Listener), Some(2));
     /// assert_eq!(service.max_ports(Role::Reader), None);
@@ -654,8 +654,8 @@ impl DynamicConfig {
     ///
     /// # use iox2sd::dynamic_config::{event, DynamicConfig, MessagingPatternSettings};
     /// # let (number_of_listeners, number_of_notifiers) = (2, 3);
-    /// # let room = event::DynamicConfigSettings { number_of_listeners, number_of_notifiers };
-    /// # let settings = MessagingPatternSettings::Event(room);
+    /// # let ports = event::DynamicConfigSettings { number_of_listeners, number_of_notifiers };
+    /// # let settings = MessagingPatternSettings::Event(ports);
     /// let service = DynamicConfig::new(&settings, 1, 7)?;
     /// assert_eq!(service.has_room(Role::Notifier), Some(true));
     /// assert_eq!(service.has_room(Role::Reader), None);
@@ -674,8 +674,8 @@ impl DynamicConfig {
     ///
     /// # use iox2sd::dynamic_config::{event, DynamicConfig, MessagingPatternSettings};
     /// # let (number_of_listeners, number_of_notifiers) = (2, 3);
-    /// # let room = event::DynamicConfigSettings { number_of_listeners, number_of_notifiers };
-    /// # let settings = MessagingPatternSettings::Event(room);
+    /// # let ports = event::DynamicConfigSettings { number_of_listeners, number_of_notifiers };
+    /// # let settings = MessagingPatternSettings::Event(ports);
     /// let mut service = DynamicConfig::new(&settings, 1, 7)?;
     /// let node = UniqueNodeId::new(1, 0, 0, 1).expect("the id of a node");
     /// let handle = service.register_node_id(node)?;
@@ -696,8 +696,8 @@ impl DynamicConfig {
     /// # use iox2sd::identifiers::{UniqueListenerId, UniqueNodeId};
     /// # use iox2sd::dynamic_config::{event, DynamicConfig, MessagingPatternSettings};
     /// # let (number_of_listeners, number_of_notifiers) = (2, 3);
-    /// # let room = event::DynamicConfigSettings { number_of_listeners, number_of_notifiers };
-    /// # let settings = MessagingPatternSettings::Event(room);
+    /// # let ports = event::DynamicConfigSettings { number_of_listeners, number_of_notifiers };
+    /// # let settings = MessagingPatternSettings::Event(ports);
     /// let mut service = DynamicConfig::new(&settings, 1, 7)?;
     /// let node_id = UniqueNodeId::new(1, 0, 0, 1).expect("the id of a node");
     /// let node = service.register_node_id(node_id)?;
@@ -720,8 +720,8 @@ impl DynamicConfig {
     ///
     /// # use iox2sd::dynamic_config::{event, DynamicConfig, MessagingPatternSettings};
     /// # let (number_of_listeners, number_of_notifiers) = (2, 3);
-    /// # let room = event::DynamicConfigSettings { number_of_listeners, number_of_notifiers };
-    /// # let settings = MessagingPatternSettings::Event(room);
+    /// # let ports = event::DynamicConfigSettings { number_of_listeners, number_of_notifiers };
+    /// # let settings = MessagingPatternSettings::Event(ports);
     /// let mut service = DynamicConfig::new(&settings, 2, 7)?;
     /// let node = UniqueNodeId::new(1, 0, 0, 1).expect("the id of a node");
     /// service.register_node_id(node)?;
@@ -745,8 +745,8 @@ impl DynamicConfig {
     /// # use iox2sd::identifiers::{UniqueListenerId, UniqueNodeId};
     /// # use iox2sd::dynamic_config::{event, DynamicConfig, MessagingPatternSettings};
     /// # let (number_of_listeners, number_of_notifiers) = (2, 3);
-    /// # let room = event::DynamicConfigSettings { number_of_listeners, number_of_notifiers };
-    /// # let settings = MessagingPatternSettings::Event(room);
+    /// # let ports = event::DynamicConfigSettings { number_of_listeners, number_of_notifiers };
+    /// # let settings = MessagingPatternSettings::Event(ports);
     /// let mut service = DynamicConfig::new(&settings, 1, 7)?;
     /// let node_id = UniqueNodeId::new(1, 0, 0, 1).expect("the id of a node");
     /// service.register_node_id(node_id)?;
@@ -771,8 +771,8 @@ impl DynamicConfig {
     /// # use iox2sd::identifiers::{UniqueListenerId, UniqueNodeId};
     /// # use iox2sd::dynamic_config::{event, DynamicConfig, MessagingPatternSettings};
     /// # let (number_of_listeners, number_of_notifiers) = (2, 3);
-    /// # let room = event::DynamicConfigSettings { number_of_listeners, number_of_notifiers };
-    /// # let settings = MessagingPatternSettings::Event(room);
+    /// # let ports = event::DynamicConfigSettings { number_of_listeners, number_of_notifiers };
+    /// # let settings = MessagingPatternSettings::Event(ports);
     /// let mut service = DynamicConfig::new(&settings, 1, 7)?;
     /// let node_id = UniqueNodeId::new(1, 0, 0, 1).expect("the id of a node");
     /// service.register_node_id(node_id)?;
@@ -798,8 +798,8 @@ impl DynamicConfig {
     ///
     /// # use iox2sd::dynamic_config::{event, DynamicConfig, MessagingPatternSettings};
     /// # let (number_of_listeners, number_of_notifiers) = (2, 3);
-    /// # let room = event::DynamicConfigSettings { number_of_listeners, number_of_notifiers };
-    /// # let settings = MessagingPatternSettings::Event(room);
+    /// # let ports = event::DynamicConfigSettings { number_of_listeners, number_of_notifiers };
+    /// # let settings = MessagingPatternSettings::Event(ports);
     /// let mut service = DynamicConfig::new(&settings, 2, 7)?;
     /// let node = UniqueNodeId::new(1, 0, 0, 1).expect("the id of a node");
     /// service.register_node_id(node)?;
@@ -828,8 +828,8 @@ impl DynamicConfig {
     /// # use iox2sd::identifiers::{UniqueListenerId, UniqueNodeId};
     /// # use iox2sd::dynamic_config::{event, DynamicConfig, MessagingPatternSettings};
     /// # let (number_of_listeners, number_of_notifiers) = (2, 3);
-    /// # let room = event::DynamicConfigSettings { number_of_listeners, number_of_notifiers };
-    /// # let settings = MessagingPatternSettings::Event(room);
+    /// # let ports = event::DynamicConfigSettings { number_of_listeners, number_of_notifiers };
+    /// # let settings = MessagingPatternSettings::Event(ports);
     /// let mut service = DynamicConfig::new(&settings, 1, 7)?;
     /// let node_id = UniqueNodeId::new(1, 0, 0, 1).expect("the id of a node");
     /// service.register_node_id(node_id)?;
@@ -904,11 +904,11 @@ impl DynamicConfig {
         number_of_servers
         /// use iox2sd::dynamic_config::{request_response, DynamicConfig, MessagingPatternSettings};
         ///
-        /// let room = request_response::DynamicConfigSettings {
+        /// let ports = request_response::DynamicConfigSettings {
         ///     number_of_servers: 2,
         ///     number_of_clients: 2,
         /// };
-        /// let settings = MessagingPatternSettings::RequestResponse(room);
+        /// let settings = MessagingPatternSettings::RequestResponse(ports);
         /// let service = DynamicConfig::new(&settings, 1, 7)?;
     }
 
@@ -918,11 +918,11 @@ impl DynamicConfig {
         /// use iox2sd::dynamic_config::publish_subscribe;
         /// use iox2sd::dynamic_config::{DynamicConfig, MessagingPatternSettings};
         ///
-        /// let room = publish_subscribe::DynamicConfigSettings {
+        /// let ports = publish_subscribe::DynamicConfigSettings {
         ///     number_of_publishers: 2,
         ///     number_of_subscribers: 2,
         /// };
-        /// let settings = MessagingPatternSettings::PublishSubscribe(room);
+        /// let settings = MessagingPatternSettings::PublishSubscribe(ports);
         /// let service = DynamicConfig::new(&settings, 1, 7)?;
     }
 
@@ -931,11 +931,11 @@ impl DynamicConfig {
         number_of_listeners
         /// use iox2sd::dynamic_config::{event, DynamicConfig, MessagingPatternSettings};
         ///
-        /// let room = event::DynamicConfigSettings {
+        /// let ports = event::DynamicConfigSettings {
         ///     number_of_listeners: 2,
         ///     number_of_notifiers: 2,
         /// };
-        /// let settings = MessagingPatternSettings::Event(room);
+        /// let settings = MessagingPatternSettings::Event(ports);
         /// let service = DynamicConfig::new(&settings, 1, 7)?;
     }
 
@@ -944,11 +944,11 @@ impl DynamicConfig {
         number_of_readers
         /// use iox2sd::dynamic_config::{blackboard, DynamicConfig, MessagingPatternSettings};
         ///
-        /// let room = blackboard::DynamicConfigSettings {
+        /// let ports = blackboard::DynamicConfigSettings {
         ///     number_of_readers: 2,
         ///     number_of_writers: 2,
         /// };
-        /// let settings = MessagingPatternSettings::Blackboard(room);
+        /// let settings = MessagingPatternSettings::Blackboard(ports);
         /// let service = DynamicConfig::new(&settings, 1, 7)?;
     }
 }

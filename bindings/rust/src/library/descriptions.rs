@@ -57,7 +57,9 @@ described! {
     Blackboard: iox2sd_describe_blackboard_at blackboard
 }
 
-fn publish_subscribe(settings: &PublishSubscribe) -> sys::iox2sd_publish_subscribe_settings {
+pub(super) fn publish_subscribe(
+    settings: &PublishSubscribe,
+) -> sys::iox2sd_publish_subscribe_settings {
     sys::iox2sd_publish_subscribe_settings {
         max_subscribers: settings.max_subscribers,
         max_publishers: settings.max_publishers,
@@ -73,7 +75,7 @@ fn publish_subscribe(settings: &PublishSubscribe) -> sys::iox2sd_publish_subscri
     }
 }
 
-fn event(settings: &Event) -> sys::iox2sd_event_settings {
+pub(super) fn event(settings: &Event) -> sys::iox2sd_event_settings {
     let number = |event: Option<usize>| sys::iox2sd_optional_event_id {
         number: event.unwrap_or(0),
         is_some: event.is_some(),
@@ -95,7 +97,7 @@ fn event(settings: &Event) -> sys::iox2sd_event_settings {
     }
 }
 
-fn request_response(settings: &RequestResonse) -> sys::iox2sd_request_response_settings {
+pub(super) fn request_response(settings: &RequestResonse) -> sys::iox2sd_request_response_settings {
     sys::iox2sd_request_response_settings {
         max_active_requests_per_client: settings.max_active_requests_per_client,
         max_response_buffer_size: settings.max_response_buffer_size,
@@ -118,7 +120,7 @@ fn request_response(settings: &RequestResonse) -> sys::iox2sd_request_response_s
     }
 }
 
-fn blackboard(settings: &Blackboard) -> sys::iox2sd_blackboard_settings {
+pub(super) fn blackboard(settings: &Blackboard) -> sys::iox2sd_blackboard_settings {
     sys::iox2sd_blackboard_settings {
         max_readers: settings.max_readers,
         max_nodes: settings.max_nodes,

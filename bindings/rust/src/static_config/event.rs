@@ -60,7 +60,7 @@ pub struct StaticConfig {
     pub deadline: Option<Deadline>,
     /// The number of the event that reports a new notifier, if there is one.
     pub notifier_created_event: Option<usize>,
-    /// The number of the event that reports that a notifier went, if there is one.
+    /// The number of the event that reports that a notifier was dropped, if there is one.
     pub notifier_dropped_event: Option<usize>,
     /// The number of the event that reports a notifier whose node died, if there is one.
     pub notifier_dead_event: Option<usize>,
@@ -192,7 +192,7 @@ impl StaticConfig {
         self.notifier_created_event.map(EventId::new)
     }
 
-    /// The event that reports that a notifier went, if there is one.
+    /// The event that reports that a notifier was dropped, if there is one.
     ///
     /// ```
     /// use iox2sd::config::{Config, EventId};

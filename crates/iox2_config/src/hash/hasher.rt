@@ -14,6 +14,31 @@ pub enum HashError {
 ///
 /// What it means, and which inputs it may refuse, depend on the input alone: two hashers of one
 /// type that were made of one input return the same text, or an error.
+///
+/// From `crates/iox2_config_tests/src/hash.rt`:
+///
+/// ```
+/// impl Hash for Dot {
+///     ghost use Rattle.std.specs.Prelude.{[], ◌∷◌};
+///
+///     ghost meaning = { λ input. 46 ∷ [] };
+///
+///     ghost may_refuse = { λ input. ⊥ };
+///
+///     ghost takes = { λ hasher input. Unit {0} };
+///
+///     fn new(_bytes: &[u8]) -> Self {
+///         Dot
+///     }
+///
+///     fn value(&self) -> Result<HashValue, HashError> {
+///         match HashValue::new(b".") {
+///             Some(value) => Ok(value),
+///             None => unreachable!(),
+///         }
+///     }
+/// }
+/// ```
 pub trait Hash: Drop {
     /// The text that the hasher means by an input.
     ghost meaning: { List ℕ → List ℕ };

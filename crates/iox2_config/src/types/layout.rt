@@ -1,5 +1,6 @@
 //! Where the parts of a message lie, and its layout.
 ghost use Rattle.std.specs.Prelude.{◌≡◌, ◌^◌, ◌<◌, ◌≤◌, ◌↔◌, IsTrue, IfSome, IfNone, MatchOption};
+ghost use Rattle.std.specs.Int.{is_power_of_two};
 ghost use Rattle.iox2_texts.specs.Multiple.{least_multiple};
 ghost use Rattle.iox2_config.specs.Blocks.{HoldsEverywhere};
 ghost use Rattle.iox2_config.specs.Compatible.{Compatible, Suits};
@@ -136,12 +137,14 @@ fn suits(opener: &TypeDetail, service: &TypeDetail) -> bool
         && opener.alignment() <= service.alignment()
 }
 
-/// As `align`, or `None` where the multiple does not fit.
-#[tactic(auto, unfolding(iox2_texts::specs::Multiple::least_multiple))]
+/// As `align` to a power of two, or `None` where the multiple does not fit.
+#[tactic(auto, using(crate::proofs::Rounding::power_positive))]
 fn checked_align(value: usize, alignment: usize) -> Option<usize>
-    requires { 0 < alignment }
+    requires { IsTrue (is_power_of_two alignment) }
     ensures some { IfSome result (λ y. y ≡ least_multiple value alignment) }
     ensures none { IfNone result (2 ^ 64 ≤ least_multiple value alignment) }
 {
-    value.checked_next_multiple_of(alignment)
+    let mask = alignment - 1;
+    let last = value.checked_add(mask)?;
+    Some(last & !mask)
 }

@@ -48,6 +48,14 @@ pub enum TypeDetailError {
 ///
 /// The alignment is a power of two. The default details, which mean that none were given, have the
 /// alignment 0, the size 0 and an empty name.
+///
+/// From `crates/iox2_config_tests/src/types.rt`:
+///
+/// ```
+/// let detail = TypeDetail::new::<T>(TypeVariant::FixedSize).expect(rt, "the name is legal");
+/// assert_eq!(rt; [detail.type_name().as_str(), T::type_name()], [name; 2]);
+/// assert_eq!(rt; [detail.size(), detail.alignment()], [size, alignment]);
+/// ```
 #[derive(Debug, Drop, PartialEq, Eq, Hash)]
 pub struct TypeDetail {
     variant: TypeVariant,

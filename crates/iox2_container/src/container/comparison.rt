@@ -121,6 +121,23 @@ fn serve_both<T: Attached + Copy, A: Registry<T>, B: Registry<T>>(
 /// the same but for handles and the order of listings. The memory of each call is taken for both
 /// lists before either registry changes, so after an error both have made the same number of calls,
 /// fewer than all, and have as many replies.
+///
+/// From `crates/iox2_container_tests/src/comparison.rt`:
+///
+/// ```
+/// let mut scan = Container::new(alloc, 1, Role::Node, capacity, tickets)?;
+/// let mut list = ListContainer::new(alloc, 2, Role::Reader, capacity, tickets)?;
+/// let mut of_scan = Vec::new(alloc);
+/// let mut of_list = Vec::new(alloc);
+/// let same = compare(
+///     alloc,
+///     &mut scan,
+///     &mut list,
+///     calls,
+///     &mut of_scan,
+///     &mut of_list,
+/// );
+/// ```
 pub fn compare<T: Attached + Copy + Eq, A: Registry<T>, B: Registry<T>>(
     alloc: Global,
     a: &mut A,

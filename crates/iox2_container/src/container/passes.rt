@@ -5,8 +5,8 @@ ghost use Rattle.std.specs.Fn.{CalledAt, TakesAt};
 ghost use Rattle.iox2_container.specs.Cells.{shown};
 ghost use Rattle.iox2_container.specs.Places.{IsTakenAt, details_in, entries_from};
 ghost use Rattle.iox2_container.specs.Callbacks.{CanBeAsked, CanVisit};
-ghost use Rattle.iox2_container.specs.Passes.{AskedOfCell, AreOthers, PlaceIsOf, Swept, cell_is_of};
-ghost use Rattle.iox2_container.specs.Passes.{CellHas, IsAt, IsNextOf, TakesCell, looked_at};
+ghost use Rattle.iox2_container.specs.Passes.{AskedOfCell, AreOthers, Swept, cell_is_of};
+ghost use Rattle.iox2_container.specs.Passes.{IsNextOf, TakesCell, looked_at};
 ghost use Rattle.iox2_container.specs.Steps.{Visit, candidates, is_of};
 
 use super::attached::Attached;
@@ -76,41 +76,6 @@ fn belongs_to<T: Attached + Copy>(cell: Option<Occupant<T>>, node: &UniqueNodeId
     }
 }
 
-/// The details in a cell, if they are the node's.
-fn of_node<T: Attached + Copy>(cell: Option<Occupant<T>>, node: &UniqueNodeId) -> Option<T>
-    ensures { MatchOption result
-        (false ≡ cell_is_of T.node node.now cell)
-        (CellHas T.node node.now cell) }
-{
-    match cell {
-        Some(occupant) => {
-            if occupant.details.node_id() == *node {
-                Some(occupant.details)
-            } else {
-                None
-            }
-        }
-        None => None,
-    }
-}
-
-/// The details in a slot, if they are the node's.
-#[inline(always)]
-fn look_for<T: Attached + Copy, N: Copy>(
-    places: &mut Places<T, N>,
-    slot: usize,
-    node: &UniqueNodeId,
-) -> Option<T>
-    requires { slot < length places.old.cells }
-    ensures cells { places.new.cells ≡ places.old.cells }
-    ensures touches { places.new.touches ≡ places.old.touches + 1 }
-    ensures found { MatchOption result
-        (PlaceIsOf T.node node.now (map shown places.old.cells) slot false)
-        (IsAt T.node node.now (map shown places.old.cells) slot) }
-{
-    of_node(places.look(slot), node)
-}
-
 /// The same as [`next_of`], one slot after another.
 fn next_by_one<T: Attached + Copy, N: Copy>(
     places: &mut Places<T, N>,
@@ -127,7 +92,7 @@ fn next_by_one<T: Attached + Copy, N: Copy>(
         (IsNextOf T.node node.now (map shown places.old.cells) start end) }
 {
     for slot in start..end {
-        if let Some(details) = look_for(places, slot, node) {
+        if let Some(details) = places.look_for(slot, node) {
             return Some(Found { slot, details });
         }
     }
@@ -150,22 +115,22 @@ fn next_of_four<T: Attached + Copy, N: Copy>(
 {
     // For the proof: the number of slots fits a `usize`.
     let _fits = places.len();
-    if let Some(details) = look_for(places, slot, node) {
+    if let Some(details) = places.look_for(slot, node) {
         return Some(Found { slot, details });
     }
-    if let Some(details) = look_for(places, slot + 1, node) {
+    if let Some(details) = places.look_for(slot + 1, node) {
         return Some(Found {
             slot: slot + 1,
             details,
         });
     }
-    if let Some(details) = look_for(places, slot + 2, node) {
+    if let Some(details) = places.look_for(slot + 2, node) {
         return Some(Found {
             slot: slot + 2,
             details,
         });
     }
-    if let Some(details) = look_for(places, slot + 3, node) {
+    if let Some(details) = places.look_for(slot + 3, node) {
         return Some(Found {
             slot: slot + 3,
             details,
@@ -223,7 +188,7 @@ pub(super) fn has_of<T: Attached + Copy, S: SlotAllocator<T>>(
     if likely >= end {
         return next_of(places, 0, end, node).is_some();
     }
-    if look_for(places, likely, node).is_some() {
+    if places.look_for(likely, node).is_some() {
         return true;
     }
     if next_of(places, 0, likely, node).is_some() {

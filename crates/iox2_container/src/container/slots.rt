@@ -1,11 +1,15 @@
 //! Numbered slots.
 ghost use Rattle.std.specs.Prelude.{◌≡◌, ◌+◌, ◌<◌, Some, IfOk};
-ghost use Rattle.std.specs.Prelude.{length, replicate, slice_get, slice_set};
+ghost use Rattle.std.specs.Prelude.{MatchOption, false, length, map, replicate, slice_get, slice_set};
+ghost use Rattle.iox2_container.specs.Cells.{shown};
+ghost use Rattle.iox2_container.specs.Passes.{IsAt, PlaceIsOf};
 
 mod cell;
 mod touches;
 
+use super::attached::Attached;
 pub(crate) use cell::{Cell, Occupant};
+use iox2_ids::identifiers::UniqueNodeId;
 use std::alloc::{AllocError, Global};
 use std::marker::Model;
 pub(crate) use touches::Touches;
@@ -79,5 +83,21 @@ impl<C: Copy> Slots<C> {
         ensures { slice_get self.now.cells index ≡ Some result }
     {
         self.cells[index]
+    }
+}
+
+impl<T: Attached + Copy, N: Copy> Slots<Cell<T, N>> {
+    /// The details in a slot, if they are the node's. This is a touch.
+    #[inline(always)]
+    pub(crate) fn look_for(&mut self, slot: usize, node: &UniqueNodeId) -> Option<T>
+        requires { slot < length self.old.cells }
+        ensures cells { self.new.cells ≡ self.old.cells }
+        ensures touches { self.new.touches ≡ self.old.touches + 1 }
+        ensures found { MatchOption result
+            (PlaceIsOf T.node node.now (map shown self.old.cells) slot false)
+            (IsAt T.node node.now (map shown self.old.cells) slot) }
+    {
+        self.touches = self.touches.one_more();
+        self.cells[slot].of_node(node)
     }
 }

@@ -11,6 +11,13 @@ use std::marker::{Model, PhantomData};
 /// The id of something of the kind `K`: two ids of different kinds cannot be taken for one another.
 ///
 /// No part of an id is bounded further than its type; all parts may be 0.
+///
+/// From `crates/iox2_ids_tests/src/ids.rt`:
+///
+/// ```
+/// let id = UniquePublisherId::new(process, seconds, nanoseconds, counter);
+/// let time = id.creation_time();
+/// ```
 #[derive_where(Clone, Copy, Debug, PartialEq, Eq, PartialOrd, Ord, Hash)]
 pub struct UniqueId<K> {
     value: u128,

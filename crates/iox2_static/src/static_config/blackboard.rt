@@ -1,7 +1,7 @@
 //! Static configurations of blackboard services.
 ghost use Rattle.std.specs.Prelude.{◌≡◌};
 
-use iox2_config::config::Config;
+use iox2_config::config::{Blackboard, Config};
 use iox2_config::types::TypeDetail;
 
 /// What is fixed of a blackboard service.
@@ -24,11 +24,17 @@ impl StaticConfig {
     pub fn new(config: &Config) -> Self
         ensures { result ≡ blackboard_of config.now.defaults.blackboard }
     {
-        let defaults = &config.defaults.blackboard;
+        Self::with_settings(&config.defaults.blackboard)
+    }
+
+    /// What these settings fix of a service, with one writer and the default type details.
+    pub fn with_settings(settings: &Blackboard) -> Self
+        ensures { result ≡ blackboard_of settings.now }
+    {
         StaticConfig {
-            max_readers: defaults.max_readers,
+            max_readers: settings.max_readers,
             max_writers: 1,
-            max_nodes: defaults.max_nodes,
+            max_nodes: settings.max_nodes,
             type_details: TypeDetail::default(),
         }
     }

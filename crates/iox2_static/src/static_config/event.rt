@@ -1,7 +1,7 @@
 //! Static configurations of event services.
 ghost use Rattle.std.specs.Prelude.{◌≡◌};
 
-use iox2_config::config::{Config, EventId};
+use iox2_config::config::{Config, Event, EventId};
 use iox2_ids::identifiers::Time;
 use std::time::Duration;
 
@@ -42,22 +42,28 @@ impl StaticConfig {
     pub fn new(config: &Config) -> Self
         ensures { result ≡ event_of config.now.defaults.event }
     {
-        let defaults = &config.defaults.event;
+        Self::with_settings(&config.defaults.event)
+    }
+
+    /// What these settings fix of a service. A deadline is made with the default time.
+    pub fn with_settings(settings: &Event) -> Self
+        ensures { result ≡ event_of settings.now }
+    {
         StaticConfig {
-            max_notifiers: defaults.max_notifiers,
-            max_listeners: defaults.max_listeners,
-            max_nodes: defaults.max_nodes,
-            event_id_max_value: defaults.event_id_max_value,
-            deadline: match defaults.deadline {
+            max_notifiers: settings.max_notifiers,
+            max_listeners: settings.max_listeners,
+            max_nodes: settings.max_nodes,
+            event_id_max_value: settings.event_id_max_value,
+            deadline: match settings.deadline {
                 Some(value) => Some(Deadline {
                     creation_time: Time::default(),
                     value,
                 }),
                 None => None,
             },
-            notifier_created_event: defaults.notifier_created_event,
-            notifier_dropped_event: defaults.notifier_dropped_event,
-            notifier_dead_event: defaults.notifier_dead_event,
+            notifier_created_event: settings.notifier_created_event,
+            notifier_dropped_event: settings.notifier_dropped_event,
+            notifier_dead_event: settings.notifier_dead_event,
         }
     }
 

@@ -2,7 +2,7 @@
 ghost use Rattle.std.specs.Prelude.{◌≡◌};
 
 use super::chunks::amount_of_chunks;
-use iox2_config::config::Config;
+use iox2_config::config::{Config, PublishSubscribe};
 use iox2_config::types::MessageTypeDetails;
 
 /// What is fixed of a publish-subscribe service.
@@ -34,15 +34,21 @@ impl StaticConfig {
     pub fn new(config: &Config) -> Self
         ensures { result ≡ publish_subscribe_of config.now.defaults.publish_subscribe }
     {
-        let defaults = &config.defaults.publish_subscribe;
+        Self::with_settings(&config.defaults.publish_subscribe)
+    }
+
+    /// What these settings fix of a service, with the default type details.
+    pub fn with_settings(settings: &PublishSubscribe) -> Self
+        ensures { result ≡ publish_subscribe_of settings.now }
+    {
         StaticConfig {
-            max_subscribers: defaults.max_subscribers,
-            max_publishers: defaults.max_publishers,
-            max_nodes: defaults.max_nodes,
-            history_size: defaults.publisher_history_size,
-            subscriber_max_buffer_size: defaults.subscriber_max_buffer_size,
-            subscriber_max_borrowed_samples: defaults.subscriber_max_borrowed_samples,
-            enable_safe_overflow: defaults.enable_safe_overflow,
+            max_subscribers: settings.max_subscribers,
+            max_publishers: settings.max_publishers,
+            max_nodes: settings.max_nodes,
+            history_size: settings.publisher_history_size,
+            subscriber_max_buffer_size: settings.subscriber_max_buffer_size,
+            subscriber_max_borrowed_samples: settings.subscriber_max_borrowed_samples,
+            enable_safe_overflow: settings.enable_safe_overflow,
             message_type_details: MessageTypeDetails::default(),
         }
     }

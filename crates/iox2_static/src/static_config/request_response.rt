@@ -2,7 +2,7 @@
 ghost use Rattle.std.specs.Prelude.{◌≡◌};
 
 use super::chunks::amount_of_chunks;
-use iox2_config::config::Config;
+use iox2_config::config::{Config, RequestResonse};
 use iox2_config::types::MessageTypeDetails;
 
 /// What is fixed of a request-response service.
@@ -43,18 +43,24 @@ impl StaticConfig {
     pub fn new(config: &Config) -> Self
         ensures { result ≡ request_response_of config.now.defaults.request_response }
     {
-        let defaults = &config.defaults.request_response;
+        Self::with_settings(&config.defaults.request_response)
+    }
+
+    /// What these settings fix of a service, with the default type details.
+    pub fn with_settings(settings: &RequestResonse) -> Self
+        ensures { result ≡ request_response_of settings.now }
+    {
         StaticConfig {
-            enable_safe_overflow_for_requests: defaults.enable_safe_overflow_for_requests,
-            enable_safe_overflow_for_responses: defaults.enable_safe_overflow_for_responses,
-            enable_fire_and_forget_requests: defaults.enable_fire_and_forget_requests,
-            max_active_requests_per_client: defaults.max_active_requests_per_client,
-            max_loaned_requests: defaults.max_loaned_requests,
-            max_response_buffer_size: defaults.max_response_buffer_size,
-            max_servers: defaults.max_servers,
-            max_clients: defaults.max_clients,
-            max_nodes: defaults.max_nodes,
-            max_borrowed_responses_per_pending_response: defaults.max_borrowed_responses_per_pending_response,
+            enable_safe_overflow_for_requests: settings.enable_safe_overflow_for_requests,
+            enable_safe_overflow_for_responses: settings.enable_safe_overflow_for_responses,
+            enable_fire_and_forget_requests: settings.enable_fire_and_forget_requests,
+            max_active_requests_per_client: settings.max_active_requests_per_client,
+            max_loaned_requests: settings.max_loaned_requests,
+            max_response_buffer_size: settings.max_response_buffer_size,
+            max_servers: settings.max_servers,
+            max_clients: settings.max_clients,
+            max_nodes: settings.max_nodes,
+            max_borrowed_responses_per_pending_response: settings.max_borrowed_responses_per_pending_response,
             request_message_type_details: MessageTypeDetails::default(),
             response_message_type_details: MessageTypeDetails::default(),
         }

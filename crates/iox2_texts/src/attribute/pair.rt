@@ -3,7 +3,6 @@ ghost use Rattle.std.specs.Prelude.{◌≡◌};
 ghost use lib.Chars.{codes};
 
 use super::text::{AttributeKey, AttributeValue};
-use std::cmp::Ordering;
 use std::marker::Model;
 
 /// A key with a value, ordered by the bytes of the key and then by the bytes of the value.
@@ -24,8 +23,6 @@ impl Model for Attribute {
 }
 
 impl Attribute {
-    ghost use Rattle.iox2_texts.specs.Pair.{text_cmp};
-
     /// The pair of copies of `key` and `value`.
     pub fn new(key: &AttributeKey, value: &AttributeValue) -> Self
         ensures { result ≡ record { key = key.now; value = value.now } }
@@ -48,13 +45,6 @@ impl Attribute {
         ensures { result.now ≡ self.now.value }
     {
         &self.value
-    }
-
-    /// How its key compares to another.
-    pub(super) fn cmp_key(&self, key: &AttributeKey) -> Ordering
-        ensures { result ≡ text_cmp self.now.key key.now }
-    {
-        self.key.cmp(key)
     }
 
     /// An equal pair.

@@ -1,11 +1,11 @@
 //! Sets of attributes.
-ghost use Rattle.std.specs.Prelude.{◌≡◌, ◌+◌, ◌<◌, ◌≤◌, ◌↔◌, [], ◌∷◌, Some, length, IsTrue, IsOk};
-ghost use Rattle.std.specs.Prelude.{OnOk, OnErr, Contains, slice_get};
+ghost use Rattle.std.specs.Prelude.{◌≡◌, ◌+◌, ◌<◌, ◌≤◌, ◌↔◌, [], ◌∷◌, Some, length, IsOk};
+ghost use Rattle.std.specs.Prelude.{OnOk, OnErr, slice_get};
 ghost use Rattle.std.specs.Option.{option_copied};
 ghost use Rattle.std.specs.Fn.{CalledAt, TakesAt};
 ghost use Rattle.iox2_texts.specs.Pair.{IsAttributes};
 ghost use Rattle.iox2_texts.specs.Callbacks.{CanVisit};
-ghost use Rattle.iox2_texts.specs.Attribute.{IsListing, ContainsKey, Visits, values_of};
+ghost use Rattle.iox2_texts.specs.Attribute.{IsListing, Visits, values_of};
 
 use super::pair::Attribute;
 use super::text::{AttributeKey, AttributeValue};
@@ -173,22 +173,6 @@ impl AttributeSet {
                 }
             }
         }
-    }
-
-    /// Whether the pair is in the set.
-    pub(super) fn contains(&self, attribute: &Attribute) -> bool
-        ensures { IsTrue result ↔ Contains self.now attribute.now }
-    {
-        self.as_slice().binary_search(attribute).is_ok()
-    }
-
-    /// Whether some pair has the key.
-    pub(super) fn contains_key(&self, key: &AttributeKey) -> bool
-        ensures { IsTrue result ↔ ContainsKey self.now key.now }
-    {
-        self.as_slice()
-            .binary_search_by(|attribute| attribute.cmp_key(key))
-            .is_ok()
     }
 
     /// An equal set.

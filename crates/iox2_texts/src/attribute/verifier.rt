@@ -2,7 +2,10 @@
 ghost use Rattle.std.specs.Prelude.{◌≡◌, ◌+◌, ◌<◌, ◌≤◌, ◌↔◌, [], ◌∷◌, ◌++◌, length, Some, IsTrue};
 ghost use Rattle.std.specs.Prelude.{IsOk, IfOk, All, Contains, MatchOption};
 ghost use Rattle.std.specs.Option.{option_copied};
-ghost use Rattle.iox2_texts.specs.Attribute.{IsListing, ContainsKey};
+ghost use Rattle.std.specs.Prelude.{◌&&◌, nat_eq};
+ghost use Rattle.std.specs.List.{position};
+ghost use Rattle.std.specs.Cmp.Lexicographic.{pointwise};
+ghost use Rattle.iox2_texts.specs.Attribute.{IsListing, ContainsKey, has_key};
 ghost use Rattle.iox2_texts.specs.Pair.{IsAttributes};
 ghost use Rattle.iox2_texts.specs.Verify.{IsLeastMissing, IsFirstMissing};
 ghost use Rattle.iox2_texts.specs.VerifyErrors.{Verifies};
@@ -177,11 +180,12 @@ impl AttributeVerifier {
     ) -> Result<(), AttributeVerificationError>
         ensures { Verifies self.now attributes.now result }
     {
-        if let Some(pair) = missing_pair(self.required_attributes().as_slice(), attributes) {
+        let pairs = attributes.as_slice();
+        if let Some(pair) = missing_pair(self.required_attributes().as_slice(), pairs) {
             let missing = (pair.key().copied(), pair.value().copied());
             return Err(AttributeVerificationError::IncompatibleAttribute(missing));
         }
-        match missing_key(self.required_keys(), attributes) {
+        match missing_key(self.required_keys(), pairs) {
             Some(key) => Err(AttributeVerificationError::NonExistingKey(key.copied())),
             None => Ok(()),
         }
@@ -202,33 +206,64 @@ impl AttributeVerifier {
     }
 }
 
-/// The least of the required pairs that are not in the set.
-fn missing_pair<'a>(required: &'a [Attribute], attributes: &AttributeSet) -> Option<&'a Attribute>
-    requires { IsAttributes required.now }
-    ensures { MatchOption (option_copied result)
-        (All (Contains attributes.now) required.now)
-        (IsLeastMissing required.now attributes.now) }
+/// The first index at which the pair stands.
+fn index_of(pairs: &[Attribute], pair: &Attribute) -> Option<usize>
+    ensures { result ≡ position (λ p. pointwise nat_eq p.key pair.now.key
+        && pointwise nat_eq p.value pair.now.value) pairs.now }
 {
+    pairs.iter().position(|attribute| attribute == pair)
+}
+
+/// The first index at which a pair with the key stands.
+fn index_with(pairs: &[Attribute], key: &AttributeKey) -> Option<usize>
+    ensures { result ≡ position (has_key key.now) pairs.now }
+{
+    pairs.iter().position(|attribute| attribute.key() == key)
+}
+
+/// The index of a pair with the key. It is sought from `from` on, and then before.
+fn index_near(pairs: &[Attribute], from: usize, key: &AttributeKey) -> Option<usize>
+    requires { from ≤ length pairs.now }
+    ensures { MatchOption result (¬ (ContainsKey pairs.now key.now))
+        (λ index. (index < length pairs.now) × ContainsKey pairs.now key.now) }
+{
+    match index_with(&pairs[from..], key) {
+        Some(further) => Some(from + further),
+        None => index_with(&pairs[..from], key),
+    }
+}
+
+/// The least of the required pairs that are not in the set. Both rise, so each pair is sought from
+/// where the one before it was found.
+fn missing_pair<'a>(required: &'a [Attribute], pairs: &[Attribute]) -> Option<&'a Attribute>
+    requires required { IsAttributes required.now }
+    requires pairs { IsAttributes pairs.now }
+    ensures { MatchOption (option_copied result)
+        (All (Contains pairs.now) required.now)
+        (IsLeastMissing required.now pairs.now) }
+{
+    let mut from = 0;
     for pair in required {
-        if !attributes.contains(pair) {
-            return Some(pair);
+        match index_of(&pairs[from..], pair) {
+            Some(further) => from += further,
+            None => return Some(pair),
         }
     }
     None
 }
 
-/// The first of the required keys that no pair of the set has.
-fn missing_key<'a>(
-    required: &'a [AttributeKey],
-    attributes: &AttributeSet,
-) -> Option<&'a AttributeKey>
+/// The first of the required keys that no pair of the set has. Each is sought near the pair that
+/// has the key before it: where the keys rise too, one way through the pairs finds all of them.
+fn missing_key<'a>(required: &'a [AttributeKey], pairs: &[Attribute]) -> Option<&'a AttributeKey>
     ensures { MatchOption (option_copied result)
-        (All (ContainsKey attributes.now) required.now)
-        (IsFirstMissing required.now attributes.now) }
+        (All (ContainsKey pairs.now) required.now)
+        (IsFirstMissing required.now pairs.now) }
 {
+    let mut from = 0;
     for key in required {
-        if !attributes.contains_key(key) {
-            return Some(key);
+        match index_near(pairs, from, key) {
+            Some(index) => from = index,
+            None => return Some(key),
         }
     }
     None

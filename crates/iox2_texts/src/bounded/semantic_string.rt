@@ -17,6 +17,13 @@ pub trait Content {
 }
 
 /// A text of at most `N` bytes, each from 1 to 127, that the content `C` allows.
+///
+/// From `crates/iox2_texts_tests/src/texts/paths.rt`:
+///
+/// ```
+/// let restricted = RestrictedFileName::<4>::new(b"c");
+/// tells(&rt, &restricted.expect(&rt, "a name"), "c");
+/// ```
 #[derive(Drop)]
 #[derive_where(Debug, PartialEq, Eq, PartialOrd, Ord, Hash)]
 pub struct SemanticString<C: Content, const N: usize> {
@@ -51,6 +58,16 @@ impl<C: Content, const N: usize> SemanticString<C, N> {
             return Err(SemanticStringError::InvalidContent);
         }
         Ok(Self::of_allowed(text))
+    }
+
+    /// The semantic string of bytes that are known to be legal, at which it does not look.
+    pub fn from_legal(bytes: &[u8]) -> Self
+        requires { IsAllowed C.Allows N bytes.now }
+        ensures { result ≡ bytes.now }
+    {
+        let mut text = StaticString::new();
+        text.push_bytes(bytes);
+        Self::of_allowed(text)
     }
 
     /// The semantic string of a text that is known to be allowed.

@@ -5,6 +5,12 @@ use super::MAX_PATH_LENGTH;
 use crate::bounded::{Content, SemanticString};
 
 /// The name of a file: 1 to 255 bytes without `/`, and neither `.` nor `..`.
+///
+/// From `crates/iox2_texts_tests/src/texts/paths.rt`:
+///
+/// ```
+/// FileName::new(bytes).expect(rt, "a name")
+/// ```
 pub type FileName = SemanticString<FileNameContent, MAX_PATH_LENGTH>;
 
 /// What a file name allows: not the empty text, no `/`, and neither `.` nor `..`.

@@ -11,6 +11,13 @@ use crate::bounded::{Content, SemanticString, SemanticStringError};
 
 /// The path of a file: 1 to 255 bytes, of which those after the last `/` are a file name. Where
 /// there is no `/`, all of them are. `a/` and `a/..` are refused.
+///
+/// From `crates/iox2_texts_tests/src/texts/paths.rt`:
+///
+/// ```
+/// let file = FilePath::from_path_and_file(&path(&rt, b""), &name(&rt, b"a"));
+/// assert_eq!(rt; file.expect(&rt, "a path").as_str(), "a");
+/// ```
 pub type FilePath = SemanticString<FilePathContent, MAX_PATH_LENGTH>;
 
 /// What the path of a file allows: a last part that is a file name.

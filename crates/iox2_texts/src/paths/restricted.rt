@@ -6,6 +6,12 @@ use crate::bounded::{Content, SemanticString};
 
 /// The name of a file: 1 to `N` letters `A` to `Z` and `a` to `z`, digits, `-`, `.`, `:` and `_`,
 /// and neither `.` nor `..`.
+///
+/// From `crates/iox2_texts_tests/src/texts/paths.rt`:
+///
+/// ```
+/// let restricted = RestrictedFileName::<4>::new(b"c");
+/// ```
 pub type RestrictedFileName<const N: usize> = SemanticString<RestrictedFileNameContent, N>;
 
 /// What a restricted name allows: not the empty text, letters, digits, `-`, `.`, `:` and `_` alone,

@@ -21,6 +21,12 @@ use std::marker::Model;
 
 /// What a service must hold, and the handles that it gave, by the commands and replies that were
 /// seen.
+///
+/// From `crates/service_conformance_tests/src/rows.rt`:
+///
+/// ```
+/// RunCheck::new(alloc, &settings, 2, 7)
+/// ```
 #[derive(Drop)]
 pub struct RunCheck {
     service: ServiceCheck,
@@ -138,6 +144,21 @@ impl RunCheck {
 
 /// Returns `None` where some run of the commands gives these replies, and otherwise the number of
 /// the first command with whose reply no run goes on, counted from 0.
+///
+/// From `crates/service_conformance_tests/src/runs.rt`:
+///
+/// ```
+/// let commands = [Command::Count(Role::Listener), Command::List(Role::Reader)];
+/// let good = [Reply::Count(0), Reply::WrongPattern];
+/// let wrong = [Reply::Count(0), Reply::Count(0)];
+/// assert_eq!(rt;
+///     (
+///         conforms(alloc, &mut new_check(alloc), &commands, &good)?,
+///         conforms(alloc, &mut new_check(alloc), &commands, &wrong)?,
+///     ),
+///     (None, Some(1))
+/// );
+/// ```
 pub fn conforms(
     alloc: Global,
     check: &mut RunCheck,

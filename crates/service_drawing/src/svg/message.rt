@@ -31,7 +31,7 @@ pub(super) fn write_message(sheet: &mut Sheet, segment: Segment<'_>) -> Result<(
     };
     let size = Counted::new(layout.size, "byte");
     let alignment = message.details.header.alignment();
-    writeln!(sheet.text(), "{size} at multiples of {alignment}</text>")?;
+    writeln!(sheet.text(), "{size}, alignment {alignment}</text>")?;
     let top = sheet.top();
     writeln!(sheet.text(), "<g transform=\"translate(0 {top})\">")?;
     write_bar(sheet.text(), &layout)?;
@@ -127,7 +127,7 @@ fn write_rows(
         &types.header,
         opener.map(|o| &o.header),
     )?;
-    write_empty(sheet, "gap", layout.first_gap)?;
+    write_empty(sheet, "padding", layout.first_gap)?;
     write_typed(
         sheet,
         "user-header",
@@ -136,7 +136,7 @@ fn write_rows(
         &types.user_header,
         opener.map(|o| &o.user_header),
     )?;
-    write_empty(sheet, "gap", layout.second_gap)?;
+    write_empty(sheet, "padding", layout.second_gap)?;
     write_typed(
         sheet,
         "payload",
@@ -145,7 +145,7 @@ fn write_rows(
         &types.payload,
         opener.map(|o| &o.payload),
     )?;
-    write_empty(sheet, "spare", layout.spare)
+    write_empty(sheet, "padding", layout.spare)
 }
 
 /// Draws how many elements there are, the memory of a port, and whether the opener is compatible.

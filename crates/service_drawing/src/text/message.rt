@@ -28,7 +28,7 @@ pub(super) fn write_message(out: &mut String, segment: Segment<'_>) -> Result<()
     };
     let size = layout.size;
     let alignment = message.details.header.alignment();
-    writeln!(out, "\n{title}: {size} bytes at multiples of {alignment}\n")?;
+    writeln!(out, "\n{title}: {size} bytes, alignment {alignment}\n")?;
     write_bar(out, &layout)?;
     write_table(out, message, &layout)?;
     if let Some(sentence) = opener_sentence(message) {
@@ -73,7 +73,7 @@ fn write_bar(out: &mut String, layout: &MessageLayout) -> Result<(), AllocError>
         1 => writeln!(out, "\n  a character for each byte\n"),
         _ => writeln!(
             out,
-            "\n  a character for each {scale} bytes, which tells what lies at the first\n"
+            "\n  a character for each {scale} bytes, which shows what lies at the first\n"
         ),
     }
 }
@@ -167,7 +167,7 @@ fn write_table(
     )?;
     let [header, user_header, payload] = opener_alignments(opener);
     write_typed(out, layout.header, "H header", &types.header, header)?;
-    write_empty(out, layout.first_gap, ". gap")?;
+    write_empty(out, layout.first_gap, ". padding")?;
     write_typed(
         out,
         layout.user_header,
@@ -175,9 +175,9 @@ fn write_table(
         &types.user_header,
         user_header,
     )?;
-    write_empty(out, layout.second_gap, ". gap")?;
+    write_empty(out, layout.second_gap, ". padding")?;
     write_payload(out, layout, &types.payload, payload)?;
-    write_empty(out, layout.spare, "- spare")?;
+    write_empty(out, layout.spare, "- padding")?;
     writeln!(out, "{:>10} {:>32}    end", layout.size, "")
 }
 

@@ -38,21 +38,21 @@ pub(crate) static ENDS: [(&[&str], &str, &str); 6] = [
         &["iox2-describe"],
         GAPS,
         "
-message: 20 bytes at multiples of 4
+message: 20 bytes, alignment 4
 
   HHHHH...UUU.001122--
   a character for each byte
 
     offset       size  alignment             part
          0          5          4             H header H
-         5          3                        . gap
+         5          3                        . padding
          8          3          4             U user header U
-        11          1                        . gap
+        11          1                        . padding
         12          6          2               payload 3 of P
         12          2                        0   element 0
         14          2                        1   element 1
         16          2                        2   element 2
-        18          2                        - spare
+        18          2                        - padding
         20                                     end
   data segment of a publisher: 34 chunks of 20 bytes, 680 bytes
 
@@ -66,10 +66,10 @@ required by an opener
         &["iox2-describe"],
         SPARE,
         "
-message: 1024 bytes at multiples of 1024
+message: 1024 bytes, alignment 1024
 
   H8406284062840628406284062840628406284--------------------------
-  a character for each 16 bytes, which tells what lies at the first
+  a character for each 16 bytes, which shows what lies at the first
 
     offset       size  alignment             part
          0          8       1024             H header H
@@ -80,7 +80,7 @@ message: 1024 bytes at multiples of 1024
         10          1                        2   element 2
         11          1                        3   element 3
                                                  and 596 more
-       608        416                        - spare
+       608        416                        - padding
       1024                                     end
   data segment of a publisher: 34 chunks of 1024 bytes, 34816 bytes
 
@@ -117,17 +117,17 @@ required by an opener
 <text x=\"440\" y=\"1460\" dy=\"115\">header: offset 0, 5 bytes</text>
 <text x=\"440\" y=\"1660\" dy=\"110\" font-size=\"110\" font-family=\"monospace\">alignment 4, H</text>
 <rect x=\"200\" y=\"1870\" width=\"140\" height=\"140\" class=\"part empty\"/>
-<text x=\"440\" y=\"1870\" dy=\"115\">gap: offset 5, 3 bytes</text>
+<text x=\"440\" y=\"1870\" dy=\"115\">padding: offset 5, 3 bytes</text>
 <rect x=\"200\" y=\"2110\" width=\"140\" height=\"140\" class=\"part user-header\"/>
 <text x=\"440\" y=\"2110\" dy=\"115\">user header: offset 8, 3 bytes</text>
 <text x=\"440\" y=\"2310\" dy=\"110\" font-size=\"110\" font-family=\"monospace\">alignment 4, U</text>
 <rect x=\"200\" y=\"2520\" width=\"140\" height=\"140\" class=\"part empty\"/>
-<text x=\"440\" y=\"2520\" dy=\"115\">gap: offset 11, 1 byte</text>
+<text x=\"440\" y=\"2520\" dy=\"115\">padding: offset 11, 1 byte</text>
 <rect x=\"200\" y=\"2760\" width=\"140\" height=\"140\" class=\"part payload\"/>
 <text x=\"440\" y=\"2760\" dy=\"115\">payload: offset 12, 6 bytes</text>
 <text x=\"440\" y=\"2960\" dy=\"110\" font-size=\"110\" font-family=\"monospace\">alignment 2, P</text>
 <rect x=\"200\" y=\"3170\" width=\"140\" height=\"140\" class=\"part empty\"/>
-<text x=\"440\" y=\"3170\" dy=\"115\">spare: offset 18, 2 bytes</text>
+<text x=\"440\" y=\"3170\" dy=\"115\">padding: offset 18, 2 bytes</text>
 <text x=\"200\" y=\"3470\" dy=\"110\" font-size=\"110\" font-family=\"monospace\">3 elements of 2 bytes</text>
 <text x=\"200\" y=\"3640\" dy=\"110\" font-size=\"110\" font-family=\"monospace\">data segment of a publisher: 34 chunks of 20 bytes, 680 bytes</text>
 </svg>
@@ -156,7 +156,7 @@ required by an opener
 <text x=\"440\" y=\"2280\" dy=\"115\">payload: offset 92, 4 bytes</text>
 <text x=\"440\" y=\"2480\" dy=\"110\" font-size=\"110\" font-family=\"monospace\">alignment 1, P</text>
 <rect x=\"200\" y=\"2690\" width=\"140\" height=\"140\" class=\"part empty\"/>
-<text x=\"440\" y=\"2690\" dy=\"115\">spare: offset 96, 4 bytes</text>
+<text x=\"440\" y=\"2690\" dy=\"115\">padding: offset 96, 4 bytes</text>
 <text x=\"200\" y=\"2990\" dy=\"110\" font-size=\"110\" font-family=\"monospace\">1 element of 4 bytes</text>
 <text x=\"200\" y=\"3160\" dy=\"110\" font-size=\"110\" font-family=\"monospace\">data segment of a publisher: 34 chunks of 100 bytes, 3400 bytes</text>
 </svg>
@@ -211,7 +211,7 @@ required by an opener
 <text x=\"440\" y=\"2280\" dy=\"115\">payload: offset 8, 600 bytes</text>
 <text x=\"440\" y=\"2480\" dy=\"110\" font-size=\"110\" font-family=\"monospace\">alignment 1, P</text>
 <rect x=\"200\" y=\"2690\" width=\"140\" height=\"140\" class=\"part empty\"/>
-<text x=\"440\" y=\"2690\" dy=\"115\">spare: offset 608, 416 bytes</text>
+<text x=\"440\" y=\"2690\" dy=\"115\">padding: offset 608, 416 bytes</text>
 <text x=\"200\" y=\"2990\" dy=\"110\" font-size=\"110\" font-family=\"monospace\">600 elements of 1 byte</text>
 <text x=\"200\" y=\"3160\" dy=\"110\" font-size=\"110\" font-family=\"monospace\">data segment of a publisher: 34 chunks of 1024 bytes, 34816 bytes</text>
 </svg>

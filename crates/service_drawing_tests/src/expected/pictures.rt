@@ -43,7 +43,7 @@ opener 8 1 4
 ",
     end: "<rect class=\"page\" width=\"7600\" height=\"4000\"/>
 <text x=\"200\" y=\"150\" dy=\"150\" font-size=\"150\" font-family=\"monospace\">Shown (publish-subscribe)</text>
-<text x=\"200\" y=\"480\" dy=\"150\" font-size=\"150\">message: 48 bytes at multiples of 8</text>
+<text x=\"200\" y=\"480\" dy=\"150\" font-size=\"150\">message: 48 bytes, alignment 8</text>
 <g transform=\"translate(0 720)\">
 <rect x=\"200\" y=\"0\" width=\"2400\" height=\"460\" class=\"part header\"/>
 <rect x=\"2600\" y=\"0\" width=\"600\" height=\"460\" class=\"part user-header\"/>
@@ -66,12 +66,12 @@ opener 8 1 4
 <text x=\"440\" y=\"1870\" dy=\"115\">user header: offset 16, 4 bytes</text>
 <text x=\"440\" y=\"2070\" dy=\"110\" font-size=\"110\" font-family=\"monospace\">alignment 4, opener's 1, u32</text>
 <rect x=\"200\" y=\"2280\" width=\"140\" height=\"140\" class=\"part empty\"/>
-<text x=\"440\" y=\"2280\" dy=\"115\">gap: offset 20, 4 bytes</text>
+<text x=\"440\" y=\"2280\" dy=\"115\">padding: offset 20, 4 bytes</text>
 <rect x=\"200\" y=\"2520\" width=\"140\" height=\"140\" class=\"part payload\"/>
 <text x=\"440\" y=\"2520\" dy=\"115\">payload: offset 24, 16 bytes</text>
 <text x=\"440\" y=\"2720\" dy=\"110\" font-size=\"110\" font-family=\"monospace\">alignment 8, opener's 4, &amp;C</text>
 <rect x=\"200\" y=\"2930\" width=\"140\" height=\"140\" class=\"part empty\"/>
-<text x=\"440\" y=\"2930\" dy=\"115\">spare: offset 40, 8 bytes</text>
+<text x=\"440\" y=\"2930\" dy=\"115\">padding: offset 40, 8 bytes</text>
 <text x=\"200\" y=\"3230\" dy=\"110\" font-size=\"110\" font-family=\"monospace\">2 elements of 8 bytes</text>
 <text x=\"200\" y=\"3400\" dy=\"110\" font-size=\"110\" font-family=\"monospace\">data segment of a publisher: 34 chunks of 48 bytes, 1632 bytes</text>
 <text x=\"200\" y=\"3570\" dy=\"110\" font-size=\"110\" font-family=\"monospace\">the opener is compatible</text>
@@ -129,7 +129,7 @@ response-payload fixed 8 1 [u8; 8]
     end: "<rect class=\"page\" width=\"7600\" height=\"3710\"/>
 <text x=\"200\" y=\"150\" dy=\"150\" font-size=\"150\" font-family=\"monospace\">Pair (request-response)</text>
 <text x=\"200\" y=\"480\" dy=\"150\" font-size=\"150\">request: no layout, since it would pass 9223372036854775807 bytes</text>
-<text x=\"200\" y=\"840\" dy=\"150\" font-size=\"150\">response: 16 bytes at multiples of 8</text>
+<text x=\"200\" y=\"840\" dy=\"150\" font-size=\"150\">response: 16 bytes, alignment 8</text>
 <g transform=\"translate(0 1080)\">
 <rect x=\"200\" y=\"0\" width=\"3600\" height=\"460\" class=\"part header\"/>
 <rect x=\"3800\" y=\"0\" width=\"3600\" height=\"460\" class=\"part payload\"/>
@@ -167,7 +167,7 @@ elements 18
     end: "<rect class=\"page\" width=\"7600\" height=\"3560\"/>
 <text x=\"200\" y=\"150\" dy=\"150\" font-size=\"150\" font-family=\"monospace\">NNNNNNNNNNNNNNNNNNNNNNNNNNNNNNNNNNNNNNNNNNNNNNNNNNNNNNNNNNNNNNNNNNNNNNNNNNNNNN</text>
 <text x=\"200\" y=\"360\" dy=\"150\" font-size=\"150\" font-family=\"monospace\"> (publish-subscribe)</text>
-<text x=\"200\" y=\"690\" dy=\"150\" font-size=\"150\">message: 18 bytes at multiples of 1</text>
+<text x=\"200\" y=\"690\" dy=\"150\" font-size=\"150\">message: 18 bytes, alignment 1</text>
 <g transform=\"translate(0 930)\">
 <rect x=\"200\" y=\"0\" width=\"400\" height=\"460\" class=\"part payload\"/>
 <rect x=\"600\" y=\"0\" width=\"400\" height=\"460\" class=\"part other\"/>
@@ -235,7 +235,7 @@ elements 1000
 ",
     end: "<rect class=\"page\" width=\"7600\" height=\"3350\"/>
 <text x=\"200\" y=\"150\" dy=\"150\" font-size=\"150\" font-family=\"monospace\">Fine (publish-subscribe)</text>
-<text x=\"200\" y=\"480\" dy=\"150\" font-size=\"150\">message: 1008 bytes at multiples of 8</text>
+<text x=\"200\" y=\"480\" dy=\"150\" font-size=\"150\">message: 1008 bytes, alignment 8</text>
 <g transform=\"translate(0 720)\">
 <rect x=\"200\" y=\"0\" width=\"57\" height=\"460\" class=\"part header\"/>
 <rect x=\"257\" y=\"0\" width=\"7143\" height=\"460\" class=\"part payload\"/>

@@ -47,7 +47,7 @@ settings, with ! where they differ from the defaults
   client_allocation_strategy                   Static
 ! server_allocation_strategy                   PowerOfTwo, by default Static
 
-request: 24 bytes at multiples of 8
+request: 24 bytes, alignment 8
 
   HHHHHHHH000000000000----
   a character for each byte
@@ -57,27 +57,27 @@ request: 24 bytes at multiples of 8
          8          0          1          1  U user header ()
          8         12          4          8    payload 1 of [u32; 3]
          8         12                        0   element 0
-        20          4                        - spare
+        20          4                        - padding
         24                                     end
   the opener is not compatible: its payload has a greater alignment
   data segment of a client: 26 chunks of 24 bytes, 624 bytes
 
-response: 80 bytes at multiples of 16
+response: 80 bytes, alignment 16
 
   HHHHHHHHU...000011112222333344445555----
-  a character for each 2 bytes, which tells what lies at the first
+  a character for each 2 bytes, which shows what lies at the first
 
     offset       size  alignment   opener's  part
          0         16         16         16  H header u128
         16          1          1          1  U user header u8
-        17          7                        . gap
+        17          7                        . padding
         24         48          8          8    payload 6 of f64
         24          8                        0   element 0
         32          8                        1   element 1
         40          8                        2   element 2
         48          8                        3   element 3
                                                  and 2 more
-        72          8                        - spare
+        72          8                        - padding
         80                                     end
   the opener is compatible
   data segment of a server: 384 chunks of 80 bytes, 30720 bytes
@@ -133,10 +133,10 @@ settings, with ! where they differ from the defaults
 
 request: no layout, since it would pass 9223372036854775807 bytes
 
-response: 9223372036854775800 bytes at multiples of 8
+response: 9223372036854775800 bytes, alignment 8
 
   H468024680246802468024680246802468024680246802468024680246802468
-  a character for each 144115188075855872 bytes, which tells what lies at the first
+  a character for each 144115188075855872 bytes, which shows what lies at the first
 
     offset       size  alignment             part
          0          8          8             H header u64

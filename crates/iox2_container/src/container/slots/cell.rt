@@ -1,6 +1,10 @@
 //! What is in a slot of a container.
-ghost use Rattle.std.specs.Prelude.{◌≡◌};
+ghost use Rattle.std.specs.Prelude.{◌≡◌, MatchOption, false};
 ghost use Rattle.iox2_container.specs.Cells.{shown};
+ghost use Rattle.iox2_container.specs.Passes.{CellHas, cell_is_of};
+
+use crate::container::attached::Attached;
+use iox2_ids::identifiers::UniqueNodeId;
 
 /// The entry of a slot: details and ticket.
 #[derive(Clone, Copy, Debug)]
@@ -23,6 +27,35 @@ impl<T: Copy, N: Copy> Cell<T, N> {
     {
         match self {
             Cell::Taken { ticket, details } => Some(Occupant { ticket, details }),
+            Cell::Free(_) => None,
+        }
+    }
+}
+
+impl<T: Attached + Copy, N: Copy> Cell<T, N> {
+    /// Whether its entry is the node's.
+    #[inline(always)]
+    fn is_of(&self, node: &UniqueNodeId) -> bool
+        ensures { result ≡ cell_is_of T.node node.now (shown self.now) }
+    {
+        match self {
+            Cell::Taken { details, .. } => details.node_id() == *node,
+            Cell::Free(_) => false,
+        }
+    }
+
+    /// The details of its entry, if they are the node's. No others are copied.
+    #[inline(always)]
+    pub(crate) fn of_node(&self, node: &UniqueNodeId) -> Option<T>
+        ensures { MatchOption result
+            (false ≡ cell_is_of T.node node.now (shown self.now))
+            (CellHas T.node node.now (shown self.now)) }
+    {
+        if !self.is_of(node) {
+            return None;
+        }
+        match self {
+            Cell::Taken { details, .. } => Some(*details),
             Cell::Free(_) => None,
         }
     }

@@ -22,7 +22,7 @@ returns-then-is_some-clause-has g c =
 pub returns-then-is_some-2-clause-has : goal.returns-then-is_some-2-clause-has
 returns-then-is_some-2-clause-has g c =
     found_counted g.T.Attached.node c.args.node.now 0 c.args.likely c.args.places.now.cells
-    c.look_for.new.places.cells c.next_of-2.result c.look_for.ensures.cells
+    c.look_for.new.self.cells c.next_of-2.result c.look_for.ensures.cells
     c.next_of-2.ensures.found (sym c.is_some-3.ensures ∙ c.if-is_some-2.true)
 
 pub returns-clause-has : goal.returns-clause-has
@@ -31,7 +31,7 @@ returns-clause-has g c =
     let id = c.args.node.now in
     let at = c.args.likely in
     let cells = c.args.places.now.cells in
-    let looked = c.look_for.new.places.cells in
+    let looked = c.look_for.new.self.cells in
     let here = nothing_found (PlaceIsOf node id (map shown cells) at false)
     (IsAt node id (map shown cells) at) c.look_for.result c.look_for.ensures.found
     (sym c.is_some-2.ensures ∙ c.if-is_some.false) in

@@ -1,18 +1,20 @@
-use Rattle.std.proofs.Common.{subst}
+use Rattle.std.proofs.Common.{arith, subst}
 use Rattle.std.proofs.lemmas.List.Elements.{All-more}
 use Rattle.iox2_texts.specs.Attribute.{ContainsKey}
 use Rattle.iox2_texts.proofs.VerifyLemmas.{all_of_take}
 use Rattle.iox2_texts.proofs.attribute.verifier.missing_key.Goals as goal
 
 pub loop-key-preserved : goal.loop-key-preserved
-loop-key-preserved c =
-    All-more (ContainsKey c.args.attributes.now) c.args.required.now c.loop-key.key-index
-    c.key-item.result c.loop-key-test.true c.loop-key.invariant
-    (subst (λ k. ContainsKey c.args.attributes.now k) c.key-item.is
-    (c.contains_key.ensures.0 c.if-not-contains_key.false))
+loop-key-preserved c = record {
+  met =
+      All-more (ContainsKey c.args.pairs.now) c.args.required.now c.loop-key.key-index
+      c.key-item.result c.loop-key-test.true c.loop-key.invariant.met
+      (subst (λ k. ContainsKey c.args.pairs.now k) c.key-item.is c.in-Some.ensures.1);
+  fits = omega (arith, c.in-Some.ensures.0);
+}
 
 pub returns : goal.returns
 returns c =
     all_of_take
-    (ContainsKey c.args.attributes.now) c.args.required.now c.loop-key.key-index
-    c.loop-key-test.false c.loop-key.invariant
+    (ContainsKey c.args.pairs.now) c.args.required.now c.loop-key.key-index
+    c.loop-key-test.false c.loop-key.invariant.met

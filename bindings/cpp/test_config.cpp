@@ -1,0 +1,146 @@
+// Reads and writes files of settings by iox2sd_config.hpp, and each of their refusals. The last line
+// is 'N checks, N failed'.
+#include <unistd.h>
+
+#include <sstream>
+#include <string>
+#include <string_view>
+#include <type_traits>
+
+#include "check.hpp"
+#include "iox2sd_config.hpp"
+
+namespace {
+
+using namespace iox2sd;
+using std::string;
+
+template <class T>
+string written(const T& value) {
+    std::ostringstream out;
+    out << value;
+    return out.str();
+}
+
+Config read(std::string_view text) { return Config::from_toml(text).value().config; }
+
+void defaults() {
+    const auto file = Config::from_toml("");
+    CHECK(file.has_value() && file->unknown.empty());
+    const Config& config = file->config;
+    CHECK(config.global == GlobalSettings::defaults());
+    CHECK(config.publish_subscribe == PublishSubscribeSettings::defaults());
+    CHECK(config.event == EventSettings::defaults());
+    CHECK(config.request_response == RequestResponseSettings::defaults());
+    CHECK(config.blackboard == BlackboardSettings::defaults());
+    CHECK(config.texts.root_path == *default_text(ConfigEntry::RootPath));
+    CHECK(config.texts.prefix == *default_text(ConfigEntry::Prefix));
+    CHECK(config.texts.node_directory == *default_text(ConfigEntry::NodeDirectory));
+    CHECK(config.texts.global_mgmt_suffix == *default_text(ConfigEntry::GlobalMgmtSuffix));
+    CHECK(*config.service_dir() == "/tmp/iceoryx2/services");
+    CHECK(*config.node_dir() == "/tmp/iceoryx2/nodes");
+}
+
+void settings() {
+    const Config config = read("[global]\nprefix = 'own_'\nroot-path = '/run'\n"
+                               "creation-timeout = {secs = 1, nanos = 2}\n"
+                               "[defaults.event]\ndeadline = {secs = 3, nanos = 4}\n"
+                               "notifier-dead-event = 5\n"
+                               "[defaults.request-response]\n"
+                               "server-allocation-strategy = 'PowerOfTwo'\n");
+    CHECK(config.texts.prefix == "own_" && *config.service_dir() == "/run/services");
+    CHECK(config.global.creation_timeout == Duration{1, 2});
+    CHECK(config.event.deadline == Duration{3, 4} && config.event.notifier_dead_event->value == 5);
+    CHECK(!config.event.notifier_created_event);
+    CHECK(config.request_response.server_allocation_strategy == AllocationStrategy::PowerOfTwo);
+    CHECK(config != read("") && config == Config(config));
+    const auto text = config.to_toml();
+    CHECK(text.has_value() && read({text->data(), text->size()}) == config);
+}
+
+void unknown_keys() {
+    auto file = Config::from_toml("[defaults.publish-subscribe]\nmax-publisher = 3\n[other]\n");
+    CHECK(file.has_value() && file->unknown.size() == 2);
+    const ConfigFile moved = std::move(file).value();
+    CHECK(moved.unknown[0] == UnknownKey{ConfigTable::Root, "other", Text<80>()});
+    CHECK(moved.unknown[1].table == ConfigTable::PublishSubscribe);
+    CHECK(moved.unknown[1].key == "defaults.publish-subscribe.max-publisher");
+    CHECK(moved.unknown[1].meant == "defaults.publish-subscribe.max-publishers");
+}
+
+void faults() {
+    const auto refused = Config::from_toml("[defaults.event]\nmax-nodes = -1\n"
+                                           "[global]\ncreation-timeout = 5\nother = 1\n");
+    CHECK(!refused && refused.status() == Status::WrongType);
+    const List<ConfigFault>& all = refused.error().faults;
+    CHECK(all.size() == 2 && refused.error().system_error == 0);
+    CHECK(all[0].status == Status::WrongType && all[0].table == ConfigTable::Global);
+    CHECK(all[0].found == TomlType::Integer && all[0].wanted == SettingKind::Duration);
+    CHECK(written(all[0]) == "global.creation-timeout: is an integer, and a table of `secs` and "
+                             "`nanos` is wanted");
+    CHECK(all[1].status == Status::BelowZero && all[1].wanted == SettingKind::Number);
+    CHECK(written(all[1]) == "defaults.event.max-nodes: is below 0" && all[0] != all[1]);
+    const auto no_toml = Config::from_toml("[global\n");
+    CHECK(no_toml.status() == Status::NotToml && no_toml.error().faults.size() == 1);
+    CHECK(written(no_toml.error().faults[0]).find("line 1") != string::npos);
+    CHECK(Config::from_toml("\xff").status() == Status::NotUtf8);
+    CHECK(Config::from_toml("\xff").error().faults.size() == 1);
+}
+
+void writing() {
+    Config config = read("");
+    config.blackboard.max_nodes = SIZE_MAX;
+    auto refused = config.to_toml();
+    CHECK(refused.status() == Status::NoTomlInteger);
+    CHECK(refused.error().key == "defaults.blackboard.max-nodes");
+    config.event.deadline = Duration{0, 1000000000};
+    refused = config.to_toml();
+    CHECK(refused.status() == Status::BadDuration && refused.error().key.empty());
+    CHECK(refused.error().field == SettingsField::Deadline);
+}
+
+void files() {
+    char path[] = "/tmp/iox2sd_config_XXXXXX";
+    const int file = mkstemp(path);
+    const string text = "[global]\nprefix = 'own_'\n" + string(5000, '#') + "\nprefx = 1\n";
+    CHECK(write(file, text.data(), text.size()) == static_cast<ssize_t>(text.size()));
+    close(file);
+    const auto read = Config::from_toml_file(path);
+    CHECK(read.has_value() && read->config.texts.prefix == "own_" && read->unknown.size() == 1);
+    CHECK(read->unknown[0].meant == "global.prefix");
+    unlink(path);
+    const auto missing = Config::from_toml_file(path);
+    CHECK(missing.status() == Status::NoFile && missing.error().system_error == ENOENT);
+    const auto folder = Config::from_toml_file("/tmp");
+    CHECK(folder.status() == Status::NoFile && folder.error().system_error == EISDIR);
+    const auto empty = Config::from_toml_file("/dev/null");
+    CHECK(empty.has_value() && empty->config == Config::from_toml("")->config);
+}
+
+constexpr bool has_numbers() {
+    return static_cast<int>(ConfigTable::Root) == IOX2SD_TABLE_ROOT &&
+           static_cast<int>(ConfigTable::Global) == IOX2SD_TABLE_GLOBAL &&
+           static_cast<int>(ConfigTable::Service) == IOX2SD_TABLE_SERVICE &&
+           static_cast<int>(ConfigTable::Node) == IOX2SD_TABLE_NODE &&
+           static_cast<int>(ConfigTable::Defaults) == IOX2SD_TABLE_DEFAULTS &&
+           static_cast<int>(ConfigTable::PublishSubscribe) == IOX2SD_TABLE_PUBLISH_SUBSCRIBE &&
+           static_cast<int>(ConfigTable::Event) == IOX2SD_TABLE_EVENT &&
+           static_cast<int>(ConfigTable::RequestResponse) == IOX2SD_TABLE_REQUEST_RESPONSE &&
+           static_cast<int>(ConfigTable::Blackboard) == IOX2SD_TABLE_BLACKBOARD;
+}
+
+static_assert(has_numbers());
+static_assert(std::is_nothrow_move_constructible_v<ConfigFile>);
+static_assert(!std::is_copy_constructible_v<ConfigFile>);
+
+}  // namespace
+
+int main() {
+    defaults();
+    settings();
+    unknown_keys();
+    faults();
+    writing();
+    files();
+    return end_of_checks();
+}

@@ -1,0 +1,385 @@
+//! The file of the settings, `iceoryx2.toml`: read, judged and written.
+
+use super::{Blackboard, Config, Defaults, Event, Global, PublishSubscribe, RequestResonse};
+use super::{SettingKind, TomlType};
+use crate::library;
+use crate::semantic_string::SemanticStringError;
+use crate::sys;
+use std::error::Error;
+use std::fmt;
+use std::fs;
+use std::io;
+
+/// What stands in a file of settings.
+///
+/// ```
+/// use iox2sd::config::Config;
+///
+/// let file = Config::from_toml("[defaults.event]\nmax-node = 3\n")?;
+/// assert_eq!(file.config, Config::default());
+/// assert_eq!(file.unknown[0].to_string(), "defaults.event.max-node: defaults.event.max-nodes may be meant");
+/// # Ok::<(), iox2sd::config::ConfigError>(())
+/// ```
+#[derive(Clone, Debug, PartialEq, Eq)]
+pub struct ConfigFile {
+    /// The settings, where each key that the file does not have has its default.
+    pub config: Config,
+    /// The keys that no setting has, in the order of the tables and of the keys in each.
+    pub unknown: Vec<UnknownKey>,
+}
+
+/// A key of a file that no setting has.
+///
+/// ```
+/// use iox2sd::config::Config;
+///
+/// let file = Config::from_toml("global = { prefx = 'a' }\nother = 1\n")?;
+/// assert_eq!(file.unknown[0].key, "other");
+/// assert_eq!(file.unknown[0].meant, None);
+/// assert_eq!(file.unknown[1].meant.as_deref(), Some("global.prefix"));
+/// # Ok::<(), iox2sd::config::ConfigError>(())
+/// ```
+#[derive(Clone, Debug, PartialEq, Eq)]
+pub struct UnknownKey {
+    /// The path of the key.
+    pub key: String,
+    /// The path of the known key of the same table that was probably meant: the nearest, where at
+    /// most two characters must be inserted, removed or changed.
+    pub meant: Option<String>,
+}
+
+/// The key, and what was probably meant.
+impl fmt::Display for UnknownKey {
+    fn fmt(&self, f: &mut fmt::Formatter<'_>) -> fmt::Result {
+        match &self.meant {
+            Some(meant) => write!(f, "{}: {meant} may be meant", self.key),
+            None => f.write_str(&self.key),
+        }
+    }
+}
+
+/// What is wrong with the value of a key.
+///
+/// ```
+/// use iox2sd::config::{Config, ConfigError, Fault, SettingKind, TomlType};
+///
+/// let refused = Config::from_toml("defaults.event.deadline = 5").unwrap_err();
+/// let ConfigError::Faults(faults) = refused else { panic!() };
+/// let (found, wanted) = (TomlType::Integer, SettingKind::Duration);
+/// assert_eq!(faults[0].fault, Fault::WrongType { found, wanted });
+/// ```
+#[derive(Clone, Copy, Debug, PartialEq, Eq, Hash)]
+pub enum Fault {
+    /// It is of another type than the one that is wanted.
+    WrongType {
+        /// What it is.
+        found: TomlType,
+        /// What is wanted.
+        wanted: SettingKind,
+    },
+    /// It is below 0.
+    BelowZero,
+    /// It is no path.
+    NoPath(SemanticStringError),
+    /// It is not the name of a file.
+    NoFileName(SemanticStringError),
+    /// It is not the name of a strategy of the kind.
+    UnknownVariant(SettingKind),
+    /// It is not a table of the integers `secs` and `nanos` alone.
+    NoDuration,
+    /// Its `nanos` are a second or more.
+    NanosTooLarge,
+}
+
+impl Fault {
+    fn of(fault: &sys::iox2sd_config_fault) -> Self {
+        use SemanticStringError::{ExceedsMaximumLength, InvalidContent};
+        let wanted = || SettingKind::of(fault.wanted);
+        match fault.status {
+            sys::IOX2SD_WRONG_TYPE => Fault::WrongType {
+                found: TomlType::of(fault.found),
+                wanted: wanted(),
+            },
+            sys::IOX2SD_BELOW_ZERO => Fault::BelowZero,
+            sys::IOX2SD_BAD_PATH => Fault::NoPath(InvalidContent),
+            sys::IOX2SD_NO_FILE_NAME => Fault::NoFileName(InvalidContent),
+            sys::IOX2SD_TOO_LONG if wanted() == SettingKind::Path => {
+                Fault::NoPath(ExceedsMaximumLength)
+            }
+            sys::IOX2SD_TOO_LONG => Fault::NoFileName(ExceedsMaximumLength),
+            sys::IOX2SD_UNKNOWN_VARIANT => Fault::UnknownVariant(wanted()),
+            sys::IOX2SD_NO_DURATION => Fault::NoDuration,
+            sys::IOX2SD_BAD_DURATION => Fault::NanosTooLarge,
+            other => library::unexpected(other),
+        }
+    }
+}
+
+/// What is wrong with the value of a key, and which key it is.
+///
+/// ```
+/// use iox2sd::config::{Config, ConfigError};
+///
+/// let text = "[defaults.publish-subscribe]\nbackpressure-strategy = 'discarddata'\n";
+/// let ConfigError::Faults(faults) = Config::from_toml(text).unwrap_err() else { panic!() };
+/// assert_eq!(faults[0].key, "defaults.publish-subscribe.backpressure-strategy");
+/// assert_eq!(faults[0].reason, "is not \"RetryUntilDelivered\" or \"DiscardData\"");
+/// ```
+#[derive(Clone, Debug, PartialEq, Eq)]
+pub struct ConfigFault {
+    /// The path of the key.
+    pub key: String,
+    /// What is wrong with its value.
+    pub fault: Fault,
+    /// The same in words.
+    pub reason: String,
+}
+
+/// The key, and what is wrong with its value.
+impl fmt::Display for ConfigFault {
+    fn fmt(&self, f: &mut fmt::Formatter<'_>) -> fmt::Result {
+        write!(f, "{}: {}", self.key, self.reason)
+    }
+}
+
+/// Why the text of a file gives no settings.
+///
+/// ```
+/// use iox2sd::config::{Config, ConfigError};
+///
+/// let text = "[defaults.event]\nmax-nodes = -1\nmax-listeners = true\n";
+/// let refused = Config::from_toml(text).unwrap_err();
+/// assert_eq!(
+///     refused.to_string(),
+///     "defaults.event.max-listeners: is a boolean, and an integer is wanted\n\
+///      defaults.event.max-nodes: is below 0"
+/// );
+/// assert!(matches!(Config::from_toml("max"), Err(ConfigError::NotToml(_))));
+/// ```
+#[derive(Clone, Debug, PartialEq, Eq)]
+pub enum ConfigError {
+    /// It is no TOML, with the line and the column in words.
+    NotToml(String),
+    /// Values are not allowed: all of them, in the order of the settings.
+    Faults(Vec<ConfigFault>),
+    /// There was no memory.
+    NoMemory,
+}
+
+/// What is wrong; a line for each fault.
+impl fmt::Display for ConfigError {
+    fn fmt(&self, f: &mut fmt::Formatter<'_>) -> fmt::Result {
+        match self {
+            ConfigError::NotToml(reason) => f.write_str(reason),
+            ConfigError::NoMemory => f.write_str("no memory"),
+            ConfigError::Faults(faults) => {
+                for (index, fault) in faults.iter().enumerate() {
+                    let end = if index == 0 { "" } else { "\n" };
+                    write!(f, "{end}{fault}")?;
+                }
+                Ok(())
+            }
+        }
+    }
+}
+
+impl Error for ConfigError {}
+
+/// Why a file gives no settings.
+///
+/// ```
+/// use iox2sd::config::{Config, ConfigFileError};
+///
+/// let refused = Config::from_toml_file("no/such/iceoryx2.toml");
+/// assert!(matches!(refused, Err(ConfigFileError::Read(_))));
+/// ```
+#[derive(Debug)]
+pub enum ConfigFileError {
+    /// It was not read, or is not UTF-8.
+    Read(io::Error),
+    /// Its text gives no settings.
+    Content(ConfigError),
+}
+
+impl fmt::Display for ConfigFileError {
+    fn fmt(&self, f: &mut fmt::Formatter<'_>) -> fmt::Result {
+        match self {
+            ConfigFileError::Read(error) => error.fmt(f),
+            ConfigFileError::Content(error) => error.fmt(f),
+        }
+    }
+}
+
+impl Error for ConfigFileError {}
+
+/// Why settings give no text.
+///
+/// ```
+/// use iox2sd::config::{Config, ConfigWriteError};
+///
+/// let mut config = Config::default();
+/// config.defaults.blackboard.max_readers = usize::MAX;
+/// let refused = config.to_toml().unwrap_err();
+/// let key = "defaults.blackboard.max-readers".to_string();
+/// assert_eq!(refused, ConfigWriteError::OutOfRange { key });
+/// ```
+#[derive(Clone, Debug, PartialEq, Eq)]
+pub enum ConfigWriteError {
+    /// A number, or the seconds of a duration, are above 2^63 - 1, which TOML does not have.
+    OutOfRange {
+        /// The path of the first such key.
+        key: String,
+    },
+    /// There was no memory.
+    NoMemory,
+}
+
+impl fmt::Display for ConfigWriteError {
+    fn fmt(&self, f: &mut fmt::Formatter<'_>) -> fmt::Result {
+        match self {
+            ConfigWriteError::OutOfRange { key } => {
+                let reason = library::status_text(sys::IOX2SD_NO_TOML_INTEGER);
+                write!(f, "{key}: {}", reason.unwrap_or_default())
+            }
+            ConfigWriteError::NoMemory => f.write_str("no memory"),
+        }
+    }
+}
+
+impl Error for ConfigWriteError {}
+
+/// The text at the front of an array.
+fn front(bytes: &[u8], length: usize) -> String {
+    String::from_utf8_lossy(&bytes[..length.min(bytes.len())]).into_owned()
+}
+
+/// Why a text with this first fault gives no settings.
+fn refusal(text: &str, first: &sys::iox2sd_config_fault) -> ConfigError {
+    match first.status {
+        sys::IOX2SD_NO_MEMORY => return ConfigError::NoMemory,
+        sys::IOX2SD_NOT_TOML => {
+            return ConfigError::NotToml(front(&first.reason, first.reason_length))
+        }
+        _ => {}
+    }
+    let Ok(faults) = library::config_faults(text) else {
+        return ConfigError::NoMemory;
+    };
+    let fault = |fault: &sys::iox2sd_config_fault| ConfigFault {
+        key: front(&fault.key, fault.key_length),
+        fault: Fault::of(fault),
+        reason: front(&fault.reason, fault.reason_length),
+    };
+    ConfigError::Faults(faults.iter().map(fault).collect())
+}
+
+/// The unknown keys of a text that gives settings.
+fn unknown(text: &str) -> Result<Vec<UnknownKey>, ConfigError> {
+    let (keys, paths) = match library::config_unknown(text) {
+        Ok(found) => found,
+        Err(sys::IOX2SD_NO_MEMORY) => return Err(ConfigError::NoMemory),
+        Err(other) => library::unexpected(other),
+    };
+    let mut rest = paths.as_str();
+    let key = |key: &sys::iox2sd_unknown_key| {
+        let (path, others) = rest.split_at(key.key_length);
+        rest = others;
+        UnknownKey {
+            key: path.to_string(),
+            meant: (key.meant_length != 0).then(|| front(&key.meant, key.meant_length)),
+        }
+    };
+    Ok(keys.iter().map(key).collect())
+}
+
+impl Config {
+    /// The settings of the text of a file `iceoryx2.toml`. A key that it does not have has its
+    /// default; keys that no setting has are listed beside the settings.
+    ///
+    /// # Errors
+    ///
+    /// Refused where the text is no TOML, where values are not allowed, and where memory is
+    /// refused.
+    ///
+    /// # Examples
+    ///
+    /// ```
+    /// use iox2sd::config::Config;
+    ///
+    /// let file = Config::from_toml("[global]\nprefix = 'own_'\n")?;
+    /// assert_eq!(file.config.global.prefix, "own_");
+    /// assert!(file.unknown.is_empty());
+    /// # Ok::<(), iox2sd::config::ConfigError>(())
+    /// ```
+    pub fn from_toml(text: &str) -> Result<ConfigFile, ConfigError> {
+        let made = library::config_read(text).map_err(|fault| refusal(text, &fault))?;
+        Ok(ConfigFile {
+            config: Config::of(&made),
+            unknown: unknown(text)?,
+        })
+    }
+
+    /// The settings of a file, as [`from_toml`](Self::from_toml) of its text.
+    ///
+    /// # Errors
+    ///
+    /// Refused where the file is not read or is not UTF-8, and as its text is.
+    ///
+    /// # Examples
+    ///
+    /// ```no_run
+    /// use iox2sd::config::Config;
+    ///
+    /// let file = Config::from_toml_file("config/iceoryx2.toml")?;
+    /// for key in &file.unknown {
+    ///     eprintln!("unknown key {key}");
+    /// }
+    /// # Ok::<(), iox2sd::config::ConfigFileError>(())
+    /// ```
+    pub fn from_toml_file(
+        path: impl AsRef<std::path::Path>,
+    ) -> Result<ConfigFile, ConfigFileError> {
+        let text = fs::read_to_string(path).map_err(ConfigFileError::Read)?;
+        Config::from_toml(&text).map_err(ConfigFileError::Content)
+    }
+
+    /// The settings as the text of a file, each below a comment with what it is and its default.
+    ///
+    /// # Errors
+    ///
+    /// Refused where a number, or the seconds of a duration, are above 2^63 - 1, and where memory
+    /// is refused.
+    ///
+    /// # Examples
+    ///
+    /// ```
+    /// use iox2sd::config::Config;
+    ///
+    /// let text = Config::default().to_toml()?;
+    /// assert!(text.contains("\n[global]\n"));
+    /// assert_eq!(Config::from_toml(&text)?.config, Config::default());
+    /// # Ok::<(), Box<dyn std::error::Error>>(())
+    /// ```
+    pub fn to_toml(&self) -> Result<String, ConfigWriteError> {
+        library::config_write(self).map_err(|answer| match answer.status {
+            sys::IOX2SD_NO_TOML_INTEGER => ConfigWriteError::OutOfRange {
+                key: front(&answer.key, answer.key_length),
+            },
+            sys::IOX2SD_NO_MEMORY => ConfigWriteError::NoMemory,
+            other => library::unexpected(other),
+        })
+    }
+
+    /// The settings that the library gives.
+    fn of(settings: &sys::iox2sd_config) -> Self {
+        Config {
+            global: Global::of(&settings.global, &settings.texts),
+            defaults: Defaults {
+                publish_subscribe: PublishSubscribe::of(&settings.publish_subscribe),
+                event: Event::of(&settings.event),
+                request_response: RequestResonse::of(&settings.request_response),
+                blackboard: Blackboard::of(&settings.blackboard),
+            },
+        }
+    }
+}

@@ -1,0 +1,275 @@
+-- The settings of a table as they are written, and as they are read from that.
+use Rattle.std.proofs.Common.{◌≡◌, ℕ, ◌/◌, ◌%◌, ◌<◌, ◌≤◌, ◌^◌, pos, Bool, true, false, not, ◌&&◌, ◌||◌, List, [], ◌∷◌, ◌++◌, length, codes, map, Option, Some, None, Ok, refl, sym, ap, arith, append_assoc, subst}
+use Rattle.std.specs.Prelude.{nat_lt, ⊤}
+use Rattle.std.specs.List.{list_all}
+use Rattle.std.proofs.Math.Nat.{mod-lt}
+use Rattle.std.proofs.lemmas.Bool.{and_parts, false≢true}
+use Rattle.std.proofs.lemmas.Bool.Decides.{nat_tests}
+use Rattle.std.proofs.lemmas.Nat.{div-add-mod'}
+use Rattle.std.proofs.lemmas.List.Folds.{list_all-append}
+use Rattle.toml_parser.specs.Lexical.{is_bare, is_non_eol}
+use Rattle.toml_writer.specs.Text.{key_text, string_text, encoding_of, escaped, needs_escape, quotes_after}
+use Rattle.toml.specs.Data.{Data, string, integer, boolean, table, no_members, member, depth, has_valid_dates}
+use Rattle.toml.specs.Tables.{Expression}
+use Rattle.toml.specs.Text.{IsValueText}
+use Rattle.iox2_texts.specs.Text.{IsTextUpTo}
+use Rattle.iox2_texts.specs.Name.{IsAllowed}
+use Rattle.iox2_texts.specs.Path.{IsPlain}
+use Rattle.iox2_config.specs.declared.config.choices.BackpressureStrategy.TheVariants.{RetryUntilDelivered, DiscardData}
+use Rattle.iox2_config.specs.declared.config.choices.AllocationStrategy.TheVariants.{BestFit, PowerOfTwo, Static}
+use Rattle.iox2_config_file.specs.declared.kind.Kind.{Kind}
+use Rattle.iox2_config_file.specs.declared.kind.Kind.TheVariants as kind
+use Rattle.iox2_config_file.specs.declared.section.Row.{Row}
+use Rattle.iox2_config_file.specs.Read.{row_view}
+use Rattle.iox2_config_file.specs.ReadBack.{IsLegal, AreLegal}
+use Rattle.iox2_config_file.specs.Rows.{is_line, are_lines}
+use Rattle.iox2_config_file.specs.Settings.{Setting}
+use Rattle.iox2_config_file.specs.Values.{SettingValue, number, flag, text, backpressure, allocation, duration, absent, settings, value_in, text_in, is_path, is_file_name}
+use Rattle.iox2_config_file.specs.Write.{value_text, value_fits, value_is_set, assignment, entry_text, entries_text}
+use Rattle.iox2_config_file.proofs.Filling.{Pair, lines_of, more_lines}
+use Rattle.iox2_config_file.proofs.Legal.{any_path, plain, made_text}
+use Rattle.iox2_config_file.proofs.Reading.{Block, block_append, block_none, block_newline, block_comment, block_pair}
+
+-- what TOML has for a value
+abbrev pub data_at : SettingValue → Option Data
+data_at (number n) = Some (integer (pos n))
+data_at (flag b) = Some (boolean b)
+data_at (text s) = Some (string s)
+data_at (backpressure RetryUntilDelivered) = Some (string (codes "RetryUntilDelivered"))
+data_at (backpressure DiscardData) = Some (string (codes "DiscardData"))
+data_at (allocation BestFit) = Some (string (codes "BestFit"))
+data_at (allocation PowerOfTwo) = Some (string (codes "PowerOfTwo"))
+data_at (allocation Static) = Some (string (codes "Static"))
+data_at (duration n) =
+    Some (table (member (codes "nanos") (integer (pos (n % 1_000_000_000)))
+    (member (codes "secs") (integer (pos (n / 1_000_000_000))) no_members)))
+data_at absent = None
+data_at settings = None
+
+abbrev pub pair_of : Setting → Pair
+pair_of x = (x.key, data_at x.value)
+
+-- the value is one of the kind, or there is none
+abbrev pub has_kind : Kind → SettingValue → Bool
+has_kind kind.Number (number n) = true
+has_kind kind.Flag (flag b) = true
+has_kind kind.Path (text s) = true
+has_kind kind.FileName (text s) = true
+has_kind kind.Backpressure (backpressure b) = true
+has_kind kind.Allocation (allocation a) = true
+has_kind kind.Duration (duration n) = true
+has_kind k absent = true
+has_kind k v = false
+
+-- what is written for a value is read as the data, and that as the value
+pub record IsKept (k : Kind) (v : SettingValue) (d : Data) : Type 0 where
+  pub set : value_is_set v ≡ true
+  pub writes : IsValueText false d (value_text v)
+  pub shallow : depth d ≤ 80
+  pub valid : has_valid_dates d ≡ true
+  pub reads : value_in k d ≡ Ok v
+
+abbrev pub Keeps : Kind → SettingValue → Option Data → Type 0
+Keeps k v None = v ≡ absent
+Keeps k v (Some d) = IsKept k v d
+
+pub small : (n : ℕ) → nat_lt n (2 ^ 63) ≡ true → n < 2 ^ 63
+small n h = grind (arith, nat_tests)
+
+below : (n m : ℕ) → n < m → nat_lt n m ≡ true
+below n m h = grind (arith, nat_tests)
+
+legal_path : (s : List ℕ) → IsTextUpTo 255 s → text_in is_path s ≡ Ok (text s)
+legal_path s h = sym (made_text (λ _. ⊤) is_path s (Ok s) (any_path s) (refl, h.0, (h, tt)))
+
+legal_name : (s : List ℕ) → IsAllowed IsPlain 255 s → text_in is_file_name s ≡ Ok (text s)
+legal_name s h = sym (made_text IsPlain is_file_name s (Ok s) (plain s) (refl, h.0.0, h))
+
+parts_written : (n : ℕ) → n / 1_000_000_000 < 2 ^ 63 → n % 1_000_000_000 < 1_000_000_000
+    → IsValueText false (table (member (codes "nanos") (integer (pos (n % 1_000_000_000)))
+    (member (codes "secs") (integer (pos (n / 1_000_000_000))) no_members)))
+    (value_text (duration n))
+unfolding key_text
+parts_written n fits less = (
+  _,
+  refl,
+  (_, _, refl, (refl, omega arith), (_, _, refl, (refl, omega arith), refl, refl), refl),
+)
+
+-- what is written is read as the value
+pub keeps : (k : Kind) (v : SettingValue) → has_kind k v ≡ true → IsLegal k v
+    → value_fits v ≡ true → Keeps k v (data_at v)
+unfolding string_text encoding_of escaped needs_escape quotes_after
+keeps kind.Number (number n) kinded legal fits =
+    let fit = small n fits in
+    record {
+      set = refl;
+      writes = (refl, omega arith);
+      shallow = omega arith;
+      valid = refl;
+      reads = refl;
+    }
+keeps kind.Flag (flag true) kinded legal fits =
+    record { set = refl; writes = refl; shallow = omega arith; valid = refl; reads = refl }
+keeps kind.Flag (flag false) kinded legal fits =
+    record { set = refl; writes = refl; shallow = omega arith; valid = refl; reads = refl }
+keeps kind.Path (text s) kinded legal fits =
+    let reads = legal_path s legal in
+    record { set = refl; writes = refl; shallow = omega arith; valid = refl; reads = rw reads refl }
+keeps kind.FileName (text s) kinded legal fits =
+    let reads = legal_name s legal in
+    record { set = refl; writes = refl; shallow = omega arith; valid = refl; reads = rw reads refl }
+keeps kind.Backpressure (backpressure RetryUntilDelivered) kinded legal fits =
+    record { set = refl; writes = refl; shallow = omega arith; valid = refl; reads = refl }
+keeps kind.Backpressure (backpressure DiscardData) kinded legal fits =
+    record { set = refl; writes = refl; shallow = omega arith; valid = refl; reads = refl }
+keeps kind.Allocation (allocation BestFit) kinded legal fits =
+    record { set = refl; writes = refl; shallow = omega arith; valid = refl; reads = refl }
+keeps kind.Allocation (allocation PowerOfTwo) kinded legal fits =
+    record { set = refl; writes = refl; shallow = omega arith; valid = refl; reads = refl }
+keeps kind.Allocation (allocation Static) kinded legal fits =
+    record { set = refl; writes = refl; shallow = omega arith; valid = refl; reads = refl }
+keeps kind.Duration (duration n) kinded legal fits =
+    let parts = div-add-mod' n 1_000_000_000 in
+    let less : n % 1_000_000_000 < 1_000_000_000 = mod-lt n (omega arith) in
+    record {
+      set = refl;
+      writes = parts_written n (small (n / 1_000_000_000) fits) less;
+      shallow = omega arith;
+      valid = refl;
+      reads = rw (below _ _ less, parts) refl;
+    }
+keeps k absent kinded legal fits = refl
+keeps k v kinded legal fits = absurd (false≢true kinded)
+
+-- a key that is written as it is
+abbrev pub is_bare_key : List ℕ → Bool
+is_bare_key k = nat_lt 0 (length k) && list_all is_bare k
+
+bare_text : (k : List ℕ) → is_bare_key k ≡ true → key_text k ≡ k
+unfolding key_text
+bare_text k bare = rw bare refl
+
+pub lines_append : (a b : List ℕ) → is_line a ≡ true → is_line b ≡ true → is_line (a ++ b) ≡ true
+lines_append a b one other = rw (list_all-append is_non_eol a b, one, other) refl
+
+bare_line : (k : List ℕ) → list_all is_bare k ≡ true → is_line k ≡ true
+bare_line [] bare = refl
+bare_line (c ∷ cs) bare =
+    let (this, more) = and_parts (is_bare c) (list_all is_bare cs) bare in
+    let here : is_non_eol c ≡ true = grind (arith, nat_tests) in
+    rw (here, bare_line cs more) refl
+
+pub block_is : (a b : List ℕ) (es : List Expression) → a ≡ b → Block b es → Block a es
+block_is a b es is block = subst (λ text. Block text es) (sym is) block
+
+unset_block : (key : List ℕ) → is_bare_key key ≡ true → Block (assignment key absent) []
+unset_block key bare =
+    let (_, bytes) = and_parts (nat_lt 0 (length key)) (list_all is_bare key) bare in
+    let line : is_line (32 ∷ (key ++ codes " is not set")) ≡ true =
+    lines_append key (codes " is not set") (bare_line key bytes) refl in
+    let layout : assignment key absent ≡ 35 ∷ ((32 ∷ (key ++ codes " is not set")) ++ 10 ∷ []) =
+    simp append_assoc refl in
+    block_is _ _ [] layout (block_comment (32 ∷ (key ++ codes " is not set")) line)
+
+-- what stands below the comment of a setting
+assignment_block : (key : List ℕ) (k : Kind) (v : SettingValue) (o : Option Data)
+    → is_bare_key key ≡ true → Keeps k v o → Block (assignment key v) (lines_of ((key, o) ∷ []))
+assignment_block key k v None bare kept = rw kept (unset_block key bare)
+assignment_block key k v (Some d) bare kept =
+    let value_at = codes " = " ++ (value_text v ++ codes "\n") in
+    let layout : assignment key v ≡ key_text key ++ value_at =
+    rw kept.set (ap (λ k. k ++ value_at) (sym (bare_text key bare))) in
+    block_is _ _ (lines_of ((key, Some d) ∷ [])) layout
+    (block_pair key (value_text v) d kept.writes kept.shallow kept.valid)
+
+-- the comment of a setting, from its first space on
+abbrev comment : List ℕ → List ℕ → List ℕ
+comment about default = 32 ∷ (about ++ (codes " By default " ++ (default ++ codes ".")))
+
+comment_line : (about default : List ℕ) → is_line about ≡ true → is_line default ≡ true
+    → is_line (comment about default) ≡ true
+comment_line about default one other =
+    lines_append about (codes " By default " ++ (default ++ codes ".")) one
+    (lines_append (codes " By default ") (default ++ codes ".") refl
+    (lines_append default (codes ".") other refl))
+
+entry_layout : (about default rest : List ℕ)
+    → codes "\n# " ++ (about ++ (codes " By default " ++ (default ++ (codes ".\n" ++ rest))))
+    ≡ (10 ∷ []) ++ ((35 ∷ (comment about default ++ 10 ∷ [])) ++ rest)
+entry_layout about default rest = simp append_assoc refl
+
+entry_block : (row : Row) (default : SettingValue) (key : List ℕ) (k : Kind) (v : SettingValue)
+    (o : Option Data) → row.key.now ≡ key → is_line row.about.now ≡ true
+    → is_line (value_text default) ≡ true → is_bare_key key ≡ true → Keeps k v o
+    → Block (entry_text row default v) (lines_of ((key, o) ∷ []))
+entry_block row default key k v o is about line bare kept =
+    let text = value_text default in
+    let below : Block (assignment row.key.now v) (lines_of ((key, o) ∷ [])) =
+    rw is (assignment_block key k v o bare kept) in
+    let comment_here = block_comment (comment row.about.now text)
+    (comment_line row.about.now text about line) in
+    block_is _ _ _ (entry_layout row.about.now text (assignment row.key.now v))
+    (block_append (10 ∷ []) _ [] _ block_newline (block_append _ _ [] _ comment_here below))
+
+-- the rows of some settings
+abbrev pub rows_of : List Setting → List (List ℕ × Kind)
+rows_of xs = map (λ x. (x.key, x.kind)) xs
+
+-- where a setting is not set, its default is not set either
+abbrev pub are_set : List Setting → List Setting → Bool
+are_set (d ∷ ds) (x ∷ xs) = (not (value_is_set d.value) || value_is_set x.value) && are_set ds xs
+are_set _ _ = true
+
+-- settings that are written with their defaults
+pub record AreWritten (defaults xs : List Setting) : Type 0 where
+  pub rows : rows_of defaults ≡ rows_of xs
+  pub lines : list_all (λ d. is_line (value_text d.value)) defaults ≡ true
+  pub bare : list_all (λ x. is_bare_key x.key) xs ≡ true
+  pub kinded : list_all (λ x. has_kind x.kind x.value) xs ≡ true
+  pub fit : list_all (λ x. value_fits x.value) xs ≡ true
+  pub legal : AreLegal xs
+
+abbrev pub front : {X : Type 0} → X → List X → X
+front d [] = d
+front d (x ∷ xs) = x
+
+abbrev pub behind : {X : Type 0} → List X → List X
+behind [] = []
+behind (x ∷ xs) = xs
+
+pub rest_written : (d x : Setting) (ds xs : List Setting) → AreWritten (d ∷ ds) (x ∷ xs)
+    → AreWritten ds xs
+rest_written d x ds xs h =
+    record {
+      rows = ap behind h.rows;
+      lines = (and_parts _ _ h.lines).1;
+      bare = (and_parts _ _ h.bare).1;
+      kinded = (and_parts _ _ h.kinded).1;
+      fit = (and_parts _ _ h.fit).1;
+      legal = h.legal.1;
+    }
+
+no_entries : (rows : List Row) (ds : List Setting) → entries_text rows ds [] ≡ []
+no_entries [] ds = refl
+no_entries (row ∷ rows) [] = refl
+no_entries (row ∷ rows) (d ∷ ds) = refl
+
+-- the settings of a table are read as their pairs
+pub entries_block : (rows : List Row) (ds xs : List Setting) (more : List (List ℕ × Kind))
+    → map row_view rows ≡ rows_of xs ++ more → are_lines rows ≡ true → AreWritten ds xs
+    → Block (entries_text rows ds xs) (lines_of (map pair_of xs))
+entries_block rows ds [] more same lines h = block_is _ [] [] (no_entries rows ds) block_none
+entries_block rows [] (x ∷ xs) more same lines h = absurd (omega (arith, ap length h.rows))
+entries_block [] (d ∷ ds) (x ∷ xs) more same lines h = absurd (omega (arith, ap length same))
+entries_block (row ∷ rows) (d ∷ ds) (x ∷ xs) more same lines h =
+    let is : row_view row ≡ (x.key, x.kind) = ap (front (row_view row)) same in
+    let here = entry_block row d.value x.key x.kind x.value (data_at x.value) (ap (λ r. r.0) is)
+    (and_parts _ _ lines).0 (and_parts _ _ h.lines).0 (and_parts _ _ h.bare).0
+    (keeps x.kind x.value (and_parts _ _ h.kinded).0 h.legal.0 (and_parts _ _ h.fit).0) in
+    let below = entries_block rows ds xs more (ap behind same) (and_parts _ _ lines).1
+    (rest_written d x ds xs h) in
+    let both = block_append (entry_text row d.value x.value) (entries_text rows ds xs)
+    (lines_of (pair_of x ∷ [])) (lines_of (map pair_of xs)) here below in
+    subst (λ es. Block (entries_text (row ∷ rows) (d ∷ ds) (x ∷ xs)) es)
+    (sym (more_lines x.key (data_at x.value) (map pair_of xs))) both

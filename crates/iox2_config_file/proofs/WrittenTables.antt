@@ -1,0 +1,447 @@
+-- The tables of a configuration as they are written, and what a document holds after them.
+use Rattle.std.proofs.Common.{◌≡◌, ℕ, ◌<◌, ◌^◌, ◌/◌, ◌%◌, ◌&&◌, Bool, true, false, List, [], ◌∷◌, ◌++◌, length, codes, map, Option, Some, None, option_map, option_and_then, refl, sym, ap, ◌∙◌, subst, arith, append_assoc}
+use Rattle.std.specs.Prelude.{flat_map, if◌then◌else◌}
+use Rattle.std.specs.List.{list_all, filter_map, cons_option}
+use Rattle.std.specs.Duration.{as_nanos}
+use Rattle.std.specs.declared.time.Duration.{Duration}
+use Rattle.toml_writer.specs.Text.{key_text, dotted_text, string_text, encoding_of, escaped, needs_escape, quotes_after}
+use Rattle.toml_parser.specs.Lexical.{is_word, is_non_eol}
+use Rattle.toml_parser.specs.Strings.{Key}
+use Rattle.toml_writer.proofs.Scalars.{IsWord-pos}
+use Rattle.std.specs.Fmt.{decimal}
+use Rattle.std.proofs.Math.Nat.{mod-lt}
+use Rattle.std.proofs.lemmas.Bool.{and_parts, false≢true}
+use Rattle.std.proofs.lemmas.Bool.Decides.{nat_tests}
+use Rattle.iox2_config.specs.declared.config.choices.BackpressureStrategy.TheVariants.{RetryUntilDelivered, DiscardData}
+use Rattle.iox2_config.specs.declared.config.choices.AllocationStrategy.TheVariants.{BestFit, PowerOfTwo, Static}
+use Rattle.toml.specs.Parse.{parse_document}
+use Rattle.toml.specs.Tables.{Nodes, no_nodes, open_table, implicit, header, insert, close, Document, Expression, std_table}
+use Rattle.toml.proofs.ReadLines.{run}
+use Rattle.toml.proofs.Fill.{run-append}
+use Rattle.iox2_config.specs.Defaults.{IsDefaultConfig}
+use Rattle.iox2_config.specs.declared.config.Config.{Config}
+use Rattle.iox2_config_file.specs.declared.section.Section.{Section}
+use Rattle.iox2_config_file.specs.declared.section.Section.TheVariants as section
+use Rattle.iox2_config_file.specs.Read.{sections}
+use Rattle.iox2_config_file.specs.ReadBack.{AreLegal}
+use Rattle.iox2_config_file.specs.Rows.{is_line}
+use Rattle.iox2_config_file.specs.Settings.{Setting, settings_in, tables_in, service_settings, node_settings, publish_subscribe_settings, event_settings, request_response_settings, blackboard_settings}
+use Rattle.iox2_config_file.specs.Values.{SettingValue, option_value, number, flag, text, backpressure, allocation, duration, absent, settings}
+use Rattle.iox2_config_file.specs.Write.{value_text, value_fits, section_misfits, located_misfits, misfits, IsHeaderText, IsTableText, IsTablesText, IsConfigText}
+use Rattle.iox2_config_file.specs.declared.kind.Kind.TheVariants as kind
+use Rattle.iox2_config_file.proofs.Filling.{Pair, lines_of, keys_of, set_all, are_distinct, Focus, focus_root, focus_child, run_table, run_first}
+use Rattle.iox2_config_file.proofs.Reading.{Block, block_append, block_none, block_newline, block_comment, block_header, read_document}
+use Rattle.iox2_config_file.proofs.Written.{AreWritten, small, lines_append, has_kind, is_bare_key, rows_of, pair_of, entries_block, block_is}
+
+-- the header of a table, as the reader has it
+abbrev pub headers : Section → List Expression
+headers section.Root = []
+headers section.Global = (([], codes "global"), std_table) ∷ []
+headers section.Service = ((codes "global" ∷ [], codes "service"), std_table) ∷ []
+headers section.Node = ((codes "global" ∷ [], codes "node"), std_table) ∷ []
+headers section.Defaults = []
+headers section.PublishSubscribe =
+    ((codes "defaults" ∷ [], codes "publish-subscribe"), std_table) ∷ []
+headers section.Event = ((codes "defaults" ∷ [], codes "event"), std_table) ∷ []
+headers section.RequestResponse =
+    ((codes "defaults" ∷ [], codes "request-response"), std_table) ∷ []
+headers section.Blackboard = ((codes "defaults" ∷ [], codes "blackboard"), std_table) ∷ []
+
+-- the pairs of a table
+abbrev pub pairs_in : Section → Config → List Pair
+pairs_in s c = map pair_of (settings_in s c)
+
+-- the lines of a table
+abbrev pub table_lines : Config → Section → List Expression
+table_lines c s = headers s ++ lines_of (pairs_in s c)
+
+named_layout : (about name : List ℕ)
+    → codes "\n# " ++ (about ++ (codes "\n[" ++ (name ++ codes "]\n")))
+    ≡ (10 ∷ []) ++ ((35 ∷ ((32 ∷ about) ++ 10 ∷ [])) ++ 91 ∷ (name ++ codes "]\n"))
+named_layout about name = simp append_assoc refl
+
+named_block : (about name : List ℕ) (key : Key) → is_line about ≡ true → name ≡ dotted_text key
+    → length key.0 < 80
+    → Block (codes "\n# " ++ (about ++ (codes "\n[" ++ (name ++ codes "]\n"))))
+    ((key, std_table) ∷ [])
+named_block about name key line is short =
+    let named : Block (91 ∷ (name ++ codes "]\n")) ((key, std_table) ∷ []) =
+    block_is _ (91 ∷ (dotted_text key ++ codes "]\n")) ((key, std_table) ∷ [])
+    (ap (λ n. 91 ∷ (n ++ codes "]\n")) is) (block_header key short) in
+    block_is _ _ ((key, std_table) ∷ []) (named_layout about name)
+    (block_append (10 ∷ []) _ [] ((key, std_table) ∷ []) block_newline
+    (block_append _ _ [] ((key, std_table) ∷ []) (block_comment (32 ∷ about) line) named))
+
+head_block : (head name : List ℕ) (key : Key) → name ≡ dotted_text key → length key.0 < 80
+    → (about : List ℕ) × (is_line about ≡ true)
+    × (head ≡ codes "\n# " ++ (about ++ (codes "\n[" ++ (name ++ codes "]\n"))))
+    → Block head ((key, std_table) ∷ [])
+head_block head name key is short (about, line, whole) =
+    block_is head _ ((key, std_table) ∷ []) whole (named_block about name key line is short)
+
+header_block : (s : Section) (head : List ℕ) → IsHeaderText s head → Block head (headers s)
+unfolding key_text
+header_block section.Root head h = block_is head [] [] h block_none
+header_block section.Global head h = head_block head _ ([], codes "global") refl (omega arith) h
+header_block section.Service head h =
+    head_block head _ (codes "global" ∷ [], codes "service") refl (omega arith) h
+header_block section.Node head h =
+    head_block head _ (codes "global" ∷ [], codes "node") refl (omega arith) h
+header_block section.Defaults head h = block_is head [] [] h block_none
+header_block section.PublishSubscribe head h =
+    head_block head _ (codes "defaults" ∷ [], codes "publish-subscribe") refl (omega arith) h
+header_block section.Event head h =
+    head_block head _ (codes "defaults" ∷ [], codes "event") refl (omega arith) h
+header_block section.RequestResponse head h =
+    head_block head _ (codes "defaults" ∷ [], codes "request-response") refl (omega arith) h
+header_block section.Blackboard head h =
+    head_block head _ (codes "defaults" ∷ [], codes "blackboard") refl (omega arith) h
+
+abbrev pub AllWritten : Config → Config → Type 0
+AllWritten default config =
+    (s : Section) → AreWritten (settings_in s default) (settings_in s config)
+
+table_block : (default config : Config) (s : Section) (table : List ℕ)
+    → AreWritten (settings_in s default) (settings_in s config) → IsTableText default config s table
+    → Block table (table_lines config s)
+table_block default config s table written (head, entries, whole, headed, listed) =
+    let (rows, same, lines, is) = listed in
+    let below = entries_block rows (settings_in s default) (settings_in s config)
+    (map (λ k. (k, kind.Table)) (tables_in s)) same lines written in
+    let below_head = block_is entries _ (lines_of (pairs_in s config)) is below in
+    block_is table (head ++ entries) (table_lines config s) whole
+    (block_append head entries (headers s) (lines_of (pairs_in s config))
+    (header_block s head headed) below_head)
+
+tables_block : (default config : Config) (ss : List Section) (tables : List ℕ)
+    → AllWritten default config → IsTablesText default config ss tables
+    → Block tables (flat_map (table_lines config) ss)
+tables_block default config [] tables written h = block_is tables [] [] h block_none
+tables_block default config (s ∷ ss) tables written (table, more, whole, this, rest) =
+    block_is tables (table ++ more) (flat_map (table_lines config) (s ∷ ss)) whole
+    (block_append table more (table_lines config s) (flat_map (table_lines config) ss)
+    (table_block default config s table (written s) this)
+    (tables_block default config ss more written rest))
+
+title : List ℕ
+title = codes " The settings of the middleware. A key that is left out has its default."
+
+-- how the text of a configuration is read
+pub written_is_read : (default config : Config) (bytes : List ℕ) → AllWritten default config
+    → IsConfigText default config bytes
+    → parse_document bytes
+    ≡ option_map (λ doc. close doc.0)
+    (run (no_nodes, []) (flat_map (table_lines config) sections))
+unfolding title
+written_is_read default config bytes written (tables, whole, h) =
+    ap parse_document whole
+    ∙ read_document title tables (flat_map (table_lines config) sections) refl
+    (tables_block default config sections tables written h)
+
+-- a list of all parts that are empty
+none_of : {X : Type 0} (xs ys : List X) → xs ++ ys ≡ [] → (xs ≡ []) × (ys ≡ [])
+none_of [] ys h = (refl, h)
+none_of (x ∷ xs) ys h = absurd (omega (arith, ap length h))
+
+abbrev located : Section → List ℕ → Section × List ℕ
+located s k = (s, k)
+
+no_keys : (s : Section) (keys : List (List ℕ)) → map (located s) keys ≡ [] → keys ≡ []
+no_keys s [] h = refl
+no_keys s (k ∷ keys) h = absurd (omega (arith, ap length h))
+
+some_key : (k : List ℕ) (keys : List (List ℕ)) → ¬ (k ∷ keys ≡ [])
+some_key k keys h = omega (arith, ap length h)
+
+fits_of : (b : Bool) (k : List ℕ) (keys : List (List ℕ))
+    → cons_option (if b then None else Some k) keys ≡ [] → (b ≡ true) × (keys ≡ [])
+fits_of true k keys h = (refl, h)
+fits_of false k keys h = absurd (some_key k keys h)
+
+all_fit : (xs : List Setting)
+    → filter_map (λ x. if value_fits x.value then None else Some x.key) xs ≡ []
+    → list_all (λ x. value_fits x.value) xs ≡ true
+all_fit [] h = refl
+all_fit (x ∷ xs) h =
+    let (here, more) = fits_of (value_fits x.value) x.key _ h in
+    rw (here, all_fit xs more) refl
+
+abbrev NoneIn : Config → List Section → Type 0
+NoneIn config [] = Unit {0}
+NoneIn config (s ∷ ss) = (section_misfits s config ≡ []) × NoneIn config ss
+
+none_in : (config : Config) (ss : List Section) → flat_map (located_misfits config) ss ≡ []
+    → NoneIn config ss
+none_in config [] h = tt
+none_in config (s ∷ ss) h =
+    let (here, more) = none_of (located_misfits config s) (flat_map (located_misfits config) ss) h
+    in (no_keys s (section_misfits s config) here, none_in config ss more)
+
+none_at : (config : Config) → NoneIn config sections → (s : Section)
+    → section_misfits s config ≡ []
+none_at config h section.Root = h.0
+none_at config h section.Global = h.1.0
+none_at config h section.Service = h.1.1.0
+none_at config h section.Node = h.1.1.1.0
+none_at config h section.Defaults = h.1.1.1.1.0
+none_at config h section.PublishSubscribe = h.1.1.1.1.1.0
+none_at config h section.Event = h.1.1.1.1.1.1.0
+none_at config h section.RequestResponse = h.1.1.1.1.1.1.1.0
+none_at config h section.Blackboard = h.1.1.1.1.1.1.1.1.0
+
+-- a configuration whose numbers TOML has
+fit_in : (config : Config) → misfits config ≡ [] → (s : Section)
+    → list_all (λ x. value_fits x.value) (settings_in s config) ≡ true
+fit_in config h s = all_fit (settings_in s config) (none_at config (none_in config sections h) s)
+
+-- each value is one of its kind
+optional_number : (n : Option ℕ) → has_kind kind.Number (option_value number n) ≡ true
+optional_number None = refl
+optional_number (Some n) = refl
+
+optional_duration : (d : Option Duration)
+    → has_kind kind.Duration (option_value (λ x. duration (as_nanos x)) d) ≡ true
+optional_duration None = refl
+optional_duration (Some d) = refl
+
+kinded_in : (config : Config) (s : Section)
+    → list_all (λ x. has_kind x.kind x.value) (settings_in s config) ≡ true
+kinded_in config section.Root = refl
+kinded_in config section.Global = refl
+kinded_in config section.Service = refl
+kinded_in config section.Node = refl
+kinded_in config section.Defaults = refl
+kinded_in config section.PublishSubscribe = refl
+kinded_in config section.Event =
+    let e = config.defaults.event in
+    rw (
+      optional_duration e.deadline,
+      optional_number e.notifier_created_event,
+      optional_number e.notifier_dropped_event,
+      optional_number e.notifier_dead_event,
+    ) refl
+kinded_in config section.RequestResponse = refl
+kinded_in config section.Blackboard = refl
+
+bare_in : (config : Config) (s : Section)
+    → list_all (λ x. is_bare_key x.key) (settings_in s config) ≡ true
+bare_in config section.Root = refl
+bare_in config section.Global = refl
+bare_in config section.Service = refl
+bare_in config section.Node = refl
+bare_in config section.Defaults = refl
+bare_in config section.PublishSubscribe = refl
+bare_in config section.Event = refl
+bare_in config section.RequestResponse = refl
+bare_in config section.Blackboard = refl
+
+-- the rows of a table are those of every configuration
+pub rows_in_all : (one other : Config) (s : Section)
+    → rows_of (settings_in s one) ≡ rows_of (settings_in s other)
+rows_in_all one other section.Root = refl
+rows_in_all one other section.Global = refl
+rows_in_all one other section.Service = refl
+rows_in_all one other section.Node = refl
+rows_in_all one other section.Defaults = refl
+rows_in_all one other section.PublishSubscribe = refl
+rows_in_all one other section.Event = refl
+rows_in_all one other section.RequestResponse = refl
+rows_in_all one other section.Blackboard = refl
+
+-- a value is written in one line
+word_line : (bytes : List ℕ) → list_all is_word bytes ≡ true → is_line bytes ≡ true
+word_line [] all = refl
+word_line (c ∷ cs) all =
+    let (this, more) = and_parts (is_word c) (list_all is_word cs) all in
+    let here : is_non_eol c ≡ true = grind (arith, nat_tests) in
+    rw (here, word_line cs more) refl
+
+decimal_line : (n : ℕ) → n < 2 ^ 63 → is_line (decimal n) ≡ true
+decimal_line n fits = word_line (decimal n) (IsWord-pos n fits).all
+
+abbrev is_text_line : SettingValue → Bool
+is_text_line (text s) = is_line (string_text s)
+is_text_line settings = false
+is_text_line _ = true
+
+value_line : (v : SettingValue) → value_fits v ≡ true → is_text_line v ≡ true
+    → is_line (value_text v) ≡ true
+value_line (number n) fits line = decimal_line n (small n fits)
+value_line (flag true) fits line = refl
+value_line (flag false) fits line = refl
+value_line (text s) fits line = line
+value_line (backpressure RetryUntilDelivered) fits line = refl
+value_line (backpressure DiscardData) fits line = refl
+value_line (allocation BestFit) fits line = refl
+value_line (allocation PowerOfTwo) fits line = refl
+value_line (allocation Static) fits line = refl
+value_line (duration n) fits line =
+    let secs = decimal_line (n / 1_000_000_000) (small (n / 1_000_000_000) fits) in
+    let less : n % 1_000_000_000 < 1_000_000_000 = mod-lt n (omega arith) in
+    let nanos = decimal_line (n % 1_000_000_000) (omega arith) in
+    lines_append (codes "{ nanos = " ++ decimal (n % 1_000_000_000)) _
+    (lines_append (codes "{ nanos = ") (decimal (n % 1_000_000_000)) refl nanos)
+    (lines_append (codes ", secs = ") (decimal (n / 1_000_000_000) ++ codes " }") refl
+    (lines_append (decimal (n / 1_000_000_000)) (codes " }") secs refl))
+value_line absent fits line = refl
+value_line settings fits line = absurd (false≢true line)
+
+-- settings that are all written in one line each
+abbrev AreShort : List Setting → Type 0
+AreShort xs = list_all (λ x. value_fits x.value && is_text_line x.value) xs ≡ true
+
+short_lines : (xs : List Setting) → AreShort xs
+    → list_all (λ x. is_line (value_text x.value)) xs ≡ true
+short_lines [] h = refl
+short_lines (x ∷ xs) h =
+    let (this, more) = and_parts (value_fits x.value && is_text_line x.value) _ h in
+    let (fits, line) = and_parts (value_fits x.value) (is_text_line x.value) this in
+    rw (value_line x.value fits line, short_lines xs more) refl
+
+short_in : (default : Config) → IsDefaultConfig default → (s : Section)
+    → AreShort (settings_in s default)
+unfolding string_text encoding_of escaped needs_escape quotes_after
+short_in default h section.Root = refl
+short_in default h section.Global =
+    rw (h.global.root_path, h.global.prefix, h.global.creation_timeout) refl
+short_in default h section.Service =
+    subst (λ x. AreShort (service_settings x)) (sym h.global.service) refl
+short_in default h section.Node =
+    subst (λ x. AreShort (node_settings x)) (sym h.global.node) refl
+short_in default h section.Defaults = refl
+short_in default h section.PublishSubscribe =
+    subst (λ x. AreShort (publish_subscribe_settings x.publish_subscribe)) (sym h.defaults) refl
+short_in default h section.Event =
+    subst (λ x. AreShort (event_settings x.event)) (sym h.defaults) refl
+short_in default h section.RequestResponse =
+    subst (λ x. AreShort (request_response_settings x.request_response)) (sym h.defaults) refl
+short_in default h section.Blackboard =
+    subst (λ x. AreShort (blackboard_settings x.blackboard)) (sym h.defaults) refl
+
+-- all settings are written
+pub all_written : (default config : Config) → IsDefaultConfig default → misfits config ≡ []
+    → ((s : Section) → AreLegal (settings_in s config)) → AllWritten default config
+all_written default config is fit legal s =
+    record {
+      rows = rows_in_all default config s;
+      lines = short_lines (settings_in s default) (short_in default is s);
+      bare = bare_in config s;
+      kinded = kinded_in config s;
+      fit = fit_in config fit s;
+      legal = legal s;
+    }
+
+-- no key of a table occurs twice
+pub distinct_in : (config : Config) (s : Section)
+    → are_distinct (keys_of (pairs_in s config)) ≡ true
+distinct_in config section.Root = refl
+distinct_in config section.Global = refl
+distinct_in config section.Service = refl
+distinct_in config section.Node = refl
+distinct_in config section.Defaults = refl
+distinct_in config section.PublishSubscribe = refl
+distinct_in config section.Event = refl
+distinct_in config section.RequestResponse = refl
+distinct_in config section.Blackboard = refl
+
+-- what the tables of the document hold
+abbrev pub table_nodes : Config → Section → Nodes
+table_nodes c s = set_all (pairs_in s c) no_nodes
+
+abbrev pub global_nodes : Config → Nodes
+global_nodes c =
+    insert (codes "node") (open_table header (table_nodes c section.Node))
+    (insert (codes "service") (open_table header (table_nodes c section.Service))
+    (table_nodes c section.Global))
+
+abbrev below_defaults : List ℕ → Config → Section → Nodes → Nodes
+below_defaults key c s ns = insert key (open_table header (table_nodes c s)) ns
+
+abbrev pub defaults_nodes : Config → Nodes
+defaults_nodes c =
+    below_defaults (codes "blackboard") c section.Blackboard
+    (below_defaults (codes "request-response") c section.RequestResponse
+    (below_defaults (codes "event") c section.Event
+    (below_defaults (codes "publish-subscribe") c section.PublishSubscribe no_nodes)))
+
+abbrev at_global : Nodes → Nodes
+at_global ns = insert (codes "global") (open_table header ns) no_nodes
+
+abbrev at_defaults : Config → Nodes → Nodes
+at_defaults c ns = insert (codes "defaults") (open_table implicit ns) (at_global (global_nodes c))
+
+abbrev pub root_nodes : Config → Nodes
+root_nodes c = at_defaults c (defaults_nodes c)
+
+in_global : Focus (codes "global" ∷ []) at_global
+in_global = focus_child [] (λ x. x) (codes "global") header no_nodes focus_root
+
+in_defaults : (c : Config) → Focus (codes "defaults" ∷ []) (at_defaults c)
+in_defaults c =
+    focus_child [] (λ x. x) (codes "defaults") implicit (at_global (global_nodes c)) focus_root
+
+run_then : (doc next : Document) (es fs : List Expression) → run doc es ≡ Some next
+    → run doc (es ++ fs) ≡ run next fs
+run_then doc next es fs h =
+    run-append doc es fs ∙ ap (option_and_then (λ d. run d fs)) h
+
+abbrev rest_of : Config → List Section → List Expression
+rest_of c ss = flat_map (table_lines c) ss
+
+-- the lines of the tables below `defaults`
+run_defaults : (c : Config) (old : List (List ℕ))
+    → run (at_global (global_nodes c), old)
+    (rest_of c (section.PublishSubscribe ∷ section.Event ∷ section.RequestResponse
+    ∷ section.Blackboard ∷ []))
+    ≡ Some (root_nodes c, codes "defaults" ∷ codes "blackboard" ∷ [])
+run_defaults c old =
+    let one = below_defaults (codes "publish-subscribe") c section.PublishSubscribe no_nodes in
+    let two = below_defaults (codes "event") c section.Event one in
+    let three = below_defaults (codes "request-response") c section.RequestResponse two in
+    run_then (at_global (global_nodes c), old)
+    (at_defaults c one, codes "defaults" ∷ codes "publish-subscribe" ∷ [])
+    (table_lines c section.PublishSubscribe)
+    (rest_of c (section.Event ∷ section.RequestResponse ∷ section.Blackboard ∷ []))
+    (run_first (codes "defaults") (codes "publish-subscribe") (pairs_in section.PublishSubscribe c)
+    (at_global (global_nodes c)) old refl (distinct_in c section.PublishSubscribe))
+    ∙ run_then (at_defaults c one, codes "defaults" ∷ codes "publish-subscribe" ∷ [])
+    (at_defaults c two, codes "defaults" ∷ codes "event" ∷ []) (table_lines c section.Event)
+    (rest_of c (section.RequestResponse ∷ section.Blackboard ∷ []))
+    (run_table (codes "defaults" ∷ []) (at_defaults c) (codes "event") (pairs_in section.Event c)
+    one _ (in_defaults c) refl (distinct_in c section.Event))
+    ∙ run_then (at_defaults c two, codes "defaults" ∷ codes "event" ∷ [])
+    (at_defaults c three, codes "defaults" ∷ codes "request-response" ∷ [])
+    (table_lines c section.RequestResponse) (rest_of c (section.Blackboard ∷ []))
+    (run_table (codes "defaults" ∷ []) (at_defaults c) (codes "request-response")
+    (pairs_in section.RequestResponse c) two _ (in_defaults c) refl
+    (distinct_in c section.RequestResponse))
+    ∙ run_then (at_defaults c three, codes "defaults" ∷ codes "request-response" ∷ [])
+    (root_nodes c, codes "defaults" ∷ codes "blackboard" ∷ [])
+    (table_lines c section.Blackboard) []
+    (run_table (codes "defaults" ∷ []) (at_defaults c) (codes "blackboard")
+    (pairs_in section.Blackboard c) three _ (in_defaults c) refl
+    (distinct_in c section.Blackboard))
+
+-- all lines of a configuration
+pub run_all : (c : Config) → run (no_nodes, []) (rest_of c sections)
+    ≡ Some (root_nodes c, codes "defaults" ∷ codes "blackboard" ∷ [])
+run_all c =
+    let one = table_nodes c section.Global in
+    let two = insert (codes "service") (open_table header (table_nodes c section.Service)) one in
+    let below_global = rest_of c (section.PublishSubscribe ∷ section.Event
+    ∷ section.RequestResponse ∷ section.Blackboard ∷ []) in
+    run_then (no_nodes, []) (at_global one, codes "global" ∷ []) (table_lines c section.Global)
+    (table_lines c section.Service ++ (table_lines c section.Node ++ below_global))
+    (run_table [] (λ x. x) (codes "global") (pairs_in section.Global c) no_nodes [] focus_root refl
+    (distinct_in c section.Global))
+    ∙ run_then (at_global one, codes "global" ∷ [])
+    (at_global two, codes "global" ∷ codes "service" ∷ []) (table_lines c section.Service)
+    (table_lines c section.Node ++ below_global)
+    (run_table (codes "global" ∷ []) at_global (codes "service") (pairs_in section.Service c) one _
+    in_global refl (distinct_in c section.Service))
+    ∙ run_then (at_global two, codes "global" ∷ codes "service" ∷ [])
+    (at_global (global_nodes c), codes "global" ∷ codes "node" ∷ []) (table_lines c section.Node)
+    below_global
+    (run_table (codes "global" ∷ []) at_global (codes "node") (pairs_in section.Node c) two _
+    in_global refl (distinct_in c section.Node))
+    ∙ run_defaults c (codes "global" ∷ codes "node" ∷ [])

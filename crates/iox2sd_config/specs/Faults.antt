@@ -1,0 +1,139 @@
+-- What is wrong with a file of settings, as plain values.
+use Rattle.std.specs.Prelude.{◌≡◌, ◌⊎◌, ℕ, List, ◌++◌, length, take, replicate}
+use Rattle.iox2_config_file.specs.Read.{Located, fault_view}
+use Rattle.iox2_config_file.specs.Rows.{prefix_of}
+use Rattle.iox2_config_file.specs.declared.error.ConfigFileError.{ConfigFileError}
+use Rattle.iox2_config_file.specs.declared.error.ConfigFileError.TheVariants as error
+use Rattle.iox2_config_file.specs.declared.kind.Fault.{Fault}
+use Rattle.iox2_config_file.specs.declared.kind.Fault.TheVariants.{WrongType, OutOfRange, NoPath, NoFileName, UnknownVariant, NoDuration, NanosTooLarge}
+use Rattle.iox2_config_file.specs.declared.kind.Kind.{Kind}
+use Rattle.iox2_config_file.specs.declared.kind.Kind.TheVariants as kind
+use Rattle.iox2_config_file.specs.declared.kind.TomlType.{TomlType}
+use Rattle.iox2_config_file.specs.declared.kind.TomlType.TheVariants as type
+use Rattle.iox2_config_file.specs.declared.section.Section.{Section}
+use Rattle.iox2_config_file.specs.declared.section.Section.TheVariants as section
+use Rattle.iox2_texts.specs.declared.bounded.SemanticStringError.TheVariants.{InvalidContent, ExceedsMaximumLength}
+use Rattle.iox2sd_common.specs.Answers.{zero_padded}
+use Rattle.iox2sd_common.specs.Status.{code}
+use Rattle.iox2sd_common.specs.declared.status.Status.{Status}
+use Rattle.iox2sd_common.specs.declared.status.Status.TheVariants as status
+use Rattle.iox2sd_config.specs.declared.fault.PlainFault.{PlainFault}
+
+-- the number of a table of the file
+abbrev pub section_number : Section → ℕ
+section_number section.Root = 0
+section_number section.Global = 1
+section_number section.Service = 2
+section_number section.Node = 3
+section_number section.Defaults = 4
+section_number section.PublishSubscribe = 5
+section_number section.Event = 6
+section_number section.RequestResponse = 7
+section_number section.Blackboard = 8
+
+-- the number of a type of TOML
+abbrev pub type_number : TomlType → ℕ
+type_number type.String = 1
+type_number type.Integer = 2
+type_number type.Float = 3
+type_number type.Boolean = 4
+type_number type.Datetime = 5
+type_number type.Array = 6
+type_number type.Table = 7
+
+-- the number of what a value may be
+abbrev pub kind_number : Kind → ℕ
+kind_number kind.Table = 1
+kind_number kind.Number = 2
+kind_number kind.Flag = 3
+kind_number kind.Path = 4
+kind_number kind.FileName = 5
+kind_number kind.Backpressure = 6
+kind_number kind.Allocation = 7
+kind_number kind.Duration = 8
+
+-- the status of what is wrong with a value
+abbrev pub fault_status : Fault → Status
+fault_status (WrongType found wanted) = status.WrongType
+fault_status OutOfRange = status.BelowZero
+fault_status (NoPath ExceedsMaximumLength) = status.TooLong
+fault_status (NoPath InvalidContent) = status.BadPath
+fault_status (NoFileName ExceedsMaximumLength) = status.TooLong
+fault_status (NoFileName InvalidContent) = status.NoFileName
+fault_status (UnknownVariant wanted) = status.UnknownVariant
+fault_status NoDuration = status.NoDuration
+fault_status NanosTooLarge = status.BadDuration
+
+-- the type of a value where another is wanted
+abbrev pub found_number : Fault → ℕ
+found_number (WrongType found wanted) = type_number found
+found_number _ = 0
+
+-- what is wanted in place of a value
+abbrev pub wanted_number : Fault → ℕ
+wanted_number (WrongType found wanted) = kind_number wanted
+wanted_number OutOfRange = kind_number kind.Number
+wanted_number (NoPath why) = kind_number kind.Path
+wanted_number (NoFileName why) = kind_number kind.FileName
+wanted_number (UnknownVariant wanted) = kind_number wanted
+wanted_number NoDuration = kind_number kind.Duration
+wanted_number NanosTooLarge = kind_number kind.Duration
+
+-- the path of a key: its tables, and then the key
+abbrev pub key_path : Section → List ℕ → List ℕ
+key_path s key = prefix_of s ++ key
+
+-- the first 80 bytes of the path of a known key, which is shorter, and then zeros
+abbrev pub cut_key : List ℕ → List ℕ
+cut_key path = zero_padded 80 (take 80 path)
+
+-- what a plain fault says, beside its words
+pub record Known : Type 0 where
+  pub status : ℕ
+  pub table : ℕ
+  pub found : ℕ
+  pub wanted : ℕ
+  pub key : List ℕ
+  pub key_length : ℕ
+
+abbrev pub known_of : PlainFault → Known
+known_of f = record {
+  status = f.status;
+  table = f.table;
+  found = f.found;
+  wanted = f.wanted;
+  key = f.key;
+  key_length = f.key_length;
+}
+
+-- a status, and nothing of a key
+abbrev pub no_place : Status → Known
+no_place s = record {
+  status = code s;
+  table = 0;
+  found = 0;
+  wanted = 0;
+  key = replicate 80 0;
+  key_length = 0;
+}
+
+-- what is wrong with the value of a key
+abbrev pub told_fault : Located → Known
+told_fault (s, key, fault) = record {
+  status = code (fault_status fault);
+  table = section_number s;
+  found = found_number fault;
+  wanted = wanted_number fault;
+  key = cut_key (key_path s key);
+  key_length = length (key_path s key);
+}
+
+-- why a text gives no settings
+abbrev pub told_error : ConfigFileError → Known
+told_error (error.Syntax e) = no_place status.NotToml
+told_error (error.Setting fault) = told_fault (fault_view fault)
+told_error (error.NoMemory e) = no_place status.NoMemory
+
+-- the same, or that there was no memory to say it
+abbrev pub Explains : ConfigFileError → Known → Type 0
+Explains e known = (known ≡ told_error e) ⊎ (known ≡ no_place status.NoMemory)

@@ -1,0 +1,196 @@
+-- Settings that a caller filled, as the text of a file.
+use Rattle.std.specs.Prelude.{◌≡◌, ◌⊎◌, ⊤, ℕ, Bool, List, [], ◌∷◌, length, take, replicate, Result, Ok, Err, String, string_bytes}
+use Rattle.std.specs.declared.alloc.Global.{Global}
+use Rattle.std.specs.declared.time.Duration.{Duration}
+use Rattle.iox2_config.specs.GlobalSettings.{GlobalSettings}
+use Rattle.iox2_config.specs.declared.config.Config.{Config}
+use Rattle.iox2_config.specs.declared.config.defaults.Defaults.{Defaults}
+use Rattle.iox2_config.specs.declared.config.node.Node.{Node}
+use Rattle.iox2_config.specs.declared.config.service.Service.{Service}
+use Rattle.iox2_config_file.specs.Write.{Writes as WritesFile}
+use Rattle.iox2_config_file.specs.declared.write.ConfigWriteError.{ConfigWriteError}
+use Rattle.iox2_config_file.specs.declared.write.ConfigWriteError.TheVariants.{OutOfRange, NoMemory}
+use Rattle.iox2_texts.specs.Name.{IsAllowed}
+use Rattle.iox2_texts.specs.Path.{IsPlain}
+use Rattle.iox2sd_common.specs.Answers.{Writes, fit_status}
+use Rattle.iox2sd_common.specs.Status.{code}
+use Rattle.iox2sd_common.specs.declared.status.Status.{Status}
+use Rattle.iox2sd_common.specs.declared.status.Status.TheVariants as status
+use Rattle.iox2sd_config.specs.Faults.{key_path, cut_key}
+use Rattle.iox2sd_config.specs.declared.config.PlainConfig.{PlainConfig}
+use Rattle.iox2sd_config.specs.declared.config.PlainText.{PlainText}
+use Rattle.iox2sd_config.specs.declared.config.PlainTexts.{PlainTexts}
+use Rattle.iox2sd_config.specs.declared.write.WriteAnswer.{WriteAnswer}
+use Rattle.iox2sd_settings.specs.ReadSettings.{field_status, field_number, ReadsPublishSubscribe, ReadsEvent, ReadsRequestResponse, ReadsBlackboard, ReadsGlobal}
+use Rattle.iox2sd_settings.specs.declared.read_settings.Field.{Field}
+use Rattle.iox2sd_settings.specs.declared.read_settings.Refusal.{Refusal}
+use Rattle.iox2sd_settings.specs.declared.read_settings.Refusal.TheVariants as refusal
+use Rattle.iox2sd_settings.specs.declared.settings.GlobalSettings.{GlobalSettings as PlainGlobal}
+
+-- a path: at most 255 bytes from 1 to 127
+unfoldable pub IsPath : List ℕ → Type 0
+IsPath bytes = IsAllowed (λ b. ⊤) 255 bytes
+
+-- the name of a file: such bytes, at least one and none a `/`, and neither `.` nor `..`
+unfoldable pub IsFileName : List ℕ → Type 0
+IsFileName bytes = IsAllowed IsPlain 255 bytes
+
+-- the bytes of a text
+abbrev pub bytes_of : PlainText → List ℕ
+bytes_of text = take text.length text.bytes
+
+-- the paths are paths
+abbrev pub HasPaths : PlainTexts → Type 0
+HasPaths t =
+    IsPath (bytes_of t.root_path) × IsPath (bytes_of t.service_directory)
+    × IsPath (bytes_of t.node_directory)
+
+-- the ends of the names of services' files are names of files
+abbrev pub HasServiceNames : PlainTexts → Type 0
+HasServiceNames t =
+    IsFileName (bytes_of t.data_segment_suffix)
+    × IsFileName (bytes_of t.static_config_storage_suffix)
+    × IsFileName (bytes_of t.dynamic_config_storage_suffix)
+    × IsFileName (bytes_of t.connection_suffix)
+    × IsFileName (bytes_of t.event_connection_suffix)
+    × IsFileName (bytes_of t.blackboard_mgmt_suffix)
+    × IsFileName (bytes_of t.blackboard_data_suffix)
+
+-- the same of nodes' files
+abbrev pub HasNodeNames : PlainTexts → Type 0
+HasNodeNames t =
+    IsFileName (bytes_of t.monitor_suffix)
+    × IsFileName (bytes_of t.node_static_config_suffix)
+    × IsFileName (bytes_of t.service_tag_suffix) × IsFileName (bytes_of t.port_tag_suffix)
+    × IsFileName (bytes_of t.global_mgmt_suffix)
+
+-- the same of all files, beside what their names begin with
+abbrev pub HasNames : PlainTexts → Type 0
+HasNames t = IsFileName (bytes_of t.prefix) × HasServiceNames t × HasNodeNames t
+
+-- the settings of services' files
+abbrev pub service_of : PlainTexts → Bool → Service
+service_of t on_open = record {
+  directory = bytes_of t.service_directory;
+  data_segment_suffix = bytes_of t.data_segment_suffix;
+  static_config_storage_suffix = bytes_of t.static_config_storage_suffix;
+  dynamic_config_storage_suffix = bytes_of t.dynamic_config_storage_suffix;
+  connection_suffix = bytes_of t.connection_suffix;
+  event_connection_suffix = bytes_of t.event_connection_suffix;
+  blackboard_mgmt_suffix = bytes_of t.blackboard_mgmt_suffix;
+  blackboard_data_suffix = bytes_of t.blackboard_data_suffix;
+  cleanup_dead_nodes_on_open = on_open;
+}
+
+-- the settings of nodes' files
+abbrev pub node_of : PlainTexts → PlainGlobal → Node
+node_of t s = record {
+  directory = bytes_of t.node_directory;
+  monitor_suffix = bytes_of t.monitor_suffix;
+  static_config_suffix = bytes_of t.node_static_config_suffix;
+  service_tag_suffix = bytes_of t.service_tag_suffix;
+  port_tag_suffix = bytes_of t.port_tag_suffix;
+  global_mgmt_suffix = bytes_of t.global_mgmt_suffix;
+  cleanup_dead_nodes_on_creation = s.cleanup_dead_nodes_on_creation;
+  cleanup_dead_nodes_on_destruction = s.cleanup_dead_nodes_on_destruction;
+}
+
+-- the settings of a system
+abbrev pub system_of : PlainTexts → PlainGlobal → Duration → GlobalSettings
+system_of t s timeout = record {
+  root_path = bytes_of t.root_path;
+  prefix = bytes_of t.prefix;
+  service = service_of t s.cleanup_dead_nodes_on_open;
+  node = node_of t s;
+  creation_timeout = timeout;
+}
+
+-- the settings of a system that were given, or what is not valid: paths are looked at first, then
+-- names, and then the timeout
+abbrev pub ReadsSystem : PlainConfig → Result GlobalSettings Refusal → Type 0
+ReadsSystem given (Ok made) =
+    HasPaths given.texts × HasNames given.texts × (timeout : Duration)
+    × ReadsGlobal given.global (Ok timeout) × (made ≡ system_of given.texts given.global timeout)
+ReadsSystem given (Err (refusal.Cause status.BadPath)) = ¬ (HasPaths given.texts)
+ReadsSystem given (Err (refusal.Cause status.NoFileName)) =
+    HasPaths given.texts × (¬ (HasNames given.texts))
+ReadsSystem given (Err (refusal.Cause _)) = ⊥
+ReadsSystem given (Err (refusal.Invalid f)) =
+    HasPaths given.texts × HasNames given.texts × ReadsGlobal given.global (Err f)
+
+-- settings can be read
+abbrev pub IsValid : {A : Type 0} → (Result A Field → Type 0) → Type 0
+IsValid {A} Reads = (made : A) × Reads (Ok made)
+
+-- the settings of services that were given, or the first field that is not valid
+abbrev pub ReadsDefaults : PlainConfig → Result Defaults Field → Type 0
+ReadsDefaults given (Ok made) =
+    ReadsPublishSubscribe given.publish_subscribe (Ok made.publish_subscribe)
+    × ReadsEvent given.event (Ok made.event)
+    × ReadsRequestResponse given.request_response (Ok made.request_response)
+    × ReadsBlackboard given.blackboard (Ok made.blackboard)
+ReadsDefaults given (Err f) =
+    ReadsPublishSubscribe given.publish_subscribe (Err f)
+    ⊎ (IsValid (ReadsPublishSubscribe given.publish_subscribe) × ReadsEvent given.event (Err f))
+    ⊎ (IsValid (ReadsPublishSubscribe given.publish_subscribe) × IsValid (ReadsEvent given.event)
+    × ReadsRequestResponse given.request_response (Err f))
+
+-- all settings that were given, or what is not valid: those of a system are looked at first
+abbrev pub ReadsConfig : PlainConfig → Result Config Refusal → Type 0
+ReadsConfig given (Ok made) =
+    ReadsSystem given (Ok made.global) × ReadsDefaults given (Ok made.defaults)
+ReadsConfig given (Err (refusal.Cause s)) = ReadsSystem given (Err (refusal.Cause s))
+ReadsConfig given (Err (refusal.Invalid f)) =
+    ReadsSystem given (Err (refusal.Invalid f))
+    ⊎ ((system : GlobalSettings) × ReadsSystem given (Ok system) × ReadsDefaults given (Err f))
+
+-- the answer of a status, of a text of so many bytes
+abbrev pub written_answer : Status → ℕ → WriteAnswer
+written_answer s n = record {
+  status = code s;
+  field = 0;
+  length = n;
+  key = replicate 80 0;
+  key_length = 0;
+}
+
+-- the answer on settings that are not valid
+abbrev pub refusal_answer : Refusal → WriteAnswer
+refusal_answer (refusal.Cause s) = written_answer s 0
+refusal_answer (refusal.Invalid f) =
+    record (written_answer (field_status f) 0) { field = field_number f }
+
+-- the answer on a number that TOML does not have
+abbrev pub misfit_answer : List ℕ → WriteAnswer
+misfit_answer path = record (written_answer status.NoTomlInteger 0) {
+  key = cut_key path;
+  key_length = length path;
+}
+
+-- the text was written, or the answer tells why there is none and the buffer is as it was
+abbrev pub TellsWritten : Result (String Global) ConfigWriteError → List ℕ → WriteAnswer → List ℕ
+    → Type 0
+TellsWritten (Ok text) old answer new =
+    (fits : Bool) × Writes (string_bytes text) old fits new
+    × (answer ≡ written_answer (fit_status fits) (length (string_bytes text)))
+TellsWritten (Err (OutOfRange misfit)) old answer new =
+    (answer ≡ misfit_answer (key_path misfit.section misfit.key.now)) × (new ≡ old)
+TellsWritten (Err NoMemory) old answer new =
+    (answer ≡ written_answer status.NoMemory 0) × (new ≡ old)
+
+-- the text of settings was written, or there is none
+abbrev pub TellsText : Config → List ℕ → WriteAnswer → List ℕ → Type 0
+TellsText config old answer new =
+    (written : Result (String Global) ConfigWriteError) × WritesFile config written
+    × TellsWritten written old answer new
+
+-- the same of settings, where they are valid
+abbrev pub TellsConfig : Result Config Refusal → List ℕ → WriteAnswer → List ℕ → Type 0
+TellsConfig (Ok config) old answer new = TellsText config old answer new
+TellsConfig (Err r) old answer new = (answer ≡ refusal_answer r) × (new ≡ old)
+
+-- of the first struct, where there is one
+abbrev pub WritesConfig : List PlainConfig → List ℕ → WriteAnswer → List ℕ → Type 0
+WritesConfig [] old answer new = (answer ≡ written_answer status.Null 0) × (new ≡ old)
+WritesConfig (given ∷ others) old answer new =
+    (read : Result Config Refusal) × ReadsConfig given read × TellsConfig read old answer new

@@ -1,0 +1,315 @@
+//! Settings that a caller filled, as the text of a file.
+ghost use Rattle.std.specs.Prelude.{◌≡◌, ◌↔◌, IsTrue};
+ghost use Rattle.iox2sd_config.specs.Writing.{IsPath, IsFileName, bytes_of, HasPaths, HasNames};
+ghost use Rattle.iox2sd_config.specs.Writing.{HasServiceNames, HasNodeNames, service_of, node_of};
+ghost use Rattle.iox2sd_config.specs.Writing.{system_of, ReadsSystem, ReadsDefaults, ReadsConfig};
+ghost use Rattle.iox2sd_config.specs.Writing.{written_answer, refusal_answer, TellsText};
+ghost use Rattle.iox2sd_config.specs.Writing.{WritesConfig};
+
+use crate::config::{PlainConfig, PlainText, PlainTexts};
+use crate::fault::{cut, key_path};
+use iox2_config::config::{Config, Defaults, Global, Node, Service};
+use iox2_config_file::{ConfigWriteError, write_config};
+use iox2_texts::paths::{FileName, Path};
+use iox2sd_common::answers::put;
+use iox2sd_common::status::Status;
+use iox2sd_settings::read_settings::{
+    Field, Refusal, read_blackboard, read_event, read_global, read_publish_subscribe,
+    read_request_response,
+};
+use iox2sd_settings::settings::GlobalSettings;
+use std::alloc;
+use std::time::Duration;
+
+/// What writing settings gave.
+#[repr(C)]
+#[derive(Clone, Copy)]
+pub struct WriteAnswer {
+    /// The number of a [`Status`].
+    pub status: u32,
+    /// The field of the settings that is not valid, as of their checks.
+    pub field: u32,
+    /// How many bytes the text has, whether they fitted or not; 0 where there is no text.
+    pub length: usize,
+    /// The first bytes of the path of the key whose number TOML does not have, and then zeros.
+    pub key: [u8; 80],
+    /// How many bytes this path has; 0 where the status is not that of `NoTomlInteger`.
+    pub key_length: usize,
+}
+
+impl WriteAnswer {
+    /// This status, of a text of so many bytes.
+    fn of(status: Status, length: usize) -> WriteAnswer
+        ensures { result ≡ written_answer status length }
+    {
+        WriteAnswer {
+            status: status.code(),
+            field: 0,
+            length,
+            key: [0; 80],
+            key_length: 0,
+        }
+    }
+
+    /// What is not valid in the settings.
+    fn refused(refusal: Refusal) -> WriteAnswer
+        ensures { result ≡ refusal_answer refusal }
+    {
+        let answer = refusal.answer();
+        WriteAnswer {
+            status: answer.status,
+            field: answer.field,
+            length: 0,
+            key: [0; 80],
+            key_length: 0,
+        }
+    }
+}
+
+/// The bytes of a text.
+fn bytes_of(text: &PlainText) -> &[u8]
+    ensures { result.now ≡ bytes_of text.now }
+{
+    if text.length < 256 {
+        &text.bytes[..text.length]
+    } else {
+        &text.bytes
+    }
+}
+
+/// Whether a text is a path.
+#[tactic(auto, unfolding(crate::specs::Writing::IsPath))]
+fn is_path(text: &PlainText) -> bool
+    ensures { IsTrue result ↔ IsPath (bytes_of text.now) }
+{
+    Path::new(bytes_of(text)).is_ok()
+}
+
+/// Whether a text is the name of a file.
+#[tactic(auto, unfolding(crate::specs::Writing::IsFileName))]
+fn is_name(text: &PlainText) -> bool
+    ensures { IsTrue result ↔ IsFileName (bytes_of text.now) }
+{
+    FileName::new(bytes_of(text)).is_ok()
+}
+
+/// Whether the paths are paths.
+fn has_paths(texts: &PlainTexts) -> bool
+    ensures { IsTrue result ↔ HasPaths texts.now }
+{
+    is_path(&texts.root_path) && is_path(&texts.service_directory) && is_path(&texts.node_directory)
+}
+
+/// Whether the ends of the names of services' files are names of files.
+fn has_service_names(texts: &PlainTexts) -> bool
+    ensures { IsTrue result ↔ HasServiceNames texts.now }
+{
+    is_name(&texts.data_segment_suffix)
+        && is_name(&texts.static_config_storage_suffix)
+        && is_name(&texts.dynamic_config_storage_suffix)
+        && is_name(&texts.connection_suffix)
+        && is_name(&texts.event_connection_suffix)
+        && is_name(&texts.blackboard_mgmt_suffix)
+        && is_name(&texts.blackboard_data_suffix)
+}
+
+/// Whether the ends of the names of nodes' files are names of files.
+fn has_node_names(texts: &PlainTexts) -> bool
+    ensures { IsTrue result ↔ HasNodeNames texts.now }
+{
+    is_name(&texts.monitor_suffix)
+        && is_name(&texts.node_static_config_suffix)
+        && is_name(&texts.service_tag_suffix)
+        && is_name(&texts.port_tag_suffix)
+        && is_name(&texts.global_mgmt_suffix)
+}
+
+/// Whether what the names of files begin and end with are names of files.
+fn has_names(texts: &PlainTexts) -> bool
+    ensures { IsTrue result ↔ HasNames texts.now }
+{
+    is_name(&texts.prefix) && has_service_names(texts) && has_node_names(texts)
+}
+
+/// The path that a text is.
+#[tactic(auto, unfolding(crate::specs::Writing::IsPath))]
+fn path_of(text: &PlainText) -> Path
+    requires { IsPath (bytes_of text.now) }
+    ensures { result ≡ bytes_of text.now }
+{
+    match Path::new(bytes_of(text)) {
+        Ok(path) => path,
+        Err(_) => unreachable!(),
+    }
+}
+
+/// The name of a file that a text is.
+#[tactic(auto, unfolding(crate::specs::Writing::IsFileName))]
+fn name_of(text: &PlainText) -> FileName
+    requires { IsFileName (bytes_of text.now) }
+    ensures { result ≡ bytes_of text.now }
+{
+    match FileName::new(bytes_of(text)) {
+        Ok(name) => name,
+        Err(_) => unreachable!(),
+    }
+}
+
+/// The settings of services' files.
+fn service_of(texts: &PlainTexts, cleanup_dead_nodes_on_open: bool) -> Service
+    requires paths { HasPaths texts.now }
+    requires names { HasServiceNames texts.now }
+    ensures { result ≡ service_of texts.now cleanup_dead_nodes_on_open }
+{
+    Service {
+        directory: path_of(&texts.service_directory),
+        data_segment_suffix: name_of(&texts.data_segment_suffix),
+        static_config_storage_suffix: name_of(&texts.static_config_storage_suffix),
+        dynamic_config_storage_suffix: name_of(&texts.dynamic_config_storage_suffix),
+        connection_suffix: name_of(&texts.connection_suffix),
+        event_connection_suffix: name_of(&texts.event_connection_suffix),
+        blackboard_mgmt_suffix: name_of(&texts.blackboard_mgmt_suffix),
+        blackboard_data_suffix: name_of(&texts.blackboard_data_suffix),
+        cleanup_dead_nodes_on_open,
+    }
+}
+
+/// The settings of nodes' files.
+fn node_of(texts: &PlainTexts, settings: &GlobalSettings) -> Node
+    requires paths { HasPaths texts.now }
+    requires names { HasNodeNames texts.now }
+    ensures { result ≡ node_of texts.now settings.now }
+{
+    Node {
+        directory: path_of(&texts.node_directory),
+        monitor_suffix: name_of(&texts.monitor_suffix),
+        static_config_suffix: name_of(&texts.node_static_config_suffix),
+        service_tag_suffix: name_of(&texts.service_tag_suffix),
+        port_tag_suffix: name_of(&texts.port_tag_suffix),
+        global_mgmt_suffix: name_of(&texts.global_mgmt_suffix),
+        cleanup_dead_nodes_on_creation: settings.cleanup_dead_nodes_on_creation,
+        cleanup_dead_nodes_on_destruction: settings.cleanup_dead_nodes_on_destruction,
+    }
+}
+
+/// The settings of a system.
+fn system_of(texts: &PlainTexts, settings: &GlobalSettings, timeout: Duration) -> Global
+    requires paths { HasPaths texts.now }
+    requires names { HasNames texts.now }
+    ensures { result ≡ system_of texts.now settings.now timeout }
+{
+    let mut global = Global::default();
+    global.set_root_path(&path_of(&texts.root_path));
+    global.prefix = name_of(&texts.prefix);
+    global.service = service_of(texts, settings.cleanup_dead_nodes_on_open);
+    global.node = node_of(texts, settings);
+    global.creation_timeout = timeout;
+    global
+}
+
+/// The settings of a system, or what is not valid in them.
+fn read_system(given: &PlainConfig) -> Result<Global, Refusal>
+    ensures { ReadsSystem given.now result }
+{
+    if !has_paths(&given.texts) {
+        return Err(Refusal::Cause(Status::BadPath));
+    }
+    if !has_names(&given.texts) {
+        return Err(Refusal::Cause(Status::NoFileName));
+    }
+    match read_global(&given.global) {
+        Ok(timeout) => Ok(system_of(&given.texts, &given.global, timeout)),
+        Err(field) => Err(Refusal::Invalid(field)),
+    }
+}
+
+/// The settings of services, or the first field that is not valid.
+fn read_defaults(given: &PlainConfig) -> Result<Defaults, Field>
+    ensures { ReadsDefaults given.now result }
+{
+    let publish_subscribe = match read_publish_subscribe(&given.publish_subscribe) {
+        Ok(settings) => settings,
+        Err(field) => return Err(field),
+    };
+    let event = match read_event(&given.event) {
+        Ok(settings) => settings,
+        Err(field) => return Err(field),
+    };
+    match read_request_response(&given.request_response) {
+        Ok(request_response) => Ok(Defaults {
+            publish_subscribe,
+            event,
+            request_response,
+            blackboard: read_blackboard(&given.blackboard),
+        }),
+        Err(field) => Err(field),
+    }
+}
+
+/// All settings, or what is not valid in them.
+fn read_given(given: &PlainConfig) -> Result<Config, Refusal>
+    ensures { ReadsConfig given.now result }
+{
+    match read_system(given) {
+        Ok(global) => match read_defaults(given) {
+            Ok(defaults) => Ok(Config { global, defaults }),
+            Err(field) => Err(Refusal::Invalid(field)),
+        },
+        Err(refusal) => Err(refusal),
+    }
+}
+
+/// Writes the text of settings to the front of the buffer, where it fits.
+fn write_text(alloc: alloc::Global, config: &Config, out: &mut [u8]) -> WriteAnswer
+    ensures { TellsText config.now out.old result out.new }
+{
+    match write_config(alloc, config) {
+        Ok(text) => {
+            let fits = put(text.as_bytes(), out);
+            let status = if fits {
+                Status::Done
+            } else {
+                Status::BufferTooShort
+            };
+            WriteAnswer::of(status, text.len())
+        }
+        Err(ConfigWriteError::OutOfRange(misfit)) => {
+            match key_path(alloc, misfit.section, misfit.key) {
+                Ok(path) => WriteAnswer {
+                    key: cut(path.as_bytes()),
+                    key_length: path.len(),
+                    ..WriteAnswer::of(Status::NoTomlInteger, 0)
+                },
+                Err(_) => WriteAnswer::of(Status::NoMemory, 0),
+            }
+        }
+        Err(ConfigWriteError::NoMemory) => WriteAnswer::of(Status::NoMemory, 0),
+    }
+}
+
+/// Writes settings as the text of a file, each below a comment with what it is and its default, to
+/// the front of the buffer where all of it fits.
+///
+/// Refused are, in this order, NULL (`Null`); a text that is no path where one is wanted
+/// (`BadPath`); one that is no name of a file (`NoFileName`); the first field that is not valid, of
+/// the system, of publish-subscribe, of event and of request-response services, as the checks of
+/// settings report it (`BadDuration`, `UnknownStrategy`); a number above the greatest integer of
+/// TOML, with the path of the first such key (`NoTomlInteger`); and too short a buffer
+/// (`BufferTooShort`). Want of memory (`NoMemory`) is refused at any point after the fields. Then
+/// the buffer is as it was.
+#[unsafe(no_mangle)]
+pub extern "C" fn iox2sd_config_write_at(
+    alloc: alloc::Global,
+    settings: &[PlainConfig],
+    out: &mut [u8],
+) -> WriteAnswer
+    ensures { WritesConfig settings.now out.old result out.new }
+{
+    let [given, ..] = settings else {
+        return WriteAnswer::of(Status::Null, 0);
+    };
+    match read_given(given) {
+        Ok(config) => write_text(alloc, &config, out),
+        Err(refusal) => WriteAnswer::refused(refusal),
+    }
+}

@@ -1,0 +1,46 @@
+-- How many values a key has in a caller's pairs.
+use Rattle.std.proofs.Common.{◌≡◌, ℕ, ◌+◌, ◌<◌, Bool, true, false, cond, List, [], ◌∷◌, map, length, refl, arith, sym, ◌∙◌}
+use Rattle.std.specs.List.{count_by, filter}
+use Rattle.std.specs.Prelude.{IsSorted}
+use Rattle.std.proofs.lemmas.List.Recursion.{is_count_by}
+use Rattle.std.proofs.lemmas.List.{get_or-map, length-map}
+use Rattle.std.proofs.lemmas.List.Sorted.{sum_by-IsPermutation}
+use Rattle.std.proofs.lemmas.List.Sums.{length-filter}
+use Rattle.iox2_texts.specs.Attribute.{IsListing, has_key, values_of}
+use Rattle.iox2_texts.specs.Pair.{Pair, pair_cmp}
+use Rattle.iox2sd_values.specs.Attributes.{pair_of}
+use Rattle.iox2sd_values.specs.declared.attributes.Attribute.{Attribute}
+
+abbrev value_of : Pair → List ℕ
+value_of pair = pair.value
+
+one_more : (p : Pair) (ps : List Pair) (b : Bool) → length (map value_of (cond b (p ∷ ps) ps))
+    ≡ cond b (1 + length (map value_of ps)) (length (map value_of ps))
+one_more p ps true = omega arith
+one_more p ps false = refl
+
+-- as many as there are pairs with the key
+pub counted : (key : List ℕ) (pairs : List Attribute)
+    → length (values_of (map pair_of pairs) key) ≡ count_by (λ a. has_key key (pair_of a)) pairs
+counted key pairs =
+    is_count_by (λ xs. length (values_of (map pair_of xs) key)) (λ a. has_key key (pair_of a)) refl
+    (λ x xs. one_more (pair_of x) (filter (has_key key) (map pair_of xs)) (has_key key (pair_of x)))
+    pairs
+
+-- as many as in a listing of the pairs
+pub as_in_listing : (key : List ℕ) (pairs set : List Pair) → IsListing pairs set
+    → length (values_of set key) ≡ length (values_of pairs key)
+as_in_listing key pairs set listing =
+    length-map _ _ ∙ length-filter (has_key key) set
+    ∙ sum_by-IsPermutation (λ p. cond (has_key key p) 1 0) pairs set listing.0
+    ∙ sym (length-map _ _ ∙ length-filter (has_key key) pairs)
+
+-- pairs that rise are a listing of them
+pub rise : (xs : List Attribute) → IsSorted (λ a b. pair_cmp (pair_of a) (pair_of b)) xs
+    → IsSorted pair_cmp (map pair_of xs)
+rise [] rises = λ k d low high. absurd (omega (arith, high))
+rise (x ∷ xs) rises = λ k d low high.
+    let inside : k + 1 < length (x ∷ xs) = omega (arith, high, length-map (x ∷ xs) pair_of) in
+    let below : k < length (x ∷ xs) = omega (arith, inside) in
+    rw (get_or-map pair_of (x ∷ xs) (k + 1) x d inside, get_or-map pair_of (x ∷ xs) k x d below)
+    (rises k x low inside)
