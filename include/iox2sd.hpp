@@ -902,6 +902,14 @@ public:
         : parts_{process, seconds, nanoseconds, counter} {}
     constexpr explicit UniqueId(const iox2sd_id& parts) noexcept : parts_(parts) {}
 
+    /// The id whose `text` this is. Errors: `Empty`; `TooLong`, for more than 32 bytes;
+    /// `IllegalByte`.
+    static Result<UniqueId> from_text(std::string_view text) noexcept {
+        const iox2sd_id_answer answer = iox2sd_id_from_text(detail::bytes(text), text.size());
+        if (answer.status != IOX2SD_DONE) return Status{answer.status};
+        return UniqueId(answer.id);
+    }
+
     constexpr const iox2sd_id& parts() const noexcept { return parts_; }
     constexpr std::uint32_t process() const noexcept { return parts_.process; }
     constexpr std::uint32_t seconds() const noexcept { return parts_.seconds; }
@@ -988,6 +996,13 @@ public:
         const iox2sd_id parts{process, seconds, nanoseconds, counter};
         if (!iox2sd_id_is_node(parts)) return Status::NoNode;
         return UniqueNodeId(parts, detail::FromLibrary{});
+    }
+
+    /// The id whose `text` this is. Errors: `Empty`; `TooLong`; `IllegalByte`; `NoNode`.
+    static Result<UniqueNodeId> from_text(std::string_view text) noexcept {
+        const Result<UniqueId> id = UniqueId::from_text(text);
+        if (!id) return id.error();
+        return create(id->process(), id->seconds(), id->nanoseconds(), id->counter());
     }
 
     UniqueNodeId(const iox2sd_id& parts, detail::FromLibrary) noexcept : UniqueId(parts) {}

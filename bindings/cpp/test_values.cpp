@@ -349,6 +349,19 @@ void ids() {
 
     const Result<UniqueNodeId> node = UniqueNodeId::create(1, 2, 3, 4);
     CHECK(node && node->owner_id() == 0x100000004u && node->text() == a.text());
+
+    const std::string widest(32, 'f');
+    CHECK(UniqueServiceId::from_text("0") == UniqueServiceId(0, 0, 0, 0));
+    CHECK(UniqueServiceId::from_text(widest)->text() == widest);
+    const auto shown = a.text();
+    CHECK(UniqueNodeId::from_text(shown) == *node);
+    CHECK(UniqueServiceId::from_text("").error() == Status::Empty);
+    CHECK(UniqueServiceId::from_text(widest + "f").error() == Status::TooLong);
+    for (const char* other : {"01", "A", "g", " 1", "1 ", "-1", "0x1"}) {
+        CHECK(UniqueServiceId::from_text(other).error() == Status::IllegalByte);
+        CHECK(UniqueNodeId::from_text(other).error() == Status::IllegalByte);
+    }
+    CHECK(UniqueNodeId::from_text("100000000").error() == Status::NoNode);
     CHECK(UniqueNodeId::create(0, 5, 6, 0).status() == Status::NoNode);
     CHECK(UniqueNodeId::create(0, 0, 0, 1) && UniqueNodeId::create(1, 0, 0, 0));
     CHECK(ordered(*node, UniqueNodeId::create(1, 2, 3, 5).value()));
