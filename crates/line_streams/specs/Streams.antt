@@ -1,6 +1,9 @@
 -- What a failed stream has read or written.
-use Rattle.std.specs.Prelude.{◌≡◌, ◌≢◌, ℕ, List, [], ◌++◌, Option}
+use Rattle.std.specs.Prelude.{◌≡◌, ◌≢◌, ◌⊎◌, ℕ, List, [], ◌++◌, Option, Result, Ok, Err}
 use Rattle.std.specs.Io.KnownBytes.{Appends, Consumes}
+use Rattle.std.specs.IoError.{error_kind}
+use Rattle.std.specs.declared.io.Error.{Error}
+use Rattle.std.specs.declared.io.ErrorKind.TheVariants.{WriteZero}
 
 -- known bytes begin with some bytes, and lose them
 abbrev pub ConsumesSome : Option (List ℕ) → Option (List ℕ) → Type 0
@@ -10,3 +13,24 @@ ConsumesSome old new = (read : List ℕ) × Consumes old new read
 abbrev pub AppendsBeginning : Option (List ℕ) → Option (List ℕ) → List ℕ → Type 0
 AppendsBeginning old new bs = (written left : List ℕ)
     × Appends old new written × (bs ≡ written ++ left) × (left ≢ [])
+
+-- the last read failed with this error
+abbrev pub ReadFails : {R : Type 0} → (R → Error → R → Type 0) → R → Error → Type 0
+ReadFails {R} fails now e = (before : R) × fails before e now
+
+-- the last write was one of what is left, and failed with this error, or took none of it, and the
+-- error says that
+abbrev pub WriteFails : {W : Type 0} → (W → List ℕ → Result ℕ Error → W → Type 0)
+    → W → Error → Type 0
+WriteFails {W} writes now e = (before : W) × (left : List ℕ) × (left ≢ [])
+    × (writes before left (Err e) now
+    ⊎ (writes before left (Ok 0) now × (error_kind e ≡ WriteZero)))
+
+-- the last that was done to a writer is a flush that succeeded
+abbrev pub IsFlushed : {W : Type 0} → (W → W → Type 0) → W → Type 0
+IsFlushed {W} flushes now = (before : W) × flushes before now
+
+-- the last that was done to a writer is a write or a flush that failed with this error
+abbrev pub Fails : {W : Type 0} → (W → List ℕ → Result ℕ Error → W → Type 0)
+    → (W → Error → W → Type 0) → W → Error → Type 0
+Fails {W} writes fails now e = WriteFails writes now e ⊎ ((before : W) × fails before e now)

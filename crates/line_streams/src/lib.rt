@@ -8,6 +8,7 @@ mod list;
 mod number;
 mod phrase;
 mod request;
+mod stream;
 mod streams;
 mod word;
 
@@ -16,5 +17,6 @@ pub use list::Listed;
 pub use number::{Number, number_before};
 pub use phrase::{Phrase, Then};
 pub use request::{Request, RequestError, print, request_of};
+pub use stream::{Sink, Source};
 pub use streams::{read_all, write_whole};
 pub use word::{After, after_word, before_byte};

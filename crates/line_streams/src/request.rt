@@ -1,12 +1,14 @@
 //! What the arguments of a program request, and texts that it prints.
-ghost use Rattle.std.specs.Prelude.{◌<◌, OnOk, drop};
+ghost use Rattle.std.specs.Prelude.{◌≡◌, ◌<◌, IfErr, OnOk, drop};
 ghost use Rattle.std.specs.Io.KnownBytes.{Appends};
 ghost use Rattle.line_streams.specs.Requests.{Printed, Requests, RequestsIn, words_of};
+ghost use Rattle.line_streams.specs.Streams.{Fails, IsFlushed};
 
+use crate::stream::Sink;
 use crate::streams::write_whole;
 use std::env::Args;
 use std::io;
-use std::io::{ErrorKind, Write};
+use std::io::{Error, ErrorKind};
 
 /// What is requested of a program that reads its standard input.
 pub enum Request {
@@ -64,25 +66,29 @@ fn request_in(words: Args) -> Result<Request, RequestError>
 }
 
 /// Writes a text and flushes its writer.
-fn write_text<W: Write>(out: &mut W, text: &str) -> io::Result<()>
-    ensures { OnOk result (Appends (W.contents out.old) (W.contents out.new) text.now) }
+fn write_text<W: Sink>(out: &mut W, text: &str) -> io::Result<()>
+    ensures written { OnOk result (Appends (W.contents out.old) (W.contents out.new) text.now) }
+    ensures flushed { OnOk result (IsFlushed W.Flushes out.new) }
+    ensures failed { IfErr result (Fails W.Writes W.FailsToFlush out.new) }
 {
     write_whole(out, text.as_bytes())?;
-    out.flush()
+    out.flush_pieces()
 }
 
-/// Writes a text and returns the status, below 3, or 3 where the writer fails.
+/// Writes a text, flushes its writer, and returns the status, below 3, or 3 where the writer fails.
 ///
 /// From `crates/iox2_replay/src/program.rt`:
 ///
 /// ```
 /// Ok(Request::Version) => print(output, VERSION, 0),
 /// ```
-pub fn print<W: Write>(out: &mut W, text: &str, status: u8) -> u8
+pub fn print<W: Sink>(out: &mut W, text: &str, status: u8) -> u8
     requires { status < 3 }
     ensures range { result < 4 }
     ensures printed { result < 3
         → Printed text.now status result (W.contents out.old) (W.contents out.new) }
+    ensures flushed { result < 3 → IsFlushed W.Flushes out.new }
+    ensures failed { result ≡ 3 → (e : Error) × Fails W.Writes W.FailsToFlush out.new e }
 {
     match write_text(out, text) {
         Ok(()) => status,

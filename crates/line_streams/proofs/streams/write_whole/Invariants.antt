@@ -5,7 +5,7 @@ use Rattle.line_streams.proofs.streams.write_whole.Given as goal
 -- what was written so far, and what is left
 abbrev pub invariant-loop-rest : goal.invariant-loop-rest
 invariant-loop-rest g l = (done : List ℕ) × (l.bytes ≡ done ++ l.rest)
-    × Appends (g.W.Write.contents l.fn.writer) (g.W.Write.contents l.writer) done
+    × Appends (g.W.Sink.contents l.fn.writer) (g.W.Sink.contents l.writer) done
 
 abbrev pub decreases-loop-rest : goal.decreases-loop-rest
 decreases-loop-rest g l = length l.rest
