@@ -4,9 +4,10 @@ use Rattle.iox2_container.specs.declared.container.slots.cell.Cell.{Cell}
 use Rattle.iox2_container.specs.declared.container.slots.cell.Cell.TheVariants.{Taken, Free}
 use Rattle.iox2_container.specs.declared.container.slots.cell.Occupant.{Occupant}
 
--- the cells of slots, and how often one was read or written
+-- the cells of slots, how many there is memory for, and how often one was read or written
 pub record Cells (C : Type 0) : Type 0 where
   pub cells : List C
+  pub room : ℕ
   pub touches : ℕ
 
 -- details, and the ticket that they were given

@@ -8,6 +8,7 @@ mod cell;
 mod touches;
 
 use super::attached::Attached;
+use super::slot_map::Looks;
 pub(crate) use cell::{Cell, Occupant};
 use iox2_ids::identifiers::UniqueNodeId;
 use std::alloc::{AllocError, Global};
@@ -16,7 +17,8 @@ pub(crate) use touches::Touches;
 
 /// A fixed number of slots, each with a cell in it.
 ///
-/// Contracts see the cells and how often one was read or written. The count takes no bytes.
+/// Contracts see the cells, how many of them there is memory for, and how often one was read or
+/// written. The count takes no bytes.
 #[derive(Debug, Drop)]
 pub struct Slots<C: Copy> {
     cells: Vec<C>,
@@ -24,23 +26,29 @@ pub struct Slots<C: Copy> {
 }
 
 impl<C: Copy> Model for Slots<C> {
+    ghost use Rattle.std.specs.Prelude.{vec_capacity};
     ghost use Rattle.iox2_container.specs.Cells.{Cells};
 
     ghost Value = { Cells C };
 
-    ghost view = { λ s. record { cells = s.cells.items; touches = s.touches.count } };
+    ghost view = { λ s. record {
+      cells = s.cells.items;
+      room = vec_capacity s.cells;
+      touches = s.touches.count;
+    } };
 }
 
 impl<C: Copy> Slots<C> {
-    /// So many slots, each with this cell in it, untouched
-    /// so far. Refused where there is no memory for them.
+    /// So many slots, each with this cell in it, untouched so far. It takes memory for exactly
+    /// them; refused where there is none.
     pub fn new(alloc: Global, capacity: usize, fill: C) -> Result<Self, AllocError>
         ensures cells { IfOk result (λ s. s.cells ≡ replicate capacity fill) }
+        ensures room { IfOk result (λ s. s.room ≡ capacity) }
         ensures touches { IfOk result (λ s. s.touches ≡ 0) }
     {
         let mut cells = Vec::with_capacity(alloc, capacity)?;
         for _ in 0..capacity {
-            cells.push(fill)?;
+            cells.push_reserved(fill);
         }
         Ok(Slots {
             cells,
@@ -60,6 +68,7 @@ impl<C: Copy> Slots<C> {
         requires { index < length self.old.cells }
         ensures cell { slice_get self.old.cells index ≡ Some result }
         ensures cells { self.new.cells ≡ self.old.cells }
+        ensures room { self.new.room ≡ self.old.room }
         ensures touches { self.new.touches ≡ self.old.touches + 1 }
     {
         let cell = self.cells[index];
@@ -71,17 +80,20 @@ impl<C: Copy> Slots<C> {
     pub fn write(&mut self, index: usize, cell: C)
         requires { index < length self.old.cells }
         ensures cells { self.new.cells ≡ slice_set self.old.cells index cell }
+        ensures room { self.new.room ≡ self.old.room }
         ensures touches { self.new.touches ≡ self.old.touches + 1 }
     {
         self.touches = self.touches.one_more();
         self.cells[index] = cell;
     }
 
-    /// The cell in a slot, for calls that change nothing. This is not a touch.
-    pub fn peek(&self, index: usize) -> C
+    /// The cell in a slot, for calls that change nothing. This is no touch, but a look.
+    pub(crate) fn peek(&self, index: usize, looks: &mut Looks) -> C
         requires { index < length self.now.cells }
-        ensures { slice_get self.now.cells index ≡ Some result }
+        ensures cell { slice_get self.now.cells index ≡ Some result }
+        ensures looks { looks.new.touches.count ≡ looks.old.touches.count + 1 }
     {
+        looks.count();
         self.cells[index]
     }
 }
@@ -92,6 +104,7 @@ impl<T: Attached + Copy, N: Copy> Slots<Cell<T, N>> {
     pub(crate) fn look_for(&mut self, slot: usize, node: &UniqueNodeId) -> Option<T>
         requires { slot < length self.old.cells }
         ensures cells { self.new.cells ≡ self.old.cells }
+        ensures room { self.new.room ≡ self.old.room }
         ensures touches { self.new.touches ≡ self.old.touches + 1 }
         ensures found { MatchOption result
             (PlaceIsOf T.node node.now (map shown self.old.cells) slot false)

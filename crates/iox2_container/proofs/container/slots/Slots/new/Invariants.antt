@@ -1,5 +1,10 @@
 use Rattle.std.proofs.Common.{◌≡◌, replicate}
+use Rattle.std.specs.Prelude.{vec_capacity, vec_len}
 use Rattle.iox2_container.proofs.container.slots.Slots.new.Given as goal
 
 abbrev pub invariant-loop : goal.invariant-loop
-invariant-loop g l = l.cells.items ≡ replicate l.counter l.fill
+invariant-loop g l = record {
+  cells : l.cells.items ≡ replicate l.counter l.fill;
+  len : vec_len l.cells ≡ l.counter;
+  room : vec_capacity l.cells ≡ l.fn.capacity;
+}
