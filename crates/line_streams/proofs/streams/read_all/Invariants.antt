@@ -5,7 +5,8 @@ use Rattle.line_streams.proofs.streams.read_all.Given as goal
 
 abbrev pub invariant-pieces : goal.invariant-pieces
 invariant-pieces g l = record {
-  consumes : Consumes (g.R.Source.remaining l.fn.reader) (g.R.Source.remaining l.reader) l.all.items;
+  consumes :
+      Consumes (g.R.Source.remaining l.fn.reader) (g.R.Source.remaining l.reader) l.all.items;
   fits : vec_len l.all < 2 ^ 64;
 }
 
