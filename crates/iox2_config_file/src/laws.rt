@@ -1,12 +1,16 @@
-//! Laws of files of settings that no single call carries.
-ghost use Rattle.std.specs.Prelude.{◌≡◌, [], IfOk, IfErr};
+//! Laws of files of settings that no single call carries, and how values are copied.
+ghost use Rattle.std.specs.Prelude.{◌≡◌, [], IfOk, IfErr, IsOkAnd};
 ghost use Rattle.iox2_config_file.specs.ReadBack.{AreSame, IsNoMemory};
 
 use crate::error::ConfigFileError;
+use crate::fault::SettingFault;
+use crate::kind::{Fault, Kind, TomlType};
 use crate::read::{FileSettings, read_config};
-use crate::write::{ConfigWriteError, write_config};
+use crate::section::{Row, Section};
+use crate::setting::SettingValue;
+use crate::write::{ConfigWriteError, Misfit, write_config};
 use iox2_config::config::Config;
-use std::alloc::Global;
+use std::alloc::{AllocError, Global};
 
 /// What `write_config` writes, `read_config` reads: each setting has the value that it had, and no
 /// key is unknown. Only refused memory is reported.
@@ -23,4 +27,25 @@ pub fn what_is_written_is_read_back(
         Ok(text) => Ok(read_config(alloc, text.as_str())),
         Err(e) => Err(e),
     }
+}
+
+/// What a setting holds, a key of a table, what its value may be and what it is, what is wrong with
+/// it, and why a configuration gives no text.
+pub type Settings<'a> = (
+    SettingValue<'a>,
+    Row,
+    Section,
+    Kind,
+    TomlType,
+    Fault,
+    SettingFault,
+    Misfit,
+    ConfigWriteError,
+);
+
+/// A clone of what is said of a setting is the same and takes no memory.
+pub fn settings_are_cloned<'a>(settings: &Settings<'a>) -> Result<Settings<'a>, AllocError>
+    ensures { IsOkAnd result (λ copy. copy ≡ settings.now) }
+{
+    settings.clone()
 }
