@@ -1,14 +1,14 @@
 //! The program: what its arguments request, done with its streams.
 ghost use Rattle.std.specs.Prelude.{◌<◌};
 ghost use Rattle.std.specs.Io.KnownBytes.{IsAtEnd};
+ghost use Rattle.line_streams.specs.Streams.{IsFlushed};
 ghost use Rattle.iox2_replay.specs.Program.{Ran, RequestsScript};
 
-use line_streams::{Request, RequestError, print, request_of};
+use line_streams::{Request, RequestError, Sink, Source, print, request_of};
 use service_descriptions::replay::run_streams;
 use std::alloc::Global;
 use std::env::Args;
 use std::io;
-use std::io::{Read, Write};
 
 /// How the program is used.
 pub(crate) const HELP: &str = "usage: iox2-replay [--help | --version] < SCRIPT
@@ -54,7 +54,7 @@ pub(crate) const NO_MEMORY: &str = "no memory\n";
 /// - 1: an argument or a line is bad.
 /// - 2: memory was refused.
 /// - 3: a read, a write or a flush failed. Nothing was written after it.
-pub(crate) fn replay_streams<R: Read, W: Write, E: Write>(
+pub(crate) fn replay_streams<R: Source, W: Sink, E: Sink>(
     alloc: Global,
     arguments: io::Result<Args>,
     input: &mut R,
@@ -65,6 +65,9 @@ pub(crate) fn replay_streams<R: Read, W: Write, E: Write>(
     ensures ran { result < 3 → Ran arguments result (R.remaining input.old)
         (W.contents output.old) (W.contents output.new)
         (E.contents errors.old) (E.contents errors.new) }
+    // After a script both writers were flushed last.
+    ensures flushed { result < 3 → RequestsScript arguments
+        → IsFlushed W.Flushes output.new × IsFlushed E.Flushes errors.new }
     // All of a script was read, unless memory ran out.
     ensures read { result < 2 → RequestsScript arguments → IsAtEnd (R.remaining input.new) }
 {
