@@ -87,8 +87,16 @@ impl<C: Copy> Slots<C> {
         self.cells[index] = cell;
     }
 
-    /// The cell in a slot, for calls that change nothing. This is no touch, but a look.
-    pub(crate) fn peek(&self, index: usize, looks: &mut Looks) -> C
+    /// The cell in a slot. This is no touch, and is not counted.
+    pub fn peek(&self, index: usize) -> C
+        requires { index < length self.now.cells }
+        ensures { slice_get self.now.cells index ≡ Some result }
+    {
+        self.cells[index]
+    }
+
+    /// The cell in a slot, for calls of a container that change nothing. This is a look.
+    pub(crate) fn look(&self, index: usize, looks: &mut Looks) -> C
         requires { index < length self.now.cells }
         ensures cell { slice_get self.now.cells index ≡ Some result }
         ensures looks { looks.new.touches.count ≡ looks.old.touches.count + 1 }
