@@ -9,7 +9,8 @@ ghost use Rattle.iox2_config.specs.Hashing.{HashInputsDiffer};
 use crate::config::{AllocationStrategy, BackpressureStrategy, Config, DataSegmentType, EventId};
 use crate::hash::{HashError, PatternKind, ServiceHash, ServiceHashError};
 use crate::types::{
-    MessageTypeDetails, Places, SampleLayout, TypeDetail, TypeDetailError, TypeVariant,
+    Incompatibility, MessageTypeDetails, Places, SampleLayout, TypeDetail, TypeDetailError,
+    TypeVariant,
 };
 use std::alloc::AllocError;
 use std::cmp::Ordering;
@@ -133,6 +134,18 @@ pub fn refusals_go_by_variant(
     one: &Refusals,
     other: &Refusals,
 ) -> (bool, Result<Refusals, AllocError>)
+    ensures equal { IsTrue result.0 ↔ (one.now ≡ other.now) }
+    ensures cloned { IsOkAnd result.1 (λ copy. copy ≡ one.now) }
+{
+    (one == other, one.clone())
+}
+
+/// Incompatibilities, and so the differences in them, are equal exactly where they are the same. A
+/// clone of one is the same and takes no memory.
+pub fn incompatibilities_go_by_variant(
+    one: &Incompatibility,
+    other: &Incompatibility,
+) -> (bool, Result<Incompatibility, AllocError>)
     ensures equal { IsTrue result.0 ↔ (one.now ≡ other.now) }
     ensures cloned { IsOkAnd result.1 (λ copy. copy ≡ one.now) }
 {

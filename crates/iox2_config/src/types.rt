@@ -1,5 +1,6 @@
-//! Types of messages, and where the parts of a message lie.
+//! Types of messages, where the parts of a message lie, and who may open them.
 
+mod incompatibility;
 mod layout;
 mod message_details;
 mod places;
@@ -7,6 +8,7 @@ mod sample_layout;
 mod type_detail;
 mod zero_copy_send;
 
+pub use incompatibility::{Difference, Incompatibility};
 pub use message_details::MessageTypeDetails;
 pub use places::Places;
 pub use sample_layout::SampleLayout;

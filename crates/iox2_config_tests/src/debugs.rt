@@ -7,7 +7,10 @@ use iox2_config::config::{
 use iox2_config::hash::{
     Hash, HashError, HashValue, PatternKind, ServiceHash, ServiceHashError, Sha1Hasher,
 };
-use iox2_config::types::{MessageTypeDetails, Places, TypeDetail, TypeDetailError, TypeVariant};
+use iox2_config::types::{
+    Difference, Incompatibility, MessageTypeDetails, Places, TypeDetail, TypeDetailError,
+    TypeVariant,
+};
 use iox2_texts::bounded::StringModificationError;
 use iox2_texts::paths::{FileName, Path};
 use iox2_texts::service_name::ServiceName;
@@ -57,6 +60,19 @@ static DETAIL_ERRORS: [(TypeDetailError, &str); 2] = [
     ),
 ];
 
+static INCOMPATIBILITIES: [(Incompatibility, &str); 4] = [
+    (Incompatibility::Header(Difference::Name), "Header(Name)"),
+    (
+        Incompatibility::UserHeader(Difference::Variant),
+        "UserHeader(Variant)",
+    ),
+    (Incompatibility::Payload(Difference::Size), "Payload(Size)"),
+    (
+        Incompatibility::Payload(Difference::Alignment),
+        "Payload(Alignment)",
+    ),
+];
+
 static HASH_ERRORS: [(ServiceHashError, &str); 2] = [
     (ServiceHashError::HasherFailed, "HasherFailed"),
     (ServiceHashError::IllegalText, "IllegalText"),
@@ -72,10 +88,11 @@ fn choices_and_errors_are_shown_by_name(rt: HostRuntime) {
             are_shown_as(&KINDS),
             are_shown_as(&VARIANTS),
             are_shown_as(&DETAIL_ERRORS),
+            are_shown_as(&INCOMPATIBILITIES),
             are_shown_as(&HASH_ERRORS),
             is_shown_as(&HashError::HasherFailed, "HasherFailed"),
         ],
-        [true; 8]
+        [true; 9]
     );
 }
 

@@ -1,7 +1,9 @@
 use iox2_config::config::{AllocationStrategy, Config};
 use iox2_config::hash::{PatternKind, ServiceHash, Sha1Hasher};
 use iox2_config::laws::*;
-use iox2_config::types::{MessageTypeDetails, TypeDetail, TypeVariant};
+use iox2_config::types::{
+    Difference, Incompatibility, MessageTypeDetails, TypeDetail, TypeVariant,
+};
 use iox2_texts::service_name::ServiceName;
 use std::cmp::Ordering;
 use std::hash::DefaultHasher;
@@ -83,5 +85,15 @@ fn laws_of_types_can_be_called(rt: HostRuntime) {
             message_details_go_by_parts(&details, &with_payload, &mut hasher),
         ],
         [true, false, true, false]
+    );
+}
+
+#[test]
+fn incompatibilities_go_by_their_variant(rt: HostRuntime) {
+    let one = Incompatibility::Payload(Difference::Size);
+    let other = Incompatibility::Payload(Difference::Name);
+    assert_eq!(rt;
+        incompatibilities_go_by_variant(&one, &other),
+        (false, Ok(one))
     );
 }

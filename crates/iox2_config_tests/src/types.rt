@@ -1,5 +1,6 @@
 use iox2_config::types::{
-    MessageTypeDetails, TypeDetail, TypeDetailError, TypeVariant, ZeroCopySend,
+    Difference, Incompatibility, MessageTypeDetails, TypeDetail, TypeDetailError, TypeVariant,
+    ZeroCopySend,
 };
 use iox2_texts::bounded::StringModificationError;
 use std::process::Abort;
@@ -223,5 +224,68 @@ fn compatible_is_what_is_aligned_as_much(rt: HostRuntime) {
             longs.is_compatible_to(&details::<i64, i64, i32>(&rt)),
         ],
         [true, false, false, false]
+    );
+}
+
+/// Why an opener with these parts may not use messages whose parts all take 8 bytes, at multiples
+/// of 8.
+fn why(rt: &impl Abort, parts: [(usize, usize); 3]) -> Option<Incompatibility> {
+    let service = MessageTypeDetails {
+        header: part(rt, 8, 8),
+        user_header: part(rt, 8, 8),
+        payload: part(rt, 8, 8),
+    };
+    let [header, user_header, payload] = parts;
+    let opener = MessageTypeDetails {
+        header: part(rt, header.0, header.1),
+        user_header: part(rt, user_header.0, user_header.1),
+        payload: part(rt, payload.0, payload.1),
+    };
+    opener.first_incompatibility(&service)
+}
+
+#[test]
+fn the_first_difference_is_returned(rt: HostRuntime) {
+    for (parts, wanted) in [
+        ([(8, 8), (8, 8), (8, 8)], None),
+        ([(8, 8), (8, 4), (8, 1)], None),
+        (
+            [(8, 4), (8, 16), (16, 8)],
+            Some(Incompatibility::Header(Difference::Alignment)),
+        ),
+        (
+            [(16, 4), (8, 16), (16, 8)],
+            Some(Incompatibility::Header(Difference::Size)),
+        ),
+        (
+            [(8, 8), (8, 16), (16, 8)],
+            Some(Incompatibility::UserHeader(Difference::Alignment)),
+        ),
+        (
+            [(8, 8), (8, 8), (16, 16)],
+            Some(Incompatibility::Payload(Difference::Size)),
+        ),
+    ] {
+        assert_eq!(rt; why(&rt, parts), wanted);
+    }
+}
+
+#[test]
+fn names_and_variants_differ_before_sizes(rt: HostRuntime) {
+    let longs = details::<i64, i64, i64>(&rt);
+    let mut others = longs.copied();
+    others.user_header = TypeDetail::default();
+    let mut fixed = longs.copied();
+    let payload = TypeDetail::from_parts(TypeVariant::FixedSize, "i64", 16, 16);
+    fixed.payload = payload.expect(&rt, "a detail");
+    assert_eq!(rt;
+        [
+            others.first_incompatibility(&longs),
+            fixed.first_incompatibility(&longs),
+        ],
+        [
+            Some(Incompatibility::UserHeader(Difference::Name)),
+            Some(Incompatibility::Payload(Difference::Variant)),
+        ]
     );
 }

@@ -3,14 +3,12 @@ ghost use Rattle.std.specs.Prelude.{◌≡◌, ◌^◌, ◌<◌, ◌≤◌, ◌�
 ghost use Rattle.std.specs.Int.{is_power_of_two};
 ghost use Rattle.iox2_texts.specs.Multiple.{least_multiple};
 ghost use Rattle.iox2_config.specs.Blocks.{HoldsEverywhere};
-ghost use Rattle.iox2_config.specs.Compatible.{Compatible, Suits};
 ghost use Rattle.iox2_config.specs.Layout.{user_header_place, payload_place, sample_size, HaveAlignments};
 ghost use Rattle.iox2_config.specs.Layout.{HasPlaces, places_in};
 
 use super::message_details::MessageTypeDetails;
 use super::places::Places;
 use super::sample_layout::SampleLayout;
-use super::type_detail::TypeDetail;
 use iox2_texts::bounded::align;
 
 /// The greatest size of a block of memory, 2^63 - 1.
@@ -114,27 +112,6 @@ impl MessageTypeDetails {
         }
         Some(SampleLayout::new(size, self.header.alignment()))
     }
-
-    /// Whether an opener with these details may use a service with the
-    /// details `rhs`: the headers are equal, and user headers and payloads
-    /// are equal but for their alignments, which are at most those of `rhs`.
-    pub fn is_compatible_to(&self, rhs: &Self) -> bool
-        ensures { IsTrue result ↔ Compatible self.now rhs.now }
-    {
-        self.header == rhs.header
-            && suits(&self.user_header, &rhs.user_header)
-            && suits(&self.payload, &rhs.payload)
-    }
-}
-
-/// Whether a type of an opener suits that of the service.
-fn suits(opener: &TypeDetail, service: &TypeDetail) -> bool
-    ensures { IsTrue result ↔ Suits opener.now service.now }
-{
-    opener.type_name() == service.type_name()
-        && opener.variant() == service.variant()
-        && opener.size() == service.size()
-        && opener.alignment() <= service.alignment()
 }
 
 /// As `align` to a power of two, or `None` where the multiple does not fit.
