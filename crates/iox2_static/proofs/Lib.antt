@@ -1,3 +1,4 @@
 pub mod Equality
 pub mod Greatest
 pub mod HashWrites
+pub mod Requirements

@@ -4,6 +4,7 @@ ghost use Rattle.std.specs.Prelude.{◌≡◌, ◌↔◌, IsTrue, IsOkAnd, fold}
 ghost use Rattle.iox2_static.specs.HashWrites.{pattern_writes};
 
 use crate::static_config::messaging_pattern::MessagingPattern;
+use crate::static_config::setting::Setting;
 use crate::static_config::{StaticConfig, event};
 use std::alloc::AllocError;
 use std::hash::{Hash, Hasher};
@@ -39,4 +40,13 @@ pub fn descriptions_are_equal_by_fields(one: &StaticConfig, other: &StaticConfig
     ensures { IsTrue result ↔ (one.now ≡ other.now) }
 {
     one == other
+}
+
+/// Settings are equal exactly where they are the same. A clone of one is the same and takes no
+/// memory.
+pub fn settings_go_by_variant(one: &Setting, other: &Setting) -> (bool, Result<Setting, AllocError>)
+    ensures equal { IsTrue result.0 ↔ (one.now ≡ other.now) }
+    ensures cloned { IsOkAnd result.1 (λ copy. copy ≡ one.now) }
+{
+    (one == other, one.clone())
 }

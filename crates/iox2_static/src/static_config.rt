@@ -14,6 +14,7 @@ pub mod event;
 pub mod messaging_pattern;
 pub mod publish_subscribe;
 pub mod request_response;
+pub mod setting;
 
 use iox2_config::config::Config;
 use iox2_config::hash::{Hash, PatternKind, ServiceHash, ServiceHashError};

@@ -1,6 +1,7 @@
 use iox2_config::config::Config;
 use iox2_static::laws::*;
 use iox2_static::static_config::messaging_pattern::MessagingPattern;
+use iox2_static::static_config::setting::Setting;
 use iox2_static::static_config::{blackboard, event, publish_subscribe, request_response};
 use std::hash::DefaultHasher;
 
@@ -43,4 +44,10 @@ fn laws_of_patterns_can_be_called(rt: HostRuntime) {
         ],
         [true, false]
     );
+}
+
+#[test]
+fn settings_go_by_their_variant(rt: HostRuntime) {
+    let (one, other) = (Setting::MaxNodes, Setting::MaxReaders);
+    assert_eq!(rt; settings_go_by_variant(&one, &other), (false, Ok(one)));
 }

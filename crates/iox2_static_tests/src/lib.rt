@@ -12,3 +12,5 @@ mod defaults;
 mod descriptions;
 #[cfg(test)]
 mod laws;
+#[cfg(test)]
+mod settings;

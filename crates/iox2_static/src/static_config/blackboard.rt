@@ -1,6 +1,7 @@
 //! Static configurations of blackboard services.
-ghost use Rattle.std.specs.Prelude.{◌≡◌};
+ghost use Rattle.std.specs.Prelude.{◌≡◌, ◌↔◌, IsTrue};
 
+use super::setting::{Requirement, Setting, are_met, first_unmet};
 use iox2_config::config::{Blackboard, Config};
 use iox2_config::types::TypeDetail;
 
@@ -18,6 +19,8 @@ pub struct StaticConfig {
 }
 
 impl StaticConfig {
+    ghost use Rattle.iox2_static.specs.Requirements.{first_unmet, AreMet};
+    ghost use Rattle.iox2_static.specs.Satisfies.{blackboard_requirements};
     ghost use Rattle.iox2_static.specs.Blackboard.{blackboard_of};
 
     /// The blackboard defaults of a configuration, with one writer and the default type details.
@@ -58,6 +61,36 @@ impl StaticConfig {
         ensures { result.now ≡ self.now.type_details }
     {
         &self.type_details
+    }
+
+    /// The first setting, in the order of the fields, in which the service does not meet what an
+    /// opener requires, or `None` exactly where it meets all.
+    ///
+    /// Each number must be at least the required one. The type of the keys and the attributes are
+    /// no part of it.
+    pub fn first_unmet(&self, required: &Self) -> Option<Setting>
+        ensures { result ≡ first_unmet (blackboard_requirements self.now required.now) }
+    {
+        first_unmet(&self.requirements(required))
+    }
+
+    /// Whether the service meets all that an opener requires.
+    pub fn satisfies(&self, required: &Self) -> bool
+        ensures { IsTrue result ↔ AreMet (blackboard_requirements self.now required.now) }
+    {
+        are_met(&self.requirements(required))
+    }
+
+    /// What an opener requires, in the order of the fields.
+    #[tactic(auto, unfolding(crate::specs::Satisfies::blackboard_requirements))]
+    fn requirements(&self, required: &Self) -> [Requirement; 3]
+        ensures { result ≡ blackboard_requirements self.now required.now }
+    {
+        [
+            Requirement::at_least(Setting::MaxReaders, self.max_readers, required.max_readers),
+            Requirement::at_least(Setting::MaxWriters, self.max_writers, required.max_writers),
+            Requirement::at_least(Setting::MaxNodes, self.max_nodes, required.max_nodes),
+        ]
     }
 
     /// An equal configuration.

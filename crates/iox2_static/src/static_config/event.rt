@@ -1,6 +1,7 @@
 //! Static configurations of event services.
-ghost use Rattle.std.specs.Prelude.{◌≡◌};
+ghost use Rattle.std.specs.Prelude.{◌≡◌, ◌↔◌, IsTrue};
 
+use super::setting::{Requirement, Setting, are_met, first_unmet};
 use iox2_config::config::{Config, Event, EventId};
 use iox2_ids::identifiers::Time;
 use std::time::Duration;
@@ -36,6 +37,8 @@ pub struct StaticConfig {
 }
 
 impl StaticConfig {
+    ghost use Rattle.iox2_static.specs.Requirements.{first_unmet, AreMet};
+    ghost use Rattle.iox2_static.specs.Satisfies.{event_requirements};
     ghost use Rattle.iox2_static.specs.Event.{event_of, duration_of};
 
     /// The event defaults of a configuration. A deadline is made with the default time.
@@ -121,5 +124,64 @@ impl StaticConfig {
         ensures { result ≡ self.now.notifier_dead_event }
     {
         self.notifier_dead_event.map(EventId::new)
+    }
+
+    /// The first setting, in the order of the fields, in which the service does not meet what an
+    /// opener requires, or `None` exactly where it meets all.
+    ///
+    /// Each number must be at least the required one, and deadlines and events the same; when a
+    /// deadline was set does not count. Attributes are no part of it.
+    pub fn first_unmet(&self, required: &Self) -> Option<Setting>
+        ensures { result ≡ first_unmet (event_requirements self.now required.now) }
+    {
+        first_unmet(&self.requirements(required))
+    }
+
+    /// Whether the service meets all that an opener requires.
+    pub fn satisfies(&self, required: &Self) -> bool
+        ensures { IsTrue result ↔ AreMet (event_requirements self.now required.now) }
+    {
+        are_met(&self.requirements(required))
+    }
+
+    /// What an opener requires, in the order of the fields.
+    #[tactic(auto, unfolding(crate::specs::Satisfies::event_requirements))]
+    fn requirements(&self, required: &Self) -> [Requirement; 8]
+        ensures { result ≡ event_requirements self.now required.now }
+    {
+        [
+            Requirement::at_least(
+                Setting::MaxNotifiers,
+                self.max_notifiers,
+                required.max_notifiers,
+            ),
+            Requirement::at_least(
+                Setting::MaxListeners,
+                self.max_listeners,
+                required.max_listeners,
+            ),
+            Requirement::at_least(Setting::MaxNodes, self.max_nodes, required.max_nodes),
+            Requirement::at_least(
+                Setting::EventIdMaxValue,
+                self.event_id_max_value,
+                required.event_id_max_value,
+            ),
+            Requirement::same_duration(Setting::Deadline, self.deadline(), required.deadline()),
+            Requirement::same_event(
+                Setting::NotifierCreatedEvent,
+                self.notifier_created_event,
+                required.notifier_created_event,
+            ),
+            Requirement::same_event(
+                Setting::NotifierDroppedEvent,
+                self.notifier_dropped_event,
+                required.notifier_dropped_event,
+            ),
+            Requirement::same_event(
+                Setting::NotifierDeadEvent,
+                self.notifier_dead_event,
+                required.notifier_dead_event,
+            ),
+        ]
     }
 }

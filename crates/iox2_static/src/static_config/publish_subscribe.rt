@@ -1,7 +1,8 @@
 //! Static configurations of publish-subscribe services.
-ghost use Rattle.std.specs.Prelude.{◌≡◌};
+ghost use Rattle.std.specs.Prelude.{◌≡◌, ◌↔◌, IsTrue};
 
 use super::chunks::amount_of_chunks;
+use super::setting::{Requirement, Setting, are_met, first_unmet};
 use iox2_config::config::{Config, PublishSubscribe};
 use iox2_config::types::MessageTypeDetails;
 
@@ -27,6 +28,8 @@ pub struct StaticConfig {
 }
 
 impl StaticConfig {
+    ghost use Rattle.iox2_static.specs.Requirements.{first_unmet, AreMet};
+    ghost use Rattle.iox2_static.specs.Satisfies.{publish_subscribe_requirements};
     ghost use Rattle.iox2_static.specs.Chunks.{TellsGreatest};
     ghost use Rattle.iox2_static.specs.PublishSubscribe.{publish_subscribe_of, sample_limits};
 
@@ -122,6 +125,64 @@ impl StaticConfig {
         ensures { result.now ≡ self.now.message_type_details }
     {
         &self.message_type_details
+    }
+
+    /// The first setting, in the order of the fields, in which the service does not meet what an
+    /// opener requires, or `None` exactly where it meets all.
+    ///
+    /// Each number must be at least the required one, and each choice the same. The types of
+    /// messages and the attributes are no part of it.
+    pub fn first_unmet(&self, required: &Self) -> Option<Setting>
+        ensures { result ≡ first_unmet (publish_subscribe_requirements self.now required.now) }
+    {
+        first_unmet(&self.requirements(required))
+    }
+
+    /// Whether the service meets all that an opener requires.
+    pub fn satisfies(&self, required: &Self) -> bool
+        ensures { IsTrue result ↔ AreMet (publish_subscribe_requirements self.now required.now) }
+    {
+        are_met(&self.requirements(required))
+    }
+
+    /// What an opener requires, in the order of the fields.
+    #[tactic(auto, unfolding(crate::specs::Satisfies::publish_subscribe_requirements))]
+    fn requirements(&self, required: &Self) -> [Requirement; 7]
+        ensures { result ≡ publish_subscribe_requirements self.now required.now }
+    {
+        [
+            Requirement::at_least(
+                Setting::MaxSubscribers,
+                self.max_subscribers,
+                required.max_subscribers,
+            ),
+            Requirement::at_least(
+                Setting::MaxPublishers,
+                self.max_publishers,
+                required.max_publishers,
+            ),
+            Requirement::at_least(Setting::MaxNodes, self.max_nodes, required.max_nodes),
+            Requirement::at_least(
+                Setting::HistorySize,
+                self.history_size,
+                required.history_size,
+            ),
+            Requirement::at_least(
+                Setting::SubscriberMaxBufferSize,
+                self.subscriber_max_buffer_size,
+                required.subscriber_max_buffer_size,
+            ),
+            Requirement::at_least(
+                Setting::SubscriberMaxBorrowedSamples,
+                self.subscriber_max_borrowed_samples,
+                required.subscriber_max_borrowed_samples,
+            ),
+            Requirement::same_choice(
+                Setting::EnableSafeOverflow,
+                self.enable_safe_overflow,
+                required.enable_safe_overflow,
+            ),
+        ]
     }
 
     /// An equal configuration.

@@ -1,7 +1,8 @@
 //! Static configurations of request-response services.
-ghost use Rattle.std.specs.Prelude.{◌≡◌};
+ghost use Rattle.std.specs.Prelude.{◌≡◌, ◌↔◌, IsTrue};
 
 use super::chunks::amount_of_chunks;
+use super::setting::{Requirement, Setting, are_met, first_unmet};
 use iox2_config::config::{Config, RequestResonse};
 use iox2_config::types::MessageTypeDetails;
 
@@ -35,6 +36,8 @@ pub struct StaticConfig {
 }
 
 impl StaticConfig {
+    ghost use Rattle.iox2_static.specs.Requirements.{first_unmet, AreMet};
+    ghost use Rattle.iox2_static.specs.Satisfies.{request_response_requirements};
     ghost use Rattle.iox2_static.specs.Chunks.{TellsGreatest};
     ghost use Rattle.iox2_static.specs.RequestResponse.{request_response_of, client_limits};
     ghost use Rattle.iox2_static.specs.RequestResponse.{server_limits};
@@ -185,6 +188,71 @@ impl StaticConfig {
         ensures { result ≡ self.now.max_nodes }
     {
         self.max_nodes
+    }
+
+    /// The first setting, in the order of the fields, in which the service does not meet what an
+    /// opener requires, or `None` exactly where it meets all.
+    ///
+    /// Each number must be at least the required one, and each choice the same. The types of
+    /// messages and the attributes are no part of it.
+    pub fn first_unmet(&self, required: &Self) -> Option<Setting>
+        ensures { result ≡ first_unmet (request_response_requirements self.now required.now) }
+    {
+        first_unmet(&self.requirements(required))
+    }
+
+    /// Whether the service meets all that an opener requires.
+    pub fn satisfies(&self, required: &Self) -> bool
+        ensures { IsTrue result ↔ AreMet (request_response_requirements self.now required.now) }
+    {
+        are_met(&self.requirements(required))
+    }
+
+    /// What an opener requires, in the order of the fields.
+    #[tactic(auto, unfolding(crate::specs::Satisfies::request_response_requirements))]
+    fn requirements(&self, required: &Self) -> [Requirement; 10]
+        ensures { result ≡ request_response_requirements self.now required.now }
+    {
+        [
+            Requirement::same_choice(
+                Setting::EnableSafeOverflowForRequests,
+                self.enable_safe_overflow_for_requests,
+                required.enable_safe_overflow_for_requests,
+            ),
+            Requirement::same_choice(
+                Setting::EnableSafeOverflowForResponses,
+                self.enable_safe_overflow_for_responses,
+                required.enable_safe_overflow_for_responses,
+            ),
+            Requirement::same_choice(
+                Setting::EnableFireAndForgetRequests,
+                self.enable_fire_and_forget_requests,
+                required.enable_fire_and_forget_requests,
+            ),
+            Requirement::at_least(
+                Setting::MaxActiveRequestsPerClient,
+                self.max_active_requests_per_client,
+                required.max_active_requests_per_client,
+            ),
+            Requirement::at_least(
+                Setting::MaxLoanedRequests,
+                self.max_loaned_requests,
+                required.max_loaned_requests,
+            ),
+            Requirement::at_least(
+                Setting::MaxResponseBufferSize,
+                self.max_response_buffer_size,
+                required.max_response_buffer_size,
+            ),
+            Requirement::at_least(Setting::MaxServers, self.max_servers, required.max_servers),
+            Requirement::at_least(Setting::MaxClients, self.max_clients, required.max_clients),
+            Requirement::at_least(Setting::MaxNodes, self.max_nodes, required.max_nodes),
+            Requirement::at_least(
+                Setting::MaxBorrowedResponsesPerPendingResponse,
+                self.max_borrowed_responses_per_pending_response,
+                required.max_borrowed_responses_per_pending_response,
+            ),
+        ]
     }
 
     /// An equal configuration.
