@@ -1,14 +1,11 @@
 -- Where the parts of one message lie.
 use Rattle.std.specs.Prelude.{◌≡◌, ℕ, ◌+◌, ◌*◌, ◌^◌, ◌<◌, ◌≤◌}
-use Rattle.iox2_config.specs.Compatible.{Compatible}
 use Rattle.iox2_config.specs.Layout.{user_header_place, payload_place, sample_size}
 use Rattle.iox2_config.specs.declared.types.message_details.MessageTypeDetails.{MessageTypeDetails}
 use Rattle.service_drawing.specs.Extent.{Extent, InExtent}
 use Rattle.service_drawing.specs.declared.layout.MessageLayout.{MessageLayout}
 use Rattle.service_drawing.specs.declared.layout.Part.{Part}
 use Rattle.service_drawing.specs.declared.layout.Part.TheVariants as part
-use Rattle.service_drawing.specs.declared.layout.Incompatibility.{Incompatibility}
-use Rattle.service_drawing.specs.declared.layout.Incompatibility.TheVariants as incompatibility
 
 -- the span of this many bytes from this place on
 abbrev pub span : ℕ → ℕ → Extent
@@ -47,14 +44,3 @@ IsPartAt l offset (part.Element i) =
 IsPartAt l offset part.Gap = (¬ InExtent l.header offset) × (¬ InExtent l.user_header offset)
     × (offset < l.payload.start)
 IsPartAt l offset part.Spare = l.payload.end ≤ offset
-
--- this is the first cause for which the opener may not use the service's messages
-abbrev pub IsIncompatibleBy : Incompatibility → MessageTypeDetails → MessageTypeDetails → Type 0
-IsIncompatibleBy incompatibility.Header opener service = ¬ (opener.header ≡ service.header)
-IsIncompatibleBy incompatibility.UserHeader opener service =
-    (opener.header ≡ service.header)
-    × (service.user_header.alignment < opener.user_header.alignment)
-IsIncompatibleBy incompatibility.Payload opener service =
-    (opener.header ≡ service.header)
-    × (opener.user_header.alignment ≤ service.user_header.alignment)
-    × (¬ Compatible opener service)

@@ -1,8 +1,7 @@
 //! Where the parts of one message lie.
 ghost use Rattle.std.specs.Prelude.{◌≡◌, ◌^◌, ◌+◌, ◌*◌, ◌<◌, ◌≤◌, IfSome, IfNone, MatchOption};
-ghost use Rattle.iox2_config.specs.Compatible.{Compatible};
 ghost use Rattle.iox2_config.specs.Layout.{HaveAlignments, sample_size};
-ghost use Rattle.service_drawing.specs.Layout.{IsLayoutOf, IsWhole, IsPartAt, IsIncompatibleBy, span};
+ghost use Rattle.service_drawing.specs.Layout.{IsLayoutOf, IsWhole, IsPartAt, span};
 
 use super::span::Span;
 use iox2_config::types::MessageTypeDetails;
@@ -122,36 +121,5 @@ impl MessageLayout {
             (λ bytes. bytes ≡ chunks * self.now.size) }
     {
         chunks.checked_mul(self.size)
-    }
-}
-
-/// Why an opener may not use a service's messages.
-#[derive(Clone, Copy)]
-pub(crate) enum Incompatibility {
-    /// The headers differ.
-    Header,
-    /// The user header of the opener has the greater alignment.
-    UserHeader,
-    /// Neither is so. For an opener of the same types its payload has the greater alignment.
-    Payload,
-}
-
-/// The first cause for which an opener may not use a
-/// service's messages, or `None` exactly where it may.
-pub(crate) fn first_incompatibility(
-    opener: &MessageTypeDetails,
-    service: &MessageTypeDetails,
-) -> Option<Incompatibility>
-    ensures { MatchOption result (Compatible opener.now service.now)
-        (λ why. IsIncompatibleBy why opener.now service.now) }
-{
-    if opener.is_compatible_to(service) {
-        None
-    } else if opener.header != service.header {
-        Some(Incompatibility::Header)
-    } else if opener.user_header.alignment() > service.user_header.alignment() {
-        Some(Incompatibility::UserHeader)
-    } else {
-        Some(Incompatibility::Payload)
     }
 }

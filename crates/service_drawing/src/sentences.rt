@@ -3,8 +3,9 @@ ghost use Rattle.std.specs.Prelude.{Some};
 ghost use Rattle.service_drawing.specs.Sentences.{counted_text};
 
 use crate::description::Message;
-use crate::layout::{Incompatibility, MessageLayout, first_incompatibility};
+use crate::layout::MessageLayout;
 use crate::segments::Segment;
+use iox2_config::types::Incompatibility;
 use std::alloc::AllocError;
 use std::fmt;
 
@@ -36,18 +37,19 @@ impl fmt::Display for Counted {
 }
 
 /// Whether the opener of a message may use it, and if not, why. `None` where there is no opener.
+/// Its types are those of the message, so only an alignment can differ.
 pub(crate) fn opener_sentence(message: &Message) -> Option<&'static str> {
     let Some(opener) = &message.opener else {
         return None;
     };
-    Some(match first_incompatibility(opener, &message.details) {
+    Some(match opener.first_incompatibility(&message.details) {
         None => "the opener is compatible",
-        Some(Incompatibility::Header) =>
+        Some(Incompatibility::Header(_)) =>
             "the opener is not compatible: its header has another alignment",
-        Some(Incompatibility::UserHeader) => {
+        Some(Incompatibility::UserHeader(_)) => {
             "the opener is not compatible: its user header has a greater alignment"
         }
-        Some(Incompatibility::Payload) =>
+        Some(Incompatibility::Payload(_)) =>
             "the opener is not compatible: its payload has a greater alignment",
     })
 }
