@@ -1,7 +1,10 @@
 -- Which openers may use the messages of a service, and why others may not.
-use Rattle.std.specs.Prelude.{◌≡◌, ◌≢◌, ℕ, ◌<◌, List, [], ◌∷◌, Option, Some, None, Result, Ok, Err}
-use Rattle.iox2_config.specs.Compatible.{Compatible, Suits}
-use Rattle.iox2_config.specs.TypeDetailParts.{TypeDetailParts}
+use Rattle.std.specs.Prelude.{◌≡◌, ℕ, List, [], ◌∷◌, Option, Some, None, Result, Ok, Err}
+use Rattle.iox2_config.specs.Compatible.{FindsIncompatibility}
+use Rattle.iox2_config.specs.declared.types.incompatibility.Difference.{Difference}
+use Rattle.iox2_config.specs.declared.types.incompatibility.Difference.TheVariants as difference
+use Rattle.iox2_config.specs.declared.types.incompatibility.Incompatibility.{Incompatibility}
+use Rattle.iox2_config.specs.declared.types.incompatibility.Incompatibility.TheVariants as incompatibility
 use Rattle.iox2_config.specs.declared.types.message_details.MessageTypeDetails.{MessageTypeDetails}
 use Rattle.iox2sd_values.specs.Details.{ReadsDetails}
 use Rattle.iox2sd_common.specs.Status.{code}
@@ -28,54 +31,39 @@ part_answer fault side =
 abbrev pub null_answer : ℕ → PartAnswer
 null_answer side = record { status = code status.Null; side = side; part = 0 }
 
--- in what a header is another: the name is looked at first, then the variant, the size and the
--- alignment
-abbrev pub IsOther : TypeDetailParts → TypeDetailParts → Option Status → Type 0
-IsOther o s None = o ≡ s
-IsOther o s (Some status.OtherName) = o.type_name ≢ s.type_name
-IsOther o s (Some status.OtherVariant) = (o.type_name ≡ s.type_name) × (o.variant ≢ s.variant)
-IsOther o s (Some status.OtherSize) = (o.type_name ≡ s.type_name) × (o.variant ≡ s.variant)
-    × (o.size ≢ s.size)
-IsOther o s (Some status.OtherAlignment) =
-    (o.type_name ≡ s.type_name) × (o.variant ≡ s.variant) × (o.size ≡ s.size)
-    × (o.alignment ≢ s.alignment)
-IsOther o s (Some _) = ⊥
+-- what is wrong where a header is another
+abbrev pub other : Difference → Status
+other difference.Name = status.OtherName
+other difference.Variant = status.OtherVariant
+other difference.Size = status.OtherSize
+other difference.Alignment = status.OtherAlignment
 
--- in what another part does not suit, in the same order
-abbrev pub IsUnsuited : TypeDetailParts → TypeDetailParts → Option Status → Type 0
-IsUnsuited o s None = Suits o s
-IsUnsuited o s (Some status.OtherName) = o.type_name ≢ s.type_name
-IsUnsuited o s (Some status.OtherVariant) = (o.type_name ≡ s.type_name) × (o.variant ≢ s.variant)
-IsUnsuited o s (Some status.OtherSize) = (o.type_name ≡ s.type_name) × (o.variant ≡ s.variant)
-    × (o.size ≢ s.size)
-IsUnsuited o s (Some status.GreaterAlignment) =
-    (o.type_name ≡ s.type_name) × (o.variant ≡ s.variant) × (o.size ≡ s.size)
-    × (s.alignment < o.alignment)
-IsUnsuited o s (Some _) = ⊥
+-- what is wrong where a type of another part does not suit
+abbrev pub unsuited : Difference → Status
+unsuited difference.Alignment = status.GreaterAlignment
+unsuited first = other first
 
--- the part is the first of which something is wrong
-abbrev pub DiffersIn : MessageTypeDetails → MessageTypeDetails → Which → Status → Type 0
-DiffersIn o s which.Header cause = IsOther o.header s.header (Some cause)
-DiffersIn o s which.UserHeader cause =
-    (o.header ≡ s.header) × IsUnsuited o.user_header s.user_header (Some cause)
-DiffersIn o s which.Payload cause =
-    (o.header ≡ s.header) × Suits o.user_header s.user_header
-    × IsUnsuited o.payload s.payload (Some cause)
+-- what is wrong of which part of an opener that is not compatible
+abbrev pub fault_of : Incompatibility → Fault
+fault_of (incompatibility.Header first) = record { part = which.Header; status = other first }
+fault_of (incompatibility.UserHeader first) =
+    record { part = which.UserHeader; status = unsuited first }
+fault_of (incompatibility.Payload first) = record { part = which.Payload; status = unsuited first }
 
--- the opener is compatible, or this is wrong
-abbrev pub Compares : MessageTypeDetails → MessageTypeDetails → Result (Unit {0}) Fault → Type 0
-Compares o s (Ok _) = Compatible o s
-Compares o s (Err fault) = DiffersIn o s fault.part fault.status
+-- the answer on the first cause for which an opener is not compatible, or on none
+abbrev pub compared : Option Incompatibility → PartAnswer
+compared None = record { status = code status.Done; side = 0; part = 0 }
+compared (Some first) = part_answer (fault_of first) 0
 
--- the answer on what the comparison gave
-abbrev pub compared : Result (Unit {0}) Fault → PartAnswer
-compared (Ok _) = record { status = code status.Done; side = 0; part = 0 }
-compared (Err fault) = part_answer fault 0
+-- the answer on details of an opener and of a service
+abbrev pub Compares : MessageTypeDetails → MessageTypeDetails → PartAnswer → Type 0
+Compares opener service answer =
+    (first : Option Incompatibility) × FindsIncompatibility opener service first
+    × (answer ≡ compared first)
 
 -- the answer where the opener has details, on those of the service
 abbrev pub ThenCompares : MessageTypeDetails → Result MessageTypeDetails Fault → PartAnswer → Type 0
-ThenCompares opener (Ok service) answer =
-    (made : Result (Unit {0}) Fault) × Compares opener service made × (answer ≡ compared made)
+ThenCompares opener (Ok service) answer = Compares opener service answer
 ThenCompares opener (Err fault) answer = answer ≡ part_answer fault 1
 
 -- the answer on the details of the opener, before those of the service

@@ -1,10 +1,11 @@
 //! Which openers may use the messages of a service.
 ghost use Rattle.std.specs.Prelude.{◌≡◌};
-ghost use Rattle.iox2sd_values.specs.Compatible.{IsOther, IsUnsuited, Compares, part_number, part_answer};
-ghost use Rattle.iox2sd_values.specs.Compatible.{null_answer, ThenReads, TellsCompatible};
+ghost use Rattle.iox2sd_values.specs.Compatible.{part_number, part_answer, other, unsuited, fault_of};
+ghost use Rattle.iox2sd_values.specs.Compatible.{null_answer, Compares, ThenReads};
+ghost use Rattle.iox2sd_values.specs.Compatible.{TellsCompatible};
 
 use super::details::{Details, Fault, Which, read_details};
-use iox2_config::types::{MessageTypeDetails, TypeDetail};
+use iox2_config::types::{Difference, Incompatibility, MessageTypeDetails};
 use iox2sd_common::status::Status;
 
 /// What is wrong of whose part.
@@ -41,61 +42,60 @@ fn part_answer(fault: Fault, side: u32) -> PartAnswer
     }
 }
 
-/// In what a header is another, if it is.
-fn other(opener: &TypeDetail, service: &TypeDetail) -> Option<Status>
-    ensures { IsOther opener.now service.now result }
+/// What is wrong where a header is another.
+fn other(difference: Difference) -> Status
+    ensures { result ≡ other difference }
 {
-    if opener.type_name() != service.type_name() {
-        return Some(Status::OtherName);
+    match difference {
+        Difference::Name => Status::OtherName,
+        Difference::Variant => Status::OtherVariant,
+        Difference::Size => Status::OtherSize,
+        Difference::Alignment => Status::OtherAlignment,
     }
-    if opener.variant() != service.variant() {
-        return Some(Status::OtherVariant);
-    }
-    if opener.size() != service.size() {
-        return Some(Status::OtherSize);
-    }
-    if opener.alignment() != service.alignment() {
-        return Some(Status::OtherAlignment);
-    }
-    None
 }
 
-/// In what a type of an opener does not suit that of the service, if it does not.
-fn unsuited(opener: &TypeDetail, service: &TypeDetail) -> Option<Status>
-    ensures { IsUnsuited opener.now service.now result }
+/// What is wrong where a type of another part does not suit.
+fn unsuited(difference: Difference) -> Status
+    ensures { result ≡ unsuited difference }
 {
-    if opener.type_name() != service.type_name() {
-        return Some(Status::OtherName);
+    match difference {
+        Difference::Alignment => Status::GreaterAlignment,
+        _ => other(difference),
     }
-    if opener.variant() != service.variant() {
-        return Some(Status::OtherVariant);
-    }
-    if opener.size() != service.size() {
-        return Some(Status::OtherSize);
-    }
-    if opener.alignment() > service.alignment() {
-        return Some(Status::GreaterAlignment);
-    }
-    None
 }
 
-/// Whether the opener may use the service's messages, or the first cause for which it may not.
-fn compare(opener: &MessageTypeDetails, service: &MessageTypeDetails) -> Result<(), Fault>
+/// What is wrong of which part of an opener that is not compatible.
+fn fault_of(incompatibility: Incompatibility) -> Fault
+    ensures { result ≡ fault_of incompatibility }
+{
+    match incompatibility {
+        Incompatibility::Header(difference) => Fault {
+            part: Which::Header,
+            status: other(difference),
+        },
+        Incompatibility::UserHeader(difference) => Fault {
+            part: Which::UserHeader,
+            status: unsuited(difference),
+        },
+        Incompatibility::Payload(difference) => Fault {
+            part: Which::Payload,
+            status: unsuited(difference),
+        },
+    }
+}
+
+/// The answer on details of an opener and of a service.
+fn compare(opener: &MessageTypeDetails, service: &MessageTypeDetails) -> PartAnswer
     ensures { Compares opener.now service.now result }
 {
-    if let Some(status) = other(&opener.header, &service.header) {
-        let part = Which::Header;
-        return Err(Fault { part, status });
+    match opener.first_incompatibility(service) {
+        None => PartAnswer {
+            status: Status::Done.code(),
+            side: 0,
+            part: 0,
+        },
+        Some(incompatibility) => part_answer(fault_of(incompatibility), 0),
     }
-    if let Some(status) = unsuited(&opener.user_header, &service.user_header) {
-        let part = Which::UserHeader;
-        return Err(Fault { part, status });
-    }
-    if let Some(status) = unsuited(&opener.payload, &service.payload) {
-        let part = Which::Payload;
-        return Err(Fault { part, status });
-    }
-    Ok(())
 }
 
 /// The answer on two details that were given.
@@ -107,14 +107,7 @@ fn judge(opener: &Details<'_>, service: &Details<'_>) -> PartAnswer
         Err(fault) => return part_answer(fault, 0),
     };
     match read_details(service) {
-        Ok(service) => match compare(&opener, &service) {
-            Ok(()) => PartAnswer {
-                status: Status::Done.code(),
-                side: 0,
-                part: 0,
-            },
-            Err(fault) => part_answer(fault, 0),
-        },
+        Ok(service) => compare(&opener, &service),
         Err(fault) => part_answer(fault, 1),
     }
 }
