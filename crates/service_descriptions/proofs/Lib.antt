@@ -1,6 +1,7 @@
 pub mod Appending
 pub mod Growing
 pub mod Lines
+pub mod Listings
 pub mod Services
 pub mod Moves
 pub mod OneReading

@@ -73,7 +73,7 @@ moved : (old new : Service) (given : Option Handle) → Grows old.nodes.registry
 moved old new given n f s next =
     record { number = n.service; tickets = tickets_rise old new n f s; next = next }
 
-still : (old new : Service) → new ≡ old → Moves old new None
+pub still : (old new : Service) → new ≡ old → Moves old new None
 still old new e =
     moved old new None (grows_same _ _ (ap (λ s. s.nodes.registry) e))
     (grows_same _ _ (ap (λ s. s.ports.first.registry) e))

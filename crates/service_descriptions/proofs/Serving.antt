@@ -1,20 +1,28 @@
 -- No handle is given twice.
-use Rattle.std.proofs.Common.{◌≡◌, ℕ, Option, Some, None, List, [], ◌∷◌, ◌++◌, sym, ◌∙◌, ap, subst, arith}
+use Rattle.std.proofs.Common.{◌≡◌, ℕ, Option, Some, None, List, [], ◌∷◌, ◌++◌, refl, sym, ◌∙◌, ap, subst, arith}
 use Rattle.std.specs.Prelude.{IfSome}
 use Rattle.std.proofs.lemmas.List.{map-append}
 use Rattle.std.proofs.lemmas.List.Elements.{All-push, All-weaker}
 use Rattle.std.proofs.lemmas.List.Quantifiers.{all_pairs_push}
 use Rattle.std.specs.Global.{Vec}
+use Rattle.iox2_container.specs.declared.container.role.Role.{Role}
 use Rattle.iox2_container.specs.Handle.{Handle}
 use Rattle.iox2_dynamic.specs.Service.{Service, IsService}
+use Rattle.iox2_static.specs.Description.{Description}
 use Rattle.service_descriptions.specs.declared.replay.machine.command.Command.{Command}
+use Rattle.service_descriptions.specs.declared.replay.machine.line_answer.LineAnswer.{LineAnswer}
+use Rattle.service_descriptions.specs.declared.replay.machine.line_answer.LineAnswer.TheVariants as answer
 use Rattle.service_descriptions.specs.declared.replay.machine.reply.Reply.{Reply}
+use Rattle.service_descriptions.specs.declared.replay.machine.reply.Reply.TheVariants as reply
 use Rattle.service_descriptions.specs.declared.replay.machine.earlier.Earlier.{Earlier}
 use Rattle.service_descriptions.specs.Handles.{Differ, IsGiven, KeepsHandles, handle_at, handles_in, tickets_of}
 use Rattle.service_descriptions.specs.declared.replay.machine.state.ServiceState.TheInside.{Inside}
 use Rattle.service_descriptions.specs.Fields.{IsSound, state_of}
-use Rattle.service_descriptions.specs.Steps.{Serves, ServiceStep, State, handle_in}
-use Rattle.service_descriptions.proofs.Moves.{IsNext, Moves, moves}
+use Rattle.service_descriptions.specs.LineAnswers.{LineStep, ServesLine, StandsFor, handle_given}
+use Rattle.service_descriptions.specs.Listings.{ServesList, ServesNodes}
+use Rattle.service_descriptions.specs.Replies.{reply_of}
+use Rattle.service_descriptions.specs.Steps.{IsState, Serves, ServiceStep, State, handle_in}
+use Rattle.service_descriptions.proofs.Moves.{IsNext, Moves, moves, still}
 
 still_given : (old new : Service) (given g : Option Handle) → Moves old new given → IsGiven old g
     → IsGiven new g
@@ -58,6 +66,53 @@ next_number number old new (Some h) is n = n.service ∙ is
 abbrev pub after : Inside → Service → Vec Earlier → Inside
 after old service earlier = record old { service = service; earlier = earlier }
 
+module _ (old : Inside) (service : Service) (earlier : Vec Earlier) (cell : Earlier)
+    (given : Option Handle)
+    (told : (n : ℕ) → IfSome given (λ h. h.service ≡ n) → handle_at n cell ≡ given)
+    (more : earlier.items ≡ old.earlier.items ++ cell ∷ []) (sound : IsSound old)
+    (is_service : IsService service) (m : Moves old.service service given) where
+  -- the fields after a service moved on
+  abbrev new : Inside
+  new = after old service earlier
+
+  noted_more : handles_in old.number earlier.items
+      ≡ handles_in old.number old.earlier.items ++ given ∷ []
+  noted_more =
+      let stands : handle_at old.number cell ≡ given =
+      told old.number
+      (next_number old.number old.service service given sound.number_is m.next) in
+      ap (λ (es : List Earlier). handles_in old.number es) more
+      ∙ map-append (handle_at old.number) old.earlier.items (cell ∷ [])
+      ∙ ap (λ (h : Option Handle). handles_in old.number old.earlier.items ++ h ∷ []) stands
+
+  noted_kept : KeepsHandles service (handles_in old.number earlier.items)
+  noted_kept =
+      subst (λ hs. KeepsHandles service hs) (sym noted_more)
+      (keeps old.service service (handles_in old.number old.earlier.items) given m sound.keeps)
+
+  -- they are sound
+  pub noted : IsSound new
+  noted =
+      record {
+        is_service = is_service;
+        number_is = m.number ∙ sound.number_is;
+        keeps = noted_kept;
+      }
+
+  -- and it was a step, where a reply may be given with this handle
+  pub stepped : (c : Command) (r : Reply) → handle_in r ≡ given
+      → Serves old.service old.description (handles_in old.number old.earlier.items) c r service
+      → ServiceStep (state_of old) c r (state_of new)
+  stepped c r is s =
+      let state : List (Option Handle) → State =
+      λ hs. record { service = service; description = old.description; handles = hs } in
+      let same : given ≡ handle_in r = sym is in (
+        s,
+        ap state (noted_more
+            ∙ ap (λ (h : Option Handle). handles_in old.number old.earlier.items ++ h ∷ []) same),
+        record { is_service = is_service; differ = noted_kept.differ },
+      )
+
 -- the fields after a command are sound, and it was a step
 pub served : (old : Inside) (service : Service) (earlier : Vec Earlier) (cell : Earlier)
     (c : Command) (r : Reply) → IsSound old → IsService service
@@ -68,23 +123,67 @@ pub served : (old : Inside) (service : Service) (earlier : Vec Earlier) (cell : 
     × ServiceStep (state_of old) c r (state_of (after old service earlier))
 served old service earlier cell c r sound is_service s told more =
     let handles = handles_in old.number old.earlier.items in
-    let m = moves old.service old.description handles c r service sound.is_service s in
-    let stands : handle_at old.number cell ≡ handle_in r =
-    told old.number
-    (next_number old.number old.service service (handle_in r) sound.number_is m.next) in
-    let all : handles_in old.number earlier.items ≡ handles ++ handle_in r ∷ [] =
-    ap (λ (es : List Earlier). handles_in old.number es) more
-    ∙ map-append (handle_at old.number) old.earlier.items (cell ∷ [])
-    ∙ ap (λ (h : Option Handle). handles ++ h ∷ []) stands in
-    let kept : KeepsHandles service (handles_in old.number earlier.items) =
-    subst (λ hs. KeepsHandles service hs) (sym all)
-    (keeps old.service service handles (handle_in r) m sound.keeps) in
-    let state : List (Option Handle) → State =
-    λ hs. record { service = service; description = old.description; handles = hs } in (
-      record {
-        is_service = is_service;
-        number_is = m.number ∙ sound.number_is;
-        keeps = kept;
-      },
-      (s, ap state all, record { is_service = is_service; differ = kept.differ }),
+    let m = moves old.service old.description handles c r service sound.is_service s in (
+      noted old service earlier cell (handle_in r) told more sound is_service m,
+      stepped old service earlier cell (handle_in r) told more sound is_service m c r refl s,
+    )
+
+-- what sound fields stand for is a state
+pub sound_state : (s : Inside) → IsSound s → IsState (state_of s)
+sound_state s sound = record { is_service = sound.is_service; differ = sound.keeps.differ }
+
+-- an answer moves a service on
+line_moves : (old : Service) (about : Option Description) (handles : List (Option Handle))
+    (c : Command) (a : LineAnswer) (new : Service) → IsService old
+    → ServesLine old about handles c a new → Moves old new (handle_given a)
+line_moves old about handles c (answer.Reply r) new i s =
+    moves old about handles c (reply_of r) new i s
+line_moves old about handles c answer.Nodes new i s = still old new s.1
+line_moves old about handles c (answer.Ports role) new i s = still old new s.1
+
+-- what stands for a list gives no handle
+no_handle_of_nodes : (s : Service) (r : Reply) → ServesNodes s r → handle_in r ≡ None
+no_handle_of_nodes s (reply.Nodes ids) so = refl
+no_handle_of_nodes s _ so = absurd so
+
+no_handle_of_ports : (s : Service) (role : Role) (r : Reply) → ServesList s role r
+    → handle_in r ≡ None
+no_handle_of_ports s role (reply.Ports ports) so = refl
+no_handle_of_ports s role reply.WrongPattern so = refl
+no_handle_of_ports s role _ so = absurd so
+
+-- each reply that an answer stands for has its handle, and may be given
+line_serves : (old : Service) (about : Option Description) (handles : List (Option Handle))
+    (c : Command) (a : LineAnswer) (new : Service) → ServesLine old about handles c a new
+    → (r : Reply) → StandsFor new a r → (handle_in r ≡ handle_given a)
+    × Serves old about handles c r new
+line_serves old about handles c (answer.Reply x) new s r so =
+    (ap handle_in so, subst (λ (y : Reply). Serves old about handles c y new) (sym so) s)
+line_serves old about handles c answer.Nodes new s r so = (
+  no_handle_of_nodes new r so,
+  subst (λ (d : Command). Serves old about handles d r new) (sym s.0)
+      (subst (λ (t : Service). ServesNodes t r) s.1 so, s.1),
+)
+line_serves old about handles c (answer.Ports role) new s r so = (
+  no_handle_of_ports new role r so,
+  subst (λ (d : Command). Serves old about handles d r new) (sym s.0)
+      (subst (λ (t : Service). ServesList t role r) s.1 so, s.1),
+)
+
+-- the fields after a command that has a line are sound, and it was a step with each such reply
+pub served_line : (old : Inside) (service : Service) (earlier : Vec Earlier) (cell : Earlier)
+    (c : Command) (a : LineAnswer) → IsSound old → IsService service
+    → ServesLine old.service old.description (handles_in old.number old.earlier.items) c a service
+    → ((n : ℕ) → IfSome (handle_given a) (λ h. h.service ≡ n) → handle_at n cell ≡ handle_given a)
+    → earlier.items ≡ old.earlier.items ++ cell ∷ []
+    → IsSound (after old service earlier)
+    × LineStep (state_of old) c a (state_of (after old service earlier))
+served_line old service earlier cell c a sound is_service s told more =
+    let handles = handles_in old.number old.earlier.items in
+    let m = line_moves old.service old.description handles c a service sound.is_service s in (
+      noted old service earlier cell (handle_given a) told more sound is_service m,
+      λ r so.
+          let may = line_serves old.service old.description handles c a service s r so in
+          stepped old service earlier cell (handle_given a) told more sound is_service m c r may.0
+          may.1,
     )

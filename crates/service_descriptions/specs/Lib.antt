@@ -11,8 +11,9 @@ pub mod Script
 pub mod Streams
 -- Promises of no single call: what follows from those definitions.
 pub mod Laws
--- An inner fact: how private fields make a state.
+-- Inner facts: how private fields make a state, and what answers a line.
 pub mod Fields
+pub mod LineAnswers
 -- The phrases of the lines, and that no two values of one have one text.
 pub mod Phrases
 pub mod OneWay

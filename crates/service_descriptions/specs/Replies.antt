@@ -7,8 +7,8 @@ use Rattle.iox2_ids.specs.PortId.{port_value}
 use Rattle.iox2_texts.specs.VerifyErrors.{verification_error_text}
 use Rattle.iox2_dynamic.specs.declared.dynamic_config.port_details.PortDetails.{PortDetails}
 use Rattle.iox2_dynamic.specs.Details.{port_of}
-use Rattle.service_descriptions.specs.declared.replay.machine.line_reply.LineReply.{LineReply}
-use Rattle.service_descriptions.specs.declared.replay.machine.line_reply.LineReply.TheVariants as line
+use Rattle.service_descriptions.specs.declared.replay.machine.line_answer.LineReply.{LineReply}
+use Rattle.service_descriptions.specs.declared.replay.machine.line_answer.LineReply.TheVariants as line
 use Rattle.service_descriptions.specs.declared.replay.machine.reply.Reply.{Reply}
 use Rattle.service_descriptions.specs.declared.replay.machine.reply.Reply.TheVariants as reply
 
@@ -54,7 +54,7 @@ text_of reply.NoDescription = codes "no-description"
 abbrev pub reply_line : Reply → List ℕ
 reply_line r = text_of r ++ 10 ∷ []
 
--- the reply to a command that has a line
+-- the reply without a list to a command that has a line
 abbrev pub reply_of : LineReply → Reply
 reply_of (line.Handle handle) = reply.Handle handle
 reply_of line.Locked = reply.Locked
@@ -66,8 +66,6 @@ reply_of line.PortsAttached = reply.PortsAttached
 reply_of line.Released = reply.Released
 reply_of line.NotOwned = reply.NotOwned
 reply_of line.NoHandle = reply.NoHandle
-reply_of (line.Nodes ids) = reply.Nodes ids
-reply_of (line.Ports ports) = reply.Ports ports
 reply_of (line.Count n) = reply.Count n
 reply_of line.WrongPattern = reply.WrongPattern
 

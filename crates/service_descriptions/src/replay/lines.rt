@@ -1,5 +1,6 @@
 //! The language of scripts: how commands and replies are written, a line each.
 
+mod answer_line;
 mod id;
 mod line;
 mod port;

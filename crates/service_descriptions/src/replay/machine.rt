@@ -4,14 +4,14 @@ mod cleanup;
 mod command;
 mod description;
 mod earlier;
+mod line_answer;
 mod line_command;
-mod line_reply;
 mod reply;
 mod serve;
 mod state;
 
 pub use command::{Cleanup, Command, MessagePart};
+pub(crate) use line_answer::{LineAnswer, LineReply};
 pub use line_command::LineCommand;
-pub(crate) use line_reply::LineReply;
 pub use reply::Reply;
 pub use state::{ServiceState, replay};

@@ -56,7 +56,7 @@ fn append_numbers(word: &[u8], first: u64, second: u64, out: &mut Vec<u8>) -> Re
 
 /// Appends a space and an id.
 #[inline(always)]
-fn append_id(id: u128, out: &mut Vec<u8>) -> Result<(), AllocError>
+pub(super) fn append_id(id: u128, out: &mut Vec<u8>) -> Result<(), AllocError>
     ensures ok { OnOk result (out.new.items ≡ out.old.items ++ id_word id) }
     ensures err { OnErr result (take (vec_len out.old) out.new.items ≡ out.old.items) }
 {
@@ -78,8 +78,7 @@ fn append_nodes(ids: &[UniqueNodeId], out: &mut Vec<u8>) -> Result<(), AllocErro
     out.extend_from_slice(b"\n")
 }
 
-/// Appends the line of a list of ports. It is not inlined, so that its loop has all registers.
-#[inline(never)]
+/// Appends the line of a list of ports.
 fn append_ports(ports: &[PortDetails], out: &mut Vec<u8>) -> Result<(), AllocError>
     ensures ok { OnOk result (out.new.items ≡ out.old.items
         ++ (codes "list" ++ flat_map port_word ports.now ++ 10 ∷ [])) }
@@ -132,10 +131,10 @@ fn append_fault(fault: &AttributeVerificationError, out: &mut Vec<u8>) -> Result
     out.extend_from_slice(&line[at..])
 }
 
-/// Appends the line of a reply to a command that has a
-/// line, perhaps a part of it where memory is refused.
+/// Appends the line of a reply without a list to a command that
+/// has a line, perhaps a part of it where memory is refused.
 #[inline(always)]
-fn append_reply(reply: LineReply, out: &mut Vec<u8>) -> Result<(), AllocError>
+pub(super) fn append_reply(reply: LineReply, out: &mut Vec<u8>) -> Result<(), AllocError>
     ensures ok { OnOk result (out.new.items ≡ out.old.items ++ reply_line (reply_of reply)) }
     ensures err { OnErr result (take (vec_len out.old) out.new.items ≡ out.old.items) }
 {
@@ -152,26 +151,9 @@ fn append_reply(reply: LineReply, out: &mut Vec<u8>) -> Result<(), AllocError>
         LineReply::Released => out.extend_from_slice(b"released\n"),
         LineReply::NotOwned => out.extend_from_slice(b"not-owned\n"),
         LineReply::NoHandle => out.extend_from_slice(b"no-handle\n"),
-        LineReply::Nodes(ids) => append_nodes(&ids, out),
-        LineReply::Ports(ports) => append_ports(&ports, out),
         LineReply::Count(n) => append_number(b"count ", n as u64, out),
         LineReply::WrongPattern => out.extend_from_slice(b"wrong-pattern\n"),
     }
-}
-
-/// Appends the line of a reply to a command that has a line.
-/// Where memory is refused, the bytes are left as they were.
-#[inline(always)]
-pub(super) fn write_line(reply: LineReply, out: &mut Vec<u8>) -> Result<(), AllocError>
-    ensures ok { OnOk result (out.new.items ≡ out.old.items ++ reply_line (reply_of reply)) }
-    ensures err { OnErr result (out.new.items ≡ out.old.items) }
-{
-    let before = out.len();
-    let done = append_reply(reply, out);
-    if done.is_err() {
-        out.truncate(before);
-    }
-    done
 }
 
 /// Appends the line of a reply, perhaps a part of it where memory is refused.

@@ -4,8 +4,8 @@ ghost use Rattle.std.specs.Option.{option_map};
 ghost use Rattle.service_descriptions.specs.declared.replay.lines.script.ScriptError.TheVariants.{NoMemory};
 ghost use Rattle.service_descriptions.specs.Script.{LinesEnd, RanLine, Scripted};
 
+use super::answer_line::write_line;
 use super::line::command_before;
-use super::reply_line::write_line;
 use super::service_line::service_before;
 use crate::replay::machine::ServiceState;
 use iox2_dynamic::dynamic_config::MessagingPatternSettings;
@@ -64,8 +64,10 @@ fn run_line<'a>(
     let Some((command, rest)) = command_before(alloc, lines, LineEnd::Newline)? else {
         return Ok(None);
     };
-    let reply = state.serve_line(alloc, &command)?;
-    write_line(reply, out)?;
+    match state.serve_line(&command) {
+        Ok(answer) => write_line(answer, state.service(), out)?,
+        Err(refused) => return Err(refused),
+    }
     Ok(Some(rest))
 }
 

@@ -4,6 +4,7 @@ ghost use Rattle.iox2_dynamic.specs.Service.{IsService};
 ghost use Rattle.iox2_static.specs.Description.{Description};
 ghost use Rattle.service_descriptions.specs.Cleanups.{ServesDead};
 ghost use Rattle.service_descriptions.specs.Handles.{handles_in, named};
+ghost use Rattle.service_descriptions.specs.LineAnswers.{ServesLine};
 ghost use Rattle.service_descriptions.specs.Lines.{command_of};
 ghost use Rattle.service_descriptions.specs.Listings.{ServesCount, ServesList, ServesNodes};
 ghost use Rattle.service_descriptions.specs.Replies.{reply_of};
@@ -14,8 +15,8 @@ use super::cleanup::clean_up;
 use super::command::{Cleanup, Command};
 use super::description::{compatible, layout, places, verify};
 use super::earlier::Earlier;
+use super::line_answer::{LineAnswer, LineReply};
 use super::line_command::LineCommand;
-use super::line_reply::LineReply;
 use super::reply::Reply;
 use iox2_container::container::{ContainerHandle, Role};
 use iox2_dynamic::dynamic_config::{
@@ -65,10 +66,10 @@ fn deregister(service: &mut DynamicConfig, handle: Option<ContainerHandle>) -> L
     }
 }
 
-fn nodes(alloc: Global, service: &DynamicConfig) -> Result<LineReply, AllocError>
-    ensures { IfOk result (λ reply. ServesNodes service.now (reply_of reply)) }
+fn nodes(alloc: Global, service: &DynamicConfig) -> Result<Reply, AllocError>
+    ensures { IfOk result (ServesNodes service.now) }
 {
-    Ok(LineReply::Nodes(service.nodes(alloc)?))
+    Ok(Reply::Nodes(service.nodes(alloc)?))
 }
 
 fn add(service: &mut DynamicConfig, details: PortDetails) -> LineReply
@@ -101,12 +102,12 @@ fn release(service: &mut DynamicConfig, handle: Option<ContainerHandle>) -> Line
     }
 }
 
-fn list(alloc: Global, service: &DynamicConfig, role: Role) -> Result<LineReply, AllocError>
-    ensures { IfOk result (λ reply. ServesList service.now role (reply_of reply)) }
+fn list(alloc: Global, service: &DynamicConfig, role: Role) -> Result<Reply, AllocError>
+    ensures { IfOk result (ServesList service.now role) }
 {
     Ok(match service.ports(alloc, role)? {
-        Some(ports) => LineReply::Ports(ports),
-        None => LineReply::WrongPattern,
+        Some(ports) => Reply::Ports(ports),
+        None => Reply::WrongPattern,
     })
 }
 
@@ -130,33 +131,33 @@ fn dead(service: &mut DynamicConfig, node: &UniqueNodeId, cleanup: &Cleanup) -> 
     }
 }
 
-/// The reply to a command that has a line.
+/// What answers a command that has a line. It takes no memory.
 #[inline(always)]
 pub(super) fn serve_line(
-    alloc: Global,
     service: &mut DynamicConfig,
     number: u64,
     earlier: &[Earlier],
     command: &LineCommand,
-) -> Result<LineReply, AllocError>
+) -> LineAnswer
     requires { IsService service.old }
-    ensures ok { IfOk result (λ reply. (about : Option Description) → Serves service.old about
-        (handles_in number earlier.now) (command_of command.now) (reply_of reply) service.new) }
-    ensures err { OnErr result (service.new ≡ service.old) }
+    ensures served { (about : Option Description) → ServesLine service.old about
+        (handles_in number earlier.now) (command_of command.now) result service.new }
     ensures kept { IsService service.new }
 {
     match command {
-        LineCommand::Register(id) => Ok(register(service, *id)),
-        LineCommand::Deregister(k) => Ok(deregister(service, named(number, earlier, *k))),
-        LineCommand::Nodes => nodes(alloc, service),
-        LineCommand::Add(port) => Ok(add(service, port.details())),
-        LineCommand::Release(k) => Ok(release(service, named(number, earlier, *k))),
-        LineCommand::List(role) => list(alloc, service, *role),
-        LineCommand::Count(role) => Ok(count(service, *role)),
+        LineCommand::Register(id) => LineAnswer::Reply(register(service, *id)),
+        LineCommand::Deregister(k) => {
+            LineAnswer::Reply(deregister(service, named(number, earlier, *k)))
+        }
+        LineCommand::Nodes => LineAnswer::Nodes,
+        LineCommand::Add(port) => LineAnswer::Reply(add(service, port.details())),
+        LineCommand::Release(k) => LineAnswer::Reply(release(service, named(number, earlier, *k))),
+        LineCommand::List(role) => LineAnswer::Ports(*role),
+        LineCommand::Count(role) => LineAnswer::Reply(count(service, *role)),
         LineCommand::Dead(node, cleanup) => {
             // A copy is lent, so that the command itself need not lie in memory.
             let node = *node;
-            Ok(dead(service, &node, cleanup))
+            LineAnswer::Reply(dead(service, &node, cleanup))
         }
     }
 }
@@ -180,10 +181,10 @@ pub(super) fn serve_command(
     match command {
         Command::Register(id) => Ok(register(service, *id).reply()),
         Command::Deregister(k) => { Ok(deregister(service, named(number, earlier, *k)).reply()) }
-        Command::Nodes => Ok(nodes(alloc, service)?.reply()),
+        Command::Nodes => nodes(alloc, service),
         Command::Add(details) => Ok(add(service, *details).reply()),
         Command::Release(k) => Ok(release(service, named(number, earlier, *k)).reply()),
-        Command::List(role) => Ok(list(alloc, service, *role)?.reply()),
+        Command::List(role) => list(alloc, service, *role),
         Command::Count(role) => Ok(count(service, *role).reply()),
         Command::Dead(node, cleanup) => Ok(dead(service, node, cleanup).reply()),
         Command::Verify(required) => Ok(verify(about, required)),

@@ -3,14 +3,14 @@ ghost use Rattle.std.specs.Prelude.{◌≡◌, ◌+◌, ◌<◌, Some, IfOk, IsT
 ghost use Rattle.std.specs.Prelude.{OnOk, OnErr, length, vec_len};
 ghost use Rattle.iox2_dynamic.specs.Service.{HasNoPort, capacities_in};
 ghost use Rattle.iox2_static.specs.MessagingPattern.{kind_of};
+ghost use Rattle.service_descriptions.specs.LineAnswers.{LineStep};
 ghost use Rattle.service_descriptions.specs.Lines.{command_of};
-ghost use Rattle.service_descriptions.specs.Replies.{reply_of};
 ghost use Rattle.service_descriptions.specs.Steps.{ServiceStep, IsState, Did, new_state};
 
 use super::command::Command;
 use super::earlier::Earlier;
+use super::line_answer::LineAnswer;
 use super::line_command::LineCommand;
-use super::line_reply::LineReply;
 use super::reply::Reply;
 use super::serve::{serve_command, serve_line};
 use iox2_config::hash::PatternKind;
@@ -109,28 +109,26 @@ impl ServiceState {
         Ok(reply)
     }
 
-    /// The same for a command that has a line.
+    /// The same for a command that has a line: what its
+    /// line lists is left to be read off the service.
     #[inline(always)]
-    pub(crate) fn serve_line(
-        &mut self,
-        alloc: Global,
-        command: &LineCommand,
-    ) -> Result<LineReply, AllocError>
+    pub(crate) fn serve_line(&mut self, command: &LineCommand) -> Result<LineAnswer, AllocError>
         ensures ok { IfOk result
-            (λ reply. ServiceStep self.old (command_of command.now) (reply_of reply) self.new) }
+            (λ answer. LineStep self.old (command_of command.now) answer self.new) }
         ensures err { OnErr result (self.new ≡ self.old) }
         ensures state { IsState self.new }
     {
         self.earlier.reserve(1)?;
-        let reply = serve_line(
-            alloc,
-            &mut self.service,
-            self.number,
-            &self.earlier,
-            command,
-        )?;
-        self.earlier.push_reserved(Earlier::of(reply.handle()));
-        Ok(reply)
+        let answer = serve_line(&mut self.service, self.number, &self.earlier, command);
+        self.earlier.push_reserved(Earlier::of(answer.handle()));
+        Ok(answer)
+    }
+
+    /// The service.
+    pub(crate) fn service(&self) -> &DynamicConfig
+        ensures { result.now ≡ self.now.service }
+    {
+        &self.service
     }
 }
 

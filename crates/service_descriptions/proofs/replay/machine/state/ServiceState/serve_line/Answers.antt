@@ -1,33 +1,40 @@
 use Rattle.std.proofs.Common.{subst}
 use Rattle.service_descriptions.specs.Fields.{state_of}
+use Rattle.service_descriptions.specs.LineAnswers.{LineStep}
 use Rattle.service_descriptions.specs.Lines.{command_of}
-use Rattle.service_descriptions.specs.Replies.{reply_of}
-use Rattle.service_descriptions.specs.Steps.{ServiceStep}
-use Rattle.service_descriptions.proofs.Serving.{after, served}
+use Rattle.service_descriptions.proofs.Serving.{after, served_line, sound_state}
 use Rattle.service_descriptions.proofs.replay.machine.state.ServiceState.serve_line.Goals as goal
 
 pub invariant_of-self-2 : goal.invariant_of-self-2
 invariant_of-self-2 c =
-    (served c.self.inside c.serve_line.new.service c.push_reserved.new.self c.of.result
-    (command_of c.args.command.now) (reply_of c.in_ok-reply.reply) c.self.invariant
-    c.serve_line.ensures.kept
+    (served_line c.self.inside c.serve_line-answer.new.service c.push_reserved.new.self c.of.result
+    (command_of c.args.command.now) c.serve_line-answer.result c.self.invariant
+    c.serve_line-answer.ensures.kept
     (rw (c.deref.ensures.value, c.reserve.ensures.items)
-    at (c.in_ok-reply.ensures.ok c.self.inside.description))
+    at (c.serve_line-answer.ensures.served c.self.inside.description))
     (rw c.handle.ensures at c.of.ensures)
     (rw c.reserve.ensures.items at c.push_reserved.ensures.items)).0
 
 pub returns-clause-ok : goal.returns-clause-ok
 returns-clause-ok c =
-    let new = after c.self.inside c.serve_line.new.service c.push_reserved.new.self in
-    subst (λ v. ServiceStep v (command_of c.args.command.now) (reply_of c.in_ok-reply.reply)
+    let new = after c.self.inside c.serve_line-answer.new.service c.push_reserved.new.self in
+    subst (λ v. LineStep v (command_of c.args.command.now) c.serve_line-answer.result
     (state_of new)) c.self.view_is
-    (served c.self.inside c.serve_line.new.service c.push_reserved.new.self c.of.result
-    (command_of c.args.command.now) (reply_of c.in_ok-reply.reply) c.self.invariant
-    c.serve_line.ensures.kept
+    (served_line c.self.inside c.serve_line-answer.new.service c.push_reserved.new.self c.of.result
+    (command_of c.args.command.now) c.serve_line-answer.result c.self.invariant
+    c.serve_line-answer.ensures.kept
     (rw (c.deref.ensures.value, c.reserve.ensures.items)
-    at (c.in_ok-reply.ensures.ok c.self.inside.description))
+    at (c.serve_line-answer.ensures.served c.self.inside.description))
     (rw c.handle.ensures at c.of.ensures)
     (rw c.reserve.ensures.items at c.push_reserved.ensures.items)).1
 
 pub returns-clause-state : goal.returns-clause-state
-returns-clause-state c = (returns-clause-ok c).2
+returns-clause-state c =
+    sound_state (after c.self.inside c.serve_line-answer.new.service c.push_reserved.new.self)
+    (served_line c.self.inside c.serve_line-answer.new.service c.push_reserved.new.self c.of.result
+    (command_of c.args.command.now) c.serve_line-answer.result c.self.invariant
+    c.serve_line-answer.ensures.kept
+    (rw (c.deref.ensures.value, c.reserve.ensures.items)
+    at (c.serve_line-answer.ensures.served c.self.inside.description))
+    (rw c.handle.ensures at c.of.ensures)
+    (rw c.reserve.ensures.items at c.push_reserved.ensures.items)).0

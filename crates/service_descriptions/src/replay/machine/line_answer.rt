@@ -1,16 +1,15 @@
-//! Replies to commands that have a line.
+//! What answers commands that have a line.
 ghost use Rattle.std.specs.Prelude.{◌≡◌};
+ghost use Rattle.service_descriptions.specs.LineAnswers.{handle_given};
 ghost use Rattle.service_descriptions.specs.Replies.{reply_of};
 ghost use Rattle.service_descriptions.specs.Steps.{handle_in};
 
 use super::reply::Reply;
-use iox2_container::container::ContainerHandle;
-use iox2_dynamic::dynamic_config::PortDetails;
-use iox2_ids::identifiers::UniqueNodeId;
+use iox2_container::container::{ContainerHandle, Role};
 
-/// A reply to a command on the nodes and ports of a service. It is small; a [`Reply`] can hold an
+/// A reply without a list to a command that has a line. It is small; a [`Reply`] can hold an
 /// attribute.
-#[derive(Drop)]
+#[derive(Clone, Copy)]
 pub(crate) enum LineReply {
     Handle(ContainerHandle),
     Locked,
@@ -22,8 +21,6 @@ pub(crate) enum LineReply {
     Released,
     NotOwned,
     NoHandle,
-    Nodes(Vec<UniqueNodeId>),
-    Ports(Vec<PortDetails>),
     Count(usize),
     WrongPattern,
 }
@@ -44,8 +41,6 @@ impl LineReply {
             LineReply::Released => Reply::Released,
             LineReply::NotOwned => Reply::NotOwned,
             LineReply::NoHandle => Reply::NoHandle,
-            LineReply::Nodes(ids) => Reply::Nodes(ids),
-            LineReply::Ports(ports) => Reply::Ports(ports),
             LineReply::Count(n) => Reply::Count(n),
             LineReply::WrongPattern => Reply::WrongPattern,
         }
@@ -57,6 +52,30 @@ impl LineReply {
     {
         match self {
             LineReply::Handle(handle) => Some(*handle),
+            _ => None,
+        }
+    }
+}
+
+/// What answers a command that has a line: a reply, or what its line lists. A list takes no memory
+/// of its own: its items are written as their slots are met.
+#[derive(Clone, Copy)]
+pub(crate) enum LineAnswer {
+    /// A reply without a list.
+    Reply(LineReply),
+    /// The nodes, by rising slot.
+    Nodes,
+    /// The ports of the role, by rising slot; or that the pattern has no such ports.
+    Ports(Role),
+}
+
+impl LineAnswer {
+    /// The handle that it gives.
+    pub(super) fn handle(&self) -> Option<ContainerHandle>
+        ensures { result ≡ handle_given self.now }
+    {
+        match self {
+            LineAnswer::Reply(reply) => reply.handle(),
             _ => None,
         }
     }

@@ -1,0 +1,194 @@
+-- Lines of lists, written by a callback as it is shown the items.
+use Rattle.std.proofs.Common.{◌≡◌, ℕ, ◌≤◌, Bool, true, false, Some, Result, Ok, Err, List, [], ◌∷◌, ◌++◌, codes, length, take, refl, sym, ◌∙◌, ap, subst, inl, inr, arith, append_assoc, length-append}
+use Rattle.std.specs.Prelude.{if◌then◌else◌, is_ok, OnOk, OnErr}
+use Rattle.std.specs.Global.{Vec}
+use Rattle.std.specs.List.{flat_map}
+use Rattle.std.specs.declared.alloc.AllocError.{AllocError}
+use Rattle.std.proofs.lemmas.List.{append-nil}
+use Rattle.iox2_ids.specs.PortId.{port_value}
+use Rattle.iox2_texts.specs.Attribute.{Visits}
+use Rattle.iox2_texts.specs.declared.bounded.callback_progression.CallbackProgression.{CallbackProgression}
+use Rattle.iox2_texts.specs.declared.bounded.callback_progression.CallbackProgression.TheVariants.{Continue, Stop}
+use Rattle.iox2_container.specs.declared.container.role.Role.{Role}
+use Rattle.iox2_container.specs.Steps.{Visit, listed}
+use Rattle.iox2_dynamic.specs.declared.dynamic_config.port_details.PortDetails.{PortDetails}
+use Rattle.iox2_dynamic.specs.Details.{port_of}
+use Rattle.iox2_dynamic.specs.Ports.{ListsIn, OfRole}
+use Rattle.iox2_dynamic.specs.Service.{HasRole, Service, first_role, second_role}
+use Rattle.service_descriptions.specs.declared.replay.machine.line_answer.LineAnswer.TheVariants as answer
+use Rattle.service_descriptions.specs.declared.replay.machine.reply.Reply.TheVariants as reply
+use Rattle.service_descriptions.specs.LineAnswers.{PutsAll, PutsPorts, PutsWord, WritesLine, Written}
+use Rattle.service_descriptions.specs.Replies.{id_word, port_word}
+use Rattle.service_descriptions.proofs.Appending.{front_stays}
+
+abbrev Refusal : Type 0
+Refusal = Result (Unit {0}) AllocError
+
+never_ok : (r : Refusal) (P : Type 0) → OnOk r ⊥ → OnOk r P
+never_ok (Ok done) P n = absurd n
+never_ok (Err why) P n = tt
+
+on_err : (r : Refusal) (P : Type 0) → P → OnErr r P
+on_err (Ok done) P p = tt
+on_err (Err why) P p = p
+
+ok_so : (r : Refusal) (P Q : Type 0) → (P → Q) → OnOk r P → OnOk r Q
+ok_so (Ok done) P Q so p = so p
+ok_so (Err why) P Q so p = tt
+
+err_so : (r : Refusal) (P Q : Type 0) → (P → Q) → OnErr r P → OnErr r Q
+err_so (Ok done) P Q so p = tt
+err_so (Err why) P Q so p = so p
+
+-- the words of all items, where each was appended in turn
+puts_all : {A : Type 0} (word : A → List ℕ) (before : Written) (items : List A) (after : Written)
+    → Visits (λ b x r a. PutsWord (word x) b r a) before items after
+    → PutsAll word items before after
+puts_all word before [] after end ok = (
+  subst (λ r. OnOk r (after.0 ≡ before.0 ++ [])) (sym (ap (λ p. p.1) end ∙ ok))
+      (ap (λ p. p.0) end ∙ sym (append-nil before.0)),
+  subst (λ r. OnErr r (take (length before.0) after.0 ≡ before.0))
+      (sym (ap (λ p. p.1) end ∙ ok)) tt,
+)
+puts_all word before (x ∷ xs) after (inl stopped) ok =
+    (never_ok after.1 _ stopped.1, on_err after.1 _ stopped.0)
+puts_all word before (x ∷ xs) after (inr goes) ok =
+    let mid = goes.0 in
+    let is : mid.0 ≡ before.0 ++ word x = goes.1.0 in
+    let rest = puts_all word mid xs after goes.2 (goes.1.1 ∙ ok) in (
+      ok_so after.1 (after.0 ≡ mid.0 ++ flat_map word xs) _
+          (λ e. e ∙ ap (λ (l : List ℕ). l ++ flat_map word xs) is
+          ∙ append_assoc before.0 (word x) (flat_map word xs))
+          rest.0,
+      err_so after.1 (take (length mid.0) after.0 ≡ mid.0) _
+          (λ e. front_stays before.0 (word x) mid.0 after.0 is e) rest.1,
+    )
+
+-- a visit by a closure that holds the bytes and whether memory was refused, by these names
+module _ {F T : Type 0} (calls : F → T → CallbackProgression → F → Type 0) (k : F → Written)
+    (name refused : F → ℕ) (word : T → List ℕ)
+    (step : (f : F) (x : T) (r : CallbackProgression) (h : F) → calls f x r h
+    → (name h ≡ name f) × (refused h ≡ refused f) × PutsWord (word x) (k f) r (k h)) where
+  visits_put : (f : F) (items : List T) (h : F) → Visits calls f items h
+      → (name h ≡ name f) × (refused h ≡ refused f)
+      × Visits (λ b x r a. PutsWord (word x) b r a) (k f) items (k h)
+  visits_put f [] h end = (ap name end, ap refused end, ap k end)
+  visits_put f (x ∷ xs) h (inl stopped) = let s = step f x Stop h stopped in (s.0, s.1, inl s.2)
+  visits_put f (x ∷ xs) h (inr goes) =
+      let s = step f x Continue goes.0 goes.1 in let rest = visits_put goes.0 xs h goes.2 in
+      (rest.0 ∙ s.0, rest.1 ∙ s.1, inr (k goes.0, s.2, rest.2))
+
+  pub all_put : (f : F) (items : List T) (h : F) → Visit calls f items h
+      → (name h ≡ name f) × (refused h ≡ refused f) × PutsAll word items (k f) (k h)
+  all_put f items h visit = let v = visits_put f items h visit.visits in
+      (v.0, v.1, puts_all word (k f) items (k h) v.2)
+
+-- the same for the ports of a role that the pattern has
+pub ports_put : {F : Type 0} (calls : F → PortDetails → CallbackProgression → F → Type 0)
+    (k : F → Written) (name refused : F → ℕ)
+    → ((f : F) (x : PortDetails) (r : CallbackProgression) (h : F) → calls f x r h
+    → (name h ≡ name f) × (refused h ≡ refused f) × PutsWord (port_word x) (k f) r (k h))
+    → (s : Service) (role : Role) → HasRole s.pattern role → (f : F) (has : Bool) (h : F)
+    → ListsIn calls (first_role s.pattern) (second_role s.pattern) s.ports role f has h
+    → (name h ≡ name f) × (refused h ≡ refused f) × PutsPorts s role (k f) (k h)
+ports_put calls k name refused step s role (inl is) f false h (neither, same) =
+    absurd (neither.0 is)
+ports_put calls k name refused step s role (inr is) f false h (neither, same) =
+    absurd (neither.1 is)
+ports_put calls k name refused step s role has f true h (inl (is, visit)) =
+    let all =
+    all_put calls k name refused port_word step f (listed s.ports.first.registry) h visit in (
+      all.0,
+      all.1,
+      λ ok. let puts = all.2 ok in (ok_so (k h).1 _ _ (λ e. inl (is, e)) puts.0, puts.1),
+    )
+ports_put calls k name refused step s role has f true h (inr (is, visit)) =
+    let all =
+    all_put calls k name refused port_word step f (listed s.ports.second.registry) h visit in (
+      all.0,
+      all.1,
+      λ ok. let puts = all.2 ok in (ok_so (k h).1 _ _ (λ e. inr (is, e)) puts.0, puts.1),
+    )
+
+-- no fewer bytes than items
+words_longer : {A : Type 0} (id : A → ℕ) (items : List A)
+    → length items ≤ length (flat_map (λ x. id_word (id x)) items)
+words_longer id [] = omega arith
+words_longer id (x ∷ xs) =
+    let rest = words_longer id xs in
+    let len = length-append (id_word (id x)) (flat_map (λ x. id_word (id x)) xs) in
+    omega (arith, rest, len)
+
+-- a list of these items, no more of them than bytes were written
+abbrev list_of : {A : Type 0} (out : Vec ℕ) (items : List A) → length items ≤ length out.items → Vec A
+list_of out items fits =
+    record {
+      ptr = out.ptr;
+      len = length items;
+      cap = length items;
+      alloc = out.alloc;
+      items = items;
+      ok = (refl, omega arith);
+      small = omega (arith, fits, out.ok.0, out.ok.1, out.small);
+    }
+
+-- a word for a list, the words of its items and a newline are a line
+whole : (before mid text words line : List ℕ) → mid ≡ before ++ codes "list" → text ≡ mid ++ words
+    → line ≡ text ++ 10 ∷ [] → line ≡ before ++ ((codes "list" ++ words) ++ 10 ∷ [])
+whole before mid text words line begins is ends =
+    ends
+    ∙ ap (λ (l : List ℕ). l ++ 10 ∷ [])
+    (is ∙ ap (λ (l : List ℕ). l ++ words) begins ∙ append_assoc before (codes "list") words)
+    ∙ append_assoc before (codes "list" ++ words) (10 ∷ [])
+
+-- no more items than bytes
+fits_in : (before words line : List ℕ) (n : ℕ) → line ≡ before ++ ((codes "list" ++ words)
+    ++ 10 ∷ [])
+    → n ≤ length words → n ≤ length line
+fits_in before words line n is fits =
+    let all = ap (length {A = ℕ}) is ∙ length-append before ((codes "list" ++ words) ++ 10 ∷ []) in
+    let most = length-append (codes "list" ++ words) (10 ∷ []) in
+    let some = length-append (codes "list") words in
+    omega (arith, all, most, some, fits)
+
+-- the line of the nodes
+pub nodes_line : (s : Service) (before mid text : List ℕ) (out : Vec ℕ)
+    → mid ≡ before ++ codes "list" → text ≡ mid ++ flat_map id_word (listed s.nodes.registry)
+    → out.items ≡ text ++ 10 ∷ [] → WritesLine s answer.Nodes before out.items
+nodes_line s before mid text out begins is ends =
+    let ids = listed s.nodes.registry in
+    let line = whole before mid text (flat_map id_word ids) out.items begins is ends in
+    let fits =
+    fits_in before (flat_map id_word ids) out.items (length ids) line
+    (words_longer (λ id. id) ids) in
+    (reply.Nodes (list_of out ids fits), refl, line)
+
+-- the line of the ports of a role
+pub ports_line : (s : Service) (role : Role) (before mid text : List ℕ) (out : Vec ℕ)
+    → mid ≡ before ++ codes "list"
+    → OfRole (λ r end. end ≡ mid ++ flat_map port_word (listed r)) (first_role s.pattern)
+    (second_role s.pattern) s.ports role (Some text)
+    → out.items ≡ text ++ 10 ∷ [] → WritesLine s (answer.Ports role) before out.items
+ports_line s role before mid text out begins (inl (is_role, is)) ends =
+    let ports = listed s.ports.first.registry in
+    let line = whole before mid text (flat_map port_word ports) out.items begins is ends in
+    let fits =
+    fits_in before (flat_map port_word ports) out.items (length ports) line
+    (words_longer (λ d. port_value (port_of d)) ports) in
+    (reply.Ports (list_of out ports fits), inl (is_role, refl), line)
+ports_line s role before mid text out begins (inr (is_role, is)) ends =
+    let ports = listed s.ports.second.registry in
+    let line = whole before mid text (flat_map port_word ports) out.items begins is ends in
+    let fits =
+    fits_in before (flat_map port_word ports) out.items (length ports) line
+    (words_longer (λ d. port_value (port_of d)) ports) in
+    (reply.Ports (list_of out ports fits), inr (is_role, refl), line)
+
+-- the line that says that the pattern lacks the role
+pub lacks_line : (s : Service) (role : Role) (before line : List ℕ) (r : Refusal)
+    → ¬ (HasRole s.pattern role)
+    → line ≡ (if is_ok r then before ++ codes "wrong-pattern\n" else before)
+    → OnOk r (WritesLine s (answer.Ports role) before line)
+lacks_line s role before line (Ok done) lacks is =
+    (reply.WrongPattern, (λ e. lacks (inl e), λ e. lacks (inr e)), is)
+lacks_line s role before line (Err why) lacks is = tt

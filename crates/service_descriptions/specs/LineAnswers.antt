@@ -1,0 +1,73 @@
+-- What answers commands that have a line, and how the lines of lists grow.
+use Rattle.std.specs.Prelude.{◌≡◌, ℕ, List, ◌++◌, Option, Some, None, Result, Ok, OnOk, OnErr, length, take}
+use Rattle.std.specs.List.{flat_map}
+use Rattle.std.specs.declared.alloc.AllocError.{AllocError}
+use Rattle.iox2_texts.specs.declared.bounded.callback_progression.CallbackProgression.{CallbackProgression}
+use Rattle.iox2_texts.specs.declared.bounded.callback_progression.CallbackProgression.TheVariants.{Continue, Stop}
+use Rattle.iox2_container.specs.declared.container.role.Role.{Role}
+use Rattle.iox2_container.specs.Handle.{Handle}
+use Rattle.iox2_container.specs.Steps.{listed}
+use Rattle.iox2_dynamic.specs.Ports.{OfRole}
+use Rattle.iox2_dynamic.specs.Service.{Service, first_role, second_role}
+use Rattle.iox2_static.specs.Description.{Description}
+use Rattle.service_descriptions.specs.declared.replay.machine.command.Command.{Command}
+use Rattle.service_descriptions.specs.declared.replay.machine.command.Command.TheVariants as command
+use Rattle.service_descriptions.specs.declared.replay.machine.line_answer.LineAnswer.{LineAnswer}
+use Rattle.service_descriptions.specs.declared.replay.machine.line_answer.LineAnswer.TheVariants as answer
+use Rattle.service_descriptions.specs.declared.replay.machine.reply.Reply.{Reply}
+use Rattle.service_descriptions.specs.Listings.{ServesNodes, ServesList}
+use Rattle.service_descriptions.specs.Replies.{port_word, reply_line, reply_of}
+use Rattle.service_descriptions.specs.Steps.{Serves, ServiceStep, State, handle_in}
+
+-- the replies that an answer stands for: what is listed is read off the service
+abbrev pub StandsFor : Service → LineAnswer → Reply → Type 0
+StandsFor s (answer.Reply r) reply = reply ≡ reply_of r
+StandsFor s answer.Nodes reply = ServesNodes s reply
+StandsFor s (answer.Ports role) reply = ServesList s role reply
+
+-- the handle that an answer gives
+abbrev pub handle_given : LineAnswer → Option Handle
+handle_given (answer.Reply r) = handle_in (reply_of r)
+handle_given _ = None
+
+-- how a service answers a command that has a line: where it is listed, it stays the same
+abbrev pub ServesLine : Service → Option Description → List (Option Handle) → Command → LineAnswer
+    → Service → Type 0
+ServesLine old about handles c (answer.Reply r) new = Serves old about handles c (reply_of r) new
+ServesLine old about handles c answer.Nodes new = (c ≡ command.Nodes) × (new ≡ old)
+ServesLine old about handles c (answer.Ports role) new = (c ≡ command.List role) × (new ≡ old)
+
+-- each reply that the answer stands for may be given to the command
+abbrev pub LineStep : State → Command → LineAnswer → State → Type 0
+LineStep old c a new = (reply : Reply) → StandsFor new.service a reply
+    → ServiceStep old c reply new
+
+-- the line of a reply was appended that the answer stands for
+abbrev pub WritesLine : Service → LineAnswer → List ℕ → List ℕ → Type 0
+WritesLine s a before after = (reply : Reply) × StandsFor s a reply
+    × (after ≡ before ++ reply_line reply)
+
+-- bytes, and whether memory was refused
+abbrev pub Written : Type 0
+Written = List ℕ × Result (Unit {0}) AllocError
+
+-- a word was appended; or memory was refused, and a part of it may have been
+abbrev pub PutsWord : List ℕ → Written → CallbackProgression → Written → Type 0
+PutsWord word before Continue after = (after.0 ≡ before.0 ++ word) × (after.1 ≡ before.1)
+PutsWord word before Stop after =
+    (take (length before.0) after.0 ≡ before.0) × OnOk after.1 ⊥
+
+-- the words of all items were appended; or memory was refused, and a part of them may have been
+abbrev pub PutsAll : {A : Type 0} → (A → List ℕ) → List A → Written → Written → Type 0
+PutsAll word items before after =
+    before.1 ≡ Ok tt → OnOk after.1 (after.0 ≡ before.0 ++ flat_map word items)
+    × OnErr after.1 (take (length before.0) after.0 ≡ before.0)
+
+-- the same of the ports of a role
+abbrev pub PutsPorts : Service → Role → Written → Written → Type 0
+PutsPorts s role before after =
+    before.1 ≡ Ok tt
+    → OnOk after.1
+    (OfRole (λ r text. text ≡ before.0 ++ flat_map port_word (listed r)) (first_role s.pattern)
+    (second_role s.pattern) s.ports role (Some after.0))
+    × OnErr after.1 (take (length before.0) after.0 ≡ before.0)
