@@ -2,6 +2,7 @@
 ghost use Rattle.std.specs.Prelude.{◌≡◌, ◌+◌, ◌<◌, ◌≤◌, ◌^◌, IfErr, IfOk, length};
 ghost use Rattle.service_logs.specs.Fronts.{HasCall, IsTold, LacksCall};
 ghost use Rattle.service_logs.specs.Logs.{CallsEnd, FirstIsNot, IsNote, Judged};
+ghost use Rattle.service_logs.specs.Reports.{report_text};
 ghost use Rattle.service_conformance.specs.Possible.{IsCovered};
 ghost use Rattle.service_descriptions.specs.Lines.{command_of};
 
@@ -13,6 +14,7 @@ mod verdict;
 use front::{after_notes, words_before};
 use iox2_dynamic::dynamic_config::MessagingPatternSettings;
 use line_streams::LineEnd;
+use report::append_report;
 use service_conformance::conformance::RunCheck;
 use service_descriptions::replay::{LineCommand, command_before, service_before};
 use std::alloc::{AllocError, Global};
@@ -118,4 +120,15 @@ pub fn check_log(alloc: Global, log: &[u8]) -> Result<Verdict, AllocError>
     let mut check = RunCheck::new(alloc, &settings, service.max_nodes, service.number);
     let verdict = check_calls(alloc, &mut check, rest, above + below + 1)?;
     Ok(verdict)
+}
+
+/// Judges a log, as `check_log` does: the verdict, and the text that reports it.
+pub fn report_log(alloc: Global, log: &[u8]) -> Result<(Verdict, Vec<u8>), AllocError>
+    ensures judged { IfOk result (λ found. Judged log.now found.0) }
+    ensures text { IfOk result (λ found. found.1.items ≡ report_text found.0) }
+{
+    let verdict = check_log(alloc, log)?;
+    let mut text = Vec::new(alloc);
+    append_report(&verdict, &mut text)?;
+    Ok((verdict, text))
 }

@@ -1,14 +1,12 @@
 //! Logs that come from a stream.
-ghost use Rattle.std.specs.Prelude.{◌≡◌, ◌++◌, ◌<◌, [], IfOk, IfSome, OnOk};
+ghost use Rattle.std.specs.Prelude.{◌≡◌, ◌<◌, IfOk, IfSome, OnOk};
 ghost use Rattle.std.specs.Io.KnownBytes.{Appends, IsAtEnd};
-ghost use Rattle.service_logs.specs.Logs.{Judged};
 ghost use Rattle.service_logs.specs.Reports.{Reported, errors_text, output_text, report_text, status_of};
 
-use super::check_log;
-use super::report::append_report;
+use super::report_log;
 use super::verdict::Verdict;
 use line_streams::{read_all, write_whole};
-use std::alloc::{AllocError, Global};
+use std::alloc::Global;
 use std::io;
 use std::io::{Read, Write};
 
@@ -21,17 +19,6 @@ fn status(verdict: &Verdict) -> u8
         Verdict::NoRun(_) => 1,
         Verdict::BadLine(_, _) => 2,
     }
-}
-
-/// Judges a log, and writes the text of the verdict into an empty list.
-fn judge(alloc: Global, log: &[u8], text: &mut Vec<u8>) -> Result<Verdict, AllocError>
-    requires { text.old.items ≡ [] }
-    ensures judged { IfOk result (Judged log.now) }
-    ensures text { IfOk result (λ verdict. text.new.items ≡ report_text verdict) }
-{
-    let verdict = check_log(alloc, log)?;
-    append_report(&verdict, text)?;
-    Ok(verdict)
 }
 
 /// Writes the text of a verdict where it belongs, and flushes both writers.
@@ -69,13 +56,12 @@ fn run<R: Read, W: Write, E: Write>(
         (E.contents errors.old) (E.contents errors.new))) }
     ensures read { IfOk result (λ status. status < 3 → IsAtEnd (R.remaining input.new)) }
 {
-    let mut text = Vec::new(alloc);
     let end = match read_all(alloc, input)? {
-        Ok(log) => judge(alloc, &log, &mut text),
+        Ok(log) => report_log(alloc, &log),
         Err(why) => Err(why),
     };
     match end {
-        Ok(verdict) => {
+        Ok((verdict, text)) => {
             report(output, errors, &verdict, &text)?;
             Ok(status(&verdict))
         }
