@@ -133,7 +133,7 @@ for compiler in gcc clang; do
         sanitized "$compiler" address,undefined "$source" -std=c99
     done
     sanitized "$compiler" thread c/test_threads.c -std=c99
-    for source in c/test_script.c c/test_config.c; do
+    for source in c/test_script.c c/test_conform.c c/test_config.c; do
         caller "$compiler" iox2sd "$source" -std=c99 -Wl,--wrap=malloc,--wrap=realloc
     done
     sanitized "$compiler" address,undefined c/test_config.c -std=c99 \
@@ -166,7 +166,7 @@ if has g++ && has /usr/bin/time; then
 fi
 for compiler in g++ clang++; do
     for standard in c++17 c++20 c++2b; do
-        for header in iox2sd.hpp iox2sd_config.hpp; do
+        for header in iox2sd.hpp iox2sd_config.hpp iox2sd_conform.hpp; do
             run "$compiler -std=$standard has no warning about $header" "$compiler" \
                 -std=$standard "${warnings[@]}" -Wconversion -Wshadow -fsyntax-only -I../include \
                 -x c++ "../include/$header"
@@ -176,7 +176,8 @@ for compiler in g++ clang++; do
     runs "$compiler" iox2sd cpp/test_enumerators.cpp -std=c++17
     runs "$compiler" iox2sd cpp/test_fields.cpp -std=c++17 "$wrapped_settings"
     caller "$compiler" iox2sd c/test_values.cpp -std=c++11
-    for source in cpp/test_values.cpp cpp/test_service.cpp cpp/test_config.cpp; do
+    for source in cpp/test_values.cpp cpp/test_service.cpp cpp/test_config.cpp \
+        cpp/test_conform.cpp; do
         caller "$compiler" iox2sd "$source" -std=c++17
         runs "$compiler" iox2sd "$source" -std=c++20
         sanitized "$compiler" address,undefined "$source" -std=c++17

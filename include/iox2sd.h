@@ -62,8 +62,8 @@
 extern "C" {
 #endif
 
-/* What a call of this header, of iox2sd_values.h, of iox2sd_script.h or of iox2sd_config.h returns.
- * iox2sd_status_text has a text for each. */
+/* What a call of this header, or of another C header here, returns. iox2sd_status_text has a text
+ * for each. */
 enum iox2sd_status {
     IOX2SD_DONE = 0,
     /* Success, and the service is locked for good: no node registers any more. */
@@ -125,7 +125,12 @@ enum iox2sd_status {
     IOX2SD_BELOW_ZERO = 82,     /* The value of a key is below 0. */
     IOX2SD_NO_DURATION = 83,    /* The value of a key is no table of the integers secs and nanos. */
     IOX2SD_NO_TOML_INTEGER = 84, /* A number is above 2^63 - 1. */
-    IOX2SD_NO_FILE = 85          /* A file cannot be read: C++ alone returns it. */
+    IOX2SD_NO_FILE = 85,         /* A file cannot be read: C++ alone returns it. */
+    IOX2SD_NO_RUN = 90,          /* No run of the proved machine gives a reply of a log. */
+    /* A line of a log is not what is expected, or the log ends before it. */
+    IOX2SD_NO_SERVICE_LINE = 91,
+    IOX2SD_NO_COMMAND_LINE = 92,
+    IOX2SD_NO_REPLY_LINE = 93
 };
 
 /* Whether a call succeeded: with IOX2SD_DONE or IOX2SD_DONE_LOCKED. */
@@ -405,6 +410,10 @@ static inline const char *iox2sd_status_str(uint32_t status) {
         case IOX2SD_NO_DURATION: return "not a duration: the integers secs and nanos";
         case IOX2SD_NO_TOML_INTEGER: return "TOML has no integer above 2^63 - 1";
         case IOX2SD_NO_FILE: return "the file cannot be read";
+        case IOX2SD_NO_RUN: return "no run gives the reply";
+        case IOX2SD_NO_SERVICE_LINE: return "the line of a service is expected";
+        case IOX2SD_NO_COMMAND_LINE: return "the line of a command is expected";
+        case IOX2SD_NO_REPLY_LINE: return "the line of a reply is expected";
         default: return "unknown status";
     }
 }

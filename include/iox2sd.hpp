@@ -3,7 +3,7 @@
 ///
 /// A header alone, over iox2sd.h, iox2sd_values.h and iox2sd_script.h; link libiox2sd.a or
 /// libiox2sd.so. Names are those of the ported middleware. iox2sd_config.hpp reads and writes the
-/// file of settings.
+/// file of settings, iox2sd_conform.hpp judges logs.
 ///
 /// - Values live in C++. Each rule (which text is legal, how a set is sorted, what is compatible,
 ///   how large a message is, who may attach) is checked by the library alone.
@@ -111,6 +111,10 @@ enum class Status : std::uint32_t {
     NoDuration = IOX2SD_NO_DURATION,
     NoTomlInteger = IOX2SD_NO_TOML_INTEGER,
     NoFile = IOX2SD_NO_FILE,
+    NoRun = IOX2SD_NO_RUN,
+    NoServiceLine = IOX2SD_NO_SERVICE_LINE,
+    NoCommandLine = IOX2SD_NO_COMMAND_LINE,
+    NoReplyLine = IOX2SD_NO_REPLY_LINE,
 };
 
 namespace detail {

@@ -1,7 +1,7 @@
 /* The exports by count, for C99 and C++: the library's own functions, which the inline functions of
  * the other headers and the wrappers of other languages call. In C, call the functions of iox2sd.h,
- * iox2sd_values.h, iox2sd_config.h and iox2sd_script.h, which include this header and say what each
- * one does.
+ * iox2sd_values.h, iox2sd_config.h, iox2sd_script.h and iox2sd_conform.h, which include this header
+ * and say what each one does.
  *
  * Each export is that of its name without `_at`, but for its pointers. Where that one takes a
  * pointer to one struct, the export takes a pointer and a count: 1, or 0 where the pointer is NULL.
@@ -33,6 +33,7 @@ struct iox2sd_config;
 struct iox2sd_config_answer;
 struct iox2sd_config_fault;
 struct iox2sd_config_write_answer;
+struct iox2sd_conform_answer;
 struct iox2sd_count_answer;
 struct iox2sd_dead_node_removal;
 struct iox2sd_description;
@@ -216,6 +217,10 @@ iox2sd_config_write_at(const struct iox2sd_config *settings, size_t count, uint8
 /* Scripts: that of iox2sd_script.h. */
 struct iox2sd_script_answer iox2sd_script_run_at(const uint8_t *script, size_t length, uint8_t *out,
                                                  size_t capacity);
+
+/* Logs: that of iox2sd_conform.h. */
+struct iox2sd_conform_answer iox2sd_conform_run_at(const uint8_t *log, size_t length, uint8_t *out,
+                                                   size_t capacity);
 
 #if defined(__cplusplus) && defined(__clang__)
 #pragma clang diagnostic pop

@@ -2,6 +2,7 @@
  * ample memory, and fills and lists a service of each. The status is 1 where one does not answer
  * what it should, after a line for each. */
 #include "iox2sd_config.h"
+#include "iox2sd_conform.h"
 #include "iox2sd_script.h"
 
 #include <stdio.h>
@@ -54,6 +55,16 @@ static void script(size_t size, uint8_t *text, uint8_t *out, size_t capacity) {
     want("iox2sd_script_run", size, iox2sd_script_run(text, length, out, capacity).status);
 }
 
+/* A log of this many calls. */
+static void conform(size_t size, uint8_t *log, uint8_t *out, size_t capacity) {
+    const char *front = "service event 7 1 1 1\n", *call = "count listener\n= count 0\n";
+    size_t length = strlen(front), step = strlen(call);
+    memcpy(log, front, length);
+    for (size_t times = 0; times < size; times++, length += step)
+        memcpy(log + length, call, step);
+    want("iox2sd_conform_run", size, iox2sd_conform_run(log, length, out, capacity).status);
+}
+
 /* A file with this many unknown keys, of which each has 9 bytes, and the text of its settings. */
 static void config(size_t size) {
     enum { KEY = 9, LINE = KEY + 5 };
@@ -86,6 +97,7 @@ int main(int count, char **sizes) {
         make(size, (iox2sd_capacities){1, 1, size});
         nodes(size, (iox2sd_id *)(void *)out);
         script(size, text, out, capacity);
+        conform(size, text, out, capacity);
         config(size);
         free(text);
         free(out);

@@ -73,6 +73,10 @@ constexpr StatusText texts[] = {
     {Status::NoDuration, "not a duration: the integers secs and nanos"},
     {Status::NoTomlInteger, "TOML has no integer above 2^63 - 1"},
     {Status::NoFile, "the file cannot be read"},
+    {Status::NoRun, "no run gives the reply"},
+    {Status::NoServiceLine, "the line of a service is expected"},
+    {Status::NoCommandLine, "the line of a command is expected"},
+    {Status::NoReplyLine, "the line of a reply is expected"},
 };
 
 // The number of the C headers that each enumerator has. A switch that leaves one out does not
@@ -246,6 +250,10 @@ std::uint64_t of_header(Status status) {
         case Status::NoDuration: return IOX2SD_NO_DURATION;
         case Status::NoTomlInteger: return IOX2SD_NO_TOML_INTEGER;
         case Status::NoFile: return IOX2SD_NO_FILE;
+        case Status::NoRun: return IOX2SD_NO_RUN;
+        case Status::NoServiceLine: return IOX2SD_NO_SERVICE_LINE;
+        case Status::NoCommandLine: return IOX2SD_NO_COMMAND_LINE;
+        case Status::NoReplyLine: return IOX2SD_NO_REPLY_LINE;
     }
     return none;
 }

@@ -61,6 +61,10 @@ code status.BelowZero = 82
 code status.NoDuration = 83
 code status.NoTomlInteger = 84
 code status.NoFile = 85
+code status.NoRun = 90
+code status.NoServiceLine = 91
+code status.NoCommandLine = 92
+code status.NoReplyLine = 93
 
 -- the status of a number
 abbrev pub ReadsStatus : ℕ → Option Status → Type 0
@@ -126,6 +130,10 @@ status_text status.BelowZero = codes "the number is below 0"
 status_text status.NoDuration = codes "not a duration: the integers secs and nanos"
 status_text status.NoTomlInteger = codes "TOML has no integer above 2^63 - 1"
 status_text status.NoFile = codes "the file cannot be read"
+status_text status.NoRun = codes "no run gives the reply"
+status_text status.NoServiceLine = codes "the line of a service is expected"
+status_text status.NoCommandLine = codes "the line of a command is expected"
+status_text status.NoReplyLine = codes "the line of a reply is expected"
 
 -- the number at the end of a call that makes something or is refused
 abbrev pub end_code : {A : Type 0} → Result A Status → ℕ

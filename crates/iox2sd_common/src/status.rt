@@ -117,6 +117,14 @@ pub enum Status {
     NoTomlInteger = 84,
     /// A file cannot be read. No export answers it: wrappers that read files do.
     NoFile = 85,
+    /// No run gives a reply of a log.
+    NoRun = 90,
+    /// A line of a log is not that of a service, where one is expected.
+    NoServiceLine = 91,
+    /// A line of a log is not that of a command, where one is expected.
+    NoCommandLine = 92,
+    /// A line of a log is not that of a reply, where one is expected, or the log ends there.
+    NoReplyLine = 93,
 }
 
 impl Status {
@@ -189,6 +197,10 @@ impl Status {
             Status::NoDuration => "not a duration: the integers secs and nanos",
             Status::NoTomlInteger => "TOML has no integer above 2^63 - 1",
             Status::NoFile => "the file cannot be read",
+            Status::NoRun => "no run gives the reply",
+            Status::NoServiceLine => "the line of a service is expected",
+            Status::NoCommandLine => "the line of a command is expected",
+            Status::NoReplyLine => "the line of a reply is expected",
         }
     }
 }
@@ -254,6 +266,10 @@ pub fn status_of(number: u32) -> Option<Status>
         83 => Some(Status::NoDuration),
         84 => Some(Status::NoTomlInteger),
         85 => Some(Status::NoFile),
+        90 => Some(Status::NoRun),
+        91 => Some(Status::NoServiceLine),
+        92 => Some(Status::NoCommandLine),
+        93 => Some(Status::NoReplyLine),
         _ => None,
     }
 }

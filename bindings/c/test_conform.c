@@ -1,0 +1,129 @@
+/* Judges logs by iox2sd_conform.h: that of docs/CONFORM.md, each refusal, buffers of each length,
+ * and want of memory at each request. Compiled as C99 with -Wl,--wrap=malloc,--wrap=realloc and
+ * linked with libiox2sd.a. The last line is 'N checks, N failed'. */
+#include "check.h"
+#include "iox2sd_conform.h"
+
+#include <stdlib.h>
+#include <string.h>
+
+static const char conforming[] = "service event 7 2 2 0\n"
+                                 "register 1.0.0.1\n"
+                                 "= handle 1 0\n"
+                                 "\n"
+                                 "add listener 1.0.0.10 1.0.0.1\n"
+                                 "# between a call and its reply\n"
+                                 "= handle 0 0\n"
+                                 "release 0\n"
+                                 "= not-owned\n";
+
+static const char refused[] = "service event 7 2 2 0\n"
+                              "register 1.0.0.1\n"
+                              "= handle 0 0\n"
+                              "add listener 1.0.0.10 1.0.0.1\n"
+                              "= handle 1 0\n"
+                              "release 1\n"
+                              "= released\n"
+                              "add listener 1.0.0.11 1.0.0.1\n"
+                              "= handle 0 0\n";
+
+static const char conforming_report[] = "conforms, 3 calls on 1 service\n";
+
+static const char refused_report[] = "line 9: no run gives this reply\n"
+                                     "seen: handle 0 0\n"
+                                     "possible: handle SLOT 1, SLOT below 2 and none of:\n"
+                                     "nodes: 1000000000000000000000001\n"
+                                     "ports:\n";
+
+enum { MOST = 256 };
+
+static uint8_t out[MOST];
+
+static iox2sd_conform_answer run(const char *log, size_t capacity) {
+    memset(out, 0xAA, sizeof out);
+    return iox2sd_conform_run((const uint8_t *)log, strlen(log), out, capacity);
+}
+
+static bool answers(iox2sd_conform_answer answer, uint32_t status, size_t line, size_t calls,
+                    size_t length) {
+    return answer.status == status && answer.line == line && answer.calls == calls &&
+           answer.length == length;
+}
+
+/* Whether this text stands at the front of the buffer, and the others are as they were set. */
+static bool wrote(const char *text) {
+    size_t length = strlen(text);
+    for (size_t i = length; i < sizeof out; i++) {
+        if (out[i] != 0xAA) return false;
+    }
+    return memcmp(out, text, length) == 0;
+}
+
+/* A log with this report, in a buffer of each length. */
+static void buffers(const char *log, const char *report, uint32_t status, size_t line,
+                    size_t calls) {
+    size_t length = strlen(report);
+    CHECK(answers(run(log, MOST), status, line, calls, length) && wrote(report));
+    CHECK(answers(run(log, length), status, line, calls, length) && wrote(report));
+    for (size_t capacity = 0; capacity < length; capacity++) {
+        CHECK(answers(run(log, capacity), IOX2SD_BUFFER_TOO_SHORT, line, calls, length));
+        CHECK(wrote(""));
+    }
+}
+
+/* The first line that is not what is expected. */
+static void bad_lines(void) {
+    static const char service[] = "line 1: the line of a service is expected\n";
+    static const char command[] = "line 2: the line of a command is expected\n";
+    static const char reply[] = "line 3: the line of a reply is expected\n";
+    buffers("", service, IOX2SD_NO_SERVICE_LINE, 1, 0);
+    buffers("service event 7 2 2 0", service, IOX2SD_NO_SERVICE_LINE, 1, 0);
+    buffers("\xff\n", service, IOX2SD_NO_SERVICE_LINE, 1, 0);
+    buffers("service event 7 2 2 0\nleave\n", command, IOX2SD_NO_COMMAND_LINE, 2, 0);
+    buffers("service event 7 2 2 0\nnodes\nlist\n", reply, IOX2SD_NO_REPLY_LINE, 3, 0);
+    buffers("service event 7 2 2 0\nnodes\n", reply, IOX2SD_NO_REPLY_LINE, 3, 0);
+}
+
+/* The library's requests for memory, of which the one that this counts down to is refused. */
+static long left = -1;
+
+void *__real_malloc(size_t size);
+void *__real_realloc(void *at, size_t size);
+void *__wrap_malloc(size_t size);
+void *__wrap_realloc(void *at, size_t size);
+
+static bool refuses(void) { return left >= 0 && left-- == 0; }
+
+void *__wrap_malloc(size_t size) { return refuses() ? NULL : __real_malloc(size); }
+
+void *__wrap_realloc(void *at, size_t size) { return refuses() ? NULL : __real_realloc(at, size); }
+
+/* Each request is refused in turn: the status says so, whatever the buffer's length. */
+static void no_memory(const char *log, size_t capacity, uint32_t status) {
+    long request = 0;
+    iox2sd_conform_answer answer;
+    do {
+        left = request++;
+        answer = run(log, capacity);
+        bool was_refused = left < 0;
+        left = -1;
+        if (!was_refused) break;
+        CHECK(answers(answer, IOX2SD_NO_MEMORY, 0, 0, 0) && wrote(""));
+    } while (request < 1000);
+    CHECK(3 < request && request < 1000 && answer.status == status);
+}
+
+int main(void) {
+    buffers(conforming, conforming_report, IOX2SD_DONE, 0, 3);
+    buffers(refused, refused_report, IOX2SD_NO_RUN, 9, 0);
+    bad_lines();
+    CHECK(answers(iox2sd_conform_run(NULL, 1, out, MOST), IOX2SD_NULL, 0, 0, 0));
+    CHECK(answers(iox2sd_conform_run((const uint8_t *)"", 0, NULL, 1), IOX2SD_NULL, 0, 0, 0));
+    CHECK(answers(iox2sd_conform_run_str(NULL, out, MOST), IOX2SD_NULL, 0, 0, 0));
+    CHECK(answers(iox2sd_conform_run(NULL, 0, NULL, 0), IOX2SD_BUFFER_TOO_SHORT, 1, 0, 42));
+    CHECK(answers(iox2sd_conform_run_str(conforming, out, MOST), IOX2SD_DONE, 0, 3, 31));
+    no_memory(conforming, MOST, IOX2SD_DONE);
+    no_memory(refused, MOST, IOX2SD_NO_RUN);
+    no_memory(refused, 0, IOX2SD_BUFFER_TOO_SHORT);
+    return end_of_checks();
+}

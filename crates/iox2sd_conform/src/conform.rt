@@ -1,0 +1,91 @@
+//! Whole logs.
+ghost use Rattle.std.specs.Prelude.{◌≡◌};
+ghost use Rattle.iox2sd_conform.specs.Verdicts.{Answers, memory_answer, conforming_calls, reported_line};
+ghost use Rattle.iox2sd_conform.specs.Verdicts.{verdict_answer, verdict_status};
+ghost use Rattle.iox2sd_common.specs.Answers.{Writes};
+ghost use Rattle.service_logs.specs.Reports.{report_text};
+
+use iox2sd_common::answers::put;
+use iox2sd_common::status::Status;
+use service_logs::logs::{Expected, Verdict, report_log};
+use std::alloc::Global;
+
+/// What a log was judged to be.
+#[repr(C)]
+#[derive(Clone, Copy)]
+pub struct ConformAnswer {
+    /// The number of a [`Status`]; that of `Done` where the log conforms.
+    pub status: u32,
+    /// The number of the first line that does not conform or is not what is expected, from 1 on;
+    /// 0 where the log conforms or memory was refused.
+    pub line: usize,
+    /// How many calls the log has, where it conforms; else 0.
+    pub calls: usize,
+    /// How many bytes the report has, also where it does not fit; 0 where memory was refused.
+    pub length: usize,
+}
+
+/// The status of a verdict.
+fn verdict_status(verdict: &Verdict) -> Status
+    ensures { result ≡ verdict_status verdict.now }
+{
+    match verdict {
+        Verdict::Conforms(_) => Status::Done,
+        Verdict::NoRun(_) => Status::NoRun,
+        Verdict::BadLine(_, Expected::Service) => Status::NoServiceLine,
+        Verdict::BadLine(_, Expected::Command) => Status::NoCommandLine,
+        Verdict::BadLine(_, Expected::Reply) => Status::NoReplyLine,
+    }
+}
+
+/// The number of the reported line, or 0.
+fn reported_line(verdict: &Verdict) -> usize
+    ensures { result ≡ reported_line verdict.now }
+{
+    match verdict {
+        Verdict::Conforms(_) => 0,
+        Verdict::NoRun(told) => told.line,
+        Verdict::BadLine(line, _) => *line,
+    }
+}
+
+/// How many calls conform, or 0 where the log does not.
+fn conforming_calls(verdict: &Verdict) -> usize
+    ensures { result ≡ conforming_calls verdict.now }
+{
+    match verdict {
+        Verdict::Conforms(calls) => *calls,
+        _ => 0,
+    }
+}
+
+/// Judges a log, and writes the report to the front of the buffer where it fits; else the buffer
+/// stays as it was.
+///
+/// Refused are, in this order, want of memory (`NoMemory`); too short a buffer (`BufferTooShort`),
+/// and a call with a longer one judges the log again from its start; and the first line of a log
+/// that does not conform (`NoRun`, `NoServiceLine`, `NoCommandLine`, `NoReplyLine`).
+#[unsafe(no_mangle)]
+pub extern "C" fn iox2sd_conform_run_at(alloc: Global, log: &[u8], out: &mut [u8]) -> ConformAnswer
+    ensures { Answers log.now out.old result out.new }
+{
+    let Ok((verdict, text)) = report_log(alloc, log) else {
+        return ConformAnswer {
+            status: Status::NoMemory.code(),
+            line: 0,
+            calls: 0,
+            length: 0,
+        };
+    };
+    let status = if put(&text, out) {
+        verdict_status(&verdict)
+    } else {
+        Status::BufferTooShort
+    };
+    ConformAnswer {
+        status: status.code(),
+        line: reported_line(&verdict),
+        calls: conforming_calls(&verdict),
+        length: text.len(),
+    }
+}

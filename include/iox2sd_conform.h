@@ -1,0 +1,52 @@
+/* Logs of services, for C99 and C++: the calls that were made on a service of any implementation
+ * and the replies that were seen, as text, are judged by the proved machine. The rules of iox2sd.h
+ * for every call, and what it says of what is proved, hold here too. docs/CONFORM.md has the lines
+ * of logs and of reports.
+ *
+ * A check takes memory by malloc and realloc, and frees all of it before it returns.
+ */
+#ifndef IOX2SD_CONFORM_H
+#define IOX2SD_CONFORM_H
+
+#include "iox2sd.h"
+
+#ifdef __cplusplus
+extern "C" {
+#endif
+
+/* What a log was judged to be. */
+typedef struct iox2sd_conform_answer {
+    uint32_t status;
+    size_t line;   /* The number of the line that the status is about, from 1 on; 0 where the log
+                    * conforms, and with IOX2SD_NO_MEMORY. */
+    size_t calls;  /* The calls of a log that conforms; 0 of another one. */
+    size_t length; /* The bytes of the report, also with IOX2SD_BUFFER_TOO_SHORT; 0 with
+                    * IOX2SD_NO_MEMORY. */
+} iox2sd_conform_answer;
+
+/* Judges a log, and writes the report to the front of `out`, without a zero byte, where it fits:
+ * what iox2-conform writes. The status is IOX2SD_DONE where the log conforms. A log and a buffer of
+ * NULL and 0 are empty ones.
+ * Errors: IOX2SD_NULL. IOX2SD_NO_MEMORY. IOX2SD_BUFFER_TOO_SHORT, with `line`, `calls` and `length`
+ * as they would be with a longer buffer; then `out` is as it was, and a call with a longer buffer
+ * judges the log again from its start. Then of the first line that does not conform: IOX2SD_NO_RUN
+ * where no run of the machine gives its reply; IOX2SD_NO_SERVICE_LINE, IOX2SD_NO_COMMAND_LINE and
+ * IOX2SD_NO_REPLY_LINE where it is not what is expected, or has no newline, or the log ends before
+ * it. */
+static inline iox2sd_conform_answer iox2sd_conform_run(const uint8_t *log, size_t length,
+                                                       uint8_t *out, size_t capacity) {
+    iox2sd_conform_answer refused = {IOX2SD_NULL, 0, 0, 0};
+    if (log == NULL && length != 0) return refused;
+    if (out == NULL && capacity != 0) return refused;
+    return iox2sd_conform_run_at(log, length, out, capacity);
+}
+static inline iox2sd_conform_answer iox2sd_conform_run_str(const char *log, uint8_t *out,
+                                                           size_t capacity) {
+    return iox2sd_conform_run((const uint8_t *)log, iox2sd_length(log), out, capacity);
+}
+
+#ifdef __cplusplus
+}
+#endif
+
+#endif
