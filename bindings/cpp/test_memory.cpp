@@ -1,7 +1,7 @@
-// Refuses each request for memory of each call of iox2sd.hpp in turn. The last line is
-// 'N checks, N failed'.
+// Refuses each request for memory of each call of iox2sd.hpp, and of check_log, in turn. The last
+// line is 'N checks, N failed'.
 #include "check.hpp"
-#include "iox2sd.hpp"
+#include "iox2sd_conform.hpp"
 
 namespace {
 
@@ -30,14 +30,15 @@ Status without(int request, Call call) {
     refused_request = request;
     const auto result = call();
     refused_request = -1;
-    if constexpr (std::is_same_v<decltype(result), const ScriptRun>) {
+    using Answer = std::remove_const_t<decltype(result)>;
+    if constexpr (std::is_same_v<Answer, ScriptRun> || std::is_same_v<Answer, LogVerdict>) {
         return result.status;
     } else {
         return result.status();
     }
 }
 
-/// Each call that lists takes memory twice, and a script once. The service is as it was.
+/// Each call that lists takes memory twice, and a script and a log once. The service is as it was.
 void lists() {
     Service service = Service::create(PatternKind::Event, 7, {2, 2, 2}).value();
     const UniqueNodeId node = UniqueNodeId::create(1, 2, 3, 4).value();
@@ -57,6 +58,8 @@ void lists() {
     CHECK(without(2, [&] { return service.nodes(); }) == Status::Done);
     const auto run = [] { return run_script("service event 7 1 2 2\nregister 1.0.0.1\n"); };
     CHECK(without(0, run) == Status::NoMemory && without(1, run) == Status::Done);
+    const auto judge = [] { return check_log("service event 7 1 2 2\nnodes\n= list\n"); };
+    CHECK(without(0, judge) == Status::NoMemory && without(1, judge) == Status::Done);
 }
 
 /// A death takes memory once where there are ports to keep, and else none.

@@ -101,7 +101,9 @@ from .ids import (
     UniqueSubscriberId,
     UniqueWriterId,
 )
+from .logs import Conforms, Expected, NoRun, UnexpectedLine, Verdict, check_log
 from .messages import Layout, MessageTypeDetails, Places, TypeDetail, TypeVariant
+from .recorder import Recorder
 from .scripts import run_script
 from .settings import (
     AllocationStrategy,
@@ -165,10 +167,12 @@ __all__ = [
     "BlackboardSettings",
     "BlackboardStaticConfig",
     "Capacities",
+    "check_log",
     "ClientDetails",
     "Config",
     "ConfigFault",
     "ConfigFile",
+    "Conforms",
     "ContainerHandle",
     "DataSegmentType",
     "DeadNodeRemoval",
@@ -183,6 +187,7 @@ __all__ = [
     "EventId",
     "EventSettings",
     "EventStaticConfig",
+    "Expected",
     "FileName",
     "FilePath",
     "ForeignHandle",
@@ -209,6 +214,7 @@ __all__ = [
     "NoIdText",
     "NoMemory",
     "NoNode",
+    "NoRun",
     "NoService",
     "NotifierDetails",
     "NoTomlInteger",
@@ -228,6 +234,7 @@ __all__ = [
     "PublishSubscribeSettings",
     "PublishSubscribeStaticConfig",
     "ReaderDetails",
+    "Recorder",
     "Refused",
     "RequestResponseSettings",
     "RequestResponseStaticConfig",
@@ -249,6 +256,7 @@ __all__ = [
     "TooManyRequired",
     "TypeDetail",
     "TypeVariant",
+    "UnexpectedLine",
     "UniqueClientId",
     "UniqueListenerId",
     "UniqueNodeId",
@@ -261,6 +269,7 @@ __all__ = [
     "UniqueSubscriberId",
     "UniqueWriterId",
     "UnknownKey",
+    "Verdict",
     "WriterDetails",
     "WrongType",
     "__version__",

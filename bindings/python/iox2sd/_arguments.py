@@ -64,6 +64,12 @@ def utf8(text: object, what: str) -> bytes:
         raise NotUtf8(f"{what} {shown(text)}", error.start, "character") from None
 
 
+def text_or_bytes(given: object, what: str) -> bytes:
+    """The bytes of a text, or those that an object has itself."""
+    # Joining gives the bytes that a subclass has itself, whatever its methods say.
+    return b"".join((given,)) if isinstance(given, bytes) else utf8(given, what)
+
+
 def items(given: "Iterable[object]", what: str) -> "tuple[Any, ...]":
     """The items of what can be iterated over."""
     try:

@@ -5,7 +5,8 @@ passes `_arguments` before it comes here.
 
 The library is loaded by `PyDLL`: a call keeps the interpreter's global lock, so it is carried out
 whole before or after any other, and no lock is taken that a finalizer or the child of a fork could
-wait for. A script alone may take long; it shares nothing, and lets other threads run meanwhile.
+wait for. Scripts and logs alone may take long; they share nothing, and let other threads run
+meanwhile.
 """
 
 import ctypes
@@ -33,6 +34,7 @@ DONE_LOCKED = 1
 BUFFER_TOO_SHORT = 2
 UNKNOWN_STATUS = 21
 NO_SUCH_VALUE = 56
+NO_RUN = 90
 
 
 _PATH = os.environ.get("IOX2SD_LIBRARY") or str(Path(__file__).with_name("libiox2sd.so.0"))
@@ -144,6 +146,15 @@ class DeadNodeRemoval(ctypes.Structure):
 
 class ScriptAnswer(ctypes.Structure):
     _fields_ = [("status", c_uint32), ("line", c_size_t), ("length", c_size_t)]
+
+
+class ConformAnswer(ctypes.Structure):
+    _fields_ = [
+        ("status", c_uint32),
+        ("line", c_size_t),
+        ("calls", c_size_t),
+        ("length", c_size_t),
+    ]
 
 
 class PlaceAnswer(ctypes.Structure):
@@ -469,6 +480,9 @@ ports_of_at = _export(
 )
 script_run_at = _export(
     "script_run_at", ScriptAnswer, *_TEXT, *_OUT, library=ctypes.CDLL(_PATH)
+)
+conform_run_at = _export(
+    "conform_run_at", ConformAnswer, *_TEXT, *_OUT, library=ctypes.CDLL(_PATH)
 )
 
 service_name_check_at = _export("service_name_check_at", PlaceAnswer, *_TEXT)

@@ -4,7 +4,7 @@ import ctypes
 from typing import Union
 
 from . import _native
-from ._arguments import shown, utf8
+from ._arguments import text_or_bytes
 from .errors import BadLine, check
 
 
@@ -14,8 +14,7 @@ def run_script(script: Union[str, bytes]) -> str:
     Raises `BadLine` with the number of a bad line and the reply lines to those before it, and
     `NoMemory`.
     """
-    # Joining gives the bytes that a subclass has itself, whatever its methods say.
-    given = b"".join((script,)) if isinstance(script, bytes) else utf8(script, "run_script")
+    given = text_or_bytes(script, "run_script")
     capacity = 256 + len(given)
     while True:
         out = (ctypes.c_uint8 * capacity)()

@@ -40,6 +40,10 @@ NO_CLASS = {
     "BELOW_ZERO": "",
     "NO_DURATION": "",
     "NO_FILE": "the system's own errors are raised",
+    "NO_RUN": "it is a verdict on a log; so are the next three",
+    "NO_SERVICE_LINE": "",
+    "NO_COMMAND_LINE": "",
+    "NO_REPLY_LINE": "",
 }
 """The statuses that no call of the package meets."""
 
@@ -155,13 +159,14 @@ class Declarations(unittest.TestCase):
             (iox2sd.BackpressureStrategy, "", ""),
             (iox2sd.AllocationStrategy, "ALLOCATION_", ""),
             (iox2sd.DefaultText, "", ""),
+            (iox2sd.Expected, "NO_", "_LINE"),
         ]
         for kind, front, end in kinds:
             for member in kind:
                 with self.subTest(member=member):
                     name = front + member.name + end
                     self.assertEqual(headers.CONSTANTS[name], member.value)
-        for name in ("DONE", "DONE_LOCKED", "BUFFER_TOO_SHORT", "NO_SUCH_VALUE"):
+        for name in ("DONE", "DONE_LOCKED", "BUFFER_TOO_SHORT", "NO_SUCH_VALUE", "NO_RUN"):
             self.assertEqual(headers.STATUSES[name], getattr(_native, name))
 
     def test_each_refusal_has_a_class(self):

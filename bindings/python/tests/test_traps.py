@@ -123,6 +123,10 @@ class Values(unittest.TestCase):
             iox2sd.run_script(LyingBytes(b"nonsense\n"))
         self.assertEqual(caught.exception.line, 1)
 
+    def test_bytes_of_a_log_are_taken_by_their_value(self):
+        log = b"service event 7 1 0 0\nnodes\n= list\n"
+        self.assertEqual(iox2sd.check_log(LyingBytes(log)), iox2sd.Conforms(1))
+
 
 class Errors(unittest.TestCase):
     def test_subclasses_of_values(self):
@@ -210,7 +214,9 @@ class Calls(unittest.TestCase):
     """No call waits for another one."""
 
     def test_calls_keep_the_global_lock(self):
-        """Each but that of a script is one of a `PyDLL`, and so whole before or after any other."""
+        """Each but those of scripts and logs is one of a `PyDLL`, and so whole before or after any
+        other.
+        """
         keeps = 4  # FUNCFLAG_PYTHONAPI of ctypes.
         functions = {
             name: type(function)._flags_ & keeps != 0
@@ -218,7 +224,8 @@ class Calls(unittest.TestCase):
             if isinstance(function, ctypes._CFuncPtr)
         }
         self.assertGreater(len(functions), 60)
-        self.assertEqual([name for name, kept in functions.items() if not kept], ["script_run_at"])
+        others = [name for name, kept in functions.items() if not kept]
+        self.assertEqual(others, ["script_run_at", "conform_run_at"])
 
     def joined(self, *threads: threading.Thread):
         for thread in threads:

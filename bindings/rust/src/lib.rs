@@ -12,6 +12,7 @@
 //! | [`config`] | the settings, and what they are by default |
 //! | [`static_config`], [`service_hash`] | the description of a service |
 //! | [`dynamic_config`], [`container`] | who is attached to a service |
+//! | [`script`], [`conform`] | runs as text, and whether a log is that of one |
 //!
 //! ```
 //! use iox2sd::dynamic_config::{event, DynamicConfig, MessagingPatternSettings};
@@ -44,6 +45,7 @@
 
 pub mod attribute;
 pub mod config;
+pub mod conform;
 pub mod container;
 pub mod dynamic_config;
 pub mod identifiers;

@@ -241,3 +241,35 @@ pub(crate) fn script_run(script: &str) -> Run {
         };
     }
 }
+
+/// What a log was judged to be, with the report.
+pub(crate) struct Judged {
+    pub(crate) status: u32,
+    pub(crate) line: usize,
+    pub(crate) calls: usize,
+    pub(crate) report: String,
+}
+
+/// The room for a report at first. That of a log that conforms fits, so such a log is judged once.
+const REPORT: usize = 512;
+
+pub(crate) fn conform_run(log: &str) -> Judged {
+    let mut out = vec![0; REPORT];
+    loop {
+        // SAFETY: each pointer and length are those of one slice, and `out` overlaps no other.
+        let answer = unsafe {
+            sys::iox2sd_conform_run_at(log.as_ptr(), log.len(), out.as_mut_ptr(), out.len())
+        };
+        if answer.status == sys::IOX2SD_BUFFER_TOO_SHORT {
+            out.resize(answer.length, 0);
+            continue;
+        }
+        out.truncate(answer.length);
+        return Judged {
+            status: answer.status,
+            line: answer.line,
+            calls: answer.calls,
+            report: String::from_utf8(out).expect("the report of a text is one"),
+        };
+    }
+}

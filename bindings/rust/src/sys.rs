@@ -41,6 +41,10 @@ pub const IOX2SD_WRONG_TYPE: u32 = 81;
 pub const IOX2SD_BELOW_ZERO: u32 = 82;
 pub const IOX2SD_NO_DURATION: u32 = 83;
 pub const IOX2SD_NO_TOML_INTEGER: u32 = 84;
+pub const IOX2SD_NO_RUN: u32 = 90;
+pub const IOX2SD_NO_SERVICE_LINE: u32 = 91;
+pub const IOX2SD_NO_COMMAND_LINE: u32 = 92;
+pub const IOX2SD_NO_REPLY_LINE: u32 = 93;
 
 pub const IOX2SD_PUBLISH_SUBSCRIBE: u32 = 0;
 pub const IOX2SD_EVENT: u32 = 1;
@@ -280,6 +284,14 @@ pub struct iox2sd_part_answer {
 pub struct iox2sd_script_answer {
     pub status: u32,
     pub line: usize,
+    pub length: usize,
+}
+
+#[repr(C)]
+pub struct iox2sd_conform_answer {
+    pub status: u32,
+    pub line: usize,
+    pub calls: usize,
     pub length: usize,
 }
 
@@ -627,6 +639,13 @@ extern "C" {
         out: *mut u8,
         capacity: usize,
     ) -> iox2sd_script_answer;
+
+    pub fn iox2sd_conform_run_at(
+        log: *const u8,
+        length: usize,
+        out: *mut u8,
+        capacity: usize,
+    ) -> iox2sd_conform_answer;
 
     pub fn iox2sd_service_name_check_at(text: *const u8, length: usize) -> iox2sd_place_answer;
     pub fn iox2sd_internal_service_name_check_at(

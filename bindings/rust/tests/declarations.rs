@@ -184,6 +184,7 @@ fn each_declaration_is_that_of_the_headers() {
         "iox2sd_raw.h",
         "iox2sd_values.h",
         "iox2sd_script.h",
+        "iox2sd_conform.h",
         "iox2sd_config.h",
     ];
     let headers: Declarations = names

@@ -1,15 +1,16 @@
-//! Random calls on a service answer what the same calls as a script do.
+//! Random calls on a service answer what the same calls as a script do, and their log conforms.
 #![forbid(unsafe_code)]
 
 mod common;
 
-use common::{service, KINDS};
+use common::{settings, KINDS};
 use iox2sd::config::DataSegmentType;
+use iox2sd::conform::{check_log, Recorder, Verdict};
 use iox2sd::container::{ContainerHandle, Role};
 use iox2sd::dynamic_config::{
-    AttachError, ClientDetails, DeregisterError, DeregisterNodeState, DynamicConfig,
-    ListenerDetails, NotifierDetails, PortCleanupAction, PortDetails, PublisherDetails,
-    ReaderDetails, RegisterNodeResult, ServerDetails, SubscriberDetails, WriterDetails,
+    AttachError, ClientDetails, DeregisterError, DeregisterNodeState, ListenerDetails,
+    NotifierDetails, PortCleanupAction, PortDetails, PublisherDetails, ReaderDetails,
+    RegisterNodeResult, ServerDetails, SubscriberDetails, WriterDetails,
 };
 use iox2sd::identifiers::{
     UniqueClientId, UniqueListenerId, UniqueNodeId, UniqueNotifierId, UniquePublisherId,
@@ -112,7 +113,7 @@ fn state(state: DeregisterNodeState) -> String {
 
 /// A service, the handles that its commands gave, and its run as a script and as replies.
 struct Walk {
-    service: DynamicConfig,
+    service: Recorder,
     handles: Vec<Option<ContainerHandle>>,
     script: String,
     replies: String,
@@ -181,7 +182,7 @@ impl Walk {
     }
 
     fn role(&self, random: &mut Random) -> Role {
-        let (first, second) = self.service.port_roles();
+        let (first, second) = self.service.service().port_roles();
         let (_, other, another) = KINDS[random.below(4)];
         [first, second, first, second, other, another][random.below(6)]
     }
@@ -267,7 +268,7 @@ fn walk(kind: MessagingPattern, random: &mut Random, steps: usize) -> Walk {
         MessagingPattern::Blackboard => "blackboard",
     };
     let mut walk = Walk {
-        service: service(kind, nodes, ports),
+        service: Recorder::new(&settings(kind, ports), nodes, 7).unwrap(),
         handles: Vec::new(),
         script: format!("service {name} 7 {nodes} {} {}\n", ports[0], ports[1]),
         replies: String::new(),
@@ -299,6 +300,11 @@ fn random_calls_are_those_of_a_script() {
                 "{}",
                 walk.script
             );
+            let calls = walk.replies.lines().filter(|reply| *reply != "no-handle");
+            let conforms = Verdict::Conforms {
+                calls: calls.count(),
+            };
+            assert_eq!(check_log(walk.service.log()), Ok(conforms));
             seen += &walk.replies;
         }
     }

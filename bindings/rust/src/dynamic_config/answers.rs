@@ -4,7 +4,7 @@ use crate::sys;
 use std::error::Error;
 use std::fmt;
 
-/// There was no memory for a service.
+/// There was no memory for a service, or to judge a log.
 ///
 /// ```
 /// use iox2sd::dynamic_config::{event, AllocError, DynamicConfig, MessagingPatternSettings};

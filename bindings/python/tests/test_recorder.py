@@ -1,0 +1,134 @@
+import doctest
+import random
+import unittest
+from contextlib import suppress
+from typing import Any
+
+import iox2sd
+from iox2sd import Capacities, Conforms, MessagingPattern, Recorder, Role, check_log, recorder
+
+NODES = [iox2sd.UniqueNodeId(*parts) for parts in ((1, 1, 0, 5), (1, 2, 0, 5), (2, 0, 0, 0))]
+PORTS = [(7, 0, 0, counter) for counter in range(5)]
+KINDS: "dict[Role, Any]" = {
+    Role.PUBLISHER: (iox2sd.PublisherDetails, iox2sd.UniquePublisherId),
+    Role.SUBSCRIBER: (iox2sd.SubscriberDetails, iox2sd.UniqueSubscriberId),
+    Role.NOTIFIER: (iox2sd.NotifierDetails, iox2sd.UniqueNotifierId),
+    Role.LISTENER: (iox2sd.ListenerDetails, iox2sd.UniqueListenerId),
+    Role.CLIENT: (iox2sd.ClientDetails, iox2sd.UniqueClientId),
+    Role.SERVER: (iox2sd.ServerDetails, iox2sd.UniqueServerId),
+    Role.READER: (iox2sd.ReaderDetails, iox2sd.UniqueReaderId),
+    Role.WRITER: (iox2sd.WriterDetails, iox2sd.UniqueWriterId),
+}
+
+
+def port(role: Role, parts: "tuple[int, ...]", node: iox2sd.UniqueNodeId) -> iox2sd.PortDetails:
+    details, id = KINDS[role]
+    names = {f"{role.name.lower()}_id": id(*parts), "node_id": node}
+    for field in details.__dataclass_fields__:
+        if field not in names:
+            is_segment = field == "data_segment_type"
+            names[field] = iox2sd.DataSegmentType.STATIC if is_segment else 0
+    return details(**names)
+
+
+def step(dice: random.Random, service: Recorder, handles: "list[Any]") -> None:
+    """A call that is drawn, which may be refused."""
+    node, role = dice.choice(NODES), dice.choice([*service.port_roles] * 3 + list(KINDS))
+    kind = dice.randrange(16)
+    if kind < 3:
+        handles.append(service.register_node_id(node))
+    elif kind < 8:
+        handles.append(service.attach(port(role, dice.choice(PORTS), node)))
+    elif kind == 8:
+        service.remove_dead_node_id(node, [KINDS[role][1](*dice.choice(PORTS))] * dice.randrange(2))
+    elif kind == 9:
+        service.list_node_ids()
+    elif kind < 12:
+        dice.choice((service.list_ports, service.count_ports))(role)
+    elif handles:
+        dice.choice((service.deregister_node_id, service.release_port))(dice.choice(handles))
+
+
+class Recording(unittest.TestCase):
+    def test_random_logs_conform(self):
+        dice = random.Random(1)
+        seen: "set[str]" = set()
+        for pattern in [*MessagingPattern] * 50:
+            capacities = Capacities(*(dice.randrange(5) for _ in range(3)))
+            with Recorder(pattern, 7, capacities) as service:
+                handles: "list[Any]" = []
+                for _ in range(dice.randrange(60)):
+                    with suppress(iox2sd.Refused):
+                        step(dice, service, handles)
+            replies = [line for line in service.log.splitlines() if line.startswith("= ")]
+            self.assertEqual(check_log(service.log), Conforms(len(replies)))
+            seen.update(reply.split()[1] for reply in replies)
+            commands = [line for line in service.log.splitlines() if not line.startswith("= ")]
+            script = "".join(f"{command}\n" for command in commands)
+            again = iox2sd.run_script(script).splitlines()
+            self.assertEqual([f"= {reply}" for reply in again], replies)
+        words = (
+            "handle locked full not-registered wrong-pattern has-owners no-owners ports-attached"
+            " released not-owned count list"
+        )
+        self.assertEqual(seen, set(words.split()))
+
+    def test_what_has_no_line(self):
+        with Recorder.event(7, max_nodes=1, max_listeners=1, max_notifiers=1) as service:
+            start = "service event 7 1 1 1\n"
+            self.assertEqual(service.log, start)
+            self.assertFalse(service.is_locked)
+            for call in (service.list_ports, service.count_ports):
+                with self.assertRaises(iox2sd.RoleNotInPattern):
+                    call(Role.NODE)
+                with self.assertRaises(iox2sd.WrongType):
+                    call(0)
+            foreign = iox2sd.ContainerHandle(7, Role.NODE, 0, 0)
+            for call in (service.deregister_node_id, service.release_port):
+                with self.assertRaises(iox2sd.ForeignHandle):
+                    call(foreign)
+            notes = "".join(
+                f"# {command}: no call returned the handle\n" for command in ("deregister", "release")
+            )
+            self.assertEqual(service.log, start + notes)
+            self.assertEqual(check_log(service.log), Conforms(0))
+        with self.assertRaises(iox2sd.NoService):
+            service.list_node_ids()
+        self.assertEqual(service.log, start + notes)
+
+    def test_with_statements_and_lists_of_a_kind_are_written(self):
+        description = iox2sd.StaticConfig(
+            iox2sd.ServiceName("a"), iox2sd.UniqueServiceId(1, 2, 3, 4), iox2sd.EventStaticConfig.new()
+        )
+        with Recorder.described(description, 7) as service:
+            with service.registered(NODES[0]):
+                with service.attached(port(Role.LISTENER, PORTS[0], NODES[0])):
+                    self.assertEqual(len(service.list_listeners()), 1)
+        self.assertEqual(
+            service.log.splitlines()[1:],
+            [
+                "register 1.1.0.5",
+                "= handle 0 0",
+                "add listener 7.0.0.0 1.1.0.5",
+                "= handle 0 0",
+                "list listener",
+                "= list 7000000000000000000000000",
+                "release 1",
+                "= released",
+                "deregister 0",
+                "= no-owners",
+            ],
+        )
+        self.assertEqual(check_log(service.log), Conforms(5))
+
+    def test_all_tickets(self):
+        for tickets in (0, 2**64 - 2, "1"):
+            with self.assertRaises(iox2sd.OutOfRange):
+                Recorder(MessagingPattern.EVENT, 7, Capacities(1, 1, 1), tickets)
+
+    def test_the_example(self):
+        self.assertEqual(doctest.testmod(recorder), (0, 3))
+
+
+if __name__ == "__main__":
+    unittest.main()
