@@ -250,7 +250,7 @@ pub(crate) struct Judged {
     pub(crate) report: String,
 }
 
-/// The room for a report at first. That of a log that conforms fits, so such a log is judged once.
+/// The buffer for a report at first. That of a log that conforms fits, so such a log is judged once.
 const REPORT: usize = 512;
 
 pub(crate) fn conform_run(log: &str) -> Judged {

@@ -120,7 +120,8 @@ words_longer id (x ∷ xs) =
     omega (arith, rest, len)
 
 -- a list of these items, no more of them than bytes were written
-abbrev list_of : {A : Type 0} (out : Vec ℕ) (items : List A) → length items ≤ length out.items → Vec A
+abbrev list_of : {A : Type 0} (out : Vec ℕ) (items : List A) → length items ≤ length out.items
+    → Vec A
 list_of out items fits =
     record {
       ptr = out.ptr;

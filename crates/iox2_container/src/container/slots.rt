@@ -102,7 +102,7 @@ impl<C: Copy> Slots<C> {
         ensures looks { looks.new.touches.count ≡ looks.old.touches.count + 1 }
     {
         looks.count();
-        self.cells[index]
+        self.peek(index)
     }
 }
 
