@@ -1,5 +1,6 @@
 //! The values of a file that are not allowed.
-ghost use Rattle.std.specs.Prelude.{◌≡◌, ◌++◌, map, flat_map, option_map, OnOk, IfOk};
+ghost use Rattle.std.specs.Prelude.{◌≡◌, ◌++◌, Some, map, flat_map, option_map, OnOk, IfOk};
+ghost use Rattle.iox2_config_file.specs.Faults.{located_text};
 ghost use Rattle.std.specs.List.{filter_map};
 ghost use Rattle.toml.specs.Data.{no_members};
 ghost use Rattle.toml.specs.View.{table_view};
@@ -12,12 +13,12 @@ use crate::section::{Row, SECTIONS, Section, rows};
 use crate::tables::{get, section_table};
 use crate::value::fault;
 use std::alloc::{AllocError, Global};
-use thiserror::Error;
+use std::error::Error;
+use std::fmt;
 use toml::Table;
 
 /// What is wrong with the value of a key, and where.
-#[derive(Clone, Copy, Debug, PartialEq, Eq, Error)]
-#[error("{}{key}: {fault}", section.prefix())]
+#[derive(Clone, Copy, Debug, PartialEq, Eq)]
 pub struct SettingFault {
     /// The table in which the key stands.
     pub section: Section,
@@ -25,6 +26,16 @@ pub struct SettingFault {
     pub key: &'static str,
     /// What is wrong with its value.
     pub fault: Fault,
+}
+
+impl Error for SettingFault {}
+
+impl fmt::Display for SettingFault {
+    ghost output = { λ fault. Some (located_text (fault_view fault)) };
+
+    fn fmt<W: fmt::Write>(&self, f: &mut fmt::Formatter<W>) -> fmt::Result {
+        write!(f, "{}{}: {}", self.section.prefix(), self.key, self.fault)
+    }
 }
 
 /// What is wrong with the value of a key, if it has one.

@@ -1,8 +1,10 @@
 //! What the value of a key may be, and what is wrong with one that may not.
+ghost use Rattle.std.specs.Prelude.{◌≡◌, Some};
+ghost use Rattle.iox2_config_file.specs.Faults.{kind_text, type_text, why_text, reason_text};
 
 use iox2_texts::bounded::SemanticStringError;
+use std::error::Error;
 use std::fmt;
-use thiserror::Error;
 
 /// What the value of a key may be.
 #[derive(Clone, Copy, Debug, PartialEq, Eq)]
@@ -45,10 +47,9 @@ pub enum TomlType {
 }
 
 /// What is wrong with the value of a key.
-#[derive(Clone, Copy, Debug, PartialEq, Eq, Error)]
+#[derive(Clone, Copy, Debug, PartialEq, Eq)]
 pub enum Fault {
     /// It is of another type than the one that is wanted.
-    #[error("is {found}, and {wanted} is wanted")]
     WrongType {
         /// What it is.
         found: TomlType,
@@ -56,27 +57,43 @@ pub enum Fault {
         wanted: Kind,
     },
     /// A number below 0.
-    #[error("is below 0")]
     OutOfRange,
     /// A text that is no path.
-    #[error("is no path: {}", why(.0))]
     NoPath(SemanticStringError),
     /// A text that is no name of a file.
-    #[error("is no name of a file: {}", why(.0))]
     NoFileName(SemanticStringError),
     /// A text that names no variant of the kind.
-    #[error("is not {0}")]
     UnknownVariant(Kind),
     /// A table that does not have just the integers `secs` and `nanos`, none of them below 0.
-    #[error("is not a table of the integers `secs` and `nanos` alone")]
     NoDuration,
     /// A duration whose `nanos` are a second or more.
-    #[error("has `nanos` of a second or more")]
     NanosTooLarge,
 }
 
+impl Error for Fault {}
+
+impl fmt::Display for Fault {
+    ghost output = { λ fault. Some (reason_text fault) };
+
+    fn fmt<W: fmt::Write>(&self, f: &mut fmt::Formatter<W>) -> fmt::Result {
+        match self {
+            Fault::WrongType { found, wanted } => write!(f, "is {found}, and {wanted} is wanted"),
+            Fault::OutOfRange => f.write_str("is below 0"),
+            Fault::NoPath(error) => write!(f, "is no path: {}", why(error)),
+            Fault::NoFileName(error) => write!(f, "is no name of a file: {}", why(error)),
+            Fault::UnknownVariant(wanted) => write!(f, "is not {wanted}"),
+            Fault::NoDuration => f.write_str(
+                "is not a table of the integers `secs` and `nanos` alone",
+            ),
+            Fault::NanosTooLarge => f.write_str("has `nanos` of a second or more"),
+        }
+    }
+}
+
 /// Why a text is not allowed.
-fn why(error: &SemanticStringError) -> &'static str {
+fn why(error: &SemanticStringError) -> &'static str
+    ensures { result.now ≡ why_text error.now }
+{
     match error {
         SemanticStringError::InvalidContent => "a byte or the whole text is not allowed",
         SemanticStringError::ExceedsMaximumLength => "it has more than 255 bytes",
@@ -84,6 +101,8 @@ fn why(error: &SemanticStringError) -> &'static str {
 }
 
 impl fmt::Display for Kind {
+    ghost output = { λ kind. Some (kind_text kind) };
+
     fn fmt<W: fmt::Write>(&self, f: &mut fmt::Formatter<W>) -> fmt::Result {
         f.write_str(match self {
             Kind::Table => "a table",
@@ -99,6 +118,8 @@ impl fmt::Display for Kind {
 }
 
 impl fmt::Display for TomlType {
+    ghost output = { λ found. Some (type_text found) };
+
     fn fmt<W: fmt::Write>(&self, f: &mut fmt::Formatter<W>) -> fmt::Result {
         f.write_str(match self {
             TomlType::String => "a string",
