@@ -1,14 +1,15 @@
 //! What is said of a file of settings.
 
 ghost use Rattle.std.specs.Prelude.{◌≡◌, IfOk, map, flat_map, string_bytes};
-ghost use Rattle.config_report.specs.Report.{Reports, HasDefaults, warning_text};
+ghost use Rattle.config_report.specs.Report.{ReadsFile, Reports, HasDefaults, warning_text};
+ghost use Rattle.config_report.specs.Text.{IsReportText};
 ghost use Rattle.iox2_config_file.specs.Unknown.{unknown_view};
 
 use crate::refused::{no_utf8, refusal};
 use crate::text::write_text;
 use crate::warnings::write_warnings;
 use iox2_config::config::Config;
-use iox2_config_file::{FileSettings, read_config, write_config};
+use iox2_config_file::{UnknownKey, read_config, write_config};
 use std::alloc::{AllocError, Global};
 use std::str;
 
@@ -17,6 +18,15 @@ use std::str;
 pub struct Report {
     /// All settings, and what follows from them.
     pub text: String,
+    /// A line for each key that no setting has.
+    pub warnings: String,
+}
+
+/// The settings of a file without faults.
+#[derive(Debug, Drop)]
+pub struct FileConfig {
+    /// All settings, those that the file does not have being the defaults.
+    pub config: Config,
     /// A line for each key that no setting has.
     pub warnings: String,
 }
@@ -30,15 +40,18 @@ pub enum ReportError {
     NoMemory,
 }
 
-/// What a file of settings says, or what is wrong with it: a line for each value that is not
-/// allowed, in the order of the settings.
-pub fn report_file(alloc: Global, bytes: &[u8]) -> Result<Report, ReportError>
-    ensures { Reports bytes.now result }
+/// The settings of a file, or what is wrong with it: a line for each value that is not allowed, in
+/// the order of the settings.
+pub fn read_file(alloc: Global, bytes: &[u8]) -> Result<FileConfig, ReportError>
+    ensures { ReadsFile bytes.now result }
 {
     match str::from_utf8(bytes) {
         Ok(text) => match read_config(alloc, text) {
-            Ok(settings) => match report_settings(alloc, &settings) {
-                Ok(report) => Ok(report),
+            Ok(settings) => match warnings_of(alloc, settings.unknown.as_slice()) {
+                Ok(warnings) => Ok(FileConfig {
+                    config: settings.config,
+                    warnings,
+                }),
                 Err(_) => Err(ReportError::NoMemory),
             },
             Err(error) => Err(refusal(alloc, text, &error)),
@@ -47,16 +60,40 @@ pub fn report_file(alloc: Global, bytes: &[u8]) -> Result<Report, ReportError>
     }
 }
 
-/// What settings say.
-fn report_settings(alloc: Global, settings: &FileSettings) -> Result<Report, AllocError>
-    ensures { IfOk result (λ report. string_bytes report.warnings
-        ≡ flat_map warning_text (map unknown_view settings.now.unknown.items)) }
+/// What a file of settings says, or what is wrong with it: a line for each value that is not
+/// allowed, in the order of the settings.
+pub fn report_file(alloc: Global, bytes: &[u8]) -> Result<Report, ReportError>
+    ensures { Reports bytes.now result }
+{
+    match read_file(alloc, bytes) {
+        Ok(file) => match text_of(alloc, &file.config) {
+            Ok(text) => Ok(Report {
+                text,
+                warnings: file.warnings,
+            }),
+            Err(_) => Err(ReportError::NoMemory),
+        },
+        Err(error) => Err(error),
+    }
+}
+
+/// A line for each key that no setting has.
+fn warnings_of(alloc: Global, unknown: &[UnknownKey]) -> Result<String, AllocError>
+    ensures { IfOk result (λ warnings. string_bytes warnings
+        ≡ flat_map warning_text (map unknown_view unknown.now)) }
+{
+    let mut warnings = String::new(alloc);
+    write_warnings(&mut warnings, unknown)?;
+    Ok(warnings)
+}
+
+/// The text of settings, and of what follows from them.
+fn text_of(alloc: Global, config: &Config) -> Result<String, AllocError>
+    ensures { IfOk result (λ text. IsReportText config.now (string_bytes text)) }
 {
     let mut text = String::new(alloc);
-    write_text(&mut text, &settings.config, &Config::default())?;
-    let mut warnings = String::new(alloc);
-    write_warnings(&mut warnings, settings.unknown.as_slice())?;
-    Ok(Report { text, warnings })
+    write_text(&mut text, config, &Config::default())?;
+    Ok(text)
 }
 
 /// The file of the default settings, each below a comment.

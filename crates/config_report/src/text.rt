@@ -1,42 +1,93 @@
 //! All settings, and what follows from them, as text.
+ghost use Rattle.std.specs.Prelude.{◌≡◌, ◌≢◌, ◌++◌, ◌↔◌, ℕ, List, IsTrue, OnOk, string_bytes};
+ghost use Rattle.iox2_config_file.specs.Settings.{Setting, settings_in};
+ghost use Rattle.iox2_config_file.specs.Write.{value_view};
+ghost use Rattle.config_report.specs.Text.{IsSettingLine, AreSettingLines, AreTableLines};
+ghost use Rattle.config_report.specs.Text.{usual_line, marked_line};
+ghost use Rattle.config_report.specs.Text.{IsSettingsText, IsReportOver};
+ghost use Rattle.std.specs.Duration.{as_nanos};
+ghost use Rattle.iox2_config_file.specs.Values.{duration};
 
-use crate::chunks::{requests, responses, samples};
+use crate::chunks::write_needs;
+use crate::files::{write_directories, write_files};
 use iox2_config::config::Config;
 use iox2_config_file::{Row, SECTIONS, Section, SettingValue, rows, value_at};
-use iox2_texts::bounded::SemanticStringError;
-use iox2_texts::paths::{FileName, Path};
 use std::alloc::AllocError;
+use std::time::Duration;
 
 /// Appends all settings, each marked where it differs from a default, and what follows from them.
 pub(crate) fn write_text(
     out: &mut String,
     config: &Config,
     default: &Config,
-) -> Result<(), AllocError> {
-    writeln!(out, "settings, with ! where they differ from the defaults")?;
-    for section in &SECTIONS {
-        write_section(out, *section, config, default)?;
-    }
+) -> Result<(), AllocError>
+    ensures { OnOk result ((text : List ℕ)
+        × (string_bytes out.new ≡ string_bytes out.old ++ text)
+        × IsReportOver default.now config.now text) }
+{
+    write_settings(out, config, default)?;
     write_directories(out, config)?;
     write_files(out, config)?;
-    write_chunks(out, config)
+    write_needs(out, config)
+}
+
+/// Appends all settings.
+fn write_settings(out: &mut String, config: &Config, default: &Config) -> Result<(), AllocError>
+    ensures { OnOk result ((text : List ℕ)
+        × (string_bytes out.new ≡ string_bytes out.old ++ text)
+        × IsSettingsText default.now config.now text) }
+{
+    write!(
+        out,
+        "settings, with ! where they differ from the defaults\n"
+    )?;
+    write_tables(out, &SECTIONS, config, default)
+}
+
+/// Appends the settings of some tables.
+fn write_tables(
+    out: &mut String,
+    sections: &[Section],
+    config: &Config,
+    default: &Config,
+) -> Result<(), AllocError>
+    ensures { OnOk result ((lines : List ℕ)
+        × (string_bytes out.new ≡ string_bytes out.old ++ lines)
+        × AreTableLines default.now config.now sections.now lines) }
+{
+    for section in sections {
+        match write_table(out, *section, config, default) {
+            Ok(()) => {}
+            Err(e) => return Err(e),
+        }
+    }
+    Ok(())
 }
 
 /// Appends the settings of a table.
-fn write_section(
+fn write_table(
     out: &mut String,
     section: Section,
     config: &Config,
     default: &Config,
-) -> Result<(), AllocError> {
-    for (index, row) in rows(section).iter().enumerate() {
-        let (Some(value), Some(usual)) = (
-            value_at(config, section, index),
-            value_at(default, section, index),
-        ) else {
+) -> Result<(), AllocError>
+    ensures { OnOk result ((lines : List ℕ)
+        × (string_bytes out.new ≡ string_bytes out.old ++ lines)
+        × AreSettingLines section (settings_in section default.now)
+        (settings_in section config.now) lines) }
+{
+    let rows = rows(section);
+    for index in 0..rows.len() {
+        let Some(value) = value_at(config, section, index) else {
             return Ok(());
         };
-        write_setting(out, section, row, value, usual)?;
+        let Some(usual) = value_at(default, section, index) else {
+            return Ok(());
+        };
+        match write_setting(out, section, &rows[index], value, usual) {
+            Ok(()) => {}
+            Err(e) => return Err(e),
+        }
     }
     Ok(())
 }
@@ -48,103 +99,67 @@ fn write_setting(
     row: &Row,
     value: SettingValue<'_>,
     usual: SettingValue<'_>,
-) -> Result<(), AllocError> {
-    let prefix = section.prefix();
-    let key = row.key;
-    if value == usual {
-        writeln!(out, "  {prefix}{key} = {value}")
+) -> Result<(), AllocError>
+    ensures { OnOk result ((x : Setting) (default : Setting)
+        → x.key ≡ row.now.key.now → x.value ≡ value_view value.entry
+        → default.value ≡ value_view usual.entry
+        → (line : List ℕ) × (string_bytes out.new ≡ string_bytes out.old ++ line)
+        × IsSettingLine section default x line) }
+{
+    if is_same(value, usual) {
+        write_usual(out, section, row.key, value)
     } else {
-        writeln!(out, "! {prefix}{key} = {value}, by default {usual}")
+        write_marked(out, section, row.key, value, usual)
     }
 }
 
-/// Appends the directories.
-fn write_directories(out: &mut String, config: &Config) -> Result<(), AllocError> {
-    writeln!(out, "\ndirectories")?;
-    writeln!(
-        out,
-        "  root                   {}",
-        config.global.root_path()
-    )?;
-    write_directory(out, "services", config.global.service_dir())?;
-    write_directory(out, "nodes", config.global.node_dir())
-}
-
-/// Appends a directory.
-fn write_directory(
+/// Appends a setting that has its default.
+fn write_usual(
     out: &mut String,
-    name: &str,
-    directory: Result<Path, SemanticStringError>,
-) -> Result<(), AllocError> {
-    match directory {
-        Ok(path) => writeln!(out, "  {name:<22} {path}"),
-        Err(_) => writeln!(
-            out,
-            "  {name:<22} none: its path would have more than 255 bytes"
-        ),
-    }
+    section: Section,
+    key: &str,
+    value: SettingValue<'_>,
+) -> Result<(), AllocError>
+    ensures { OnOk result (string_bytes out.new
+        ≡ string_bytes out.old ++ usual_line section key.now (value_view value.entry)) }
+{
+    write!(out, "  {}{key} = {value}\n", section.prefix())
 }
 
-/// Appends the names of files.
-fn write_files(out: &mut String, config: &Config) -> Result<(), AllocError> {
-    let prefix = &config.global.prefix;
-    let service = &config.global.service;
-    let node = &config.global.node;
-    writeln!(
-        out,
-        "\nfiles, with * for what the configuration does not fix"
-    )?;
-    for (name, suffix) in [
-        (
-            "static configuration",
-            &service.static_config_storage_suffix,
-        ),
-        (
-            "dynamic configuration",
-            &service.dynamic_config_storage_suffix,
-        ),
-        ("data segments", &service.data_segment_suffix),
-        ("connections", &service.connection_suffix),
-        ("event connections", &service.event_connection_suffix),
-        ("blackboard management", &service.blackboard_mgmt_suffix),
-        ("blackboard data", &service.blackboard_data_suffix),
-        ("node monitors", &node.monitor_suffix),
-        ("node details", &node.static_config_suffix),
-        ("service tags", &node.service_tag_suffix),
-        ("port tags", &node.port_tag_suffix),
-        ("global management", &node.global_mgmt_suffix),
-    ] {
-        write_file(out, name, prefix, suffix)?;
-    }
-    Ok(())
-}
-
-/// Appends the name of a file.
-fn write_file(
+/// Appends a setting that has another value than its default.
+fn write_marked(
     out: &mut String,
-    name: &str,
-    prefix: &FileName,
-    suffix: &FileName,
-) -> Result<(), AllocError> {
-    writeln!(out, "  {name:<22} {prefix}*{suffix}")
-}
-
-/// Appends how many chunks a port of each kind needs.
-fn write_chunks(out: &mut String, config: &Config) -> Result<(), AllocError> {
-    writeln!(out, "\nchunks that a port needs at these limits")?;
-    write_need(out, "publisher", samples(config))?;
-    write_need(out, "client", requests(config))?;
-    write_need(out, "server", responses(config))?;
-    writeln!(
+    section: Section,
+    key: &str,
+    value: SettingValue<'_>,
+    usual: SettingValue<'_>,
+) -> Result<(), AllocError>
+    ensures { OnOk result (string_bytes out.new ≡ string_bytes out.old
+        ++ marked_line section key.now (value_view value.entry) (value_view usual.entry)) }
+{
+    write!(
         out,
-        "  event, blackboard      none: their ports send no messages"
+        "! {}{key} = {value}, by default {usual}\n",
+        section.prefix()
     )
 }
 
-/// Appends how many chunks a port of one kind needs.
-fn write_need(out: &mut String, port: &str, chunks: Option<usize>) -> Result<(), AllocError> {
-    match chunks {
-        Some(count) => writeln!(out, "  {port:<22} {count}"),
-        None => writeln!(out, "  {port:<22} more than 18446744073709551615"),
+/// Whether two settings have one value.
+fn is_same(value: SettingValue<'_>, usual: SettingValue<'_>) -> bool
+    ensures { IsTrue result ↔ (value_view value.entry ≡ value_view usual.entry) }
+{
+    match value {
+        SettingValue::Duration(time) => is_time(usual, time),
+        _ => value == usual,
+    }
+}
+
+/// Whether a setting is a time of this length.
+fn is_time(value: SettingValue<'_>, time: Duration) -> bool
+    ensures { IsTrue result ↔ (duration (as_nanos time) ≡ value_view value.entry) }
+{
+    match value {
+        SettingValue::Duration(other) => time.as_nanos() == other.as_nanos(),
+        _ => false,
     }
 }

@@ -1,14 +1,17 @@
 -- What is answered, and what follows from a status.
-use Rattle.std.proofs.Common.{◌≡◌, ℕ, List, Option, Some, None, IfSome, Result, Ok, Err, IfOk, subst, sym, ap, ◌∙◌, arith}
+use Rattle.std.proofs.Common.{◌≡◌, ℕ, List, ◌++◌, Option, Some, None, IfSome, Result, Ok, Err, IfOk, subst, sym, ap, ◌∙◌, arith, append_assoc}
 use Rattle.std.specs.Result.{IsErr, IsErrAnd, MatchResult}
+use Rattle.iox2_config.specs.declared.config.Config.{Config}
 use Rattle.service_drawing.specs.Descriptions.{StopsReading}
+use Rattle.service_drawing.specs.Fronts.{IsOver, IsNotOver}
 use Rattle.service_drawing.specs.Reasons.{IsReason}
 use Rattle.service_drawing.specs.Streams.{status_of, TellsBadLine, Draws, Answers}
 use Rattle.service_drawing.specs.declared.arguments.Asked.{Asked}
 use Rattle.service_drawing.specs.declared.fault.Fault.{Fault}
-use Rattle.service_drawing.specs.declared.fault.Fault.TheVariants.{BadArgument, BadLine, BadSettings, NoMemory}
+use Rattle.service_drawing.specs.declared.fault.Fault.TheVariants.{BadArgument, BadLine, BadSettings, NoEnd, NoMemory}
 use Rattle.service_drawing.specs.declared.streams.Written.{Written}
 use Rattle.service_drawing.specs.declared.reading.expected.Expected.{Expected}
+use Rattle.service_drawing.proofs.Fronts.{in_front}
 use Rattle.service_drawing.proofs.Reasons.{one_reason}
 
 -- the status 0 is that of an answer
@@ -18,6 +21,7 @@ answered_at_zero (Ok written) P h e = h
 answered_at_zero (Err (BadLine line cause prefix form)) P h e = absurd (omega (arith, e))
 answered_at_zero (Err BadArgument) P h e = absurd (omega (arith, e))
 answered_at_zero (Err (BadSettings lines)) P h e = absurd (omega (arith, e))
+answered_at_zero (Err NoEnd) P h e = absurd (omega (arith, e))
 answered_at_zero (Err NoMemory) P h e = absurd (omega (arith, e))
 
 -- what is true of an error is true of it where it is handed on
@@ -34,21 +38,41 @@ answers_for given asked field expected end e f h =
     subst (λ (q : Result Asked Fault). Answers given q end) (sym (e ∙ ap Ok f)) h
 
 -- the line that is told is that where reading stopped
-pub draws_no_more : (bytes : List ℕ) (expected : Expected) (fault : Fault)
-    → StopsReading expected.rest.now bytes × IsReason expected.reason expected.rest.now bytes
+pub draws_no_more : (base : Config) (warnings rest bytes : List ℕ) (expected : Expected)
+    (fault : Fault) → IsOver base warnings rest bytes
+    → StopsReading base expected.rest.now rest
+    × IsReason base expected.reason expected.rest.now rest
     → TellsBadLine bytes expected fault → Draws bytes (Err fault)
-draws_no_more bytes expected (BadLine line cause prefix form) s h = record {
-  left = expected.rest.now;
-  reason = expected.reason;
-  stops = s.0;
-  number = h.0 s.0.read s.0.parts;
-  found = s.1;
-  alone = λ other h. one_reason expected.reason other expected.rest.now bytes s.1 h;
-  because = h.1;
-}
-draws_no_more bytes expected BadArgument s h = h
-draws_no_more bytes expected (BadSettings lines) s h = h
-draws_no_more bytes expected NoMemory s h = tt
+draws_no_more base warnings rest bytes expected (BadLine line cause prefix form) over s h =
+    let front = in_front base warnings rest bytes over in
+    record {
+      base = base;
+      warnings = warnings;
+      front = front.0;
+      rest = rest;
+      over = over;
+      parts = front.1;
+      left = expected.rest.now;
+      reason = expected.reason;
+      stops = s.0;
+      number = h.0 (front.0 ++ s.0.read)
+          (front.1 ∙ ap (λ l. front.0 ++ l) s.0.parts ∙ sym (append_assoc front.0 s.0.read _));
+      found = s.1;
+      alone = λ other h. one_reason base expected.reason other expected.rest.now rest s.1 h;
+      because = h.1;
+    }
+draws_no_more base warnings rest bytes expected BadArgument over s h = h
+draws_no_more base warnings rest bytes expected (BadSettings lines) over s h = absurd h
+draws_no_more base warnings rest bytes expected NoEnd over s h = absurd h
+draws_no_more base warnings rest bytes expected NoMemory over s h = tt
+
+-- why there is no configuration is why nothing is drawn
+pub draws_none : (bytes : List ℕ) (fault : Fault) → IsNotOver bytes fault → Draws bytes (Err fault)
+draws_none bytes (BadLine line cause prefix form) h = absurd h
+draws_none bytes BadArgument h = h
+draws_none bytes (BadSettings lines) h = h
+draws_none bytes NoEnd h = h
+draws_none bytes NoMemory h = h
 
 -- what is true of what was read is true of what the reader gave
 pub true_of_given : (P : List ℕ → Type 0) (given : Option (List ℕ)) (items bytes : List ℕ)

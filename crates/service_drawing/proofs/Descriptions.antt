@@ -3,13 +3,11 @@ use Rattle.std.proofs.Common.{◌≡◌, ◌==◌, ℕ, List, [], ◌∷◌, ◌
 use Rattle.std.proofs.lemmas.Bool.{eqb-true}
 use Rattle.std.proofs.lemmas.List.Sorted.{IsPermutation-refl}
 use Rattle.iox2_texts.specs.Attribute.{IsListing}
-use Rattle.iox2_config.specs.Defaults.{IsDefaultConfig, IsDefaultGlobal, default_defaults}
 use Rattle.iox2_config.specs.Hashing.{hash_input, pattern_word, sha1_text}
 use Rattle.iox2_texts.specs.Pair.{Pair}
 use Rattle.iox2_texts.specs.Verify.{Requirements}
 use Rattle.iox2_config.specs.declared.config.Config.{Config}
 use Rattle.iox2_config.specs.declared.hash.input.PatternKind.{PatternKind}
-use Rattle.iox2_config.specs.declared.hash.input.PatternKind.TheVariants as kind
 use Rattle.service_drawing.specs.Descriptions.{IsDescription, IsDescriptionOrNothing, StopsReading}
 use Rattle.service_drawing.specs.Lines.{IsLine, HasNoLine, HasSameLine, Whole, Begins, Stops, StopsAt, HasLinesOf, HasService, HasExchange, HasAttributes, HasRequirements, GivesPair, GivesRequirement}
 use Rattle.service_drawing.specs.Settings.{HasSettings, HasConfiguration, GivesSetting, section}
@@ -35,21 +33,21 @@ AfterExchange = Then HasAttributes (λ set. AfterAttributes)
 abbrev pub AfterSettings : PatternKind → List ℕ → Type 0
 AfterSettings k = Then (HasExchange k) (λ x. AfterExchange)
 
-abbrev pub AfterService : PatternKind → List ℕ → Type 0
-AfterService k = Then (HasConfiguration k) (λ c. AfterSettings k)
+abbrev pub AfterService : Config → PatternKind → List ℕ → Type 0
+AfterService base k = Then (HasConfiguration base k) (λ c. AfterSettings k)
 
-abbrev InTurn : List ℕ → Type 0
-InTurn = Then HasLineOfService (λ s. AfterService s.0)
+abbrev InTurn : Config → List ℕ → Type 0
+InTurn base = Then HasLineOfService (λ s. AfterService base s.0)
 
-in_turn : (bytes : List ℕ) → IsDescription bytes → InTurn bytes
-in_turn bytes g =
+in_turn : (base : Config) (bytes : List ℕ) → IsDescription base bytes → InTurn base bytes
+in_turn base bytes g =
     let d = g.0 in
     let h = g.1 in
     let attributes : AfterExchange h.at_attributes =
     (d.attributes, h.at_required, h.attributes, (d.required, h.required)) in
     let exchange : AfterSettings d.kind h.at_exchange =
     (d.exchange, h.at_attributes, h.exchange, attributes) in
-    let settings : AfterService d.kind h.at_settings =
+    let settings : AfterService base d.kind h.at_settings =
     (d.config, h.at_exchange, h.settings, exchange) in
     ((d.kind, d.name), h.at_settings, h.service, settings)
 
@@ -81,53 +79,33 @@ settings_move names defaults v rest bytes h =
     (λ r b l. record { sets = h.sets; lines = l; once = h.once; changed = h.changed })
     (lines_move (codes "set ") (GivesSetting names defaults) h.sets rest bytes h.lines)
 
-configuration_rest : (k : PatternKind) (c d : Config) (x y bytes : List ℕ)
-    → HasConfiguration k c x bytes → HasConfiguration k d y bytes → x ≡ y
-configuration_rest k c d x y bytes p q = settings_rest _ _ _ _ x y bytes p.0 q.0
+configuration_rest : (base : Config) (k : PatternKind) (c d : Config) (x y bytes : List ℕ)
+    → HasConfiguration base k c x bytes → HasConfiguration base k d y bytes → x ≡ y
+configuration_rest base k c d x y bytes p q = settings_rest _ _ _ _ x y bytes p.0 q.0
 
-configuration_moves : (k : PatternKind) (c : Config) (rest bytes : List ℕ)
-    → HasConfiguration k c rest bytes
-    → IsPart (Some (codes "set ")) (HasConfiguration k c) rest bytes
-configuration_moves k c rest bytes h =
-    moves_as _ _ (HasConfiguration k c) rest bytes (λ r b s. (s, h.1))
+configuration_moves : (base : Config) (k : PatternKind) (c : Config) (rest bytes : List ℕ)
+    → HasConfiguration base k c rest bytes
+    → IsPart (Some (codes "set ")) (HasConfiguration base k c) rest bytes
+configuration_moves base k c rest bytes h =
+    moves_as _ _ (HasConfiguration base k c) rest bytes (λ r b s. (s, h.1))
     (settings_move _ _ _ rest bytes h.0)
 
-reset_defaults : (k : PatternKind) → (section k).reset default_defaults ≡ default_defaults
-reset_defaults kind.PublishSubscribe = refl
-reset_defaults kind.Event = refl
-reset_defaults kind.RequestResponse = refl
-reset_defaults kind.Blackboard = refl
-
--- where the settings of a default configuration stop, so does the configuration
--- that has those that were set
-pub configuration_stops : (k : PatternKind) (start config : Config) (left bytes : List ℕ)
-    → IsDefaultConfig start → config.global ≡ start.global
-    → (section k).reset config.defaults ≡ (section k).reset start.defaults
-    → Stops (HasSettings (section k).names ((section k).values start.defaults)
+-- where the settings of a configuration stop, so does the configuration that has those that were
+-- set
+pub configuration_stops : (k : PatternKind) (base config : Config) (left bytes : List ℕ)
+    → record config { defaults = (section k).reset base.defaults config.defaults } ≡ base
+    → Stops (HasSettings (section k).names ((section k).values base.defaults)
     ((section k).values config.defaults) [])
-    (Begins (HasSettings (section k).names ((section k).values start.defaults))) left bytes
-    → StopsAt (HasConfiguration k) left bytes
-configuration_stops k start config left bytes is global same s =
+    (Begins (HasSettings (section k).names ((section k).values base.defaults))) left bytes
+    → StopsAt (HasConfiguration base k) left bytes
+configuration_stops k base config left bytes same s =
     let names = (section k).names in
     let values = (section k).values in
-    let old : values start.defaults ≡ values default_defaults = ap values is.defaults in
-    let reset : IsDefaultConfig (record config { defaults = (section k).reset config.defaults }) =
-    record {
-      global = subst IsDefaultGlobal (sym global) is.global;
-      defaults = same ∙ ap (section k).reset is.defaults ∙ reset_defaults k;
-    } in
-    stops_as (HasSettings names (values start.defaults) (values config.defaults) [])
-    (Begins (HasSettings names (values start.defaults))) (Whole (HasConfiguration k))
-    (Begins (HasConfiguration k)) left bytes
-    (λ b w. (
-      config,
-      (subst (λ (d : List Value). HasSettings names d (values config.defaults) [] b) old w, reset),
-    ))
-    (λ b g. (
-      values g.0.defaults,
-      g.1,
-      subst (λ (d : List Value). HasSettings names d (values g.0.defaults) g.1 b) (sym old) g.2.0,
-    )) s
+    stops_as (HasSettings names (values base.defaults) (values config.defaults) [])
+    (Begins (HasSettings names (values base.defaults))) (Whole (HasConfiguration base k))
+    (Begins (HasConfiguration base k)) left bytes
+    (λ b w. (config, (w, same)))
+    (λ b g. (values g.0.defaults, g.1, g.2.0)) s
 
 attributes_rest : (s t : List Pair) (x y bytes : List ℕ) → HasAttributes s x bytes
     → HasAttributes t y bytes → x ≡ y
@@ -210,14 +188,15 @@ exchange_ends k x mid bytes h next g =
     (λ x y e. omega (arith, ap (λ (l : List ℕ). get_or l 2 0) e)) g)
 
 -- no service
-pub no_service_here : (left bytes : List ℕ) → left ≡ bytes
+pub no_service_here : (base : Config) (left bytes : List ℕ) → left ≡ bytes
     → ((k : PatternKind) (name rest : List ℕ) → ¬ HasService k name rest bytes)
-    → StopsReading left bytes
-no_service_here left bytes e none =
-    stops_as IsDescriptionOrNothing (Begins HasLineOfService) IsDescriptionOrNothing IsDescription
-    left bytes (λ b w. w) (λ b g. ((g.0.kind, g.0.name), g.1.at_settings, g.1.service))
-    (stops_here IsDescriptionOrNothing (Begins HasLineOfService) left bytes [] e (inr refl) like
-    (λ g. none g.0.0 g.0.1 g.1 g.2))
+    → StopsReading base left bytes
+no_service_here base left bytes e none =
+    stops_as (IsDescriptionOrNothing base) (Begins HasLineOfService) (IsDescriptionOrNothing base)
+    (IsDescription base) left bytes (λ b w. w)
+    (λ b g. ((g.0.kind, g.0.name), g.1.at_settings, g.1.service))
+    (stops_here (IsDescriptionOrNothing base) (Begins HasLineOfService) left bytes [] e (inr refl)
+    like (λ g. none g.0.0 g.0.1 g.1 g.2))
   where
     like : (other : List ℕ) → HasSameLine other bytes → Begins HasLineOfService other
         → Begins HasLineOfService bytes
@@ -226,8 +205,8 @@ no_service_here left bytes e none =
         (g.0, l.0, record { line = l.1; named = g.2.named })
 
 -- parts in turn make a description
-description_of : (bytes : List ℕ) → InTurn bytes → IsDescription bytes
-description_of bytes g =
+description_of : (base : Config) (bytes : List ℕ) → InTurn base bytes → IsDescription base bytes
+description_of base bytes g =
     let c = g.3 in
     let x = c.3 in
     let a = x.3 in
@@ -256,46 +235,48 @@ description_of bytes g =
     )
 
 -- where a part of a description was read, it stops where what follows does
-pub stops_after_service : (k : PatternKind) (name left mid bytes : List ℕ)
-    → HasService k name mid bytes → Stops (AfterService k) (AfterService k) left mid
-    → StopsReading left bytes
-stops_after_service k name left mid bytes h s =
-    stops_as InTurn InTurn IsDescriptionOrNothing IsDescription left bytes
-    (λ b w. inl (description_of b w)) in_turn
-    (stops_after HasLineOfService (λ s. AfterService s.0) (λ s. AfterService s.0) None (k, name)
-    left mid bytes
+pub stops_after_service : (base : Config) (k : PatternKind) (name left mid bytes : List ℕ)
+    → HasService k name mid bytes → Stops (AfterService base k) (AfterService base k) left mid
+    → StopsReading base left bytes
+stops_after_service base k name left mid bytes h s =
+    stops_as (InTurn base) (InTurn base) (IsDescriptionOrNothing base) (IsDescription base) left
+    bytes (λ b w. inl (description_of base b w)) (in_turn base)
+    (stops_after HasLineOfService (λ s. AfterService base s.0) (λ s. AfterService base s.0) None
+    (k, name) left mid bytes
     (λ t x y b p q n.
     let same = service_same t.0 k t.1 name y x b q p in
-    subst (λ j. AfterService j x) same.0 (subst (AfterService t.0) same.1 n))
+    subst (λ j. AfterService base j x) same.0 (subst (AfterService base t.0) same.1 n))
     (λ b w. tt) (service_moves k name mid bytes h) s)
 
-pub stops_in_settings : (k : PatternKind) (left bytes : List ℕ)
-    → StopsAt (HasConfiguration k) left bytes
-    → Stops (AfterService k) (AfterService k) left bytes
-stops_in_settings k left bytes s =
+pub stops_in_settings : (base : Config) (k : PatternKind) (left bytes : List ℕ)
+    → StopsAt (HasConfiguration base k) left bytes
+    → Stops (AfterService base k) (AfterService base k) left bytes
+stops_in_settings base k left bytes s =
     let some = some_exchange k in
     let next : AfterSettings k some.0 =
     (some.1.0, [], some.1.1, ([], [], no_attributes, (_, no_requirements))) in
-    stops_as (AfterService k) (Begins (HasConfiguration k)) (AfterService k) (AfterService k) left
-    bytes (λ b w. w) (λ b g. (g.0, g.1, g.2))
-    (stops_with (Whole (HasConfiguration k)) (Begins (HasConfiguration k)) (AfterService k) some.0
+    let After = AfterService base k in
+    stops_as After (Begins (HasConfiguration base k)) After After left bytes
+    (λ b w. w) (λ b g. (g.0, g.1, g.2))
+    (stops_with (Whole (HasConfiguration base k)) (Begins (HasConfiguration base k)) After some.0
     left bytes
     (λ b w. (
       w.0,
       some.0,
-      whole_then (Some (codes "set ")) (HasConfiguration k w.0) some.0 b
-          (configuration_moves k w.0 [] b w.1) (settings_apart k some.0 next),
+      whole_then (Some (codes "set ")) (HasConfiguration base k w.0) some.0 b
+          (configuration_moves base k w.0 [] b w.1) (settings_apart k some.0 next),
       next,
     )) s)
 
-pub stops_after_settings : (k : PatternKind) (c : Config) (left mid bytes : List ℕ)
-    → HasConfiguration k c mid bytes → Stops (AfterSettings k) (AfterSettings k) left mid
-    → Stops (AfterService k) (AfterService k) left bytes
-stops_after_settings k c left mid bytes h s =
-    stops_after (HasConfiguration k) (λ c. AfterSettings k) (λ c. AfterSettings k)
+pub stops_after_settings : (base : Config) (k : PatternKind) (c : Config)
+    (left mid bytes : List ℕ)
+    → HasConfiguration base k c mid bytes → Stops (AfterSettings k) (AfterSettings k) left mid
+    → Stops (AfterService base k) (AfterService base k) left bytes
+stops_after_settings base k c left mid bytes h s =
+    stops_after (HasConfiguration base k) (λ c. AfterSettings k) (λ c. AfterSettings k)
     (Some (codes "set ")) c left mid bytes
-    (λ d x y b p q n. subst (AfterSettings k) (configuration_rest k d c y x b q p) n)
-    (settings_apart k) (configuration_moves k c mid bytes h) s
+    (λ d x y b p q n. subst (AfterSettings k) (configuration_rest base k d c y x b q p) n)
+    (settings_apart k) (configuration_moves base k c mid bytes h) s
 
 pub stops_in_exchange : (k : PatternKind) (left bytes : List ℕ)
     → StopsAt (HasExchange k) left bytes → Stops (AfterSettings k) (AfterSettings k) left bytes

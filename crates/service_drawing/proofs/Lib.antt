@@ -2,6 +2,7 @@ mod Answered
 mod Attributes
 mod Descriptions
 mod Exchanges
+mod Fronts
 mod Inside
 mod LinesOf
 mod MessageParts

@@ -2,10 +2,8 @@
 use Rattle.std.proofs.Common.{◌≡◌, ◌≢◌, ℕ, ◌≤◌, ◌<◌, true, false, Bool, List, [], ◌∷◌, ◌++◌, inl, inr, codes, map, length, nat_eq, IsTrue, refl, sym, ◌∙◌, ap, subst, arith, length-append}
 use Rattle.std.specs.List.{list_any, starts_with}
 use Rattle.std.proofs.lemmas.Bool.{false≢true}
-use Rattle.iox2_config.specs.Defaults.{IsDefaultConfig, default_defaults}
 use Rattle.iox2_config.specs.Hashing.{pattern_word}
 use Rattle.iox2_config.specs.declared.config.Config.{Config}
-use Rattle.iox2_config.specs.declared.config.defaults.Defaults.{Defaults}
 use Rattle.iox2_config.specs.declared.hash.input.PatternKind.{PatternKind}
 use Rattle.service_drawing.specs.Descriptions.{StopsReading}
 use Rattle.service_drawing.specs.Lines.{IsLine, HasLinesOf, UpTo, HasService, IsInternal, IsNoService, Stops}
@@ -151,15 +149,6 @@ setting_reason names defaults values given reason found left at bytes text tail 
       λ w. elim b.0 [ inl none ↦ without_space w.at none | inr m ↦ was_set m w ],
     )
 
--- the reason is that of a configuration's defaults
-pub configuration_reason : (k : PatternKind) (start : Config) (reason : Reason)
-    (left bytes : List ℕ) → IsDefaultConfig start
-    → IsSettingReason (section k).names ((section k).values start.defaults) reason left bytes
-    → IsSettingReason (section k).names ((section k).values default_defaults) reason left bytes
-configuration_reason k start reason left bytes is h =
-    subst (λ (d : Defaults). IsSettingReason (section k).names ((section k).values d) reason left
-    bytes) is.defaults h
-
 -- bytes without a line do not begin with that of a service
 pub no_line_reason : (reason : Reason) (bytes : List ℕ) → reason ≡ OtherForm
     → ((text rest : List ℕ) → ¬ IsLine text rest bytes) → IsServiceReason reason bytes
@@ -181,13 +170,13 @@ service_reason SetTwice line rest bytes l b = b
 service_reason OtherForm line rest bytes l b =
     λ i. b (subst IsInternal (line_one i.text line i.rest rest bytes i.line l).0 i.internal)
 
-pub no_service_reason : (reason : Reason) (left bytes : List ℕ)
+pub no_service_reason : (base : Config) (reason : Reason) (left bytes : List ℕ)
     → ((k : PatternKind) (name rest : List ℕ) → ¬ HasService k name rest bytes)
-    → IsServiceReason reason bytes → IsReason reason left bytes
-no_service_reason InternalName left bytes none b = b
-no_service_reason UnknownSetting left bytes none b = absurd b
-no_service_reason SetTwice left bytes none b = absurd b
-no_service_reason OtherForm left bytes none b = (
+    → IsServiceReason reason bytes → IsReason base reason left bytes
+no_service_reason base InternalName left bytes none b = b
+no_service_reason base UnknownSetting left bytes none b = absurd b
+no_service_reason base SetTwice left bytes none b = absurd b
+no_service_reason base OtherForm left bytes none b = (
   b,
   λ a. none a.kind a.name a.at_settings a.service,
   λ a. none a.kind a.name a.at_settings a.service,
@@ -203,59 +192,61 @@ from_outside k name rest bytes h i =
     (subst (λ (n : List ℕ). IsTrue (starts_with nat_eq n (codes "iox2://"))) same.1 i.internal.3)
 
 -- the settings are those of the pattern of the first line
-of_the_pattern : (Holds : List (List ℕ) → List Value → List ℕ → List ℕ → Type 0)
+of_the_pattern : (base : Config) (Holds : List (List ℕ) → List Value → List ℕ → List ℕ → Type 0)
     (k : PatternKind) (name left rest bytes : List ℕ) → HasService k name rest bytes
-    → AmongSettings Holds left bytes
-    → Holds (section k).names ((section k).values default_defaults) left rest
-of_the_pattern Holds k name left rest bytes h a =
+    → AmongSettings base Holds left bytes
+    → Holds (section k).names ((section k).values base.defaults) left rest
+of_the_pattern base Holds k name left rest bytes h a =
     let same = service_same a.kind k a.name name a.at_settings rest bytes a.service h in
-    subst (λ j. Holds (section j).names ((section j).values default_defaults) left rest) same.0
+    subst (λ j. Holds (section j).names ((section j).values base.defaults) left rest) same.0
     (subst (λ (r : List ℕ). Holds (section a.kind).names
-    ((section a.kind).values default_defaults) left r) same.1 a.holds)
+    ((section a.kind).values base.defaults) left r) same.1 a.holds)
 
-pub reason_in_settings : (reason : Reason) (k : PatternKind) (name left rest bytes : List ℕ)
+pub reason_in_settings : (base : Config) (reason : Reason) (k : PatternKind)
+    (name left rest bytes : List ℕ)
     → HasService k name rest bytes
-    → IsSettingReason (section k).names ((section k).values default_defaults) reason left rest
-    → IsReason reason left bytes
-reason_in_settings InternalName k name left rest bytes h b = absurd b
-reason_in_settings UnknownSetting k name left rest bytes h b = record {
+    → IsSettingReason (section k).names ((section k).values base.defaults) reason left rest
+    → IsReason base reason left bytes
+reason_in_settings base InternalName k name left rest bytes h b = absurd b
+reason_in_settings base UnknownSetting k name left rest bytes h b = record {
   kind = k;
   name = name;
   at_settings = rest;
   service = h;
   holds = b;
 }
-reason_in_settings SetTwice k name left rest bytes h b = record {
+reason_in_settings base SetTwice k name left rest bytes h b = record {
   kind = k;
   name = name;
   at_settings = rest;
   service = h;
   holds = b;
 }
-reason_in_settings OtherForm k name left rest bytes h b = (
+reason_in_settings base OtherForm k name left rest bytes h b = (
   from_outside k name rest bytes h,
-  λ a. b.0 (of_the_pattern IsUnknown k name left rest bytes h a),
-  λ a. b.1 (of_the_pattern WasSet k name left rest bytes h a),
+  λ a. b.0 (of_the_pattern base IsUnknown k name left rest bytes h a),
+  λ a. b.1 (of_the_pattern base WasSet k name left rest bytes h a),
 )
 
 -- behind the settings a line is bad for its form
-pub stops_behind_settings : (reason : Reason) (k : PatternKind) (name : List ℕ) (c : Config)
-    (left rest mid bytes : List ℕ) → reason ≡ OtherForm → HasService k name mid bytes
-    → HasConfiguration k c rest mid → Stops (AfterSettings k) (AfterSettings k) left rest
-    → StopsReading left bytes × IsReason reason left bytes
-stops_behind_settings reason k name c left rest mid bytes e h g s =
+pub stops_behind_settings : (base : Config) (reason : Reason) (k : PatternKind) (name : List ℕ)
+    (c : Config) (left rest mid bytes : List ℕ) → reason ≡ OtherForm → HasService k name mid bytes
+    → HasConfiguration base k c rest mid → Stops (AfterSettings k) (AfterSettings k) left rest
+    → StopsReading base left bytes × IsReason base reason left bytes
+stops_behind_settings base reason k name c left rest mid bytes e h g s =
     let names = (section k).names in
-    let defaults = (section k).values default_defaults in
+    let defaults = (section k).values base.defaults in
     let late : AtSetting names defaults left mid → ⊥ =
     λ a. no_further (codes "set ") (GivesSetting names defaults) g.0.sets a.sets left rest s.read
     a.text a.rest mid g.0.lines s.parts a.before a.line in
-    let form : IsReason OtherForm left bytes = (
+    let form : IsReason base OtherForm left bytes = (
       from_outside k name mid bytes h,
-      λ a. late (of_the_pattern IsUnknown k name left mid bytes h a).at,
-      λ a. late (of_the_pattern WasSet k name left mid bytes h a).at,
+      λ a. late (of_the_pattern base IsUnknown k name left mid bytes h a).at,
+      λ a. late (of_the_pattern base WasSet k name left mid bytes h a).at,
     ) in (
-      stops_after_service k name left mid bytes h (stops_after_settings k c left rest mid g s),
-      subst (λ r. IsReason r left bytes) (sym e) form,
+      stops_after_service base k name left mid bytes h
+          (stops_after_settings base k c left rest mid g s),
+      subst (λ r. IsReason base r left bytes) (sym e) form,
     )
 
 -- a setting that was set has a name
@@ -267,32 +258,32 @@ known names defaults left bytes u w =
     u.none w.index
     (subst (λ (t : List ℕ). HasName names w.index (word_of t)) texts w.setting.named)
 
-unknown_or_set : (left bytes : List ℕ) → AmongSettings IsUnknown left bytes
-    → ¬ AmongSettings WasSet left bytes
-unknown_or_set left bytes u w =
-    known (section u.kind).names ((section u.kind).values default_defaults) left u.at_settings
-    u.holds (of_the_pattern WasSet u.kind u.name left u.at_settings bytes u.service w)
+unknown_or_set : (base : Config) (left bytes : List ℕ) → AmongSettings base IsUnknown left bytes
+    → ¬ AmongSettings base WasSet left bytes
+unknown_or_set base left bytes u w =
+    known (section u.kind).names ((section u.kind).values base.defaults) left u.at_settings
+    u.holds (of_the_pattern base WasSet u.kind u.name left u.at_settings bytes u.service w)
 
 -- where one reason holds, no other does
-pub one_reason : (one other : Reason) (left bytes : List ℕ) → IsReason one left bytes
-    → IsReason other left bytes → other ≡ one
-one_reason InternalName InternalName left bytes p q = refl
-one_reason InternalName UnknownSetting left bytes p q =
+pub one_reason : (base : Config) (one other : Reason) (left bytes : List ℕ)
+    → IsReason base one left bytes → IsReason base other left bytes → other ≡ one
+one_reason base InternalName InternalName left bytes p q = refl
+one_reason base InternalName UnknownSetting left bytes p q =
     absurd (from_outside q.kind q.name q.at_settings bytes q.service p)
-one_reason InternalName SetTwice left bytes p q =
+one_reason base InternalName SetTwice left bytes p q =
     absurd (from_outside q.kind q.name q.at_settings bytes q.service p)
-one_reason InternalName OtherForm left bytes p q = absurd (q.0 p)
-one_reason UnknownSetting InternalName left bytes p q =
+one_reason base InternalName OtherForm left bytes p q = absurd (q.0 p)
+one_reason base UnknownSetting InternalName left bytes p q =
     absurd (from_outside p.kind p.name p.at_settings bytes p.service q)
-one_reason UnknownSetting UnknownSetting left bytes p q = refl
-one_reason UnknownSetting SetTwice left bytes p q = absurd (unknown_or_set left bytes p q)
-one_reason UnknownSetting OtherForm left bytes p q = absurd (q.1 p)
-one_reason SetTwice InternalName left bytes p q =
+one_reason base UnknownSetting UnknownSetting left bytes p q = refl
+one_reason base UnknownSetting SetTwice left bytes p q = absurd (unknown_or_set base left bytes p q)
+one_reason base UnknownSetting OtherForm left bytes p q = absurd (q.1 p)
+one_reason base SetTwice InternalName left bytes p q =
     absurd (from_outside p.kind p.name p.at_settings bytes p.service q)
-one_reason SetTwice UnknownSetting left bytes p q = absurd (unknown_or_set left bytes q p)
-one_reason SetTwice SetTwice left bytes p q = refl
-one_reason SetTwice OtherForm left bytes p q = absurd (q.2 p)
-one_reason OtherForm InternalName left bytes p q = absurd (p.0 q)
-one_reason OtherForm UnknownSetting left bytes p q = absurd (p.1 q)
-one_reason OtherForm SetTwice left bytes p q = absurd (p.2 q)
-one_reason OtherForm OtherForm left bytes p q = refl
+one_reason base SetTwice UnknownSetting left bytes p q = absurd (unknown_or_set base left bytes q p)
+one_reason base SetTwice SetTwice left bytes p q = refl
+one_reason base SetTwice OtherForm left bytes p q = absurd (q.2 p)
+one_reason base OtherForm InternalName left bytes p q = absurd (p.0 q)
+one_reason base OtherForm UnknownSetting left bytes p q = absurd (p.1 q)
+one_reason base OtherForm SetTwice left bytes p q = absurd (p.2 q)
+one_reason base OtherForm OtherForm left bytes p q = refl

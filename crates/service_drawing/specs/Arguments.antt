@@ -11,7 +11,7 @@ use Rattle.service_drawing.specs.declared.arguments.Asked.TheVariants.{Drawing, 
 use Rattle.service_drawing.specs.declared.arguments.Form.TheVariants.{Text, Svg}
 use Rattle.service_drawing.specs.declared.fault.Fault.{Fault}
 use Rattle.service_drawing.specs.declared.streams.Written.{Written}
-use Rattle.service_drawing.specs.declared.fault.Fault.TheVariants.{BadArgument, BadLine, BadSettings, NoMemory}
+use Rattle.service_drawing.specs.declared.fault.Fault.TheVariants.{BadArgument, BadLine, BadSettings, NoEnd, NoMemory}
 
 -- the arguments
 abbrev pub words_of : IntoIter (String Global) Global → List (List ℕ)
@@ -36,6 +36,7 @@ Asks words (Err BadArgument) = IsNoRequest words
 Asks words (Err NoMemory) = ⊥
 Asks words (Err (BadLine line cause prefix form)) = ⊥
 Asks words (Err (BadSettings lines)) = ⊥
+Asks words (Err NoEnd) = ⊥
 
 -- what the arguments ask for: where they could not be had, there is no memory or they are bad
 abbrev pub AsksFor : Result (IntoIter (String Global) Global) Error → Result Asked Fault → Type 0

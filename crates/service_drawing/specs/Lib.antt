@@ -2,6 +2,7 @@
 pub mod Arguments
 pub mod Causes
 pub mod Descriptions
+pub mod Fronts
 pub mod Lines
 pub mod Reasons
 pub mod Settings

@@ -1,7 +1,7 @@
 -- Where each reason holds for which a line is bad.
-use Rattle.std.specs.Prelude.{◌≡◌, ◌≢◌, ◌++◌, ℕ, List, codes, map, nat_eq, IsTrue}
+use Rattle.std.specs.Prelude.{◌≢◌, ◌++◌, ℕ, List, codes, map, nat_eq, IsTrue}
 use Rattle.std.specs.List.{list_any}
-use Rattle.iox2_config.specs.Defaults.{default_defaults}
+use Rattle.iox2_config.specs.declared.config.Config.{Config}
 use Rattle.iox2_config.specs.declared.hash.input.PatternKind.{PatternKind}
 use Rattle.service_drawing.specs.Lines.{IsLine, UpTo, HasService, IsInternal}
 use Rattle.service_drawing.specs.Settings.{Assignment, GivesSetting, HasName, IsSetting, section, word_of}
@@ -57,20 +57,21 @@ IsSettingReason names defaults OtherForm left bytes =
 
 -- the bytes begin with the line of a service, and this holds of what follows it, for the settings
 -- of its pattern
-pub record AmongSettings (Holds : List (List ℕ) → List Value → List ℕ → List ℕ → Type 0)
+pub record AmongSettings (base : Config)
+    (Holds : List (List ℕ) → List Value → List ℕ → List ℕ → Type 0)
     (left bytes : List ℕ) : Type 0 where
   pub kind : PatternKind
   pub name : List ℕ
   pub at_settings : List ℕ
   pub service : HasService kind name at_settings bytes
-  pub holds : Holds (section kind).names ((section kind).values default_defaults) left at_settings
+  pub holds : Holds (section kind).names ((section kind).values base.defaults) left at_settings
 
 -- this is the reason why no description goes on with the line with which what is left begins:
 -- the name of the service, that of a setting, a setting that was set before, and else its form
-abbrev pub IsReason : Reason → List ℕ → List ℕ → Type 0
-IsReason InternalName left bytes = BeginsInternal bytes
-IsReason UnknownSetting left bytes = AmongSettings IsUnknown left bytes
-IsReason SetTwice left bytes = AmongSettings WasSet left bytes
-IsReason OtherForm left bytes =
-    (¬ BeginsInternal bytes) × (¬ AmongSettings IsUnknown left bytes)
-    × (¬ AmongSettings WasSet left bytes)
+abbrev pub IsReason : Config → Reason → List ℕ → List ℕ → Type 0
+IsReason base InternalName left bytes = BeginsInternal bytes
+IsReason base UnknownSetting left bytes = AmongSettings base IsUnknown left bytes
+IsReason base SetTwice left bytes = AmongSettings base WasSet left bytes
+IsReason base OtherForm left bytes =
+    (¬ BeginsInternal bytes) × (¬ AmongSettings base IsUnknown left bytes)
+    × (¬ AmongSettings base WasSet left bytes)

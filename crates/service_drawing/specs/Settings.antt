@@ -3,7 +3,6 @@ use Rattle.std.specs.Prelude.{◌≡◌, ◌≢◌, ◌==◌, ◌⊎◌, ℕ, Li
 use Rattle.std.specs.List.{before_first, IsDistinct}
 use Rattle.std.specs.Fmt.{decimal}
 use Rattle.std.specs.Duration.{as_nanos}
-use Rattle.iox2_config.specs.Defaults.{IsDefaultConfig, default_defaults, default_publish_subscribe, default_event, default_request_response, default_blackboard}
 use Rattle.iox2_config.specs.declared.config.Config.{Config}
 use Rattle.iox2_config.specs.declared.config.defaults.Defaults.{Defaults}
 use Rattle.iox2_config.specs.declared.config.choices.BackpressureStrategy.TheVariants.{RetryUntilDelivered, DiscardData}
@@ -212,39 +211,39 @@ IsNotSet names values given text OtherForm =
     × ((set : Assignment) → ¬ GivesSetting names values set text)
 IsNotSet names values given text InternalName = ⊥
 
--- the settings of a pattern: their names, their values, and the defaults of
--- all patterns after these settings have got theirs again
+-- the settings of a pattern: their names, their values, and the settings of
+-- all patterns after these have got those of others again
 pub record Section : Type 0 where
   pub names : List (List ℕ)
   pub values : Defaults → List Value
-  pub reset : Defaults → Defaults
+  pub reset : Defaults → Defaults → Defaults
 
 abbrev pub section : PatternKind → Section
 section kind.PublishSubscribe = record {
   names = publish_subscribe_names;
   values = λ d. publish_subscribe_values d.publish_subscribe;
-  reset = λ d. record d { publish_subscribe = default_publish_subscribe };
+  reset = λ base d. record d { publish_subscribe = base.publish_subscribe };
 }
 section kind.Event = record {
   names = event_names;
   values = λ d. event_values d.event;
-  reset = λ d. record d { event = default_event };
+  reset = λ base d. record d { event = base.event };
 }
 section kind.RequestResponse = record {
   names = request_response_names;
   values = λ d. request_response_values d.request_response;
-  reset = λ d. record d { request_response = default_request_response };
+  reset = λ base d. record d { request_response = base.request_response };
 }
 section kind.Blackboard = record {
   names = blackboard_names;
   values = λ d. blackboard_values d.blackboard;
-  reset = λ d. record d { blackboard = default_blackboard };
+  reset = λ base d. record d { blackboard = base.blackboard };
 }
 
 -- the bytes begin with the lines of the settings of this pattern, with
--- which the configuration is the default one but for those settings
-abbrev pub HasConfiguration : PatternKind → Config → List ℕ → List ℕ → Type 0
-HasConfiguration kind c rest bytes =
-    HasSettings (section kind).names ((section kind).values default_defaults)
+-- which the configuration is the one below it but for those settings
+abbrev pub HasConfiguration : Config → PatternKind → Config → List ℕ → List ℕ → Type 0
+HasConfiguration base kind c rest bytes =
+    HasSettings (section kind).names ((section kind).values base.defaults)
     ((section kind).values c.defaults) rest bytes
-    × IsDefaultConfig (record c { defaults = (section kind).reset c.defaults })
+    × (record c { defaults = (section kind).reset base.defaults c.defaults } ≡ base)

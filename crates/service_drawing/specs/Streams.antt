@@ -6,15 +6,17 @@ use Rattle.std.specs.declared.alloc.Global.{Global}
 use Rattle.std.specs.declared.io.Error.{Error}
 use Rattle.std.specs.declared.vec.IntoIter.{IntoIter}
 use Rattle.service_drawing.specs.Arguments.{AsksFor, IsRead, IsTextOrNoMemory}
-use Rattle.config_report.specs.Report.{HasWarnings, IsNoFile, HasDefaults}
+use Rattle.config_report.specs.Report.{HasReport, IsRefusal, HasDefaults}
+use Rattle.iox2_config.specs.declared.config.Config.{Config}
 use Rattle.service_drawing.specs.Causes.{IsCause}
 use Rattle.service_drawing.specs.Descriptions.{IsDescription, StopsReading}
+use Rattle.service_drawing.specs.Fronts.{IsOver, IsNotOver}
 use Rattle.service_drawing.specs.Reasons.{IsReason}
 use Rattle.service_drawing.specs.declared.arguments.Asked.{Asked}
 use Rattle.service_drawing.specs.declared.arguments.Asked.TheVariants.{Drawing, Settings, DefaultSettings, Help, Version}
 use Rattle.service_drawing.specs.declared.arguments.TheConstants.{HELP, VERSION}
 use Rattle.service_drawing.specs.declared.fault.Fault.{Fault}
-use Rattle.service_drawing.specs.declared.fault.Fault.TheVariants.{BadArgument, BadLine, BadSettings, NoMemory}
+use Rattle.service_drawing.specs.declared.fault.Fault.TheVariants.{BadArgument, BadLine, BadSettings, NoEnd, NoMemory}
 use Rattle.service_drawing.specs.declared.streams.Written.{Written}
 use Rattle.service_drawing.specs.declared.reading.cause.Cause.{Cause}
 use Rattle.service_drawing.specs.declared.reading.cause.Cause.TheVariants.{NoNewline, CarriageReturn, ForeignByte, TwoSpaces, Read}
@@ -53,6 +55,7 @@ fault_text BadArgument =
     codes "bad argument: expected svg, config, config default, --help, --version, or no argument"
     ++ 10 ∷ []
 fault_text (BadSettings lines) = string_bytes lines
+fault_text NoEnd = codes "bad settings: no line end follows the line config\n"
 fault_text NoMemory = codes "no memory" ++ 10 ∷ []
 
 -- the fault of the line with which what is left
@@ -64,32 +67,42 @@ TellsBadLine bytes expected (BadLine line cause prefix form) =
     × (prefix.now ≡ expected.prefix.now) × (form.now ≡ expected.form.now)
 TellsBadLine bytes expected BadArgument = ⊥
 TellsBadLine bytes expected (BadSettings lines) = ⊥
+TellsBadLine bytes expected NoEnd = ⊥
 TellsBadLine bytes expected NoMemory = ⊥
 
--- the line of this number is bad for this cause: it is the first that no description has there, and
--- its cause follows from the reason why none has it
+-- the line of this number is bad for this cause: behind the block in front, if there is one, it is
+-- the first that no description has there, and its cause follows from the reason why none has it
 pub record IsBadLine (line : ℕ) (cause : Cause) (bytes : List ℕ) : Type 0 where
+  pub base : Config
+  pub warnings : List ℕ
+  pub front : List ℕ
+  pub rest : List ℕ
+  pub over : IsOver base warnings rest bytes
+  pub parts : bytes ≡ front ++ rest
   pub left : List ℕ
   pub reason : Reason
-  pub stops : StopsReading left bytes
-  pub number : line ≡ count_by (λ b. b == 10) stops.read + 1
-  pub found : IsReason reason left bytes
-  pub alone : (other : Reason) → IsReason other left bytes → other ≡ reason
+  pub stops : StopsReading base left rest
+  pub number : line ≡ count_by (λ b. b == 10) (front ++ stops.read) + 1
+  pub found : IsReason base reason left rest
+  pub alone : (other : Reason) → IsReason base other left rest → other ≡ reason
   pub because : IsCause left reason cause
 
--- what is drawn of the bytes: a description, or the number of the first line that none has there
--- is reported
+-- what is drawn of the bytes: a description, over the configuration of the block in front, if there
+-- is one; or the number of the first line that none has there is reported, or what is wrong with
+-- the block
 abbrev pub Draws : List ℕ → Result Written Fault → Type 0
-Draws bytes (Ok written) = IsDescription bytes × (string_bytes written.warnings ≡ [])
+Draws bytes (Ok written) =
+    (base : Config) × (rest : List ℕ) × IsOver base (string_bytes written.warnings) rest bytes
+    × IsDescription base rest
 Draws bytes (Err (BadLine line cause prefix form)) = IsBadLine line cause bytes
-Draws bytes (Err BadArgument) = ⊥
-Draws bytes (Err (BadSettings lines)) = ⊥
-Draws bytes (Err NoMemory) = Unit {0}
+Draws bytes (Err fault) = IsNotOver bytes fault
 
 -- what is said of the bytes of a file of settings
 abbrev pub Tells : List ℕ → Result Written Fault → Type 0
-Tells bytes (Ok written) = HasWarnings bytes (string_bytes written.warnings)
-Tells bytes (Err (BadSettings lines)) = IsNoFile bytes
+Tells bytes (Ok written) =
+    HasReport bytes (string_bytes written.text) (string_bytes written.warnings)
+Tells bytes (Err (BadSettings lines)) = IsRefusal bytes (string_bytes lines)
+Tells bytes (Err NoEnd) = ⊥
 Tells bytes (Err (BadLine line cause prefix form)) = ⊥
 Tells bytes (Err BadArgument) = ⊥
 Tells bytes (Err NoMemory) = Unit {0}
@@ -126,6 +139,7 @@ status_of (Ok written) = 0
 status_of (Err (BadLine line cause prefix form)) = 1
 status_of (Err BadArgument) = 1
 status_of (Err (BadSettings lines)) = 1
+status_of (Err NoEnd) = 1
 status_of (Err NoMemory) = 2
 
 -- what was asked for was answered or there was a fault: that is the status, the writers got what

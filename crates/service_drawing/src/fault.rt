@@ -25,8 +25,11 @@ pub(crate) enum Fault {
         prefix: &'static str,
         form: &'static str,
     },
-    /// The file of settings is bad: what is wrong with it, in lines.
+    /// The file of settings, or the block of settings in front of a description, is bad: what is
+    /// wrong with it, in lines.
     BadSettings(String),
+    /// No line `end` follows the line `config`.
+    NoEnd,
     /// Memory was refused.
     NoMemory,
 }
@@ -153,6 +156,10 @@ pub(crate) fn write_fault<E: Write>(errors: &mut E, fault: &Fault) -> io::Result
             b"bad argument: expected svg, config, config default, --help, --version, or no argument\n",
         ),
         Fault::BadSettings(lines) => write_whole(errors, lines.as_bytes()),
+        Fault::NoEnd => write_whole(
+            errors,
+            b"bad settings: no line end follows the line config\n",
+        ),
         Fault::NoMemory => write_whole(errors, b"no memory\n"),
     }
 }

@@ -7,6 +7,7 @@
 #![tactic(auto)]
 
 mod arguments;
+mod base;
 mod description;
 mod fault;
 mod files;

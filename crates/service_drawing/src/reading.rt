@@ -1,6 +1,5 @@
 //! Descriptions as lines.
 ghost use Rattle.std.specs.Prelude.{◌≡◌, ℕ, List, codes, IfOk, IfErr, MatchResult};
-ghost use Rattle.iox2_config.specs.Defaults.{default_defaults};
 ghost use Rattle.iox2_config.specs.TypeDetailParts.{TypeDetailParts};
 ghost use Rattle.service_drawing.specs.Descriptions.{HasDescription, StopsReading};
 ghost use Rattle.service_drawing.specs.Lines.{HasType, HasExchange, StopsAt};
@@ -11,6 +10,7 @@ ghost use Rattle.service_drawing.specs.declared.reading.cause.Reason.TheVariants
 mod attributes;
 pub(crate) mod cause;
 mod expected;
+pub(crate) mod front;
 mod message;
 mod service;
 mod settings;
@@ -27,14 +27,18 @@ use service::service_before;
 use settings::settings_before;
 
 /// The lines of the settings, with which the configuration is changed.
-fn configuration_before(bytes: &[u8], kind: PatternKind) -> Result<(Config, &[u8]), Expected<'_>>
+fn configuration_before(
+    bytes: &[u8],
+    kind: PatternKind,
+    base: Config,
+) -> Result<(Config, &[u8]), Expected<'_>>
     ensures { MatchResult result
-        (λ found. HasConfiguration kind found.0 found.1.now bytes.now)
-        (λ expected. StopsAt (HasConfiguration kind) expected.rest.now bytes.now
-        × IsSettingReason (section kind).names ((section kind).values default_defaults)
+        (λ found. HasConfiguration base kind found.0 found.1.now bytes.now)
+        (λ expected. StopsAt (HasConfiguration base kind) expected.rest.now bytes.now
+        × IsSettingReason (section kind).names ((section kind).values base.defaults)
         expected.reason expected.rest.now bytes.now) }
 {
-    let mut config = Config::default();
+    let mut config = base;
     match kind {
         PatternKind::PublishSubscribe => {
             let rest = settings_before(bytes, &mut config.defaults.publish_subscribe)?;
@@ -96,14 +100,15 @@ fn exchange_before(bytes: &[u8], kind: PatternKind) -> Result<(Exchange, &[u8]),
     }
 }
 
-/// The service that the lines describe, or what was expected instead of the first bad one.
-pub(crate) fn read_description(bytes: &[u8]) -> Result<Description, Expected<'_>>
-    ensures { MatchResult result (λ d. HasDescription d bytes.now)
-        (λ expected. StopsReading expected.rest.now bytes.now
-        × IsReason expected.reason expected.rest.now bytes.now) }
+/// The service that the lines describe over a configuration, or what was expected instead of the
+/// first bad one.
+pub(crate) fn read_description(bytes: &[u8], base: Config) -> Result<Description, Expected<'_>>
+    ensures { MatchResult result (λ d. HasDescription base d bytes.now)
+        (λ expected. StopsReading base expected.rest.now bytes.now
+        × IsReason base expected.reason expected.rest.now bytes.now) }
 {
     let (service, rest) = service_before(bytes)?;
-    let (config, rest) = configuration_before(rest, service.kind)?;
+    let (config, rest) = configuration_before(rest, service.kind, base)?;
     let (exchange, rest) = exchange_before(rest, service.kind)?;
     let (attributes, rest) = attributes_before(rest)?;
     let (required, rest) = required_before(rest)?;

@@ -2,10 +2,12 @@
 ghost use Rattle.std.specs.Prelude.{◌≡◌, ◌<◌, [], IfOk, OnOk, string_bytes};
 ghost use Rattle.std.specs.Io.KnownBytes.{Appends, IsAtEnd};
 ghost use Rattle.service_drawing.specs.Arguments.{IsRead, IsTextOrNoMemory};
+ghost use Rattle.service_drawing.specs.Fronts.{IsOver};
 ghost use Rattle.service_drawing.specs.Streams.{status_of, output_text, error_text};
 ghost use Rattle.service_drawing.specs.Streams.{Draws, Tells, IsDefaultFile, Answers, Reported};
 
 use crate::arguments::{Asked, Form, HELP, VERSION, asked_by};
+use crate::base::{Over, base_of};
 use crate::fault::{Fault, bad_line, write_fault};
 use crate::reading::read_description;
 use crate::svg::write_svg;
@@ -39,7 +41,18 @@ fn without_warnings(alloc: Global, text: String) -> Written
 fn drawn(alloc: Global, form: Form, bytes: &[u8]) -> Result<Written, Fault>
     ensures { Draws bytes.now result }
 {
-    let service = match read_description(bytes) {
+    match base_of(alloc, bytes) {
+        Ok(over) => drawn_over(alloc, form, bytes, over),
+        Err(fault) => Err(fault),
+    }
+}
+
+/// What is left of an input is drawn as, or why it is not drawn.
+fn drawn_over(alloc: Global, form: Form, bytes: &[u8], over: Over<'_>) -> Result<Written, Fault>
+    requires { IsOver over.base (string_bytes over.warnings) over.rest.now bytes.now }
+    ensures { Draws bytes.now result }
+{
+    let service = match read_description(over.rest, over.base) {
         Ok(service) => service,
         Err(expected) => return Err(bad_line(bytes, expected)),
     };
@@ -49,7 +62,10 @@ fn drawn(alloc: Global, form: Form, bytes: &[u8]) -> Result<Written, Fault>
         Form::Svg => write_svg(alloc, &mut out, &service),
     };
     match done {
-        Ok(()) => Ok(without_warnings(alloc, out)),
+        Ok(()) => Ok(Written {
+            text: out,
+            warnings: over.warnings,
+        }),
         Err(_) => Err(Fault::NoMemory),
     }
 }
@@ -84,7 +100,7 @@ fn status(end: &Result<Written, Fault>) -> u8
 {
     match end {
         Ok(_) => 0,
-        Err(Fault::BadArgument | Fault::BadLine { .. } | Fault::BadSettings(_)) => 1,
+        Err(Fault::BadArgument | Fault::BadLine { .. } | Fault::BadSettings(_) | Fault::NoEnd) => 1,
         Err(Fault::NoMemory) => 2,
     }
 }

@@ -1,5 +1,6 @@
 //! Descriptions, and what is drawn for them. All values were worked out by hand.
 
+pub(super) mod own;
 pub(super) mod parts;
 pub(super) mod pictures;
 pub(super) mod request_response;

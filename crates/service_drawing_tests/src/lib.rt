@@ -14,6 +14,8 @@ mod good;
 #[cfg(test)]
 mod memory;
 #[cfg(test)]
+mod own;
+#[cfg(test)]
 mod parts;
 #[cfg(test)]
 mod refusals;

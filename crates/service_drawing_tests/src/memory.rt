@@ -1,6 +1,7 @@
 //! Drawings where memory is refused. With ample memory they are whole; where one request is refused
 //! (`bench/refuse_memory` does that), nothing is drawn, and the program says why.
 
+use super::expected::own::OWN;
 use super::expected::pictures::{COLORS, PICTURE};
 use super::expected::settings::{SETTINGS, UNKNOWN};
 use super::expected::{EVENT, PUBLISH_SUBSCRIBE};
@@ -49,6 +50,7 @@ fn draws_all_or_nothing(
 fn a_text_is_whole_or_none(rt: HostRuntime) {
     draws_all_or_nothing(&rt, &["iox2-describe"], PUBLISH_SUBSCRIBE);
     draws_all_or_nothing(&rt, &["iox2-describe"], EVENT);
+    draws_all_or_nothing(&rt, &["iox2-describe"], OWN);
 }
 
 /// Settings are written with all warnings, or memory is refused and nothing is written.

@@ -79,7 +79,8 @@ const HELP: &str = "usage: iox2-describe [svg | --help | --version] < DESCRIPTIO
 
 Reads the description of one service from standard input, and writes what the service is: its
 name, hash text and files, its settings, where the parts of its messages lie, the memory of its
-ports, and its attributes.
+ports, and its attributes. Settings of its own may stand in front of it, between a line config and
+a line end.
 
   svg             write a picture of the messages, an SVG document
   config          read a file of settings instead, and write what is wrong with it, or all settings

@@ -9,8 +9,8 @@ pub returns-in_err-service : goal.returns-in_err-service
 returns-in_err-service c =
     let bad = c.in_err-service in
     handed_on _ _ _ _ c.from_residual.ensures (
-      no_service_here _ c.args.bytes.now bad.ensures.place bad.ensures.spelled,
-      no_service_reason bad.field-0.0.reason _ c.args.bytes.now bad.ensures.spelled
+      no_service_here c.args.base _ c.args.bytes.now bad.ensures.place bad.ensures.spelled,
+      no_service_reason c.args.base bad.field-0.0.reason _ c.args.bytes.now bad.ensures.spelled
           bad.ensures.reason,
     )
 
@@ -19,9 +19,10 @@ returns-in_err-config c =
     let s = c.in_ok-service in
     let bad = c.in_err-config in
     handed_on _ _ _ _ c.from_residual-in_err-config.ensures (
-      stops_after_service s.service.kind s.service.name _ s.rest.now c.args.bytes.now
-          s.ensures.spelled (stops_in_settings s.service.kind _ s.rest.now bad.ensures.0),
-      reason_in_settings bad.field-0.0.reason s.service.kind s.service.name _ s.rest.now
+      stops_after_service c.args.base s.service.kind s.service.name _ s.rest.now c.args.bytes.now
+          s.ensures.spelled
+          (stops_in_settings c.args.base s.service.kind _ s.rest.now bad.ensures.0),
+      reason_in_settings c.args.base bad.field-0.0.reason s.service.kind s.service.name _ s.rest.now
           c.args.bytes.now s.ensures.spelled bad.ensures.1,
     )
 
@@ -31,7 +32,7 @@ returns-in_err-exchange c =
     let g = c.in_ok-config in
     let bad = c.in_err-exchange in
     handed_on _ _ _ _ c.from_residual-in_err-exchange.ensures
-    (stops_behind_settings bad.field-0.0.reason s.service.kind s.service.name g.config _
+    (stops_behind_settings c.args.base bad.field-0.0.reason s.service.kind s.service.name g.config _
     g.rest.now s.rest.now c.args.bytes.now bad.ensures.1 s.ensures.spelled g.ensures
     (stops_in_exchange s.service.kind _ g.rest.now bad.ensures.0))
 
@@ -42,7 +43,7 @@ returns-in_err-attributes c =
     let x = c.in_ok-exchange in
     let bad = c.in_err-attributes in
     handed_on _ _ _ _ c.from_residual-in_err-attributes.ensures
-    (stops_behind_settings bad.field-0.0.reason s.service.kind s.service.name g.config _
+    (stops_behind_settings c.args.base bad.field-0.0.reason s.service.kind s.service.name g.config _
     g.rest.now s.rest.now c.args.bytes.now bad.ensures.1 s.ensures.spelled g.ensures
     (stops_after_exchange s.service.kind x.exchange _ x.rest.now g.rest.now x.ensures
     (stops_in_attributes _ x.rest.now bad.ensures.0)))
@@ -55,7 +56,7 @@ returns-in_err-required c =
     let a = c.in_ok-attributes in
     let bad = c.in_err-required in
     handed_on _ _ _ _ c.from_residual-in_err-required.ensures
-    (stops_behind_settings bad.field-0.0.reason s.service.kind s.service.name g.config _
+    (stops_behind_settings c.args.base bad.field-0.0.reason s.service.kind s.service.name g.config _
     g.rest.now s.rest.now c.args.bytes.now bad.ensures.1 s.ensures.spelled g.ensures
     (stops_after_exchange s.service.kind x.exchange _ x.rest.now g.rest.now x.ensures
     (stops_after_attributes a.attributes _ a.rest.now x.rest.now a.ensures
@@ -68,7 +69,7 @@ returns-then-not-is_empty c =
     let x = c.in_ok-exchange in
     let a = c.in_ok-attributes in
     let r = c.in_ok-required in
-    stops_behind_settings c.plain.result.reason s.service.kind s.service.name g.config _
+    stops_behind_settings c.args.base c.plain.result.reason s.service.kind s.service.name g.config _
     g.rest.now s.rest.now c.args.bytes.now c.plain.ensures.reason s.ensures.spelled g.ensures
     (stops_after_exchange s.service.kind x.exchange _ x.rest.now g.rest.now x.ensures
     (stops_after_attributes a.attributes _ a.rest.now x.rest.now a.ensures

@@ -1,0 +1,150 @@
+-- The text of settings, and of what follows from them.
+use Rattle.std.specs.Prelude.{◌≡◌, ◌≢◌, ◌⊎◌, ◌-◌, ◌^◌, ℕ, List, [], ◌∷◌, ◌++◌, codes, flat_map, length, nat_lt, if◌then◌else◌, Option, Some, None}
+use Rattle.std.specs.Fmt.{decimal, padded, format_spec}
+use Rattle.iox2_config.specs.Defaults.{IsDefaultConfig}
+use Rattle.iox2_config.specs.declared.config.Config.{Config}
+use Rattle.iox2_config.specs.declared.config.node.Node.{Node}
+use Rattle.iox2_config.specs.declared.config.service.Service.{Service}
+use Rattle.iox2_config_file.specs.declared.section.Section.{Section}
+use Rattle.iox2_config_file.specs.Read.{sections}
+use Rattle.iox2_config_file.specs.Rows.{prefix_of}
+use Rattle.iox2_config_file.specs.Settings.{Setting, settings_in}
+use Rattle.iox2_config_file.specs.Values.{SettingValue}
+use Rattle.iox2_config_file.specs.Write.{value_text}
+use Rattle.iox2_static.specs.Chunks.{TellsGreatest}
+use Rattle.iox2_texts.specs.Path.{join}
+use Rattle.config_report.specs.declared.files.FileKind.{FileKind}
+use Rattle.config_report.specs.Limits.{sample_limits_of, request_limits_of, response_limits_of}
+
+-- the line of a setting whose value is its default: its path and its value
+abbrev pub usual_line : Section → List ℕ → SettingValue → List ℕ
+usual_line s key value =
+    codes "  " ++ (prefix_of s ++ (key ++ (codes " = " ++ (value_text value ++ codes "\n"))))
+
+-- the line of one whose value is another: with a mark, and with the default
+abbrev pub marked_line : Section → List ℕ → SettingValue → SettingValue → List ℕ
+marked_line s key value default =
+    codes "! " ++ (prefix_of s ++ (key ++ (codes " = " ++ (value_text value
+    ++ (codes ", by default " ++ (value_text default ++ codes "\n"))))))
+
+-- the line of a setting: it has a mark exactly where its value differs from the default
+abbrev pub IsSettingLine : Section → Setting → Setting → List ℕ → Type 0
+IsSettingLine s default x line =
+    ((x.value ≡ default.value) × (line ≡ usual_line s x.key x.value))
+    ⊎ ((x.value ≢ default.value) × (line ≡ marked_line s x.key x.value default.value))
+
+-- a line for each of some settings, in their order
+abbrev pub AreSettingLines : Section → List Setting → List Setting → List ℕ → Type 0
+AreSettingLines s (default ∷ defaults) (x ∷ xs) lines =
+    (line : List ℕ) × (more : List ℕ) × (lines ≡ line ++ more)
+    × IsSettingLine s default x line × AreSettingLines s defaults xs more
+AreSettingLines s _ _ lines = lines ≡ []
+
+-- the lines of all settings of some tables, in the order of the tables
+abbrev pub AreTableLines : Config → Config → List Section → List ℕ → Type 0
+AreTableLines default config [] lines = lines ≡ []
+AreTableLines default config (s ∷ ss) lines =
+    (table : List ℕ) × (more : List ℕ) × (lines ≡ table ++ more)
+    × AreSettingLines s (settings_in s default) (settings_in s config) table
+    × AreTableLines default config ss more
+
+-- a name, filled with spaces to 22 characters, and what stands beside it
+abbrev pub named_line : List ℕ → List ℕ → List ℕ
+named_line name text =
+    codes "  "
+    ++ (padded (format_spec 32 1 0 22 (2 ^ 64 - 1)) name ++ (codes " " ++ (text ++ codes "\n")))
+
+-- the path of an entry of the root path, where a path may be as long
+abbrev pub directory_text : List ℕ → List ℕ → List ℕ
+directory_text root entry =
+    if nat_lt 255 (length (join root entry))
+    then codes "none: its path would have more than 255 bytes"
+    else join root entry
+
+-- the directories of a configuration
+abbrev pub directories_text : Config → List ℕ
+directories_text c =
+    let root = c.global.root_path in
+    codes "\ndirectories\n"
+    ++ (named_line (codes "root") root
+    ++ (named_line (codes "services") (directory_text root c.global.service.directory)
+    ++ named_line (codes "nodes") (directory_text root c.global.node.directory)))
+
+-- what files are, and how their names end
+abbrev pub kind_view : FileKind → List ℕ × List ℕ
+kind_view f = (f.name.now, f.suffix.now)
+
+-- the kinds of services' files
+abbrev pub service_files_of : Service → List (List ℕ × List ℕ)
+service_files_of service =
+    (codes "static configuration", service.static_config_storage_suffix)
+    ∷ (codes "dynamic configuration", service.dynamic_config_storage_suffix)
+    ∷ (codes "data segments", service.data_segment_suffix)
+    ∷ (codes "connections", service.connection_suffix)
+    ∷ (codes "event connections", service.event_connection_suffix)
+    ∷ (codes "blackboard management", service.blackboard_mgmt_suffix)
+    ∷ (codes "blackboard data", service.blackboard_data_suffix)
+    ∷ []
+
+-- the kinds of nodes' files
+abbrev pub node_files_of : Node → List (List ℕ × List ℕ)
+node_files_of node =
+    (codes "node monitors", node.monitor_suffix)
+    ∷ (codes "node details", node.static_config_suffix)
+    ∷ (codes "service tags", node.service_tag_suffix)
+    ∷ (codes "port tags", node.port_tag_suffix)
+    ∷ (codes "global management", node.global_mgmt_suffix)
+    ∷ []
+
+-- the line of a kind of files: how their names begin and end
+abbrev pub file_line : List ℕ → List ℕ × List ℕ → List ℕ
+file_line prefix file = named_line file.0 (prefix ++ (codes "*" ++ file.1))
+
+-- the files of a configuration, a line for each kind
+abbrev pub files_text : Config → List ℕ
+files_text c =
+    codes "\nfiles, with * for what the configuration does not fix\n"
+    ++ (flat_map (file_line c.global.prefix) (service_files_of c.global.service)
+    ++ flat_map (file_line c.global.prefix) (node_files_of c.global.node))
+
+-- how many chunks a port needs, where 64 bits have the number
+abbrev pub need_text : Option ℕ → List ℕ
+need_text (Some n) = decimal n
+need_text None = codes "more than 18446744073709551615"
+
+-- how many chunks the ports of each kind need
+abbrev pub needs_text : Option ℕ → Option ℕ → Option ℕ → List ℕ
+needs_text publisher client server =
+    codes "\nchunks that a port needs at these limits\n"
+    ++ (named_line (codes "publisher") (need_text publisher)
+    ++ (named_line (codes "client") (need_text client)
+    ++ (named_line (codes "server") (need_text server)
+    ++ codes "  event, blackboard      none: their ports send no messages\n")))
+
+-- how many chunks the ports need: the greatest number that can be in use at once
+abbrev pub IsNeedsText : Config → List ℕ → Type 0
+IsNeedsText c text =
+    (publisher : Option ℕ) × (client : Option ℕ) × (server : Option ℕ)
+    × TellsGreatest (sample_limits_of c.defaults) publisher
+    × TellsGreatest (request_limits_of c.defaults) client
+    × TellsGreatest (response_limits_of c.defaults) server
+    × (text ≡ needs_text publisher client server)
+
+-- all settings, each beside its default where it differs from that
+abbrev pub IsSettingsText : Config → Config → List ℕ → Type 0
+IsSettingsText default config text =
+    (lines : List ℕ)
+    × (text ≡ codes "settings, with ! where they differ from the defaults\n" ++ lines)
+    × AreTableLines default config sections lines
+
+-- all settings, and the directories, the files and the chunks that follow
+abbrev pub IsReportOver : Config → Config → List ℕ → Type 0
+IsReportOver default config text =
+    (settings : List ℕ) × (needs : List ℕ)
+    × (text ≡ settings ++ (directories_text config ++ (files_text config ++ needs)))
+    × IsSettingsText default config settings × IsNeedsText config needs
+
+-- the same, beside the defaults of the middleware
+abbrev pub IsReportText : Config → List ℕ → Type 0
+IsReportText config text =
+    (default : Config) × IsDefaultConfig default × IsReportOver default config text

@@ -1,0 +1,100 @@
+//! Descriptions that begin with settings of their own, and what is drawn for them.
+
+/// Settings that the description changes once more, and the drawing by both.
+pub(crate) const OWN: (&str, &str) = (
+    "\
+config
+global.prefix = 'own_'
+defaults.event.max-nodes = 5
+end
+event My/Event
+set max_listeners 3
+",
+    "service    My/Event
+pattern    event
+hash text  u7hW7p2WFNt9k39F0CpvIbP8DmU
+
+files, with * for what the configuration does not fix
+  static configuration   /tmp/iceoryx2/services/own_u7hW7p2WFNt9k39F0CpvIbP8DmU.service
+  dynamic configuration  own_u7hW7p2WFNt9k39F0CpvIbP8DmU.dynamic
+  connections            own_*.event
+
+settings, with ! where they differ from the defaults
+! max_listeners                                3, by default 16
+  max_notifiers                                16
+! max_nodes                                    5, by default 36
+  event_id_max_value                           255
+  deadline                                     none
+  notifier_created_event                       none
+  notifier_dropped_event                       none
+  notifier_dead_event                          none
+
+no messages
+
+attributes
+
+required by an opener
+  verified
+",
+);
+
+/// An empty file of settings, one with CRLF, and one with a key that no setting has.
+pub(crate) const FILES: [(&str, &str); 3] = [
+    (
+        "config\nend\nevent My/Event\nset max_listeners 3\nset max_nodes 5\n",
+        "",
+    ),
+    (
+        "config\ndefaults.event.max-nodes = 5\r\nend\nevent My/Event\nset max-listeners 3\n",
+        "",
+    ),
+    (
+        "config\n[defaults.event]\nmax-nodes = 5\nmax-listener = 4\nend\nevent My/Event\nset max_listeners 3\n",
+        "unknown key defaults.event.max-listener: defaults.event.max-listeners may be meant\n",
+    ),
+];
+
+/// Inputs that are refused, and why: no `end` or one of another form, settings that are not
+/// allowed, a bad line behind the settings, a second block, and a line that begins none.
+pub(crate) const REFUSED: [(&str, &str); 8] = [
+    (
+        "config\n",
+        "bad settings: no line end follows the line config\n",
+    ),
+    (
+        "config\nend\r\nevent A\n",
+        "bad settings: no line end follows the line config\n",
+    ),
+    (
+        "config\n end\nend",
+        "bad settings: no line end follows the line config\n",
+    ),
+    (
+        "config\nglobal.prefix = 2\ndefaults.event.max-nodes = ''\nend\nevent A\n",
+        "global.prefix: is an integer, and a string with the name of a file is wanted
+defaults.event.max-nodes: is a string, and an integer is wanted
+",
+    ),
+    (
+        "config\n# two\nend\nevent A\nset max_node 2\n",
+        "bad line 5: the pattern has no such setting; expected set NAME VALUE with one of the names max_listeners, max_notifiers, max_nodes, event_id_max_value, deadline, notifier_created_event, notifier_dropped_event, notifier_dead_event\n",
+    ),
+    (
+        "config\nend\nconfig\nend\nevent A\n",
+        "bad line 3: expected PATTERN NAME: publish-subscribe, event, request-response or blackboard, and the name of a service, 1 to 255 bytes\n",
+    ),
+    (
+        "config",
+        "bad line 1: no newline ends it; expected PATTERN NAME: publish-subscribe, event, request-response or blackboard, and the name of a service, 1 to 255 bytes\n",
+    ),
+    (
+        "config \nend\nevent A\n",
+        "bad line 1: expected PATTERN NAME: publish-subscribe, event, request-response or blackboard, and the name of a service, 1 to 255 bytes\n",
+    ),
+];
+
+/// Settings that are no TOML, at the third line of the input, and what the report begins with.
+pub(crate) const NO_TOML: (&str, &str) = (
+    "config\n\nglobal = \nend\nevent A\n",
+    "TOML parse error at line 3, column 10\n",
+);
