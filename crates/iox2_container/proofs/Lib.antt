@@ -30,3 +30,4 @@ pub mod Agreeing
 pub mod Mapped
 pub mod LentCallbacks
 pub mod Sending
+pub mod ServiceNumbers

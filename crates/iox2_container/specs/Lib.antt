@@ -9,6 +9,7 @@ pub mod Changes
 pub mod Histories
 pub mod Calls
 pub mod Agreement
+pub mod ServiceNumbers
 -- What contracts see of slots, which others may use by themselves
 pub mod Cells
 -- Inner facts, which no other crate needs: slots, passes over them, the header, and the free list

@@ -13,6 +13,7 @@ mod registry;
 mod registry_header;
 mod release;
 mod role;
+mod service_numbers;
 mod slot_map;
 mod slots;
 
@@ -24,5 +25,6 @@ pub use refusal::{ContainerAddFailure, ContainerRemoveError};
 pub use registry::Registry;
 pub use release::{ReleaseMode, ReleaseState};
 pub use role::Role;
+pub use service_numbers::ServiceNumbers;
 pub use slot_map::{Container, ListContainer};
 pub use slots::Slots;

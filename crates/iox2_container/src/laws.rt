@@ -8,6 +8,7 @@ ghost use Rattle.iox2_container.specs.Steps.{RecoverStep, HasEntry};
 ghost use Rattle.iox2_container.specs.Histories.{Change, History, IsNew, IsRecoveryChange};
 ghost use Rattle.iox2_container.specs.Histories.{IsRefused, Remains, TakesOut, handles_given};
 ghost use Rattle.iox2_container.specs.Agreement.{IsSameReplyBy};
+ghost use Rattle.iox2_container.specs.ServiceNumbers.{NumbersRise};
 
 use crate::container::{
     ContainerAddFailure, ContainerHandle, ContainerRemoveError, RegistryReply, ReleaseMode,
@@ -43,6 +44,11 @@ pub fn entries_are_what_remains<T>()
 pub fn handles_are_not_reused<T>()
     ensures { (start now : RegistryState T) (changes : List (Change T))
         → History start changes now → AllPairs ◌≢◌ (handles_given changes) }
+{}
+
+/// Numbers for services that are returned one after another rise, so no two of them are the same.
+pub fn service_numbers_rise()
+    ensures { NumbersRise }
 {}
 
 /// Handles are equal exactly where service, role, slot and ticket are, and a clone is the same.

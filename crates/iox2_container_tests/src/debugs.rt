@@ -69,8 +69,9 @@ fn handles_and_slots_are_shown_by_field(rt: HostRuntime) -> Result<(), Fail> {
                 &Slots::new(rt.alloc(), 2, 5u64)?,
                 "Slots { cells: [5, 5], touches: Touches }",
             ),
+            is_shown_as(&ServiceNumbers::after(7), "ServiceNumbers { last: 7 }"),
         ],
-        [true; 2]
+        [true; 3]
     );
     Ok(())
 }

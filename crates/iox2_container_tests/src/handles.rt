@@ -108,3 +108,20 @@ fn lists_of_one_service_and_role_accept_each_others_handles(rt: HostRuntime) -> 
     let mut other = list(rt.alloc(), Role::Node, (1, u64::MAX))?;
     handles_are_values(&rt, rt.alloc(), &mut one, &mut other)
 }
+
+#[test]
+fn numbers_for_services_rise_to_the_greatest(rt: HostRuntime) {
+    let mut numbers = ServiceNumbers::after(0);
+    let mut last = ServiceNumbers::after(u64::MAX - 1);
+    assert_eq!(rt;
+        [
+            numbers.next_number(),
+            numbers.next_number(),
+            last.next_number(),
+            last.next_number(),
+            last.next_number(),
+        ],
+        [Some(1), Some(2), Some(u64::MAX), None, None]
+    );
+    assert_eq!(rt; [numbers.last(), last.last()], [2, u64::MAX]);
+}
