@@ -120,6 +120,7 @@ enum iox2sd_status {
     IOX2SD_BAD_LINE = 66, /* A line of a script is not valid. */
     IOX2SD_UNKNOWN_STRATEGY = 67,
     IOX2SD_BAD_DURATION = 68, /* The nanoseconds beside the seconds are 1,000,000,000 or more. */
+    IOX2SD_UNMET = 69,        /* A setting of a service is not what an opener requires. */
     IOX2SD_NOT_TOML = 80,
     IOX2SD_WRONG_TYPE = 81,     /* The value of a key is of another type than the wanted one. */
     IOX2SD_BELOW_ZERO = 82,     /* The value of a key is below 0. */
@@ -404,6 +405,7 @@ static inline const char *iox2sd_status_str(uint32_t status) {
         case IOX2SD_BAD_LINE: return "a line of the script is not valid";
         case IOX2SD_UNKNOWN_STRATEGY: return "unknown strategy";
         case IOX2SD_BAD_DURATION: return "the nanoseconds of a duration are a second or more";
+        case IOX2SD_UNMET: return "a setting is not what the opener requires";
         case IOX2SD_NOT_TOML: return "not TOML";
         case IOX2SD_WRONG_TYPE: return "a value of another type is wanted";
         case IOX2SD_BELOW_ZERO: return "the number is below 0";
@@ -480,6 +482,20 @@ static inline iox2sd_id_answer iox2sd_id_from_text(const uint8_t *text, size_t l
 }
 static inline iox2sd_id_answer iox2sd_id_from_text_str(const char *text) {
     return iox2sd_id_from_text((const uint8_t *)text, iox2sd_length(text));
+}
+
+/* Numbers for services, for a caller who has none: those above the last one that was returned. They
+ * begin all-zero. Two objects return the same numbers, and so does a copy. */
+typedef struct iox2sd_service_numbers {
+    uint64_t last; /* 0 before the first. */
+} iox2sd_service_numbers;
+
+#define IOX2SD_SERVICE_NUMBERS_NONE {0}
+
+/* The next number: 1, 2, 3, .., each once. A service numbered so has no handle that is all-zero.
+ * Errors: IOX2SD_NULL; IOX2SD_OUT_OF_SPACE after UINT64_MAX. */
+static inline iox2sd_number_answer iox2sd_next_service_number(iox2sd_service_numbers *numbers) {
+    return iox2sd_next_service_number_at(numbers, numbers != NULL);
 }
 
 /* Creates a service with nothing attached. `number` is part of its handles. It has `tickets`

@@ -105,6 +105,7 @@ enum class Status : std::uint32_t {
     BadLine = IOX2SD_BAD_LINE,
     UnknownStrategy = IOX2SD_UNKNOWN_STRATEGY,
     BadDuration = IOX2SD_BAD_DURATION,
+    Unmet = IOX2SD_UNMET,
     NotToml = IOX2SD_NOT_TOML,
     WrongType = IOX2SD_WRONG_TYPE,
     BelowZero = IOX2SD_BELOW_ZERO,
@@ -1494,7 +1495,8 @@ struct EventId {
     auto fields(F f) const noexcept { return f(value); }
 };
 
-/// The fields of settings that may be invalid.
+/// The fields of settings that may be invalid, and from `MaxSubscribers` on, with `Deadline`, what
+/// is fixed of a service.
 enum class SettingsField : std::uint32_t {
     BackpressureStrategy = IOX2SD_BACKPRESSURE_STRATEGY,
     PublisherAllocationStrategy = IOX2SD_PUBLISHER_ALLOCATION_STRATEGY,
@@ -1504,10 +1506,34 @@ enum class SettingsField : std::uint32_t {
     ClientAllocationStrategy = IOX2SD_CLIENT_ALLOCATION_STRATEGY,
     ServerAllocationStrategy = IOX2SD_SERVER_ALLOCATION_STRATEGY,
     CreationTimeout = IOX2SD_CREATION_TIMEOUT,
+    MaxSubscribers = IOX2SD_MAX_SUBSCRIBERS,
+    MaxPublishers = IOX2SD_MAX_PUBLISHERS,
+    HistorySize = IOX2SD_HISTORY_SIZE,
+    SubscriberMaxBufferSize = IOX2SD_SUBSCRIBER_MAX_BUFFER_SIZE,
+    SubscriberMaxBorrowedSamples = IOX2SD_SUBSCRIBER_MAX_BORROWED_SAMPLES,
+    EnableSafeOverflow = IOX2SD_ENABLE_SAFE_OVERFLOW,
+    MaxNotifiers = IOX2SD_MAX_NOTIFIERS,
+    MaxListeners = IOX2SD_MAX_LISTENERS,
+    EventIdMaxValue = IOX2SD_EVENT_ID_MAX_VALUE,
+    NotifierCreatedEvent = IOX2SD_NOTIFIER_CREATED_EVENT,
+    NotifierDroppedEvent = IOX2SD_NOTIFIER_DROPPED_EVENT,
+    NotifierDeadEvent = IOX2SD_NOTIFIER_DEAD_EVENT,
+    EnableSafeOverflowForRequests = IOX2SD_ENABLE_SAFE_OVERFLOW_FOR_REQUESTS,
+    EnableSafeOverflowForResponses = IOX2SD_ENABLE_SAFE_OVERFLOW_FOR_RESPONSES,
+    EnableFireAndForgetRequests = IOX2SD_ENABLE_FIRE_AND_FORGET_REQUESTS,
+    MaxActiveRequestsPerClient = IOX2SD_MAX_ACTIVE_REQUESTS_PER_CLIENT,
+    MaxLoanedRequests = IOX2SD_MAX_LOANED_REQUESTS,
+    MaxResponseBufferSize = IOX2SD_MAX_RESPONSE_BUFFER_SIZE,
+    MaxServers = IOX2SD_MAX_SERVERS,
+    MaxClients = IOX2SD_MAX_CLIENTS,
+    MaxBorrowedResponsesPerPendingResponse = IOX2SD_MAX_BORROWED_RESPONSES_PER_PENDING_RESPONSE,
+    MaxReaders = IOX2SD_MAX_READERS,
+    MaxWriters = IOX2SD_MAX_WRITERS,
+    MaxNodes = IOX2SD_MAX_NODES,
 };
 
 /// The first field of settings that is invalid: `UnknownStrategy`, or `BadDuration` of nanoseconds
-/// of 1,000,000,000 or more.
+/// of 1,000,000,000 or more. Or the first that is not what an opener requires: `Unmet`.
 struct SettingsError {
     Status status;
     SettingsField field;
@@ -1986,6 +2012,77 @@ struct BlackboardStaticConfig {
     template <class F>
     auto fields(F f) const noexcept { return f(max_readers, max_writers, max_nodes, type_details); }
 };
+
+namespace detail {
+
+/// What is fixed of a service, as the C header takes it.
+inline iox2sd_publish_subscribe_config
+config_of(const PublishSubscribeStaticConfig& fixed) noexcept {
+    return {fixed.max_subscribers,
+            fixed.max_publishers,
+            fixed.max_nodes,
+            fixed.history_size,
+            fixed.subscriber_max_buffer_size,
+            fixed.subscriber_max_borrowed_samples,
+            fixed.enable_safe_overflow};
+}
+inline iox2sd_event_config config_of(const EventStaticConfig& fixed) noexcept {
+    return {fixed.max_notifiers,
+            fixed.max_listeners,
+            fixed.max_nodes,
+            fixed.event_id_max_value,
+            as_c(fixed.deadline),
+            as_c(fixed.notifier_created_event),
+            as_c(fixed.notifier_dropped_event),
+            as_c(fixed.notifier_dead_event)};
+}
+inline iox2sd_request_response_config config_of(const RequestResponseStaticConfig& fixed) noexcept {
+    return {fixed.max_active_requests_per_client,
+            fixed.max_loaned_requests,
+            fixed.max_response_buffer_size,
+            fixed.max_servers,
+            fixed.max_clients,
+            fixed.max_nodes,
+            fixed.max_borrowed_responses_per_pending_response,
+            fixed.enable_safe_overflow_for_requests,
+            fixed.enable_safe_overflow_for_responses,
+            fixed.enable_fire_and_forget_requests};
+}
+inline iox2sd_blackboard_config config_of(const BlackboardStaticConfig& fixed) noexcept {
+    return {fixed.max_readers, fixed.max_writers, fixed.max_nodes};
+}
+
+/// Whether a service meets what an opener requires, by a call of the C header.
+template <class Fixed, class Call>
+Result<void, SettingsError> satisfies(const Fixed& service, const Fixed& required,
+                                      Call call) noexcept {
+    const auto has = config_of(service), wanted = config_of(required);
+    return valid(call(&has, &wanted));
+}
+
+}  // namespace detail
+
+/// Whether a service meets what an opener requires: each number is at least the required one, and
+/// each choice, each event and the deadline are the same. Types are not compared.
+/// Errors: `BadDuration` of a deadline; `Unmet`, with the first field that is not met, in the order
+/// of the fields.
+inline Result<void, SettingsError>
+satisfies(const PublishSubscribeStaticConfig& service,
+          const PublishSubscribeStaticConfig& required) noexcept {
+    return detail::satisfies(service, required, iox2sd_publish_subscribe_satisfies);
+}
+inline Result<void, SettingsError> satisfies(const EventStaticConfig& service,
+                                             const EventStaticConfig& required) noexcept {
+    return detail::satisfies(service, required, iox2sd_event_satisfies);
+}
+inline Result<void, SettingsError> satisfies(const RequestResponseStaticConfig& service,
+                                             const RequestResponseStaticConfig& required) noexcept {
+    return detail::satisfies(service, required, iox2sd_request_response_satisfies);
+}
+inline Result<void, SettingsError> satisfies(const BlackboardStaticConfig& service,
+                                             const BlackboardStaticConfig& required) noexcept {
+    return detail::satisfies(service, required, iox2sd_blackboard_satisfies);
+}
 
 /// The description of a service of one of the patterns.
 using MessagingPattern = std::variant<PublishSubscribeStaticConfig, EventStaticConfig,
@@ -2497,6 +2594,55 @@ inline Capacities capacities(const MessagingPattern& described) noexcept {
     const auto* board = std::get_if<BlackboardStaticConfig>(&described);
     return {board->max_nodes, board->max_readers, board->max_writers};
 }
+
+/// The capacities with which a service of these settings is made. A blackboard has one writer.
+inline Capacities capacities(const PublishSubscribeSettings& settings) noexcept {
+    const iox2sd_publish_subscribe_settings c = settings.as_c();
+    const iox2sd_publish_subscribe_capacities made =
+        iox2sd_publish_subscribe_capacities_of_settings(&c);
+    return {made.nodes, made.publishers, made.subscribers};
+}
+inline Capacities capacities(const EventSettings& settings) noexcept {
+    const iox2sd_event_settings c = settings.as_c();
+    const iox2sd_event_capacities made = iox2sd_event_capacities_of_settings(&c);
+    return {made.nodes, made.listeners, made.notifiers};
+}
+inline Capacities capacities(const RequestResponseSettings& settings) noexcept {
+    const iox2sd_request_response_settings c = settings.as_c();
+    const iox2sd_request_response_capacities made =
+        iox2sd_request_response_capacities_of_settings(&c);
+    return {made.nodes, made.servers, made.clients};
+}
+inline Capacities capacities(const BlackboardSettings& settings) noexcept {
+    const iox2sd_blackboard_settings c = settings.as_c();
+    const iox2sd_blackboard_capacities made = iox2sd_blackboard_capacities_of_settings(&c);
+    return {made.nodes, made.readers, made.writers};
+}
+
+/// Numbers for services, for a caller who has none: 1, 2, 3, .., each once, up to 2^64 - 1. Two
+/// objects return the same numbers, so one serves all services whose handles may meet.
+class ServiceNumbers {
+public:
+    ServiceNumbers() noexcept = default;
+    /// The numbers above this one.
+    explicit ServiceNumbers(std::uint64_t last) noexcept : numbers_{last} {}
+    ServiceNumbers(const ServiceNumbers&) = delete;
+    ServiceNumbers& operator=(const ServiceNumbers&) = delete;
+    ServiceNumbers(ServiceNumbers&&) noexcept = default;
+    ServiceNumbers& operator=(ServiceNumbers&&) noexcept = default;
+
+    /// The number that was returned last, or 0.
+    std::uint64_t last() const noexcept { return numbers_.last; }
+
+    /// The next number. Error: `OutOfSpace` after the greatest.
+    Result<std::uint64_t> next() noexcept {
+        const iox2sd_number_answer answer = iox2sd_next_service_number(&numbers_);
+        return detail::result(answer.status, answer.number);
+    }
+
+private:
+    iox2sd_service_numbers numbers_{};
+};
 
 /// The roles of the two kinds of ports of a pattern, that first which is recovered first.
 struct PortRoles {

@@ -27,6 +27,8 @@ extern "C" {
 #endif
 
 struct iox2sd_attribute;
+struct iox2sd_blackboard_capacities;
+struct iox2sd_blackboard_config;
 struct iox2sd_blackboard_settings;
 struct iox2sd_capacities;
 struct iox2sd_config;
@@ -37,6 +39,8 @@ struct iox2sd_conform_answer;
 struct iox2sd_count_answer;
 struct iox2sd_dead_node_removal;
 struct iox2sd_description;
+struct iox2sd_event_capacities;
+struct iox2sd_event_config;
 struct iox2sd_event_settings;
 struct iox2sd_field_answer;
 struct iox2sd_flag_answer;
@@ -54,11 +58,16 @@ struct iox2sd_place_answer;
 struct iox2sd_places_answer;
 struct iox2sd_port_answer;
 struct iox2sd_port_details;
+struct iox2sd_publish_subscribe_capacities;
+struct iox2sd_publish_subscribe_config;
 struct iox2sd_publish_subscribe_settings;
+struct iox2sd_request_response_capacities;
+struct iox2sd_request_response_config;
 struct iox2sd_request_response_settings;
 struct iox2sd_roles_answer;
 struct iox2sd_script_answer;
 struct iox2sd_service;
+struct iox2sd_service_numbers;
 struct iox2sd_text_answer;
 struct iox2sd_type_detail;
 struct iox2sd_unknown_answer;
@@ -68,6 +77,8 @@ struct iox2sd_unknown_key;
 struct iox2sd_text_answer iox2sd_status_text_at(uint32_t status, uint8_t *out, size_t capacity);
 struct iox2sd_text_answer iox2sd_id_text_at(struct iox2sd_id id, uint8_t *out, size_t capacity);
 struct iox2sd_id_answer iox2sd_id_from_text_at(const uint8_t *text, size_t length);
+struct iox2sd_number_answer iox2sd_next_service_number_at(struct iox2sd_service_numbers *numbers,
+                                                          size_t count);
 uint32_t iox2sd_service_create_at(struct iox2sd_service *places, size_t count, uint32_t pattern,
                                   uint64_t number, struct iox2sd_capacities capacities,
                                   uint64_t tickets);
@@ -181,6 +192,35 @@ iox2sd_event_settings_check_at(const struct iox2sd_event_settings *settings, siz
 struct iox2sd_field_answer
 iox2sd_request_response_settings_check_at(const struct iox2sd_request_response_settings *settings,
                                           size_t count);
+struct iox2sd_field_answer
+iox2sd_publish_subscribe_satisfies_at(const struct iox2sd_publish_subscribe_config *service,
+                                      size_t count,
+                                      const struct iox2sd_publish_subscribe_config *required,
+                                      size_t required_count);
+struct iox2sd_field_answer
+iox2sd_event_satisfies_at(const struct iox2sd_event_config *service, size_t count,
+                          const struct iox2sd_event_config *required,
+                          size_t required_count);
+struct iox2sd_field_answer
+iox2sd_request_response_satisfies_at(const struct iox2sd_request_response_config *service,
+                                     size_t count,
+                                     const struct iox2sd_request_response_config *required,
+                                     size_t required_count);
+struct iox2sd_field_answer
+iox2sd_blackboard_satisfies_at(const struct iox2sd_blackboard_config *service, size_t count,
+                               const struct iox2sd_blackboard_config *required,
+                               size_t required_count);
+struct iox2sd_publish_subscribe_capacities
+iox2sd_publish_subscribe_capacities_of_settings_at(
+    const struct iox2sd_publish_subscribe_settings *settings, size_t count);
+struct iox2sd_event_capacities
+iox2sd_event_capacities_of_settings_at(const struct iox2sd_event_settings *settings, size_t count);
+struct iox2sd_request_response_capacities
+iox2sd_request_response_capacities_of_settings_at(
+    const struct iox2sd_request_response_settings *settings, size_t count);
+struct iox2sd_blackboard_capacities
+iox2sd_blackboard_capacities_of_settings_at(const struct iox2sd_blackboard_settings *settings,
+                                            size_t count);
 struct iox2sd_field_answer
 iox2sd_describe_publish_subscribe_at(const struct iox2sd_publish_subscribe_settings *settings,
                                      size_t count, const uint8_t *name, size_t length,

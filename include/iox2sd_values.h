@@ -563,7 +563,7 @@ iox2sd_event_settings iox2sd_event_defaults(void);
 iox2sd_request_response_settings iox2sd_request_response_defaults(void);
 iox2sd_blackboard_settings iox2sd_blackboard_defaults(void);
 
-/* The fields of settings that may be invalid, as results name them. */
+/* The fields of settings and of what is fixed of a service, as results name them. */
 enum iox2sd_settings_field {
     IOX2SD_BACKPRESSURE_STRATEGY = 0, /* Of publish-subscribe; so is the next. */
     IOX2SD_PUBLISHER_ALLOCATION_STRATEGY = 1,
@@ -572,10 +572,35 @@ enum iox2sd_settings_field {
     IOX2SD_SERVER_BACKPRESSURE_STRATEGY = 4,
     IOX2SD_CLIENT_ALLOCATION_STRATEGY = 5,
     IOX2SD_SERVER_ALLOCATION_STRATEGY = 6,
-    IOX2SD_CREATION_TIMEOUT = 7 /* Of a system. */
+    IOX2SD_CREATION_TIMEOUT = 7, /* Of a system. */
+    /* What is fixed of a service, as iox2sd_event_satisfies and its like return it. */
+    IOX2SD_MAX_SUBSCRIBERS = 8,
+    IOX2SD_MAX_PUBLISHERS = 9,
+    IOX2SD_HISTORY_SIZE = 10,
+    IOX2SD_SUBSCRIBER_MAX_BUFFER_SIZE = 11,
+    IOX2SD_SUBSCRIBER_MAX_BORROWED_SAMPLES = 12,
+    IOX2SD_ENABLE_SAFE_OVERFLOW = 13,
+    IOX2SD_MAX_NOTIFIERS = 14,
+    IOX2SD_MAX_LISTENERS = 15,
+    IOX2SD_EVENT_ID_MAX_VALUE = 16,
+    IOX2SD_NOTIFIER_CREATED_EVENT = 17,
+    IOX2SD_NOTIFIER_DROPPED_EVENT = 18,
+    IOX2SD_NOTIFIER_DEAD_EVENT = 19,
+    IOX2SD_ENABLE_SAFE_OVERFLOW_FOR_REQUESTS = 20,
+    IOX2SD_ENABLE_SAFE_OVERFLOW_FOR_RESPONSES = 21,
+    IOX2SD_ENABLE_FIRE_AND_FORGET_REQUESTS = 22,
+    IOX2SD_MAX_ACTIVE_REQUESTS_PER_CLIENT = 23,
+    IOX2SD_MAX_LOANED_REQUESTS = 24,
+    IOX2SD_MAX_RESPONSE_BUFFER_SIZE = 25,
+    IOX2SD_MAX_SERVERS = 26,
+    IOX2SD_MAX_CLIENTS = 27,
+    IOX2SD_MAX_BORROWED_RESPONSES_PER_PENDING_RESPONSE = 28,
+    IOX2SD_MAX_READERS = 29,
+    IOX2SD_MAX_WRITERS = 30,
+    IOX2SD_MAX_NODES = 31
 };
 
-/* Which field of settings is invalid, and why. */
+/* Which field is invalid or is not met, and why. */
 typedef struct iox2sd_field_answer {
     uint32_t status;
     uint32_t field; /* 0 where the status has no field. */
@@ -600,6 +625,25 @@ iox2sd_event_settings_check(const iox2sd_event_settings *settings) {
 static inline iox2sd_field_answer
 iox2sd_request_response_settings_check(const iox2sd_request_response_settings *settings) {
     return iox2sd_request_response_settings_check_at(settings, settings != NULL);
+}
+
+/* The capacities with which a service of these settings is made; all 0 for NULL. A blackboard has
+ * one writer. */
+static inline iox2sd_publish_subscribe_capacities
+iox2sd_publish_subscribe_capacities_of_settings(const iox2sd_publish_subscribe_settings *settings) {
+    return iox2sd_publish_subscribe_capacities_of_settings_at(settings, settings != NULL);
+}
+static inline iox2sd_event_capacities
+iox2sd_event_capacities_of_settings(const iox2sd_event_settings *settings) {
+    return iox2sd_event_capacities_of_settings_at(settings, settings != NULL);
+}
+static inline iox2sd_request_response_capacities
+iox2sd_request_response_capacities_of_settings(const iox2sd_request_response_settings *settings) {
+    return iox2sd_request_response_capacities_of_settings_at(settings, settings != NULL);
+}
+static inline iox2sd_blackboard_capacities
+iox2sd_blackboard_capacities_of_settings(const iox2sd_blackboard_settings *settings) {
+    return iox2sd_blackboard_capacities_of_settings_at(settings, settings != NULL);
 }
 
 /* The texts of the configuration. */
@@ -825,6 +869,72 @@ iox2sd_capacities_of_description(const iox2sd_description *description) {
         default: break;
     }
     return made;
+}
+
+/* The same by the names of the pattern's ports, from what is fixed of a service; all 0 for NULL. */
+static inline iox2sd_publish_subscribe_capacities
+iox2sd_publish_subscribe_capacities_of_config(const iox2sd_publish_subscribe_config *config) {
+    iox2sd_publish_subscribe_capacities made = {0, 0, 0};
+    if (config == NULL) return made;
+    made.nodes = config->max_nodes;
+    made.publishers = config->max_publishers;
+    made.subscribers = config->max_subscribers;
+    return made;
+}
+static inline iox2sd_event_capacities
+iox2sd_event_capacities_of_config(const iox2sd_event_config *config) {
+    iox2sd_event_capacities made = {0, 0, 0};
+    if (config == NULL) return made;
+    made.nodes = config->max_nodes;
+    made.listeners = config->max_listeners;
+    made.notifiers = config->max_notifiers;
+    return made;
+}
+static inline iox2sd_request_response_capacities
+iox2sd_request_response_capacities_of_config(const iox2sd_request_response_config *config) {
+    iox2sd_request_response_capacities made = {0, 0, 0};
+    if (config == NULL) return made;
+    made.nodes = config->max_nodes;
+    made.servers = config->max_servers;
+    made.clients = config->max_clients;
+    return made;
+}
+static inline iox2sd_blackboard_capacities
+iox2sd_blackboard_capacities_of_config(const iox2sd_blackboard_config *config) {
+    iox2sd_blackboard_capacities made = {0, 0, 0};
+    if (config == NULL) return made;
+    made.nodes = config->max_nodes;
+    made.readers = config->max_readers;
+    made.writers = config->max_writers;
+    return made;
+}
+
+/* Whether what is fixed of a service meets what an opener requires: each number is at least the
+ * required one, and each choice, each event and the deadline are the same. Types and attributes are
+ * not compared: iox2sd_message_is_compatible_to and iox2sd_attributes_verify do that.
+ * Errors: IOX2SD_NULL; IOX2SD_BAD_DURATION with IOX2SD_DEADLINE, of nanoseconds of 1,000,000,000 or
+ * more, the service's before the opener's; IOX2SD_UNMET with the first field that is not met. The
+ * fields are compared in the order of the struct; of request-response, flags first. */
+static inline iox2sd_field_answer
+iox2sd_publish_subscribe_satisfies(const iox2sd_publish_subscribe_config *service,
+                                   const iox2sd_publish_subscribe_config *required) {
+    return iox2sd_publish_subscribe_satisfies_at(service, service != NULL, required,
+                                                 required != NULL);
+}
+static inline iox2sd_field_answer
+iox2sd_event_satisfies(const iox2sd_event_config *service, const iox2sd_event_config *required) {
+    return iox2sd_event_satisfies_at(service, service != NULL, required, required != NULL);
+}
+static inline iox2sd_field_answer
+iox2sd_request_response_satisfies(const iox2sd_request_response_config *service,
+                                  const iox2sd_request_response_config *required) {
+    return iox2sd_request_response_satisfies_at(service, service != NULL, required,
+                                                required != NULL);
+}
+static inline iox2sd_field_answer
+iox2sd_blackboard_satisfies(const iox2sd_blackboard_config *service,
+                            const iox2sd_blackboard_config *required) {
+    return iox2sd_blackboard_satisfies_at(service, service != NULL, required, required != NULL);
 }
 
 /* Whether two numbers are those of one messaging pattern, as those of two descriptions.

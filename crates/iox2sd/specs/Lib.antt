@@ -13,6 +13,7 @@ pub mod Numbers
 pub mod Finding
 pub mod Listings
 pub mod NodeListings
+pub mod ServiceNumbers
 -- Inner facts: what a slot owns.
 pub mod Slots
 pub mod Heap

@@ -9,3 +9,4 @@ pub mod handle;
 pub mod id;
 pub mod port;
 pub mod service;
+pub mod service_numbers;

@@ -105,6 +105,8 @@ pub enum Status {
     UnknownStrategy = 67,
     /// The nanoseconds beside the seconds are 1,000,000,000 or more.
     BadDuration = 68,
+    /// A setting of a service is not what an opener requires.
+    Unmet = 69,
     /// The text is no TOML.
     NotToml = 80,
     /// The value of a key is of another type than the one that is wanted.
@@ -191,6 +193,7 @@ impl Status {
             Status::BadLine => "a line of the script is not valid",
             Status::UnknownStrategy => "unknown strategy",
             Status::BadDuration => "the nanoseconds of a duration are a second or more",
+            Status::Unmet => "a setting is not what the opener requires",
             Status::NotToml => "not TOML",
             Status::WrongType => "a value of another type is wanted",
             Status::BelowZero => "the number is below 0",
@@ -260,6 +263,7 @@ pub fn status_of(number: u32) -> Option<Status>
         66 => Some(Status::BadLine),
         67 => Some(Status::UnknownStrategy),
         68 => Some(Status::BadDuration),
+        69 => Some(Status::Unmet),
         80 => Some(Status::NotToml),
         81 => Some(Status::WrongType),
         82 => Some(Status::BelowZero),

@@ -50,6 +50,7 @@ pub struct FieldAnswer {
     /// 0: `backpressure_strategy`. 1: `publisher_allocation_strategy`. 2: `deadline`.
     /// 3: `client_backpressure_strategy`. 4: `server_backpressure_strategy`.
     /// 5: `client_allocation_strategy`. 6: `server_allocation_strategy`. 7: `creation_timeout`.
+    /// From 8 on: what is fixed of a service, as `iox2sd_values` numbers it.
     pub field: u32,
 }
 

@@ -1,5 +1,6 @@
 -- Promises: what each export answers, and what the caller's memory holds then.
 pub mod Attributes
+pub mod Capacities
 pub mod Chunks
 pub mod Compatible
 pub mod Describe
@@ -11,6 +12,7 @@ pub mod Names
 pub mod Paths
 pub mod ReadSettings
 pub mod Requirements
+pub mod Satisfies
 pub mod Settings
 pub mod Texts
 -- Inner facts: which pair is wrong, and what a set lacks, as loops over the caller's arrays find it

@@ -2,6 +2,7 @@
 #![tactic(auto)]
 
 pub mod attributes;
+pub mod capacities;
 pub mod chunks;
 pub mod compatible;
 pub mod describe;
@@ -12,6 +13,7 @@ pub mod layout;
 pub mod names;
 pub mod paths;
 pub mod read_settings;
+pub mod satisfies;
 pub mod settings;
 pub mod texts;
 pub mod version;

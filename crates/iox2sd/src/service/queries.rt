@@ -46,7 +46,7 @@ struct Roles {
 
 impl NumberAnswer {
     /// The answer with a number, or why there is none.
-    fn of(asked: Result<u64, Status>) -> NumberAnswer
+    pub(crate) fn of(asked: Result<u64, Status>) -> NumberAnswer
         ensures { result ≡ number_answer asked }
     {
         match asked {
