@@ -553,6 +553,8 @@ static inline uint32_t iox2sd_release_port(iox2sd_service *service, iox2sd_handl
 /* Removes those ports of a dead node whose ids are not among `kept`, and returns how many it
  * removed. Where none of its ports is left, the node is removed too, with all its handles.
  * IOX2SD_DONE_LOCKED where the service is locked: it has no node any more.
+ * `kept` may be in any order. Sorted as by iox2sd_id_is_before it is fast: each port of the node is
+ * then searched for by halves, and otherwise one by one.
  * Errors: IOX2SD_NULL; IOX2SD_NO_SERVICE; IOX2SD_NO_NODE. */
 static inline iox2sd_dead_node_removal
 iox2sd_remove_dead_node_id(iox2sd_service *service, iox2sd_id dead, const iox2sd_id *kept,

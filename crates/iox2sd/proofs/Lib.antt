@@ -5,4 +5,5 @@ pub mod Roles
 pub mod Listings
 pub mod NodeListings
 pub mod Dying
+pub mod Keeping
 pub mod Lending

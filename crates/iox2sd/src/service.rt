@@ -7,6 +7,7 @@ ghost use Rattle.iox2sd.specs.Places.{IsSoundPlace, held};
 pub mod changes;
 pub mod death;
 pub mod finding;
+mod kept;
 pub mod listing;
 pub mod listing_of_node;
 pub mod making;

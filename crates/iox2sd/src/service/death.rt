@@ -2,12 +2,13 @@
 ghost use Rattle.std.specs.Prelude.{◌≡◌, ◌≤◌, All};
 ghost use Rattle.iox2_dynamic.specs.Steps.{DeadStep};
 ghost use Rattle.iox2sd.specs.Counts.{counted};
-ghost use Rattle.iox2sd.specs.Deaths.{is_kept, action_for, Keeps, Dies, Went};
+ghost use Rattle.iox2sd.specs.Deaths.{action_for, Keeps, Dies, Went};
 ghost use Rattle.iox2sd.specs.Deaths.{told_death, death_answer};
 ghost use Rattle.iox2sd.specs.Places.{IsSoundPlace, At, Nothing};
 ghost use Rattle.iox2sd.specs.declared.service.death.Death.TheVariants as death;
 
 use super::Service;
+use super::kept::Kept;
 use super::roles::Counts;
 use iox2_dynamic::dynamic_config::{DeregisterNodeState, DynamicConfig, PortCleanupAction};
 use iox2_ids::identifiers::{UniqueNodeId, UniquePortId};
@@ -60,18 +61,11 @@ impl DeathAnswer {
     }
 }
 
-/// Whether the number is that of one of these ids.
-fn is_kept(kept: &[Id], value: u128) -> bool
-    ensures { result ≡ is_kept kept.now value }
-{
-    kept.iter().any(|id| id.number() == value)
-}
-
 /// The answer on a port, where ports of these ids stay.
-fn answer(kept: &[Id], port: &UniquePortId) -> PortCleanupAction
+fn answer(kept: &Kept<'_>, port: &UniquePortId) -> PortCleanupAction
     ensures { result ≡ action_for kept.now port.now }
 {
-    if is_kept(kept, port.value()) {
+    if kept.has(port.value()) {
         PortCleanupAction::SkipPort
     } else {
         PortCleanupAction::RemovePort
@@ -82,6 +76,7 @@ fn answer(kept: &[Id], port: &UniquePortId) -> PortCleanupAction
 fn clean_up(service: &mut DynamicConfig, dead: &UniqueNodeId, kept: &[Id]) -> DeregisterNodeState
     ensures { DeadStep (Keeps kept.now) service.old tt dead.now result service.new tt }
 {
+    let kept = &Kept::of(kept);
     let mut answers = move |port: UniquePortId| -> PortCleanupAction
         ensures first { result ≡ action_for kept.entry.now port }
         ensures same { kept.exit.now ≡ kept.entry.now }

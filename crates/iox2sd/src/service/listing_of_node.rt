@@ -32,26 +32,28 @@ fn one_more(count: Option<usize>) -> Option<usize>
     }
 }
 
-/// Puts a port at this index, where there is one.
-fn put_at(out: &mut [Port], place: Option<usize>, port: Port)
-    ensures { PutsAt place port out.old out.new }
+/// Puts the port with these details at this index, where there is one.
+#[inline(always)]
+fn put_at(out: &mut [Port], place: Option<usize>, details: &PortDetails)
+    ensures { PutsAt place (told_port details.now) out.old out.new }
 {
     if let Some(place) = place {
         if place < out.len() {
-            out[place] = port;
+            out[place] = Port::of(details);
         }
     }
 }
 
-/// Puts a port that is to be listed behind those that were put before, as far as the array goes,
-/// and counts it.
-fn note(is_its: bool, out: &mut [Port], count: &mut Option<usize>, port: Port)
-    ensures { Notes is_its (out.old, count.old) port (out.new, count.new) }
+/// Puts the port with these details, if it is to be listed, behind those that were put before, as
+/// far as the array goes, and counts it.
+#[inline(always)]
+fn note(is_its: bool, out: &mut [Port], count: &mut Option<usize>, details: &PortDetails)
+    ensures { Notes is_its (out.old, count.old) (told_port details.now) (out.new, count.new) }
 {
     if !is_its {
         return;
     }
-    put_at(out, *count, port);
+    put_at(out, *count, details);
     *count = one_more(*count);
 }
 
@@ -77,7 +79,7 @@ fn note_ports(
         ensures same_count { count.exit.ghost_name ≡ count.entry.ghost_name }
         ensures goes_on { result ≡ CallbackProgression.Continue }
     {
-        note(details.node_id() == *node, out, count, Port::of(details));
+        note(details.node_id() == *node, out, count, details);
         CallbackProgression::Continue
     };
     service.list_ports(role, &mut show);

@@ -1,4 +1,4 @@
-use Rattle.std.proofs.Common.{◌≡◌, rules, refl}
+use Rattle.std.proofs.Common.{◌≡◌, rules}
 use Rattle.iox2sd.specs.Deaths.{Keeps}
 use Rattle.iox2_dynamic.proofs.Recoveries.{DeadStep-called}
 use Rattle.iox2sd.proofs.service.death.clean_up.Goals as goal
@@ -8,4 +8,4 @@ returns c =
     (DeadStep-called _ (Keeps c.args.kept.now) (λ _. tt)
     (λ s. s.0.now ≡ c.args.kept.now) c.args.service.now _ c.args.dead.now
     c.remove_dead_node_id.result c.remove_dead_node_id.new.self c.remove_dead_node_id.new.f
-    c.remove_dead_node_id.ensures.step refl (λ f x r h i e. search rules)).0
+    c.remove_dead_node_id.ensures.step c.of.ensures (λ f x r h i e. search rules)).0
