@@ -1,5 +1,5 @@
 -- Lines of lists, written by a callback as it is shown the items.
-use Rattle.std.proofs.Common.{◌≡◌, ℕ, ◌≤◌, Bool, true, false, Some, Result, Ok, Err, List, [], ◌∷◌, ◌++◌, codes, length, take, refl, sym, ◌∙◌, ap, subst, inl, inr, arith, append_assoc, length-append}
+use Rattle.std.proofs.Common.{◌≡◌, ℕ, ◌≤◌, Bool, true, false, Some, Result, Ok, Err, List, [], ◌∷◌, ◌++◌, codes, length, map, take, refl, sym, ◌∙◌, ap, subst, inl, inr, arith, append_assoc, length-append}
 use Rattle.std.specs.Prelude.{if◌then◌else◌, is_ok, OnOk, OnErr}
 use Rattle.std.specs.Global.{Vec}
 use Rattle.std.specs.List.{flat_map}
@@ -10,14 +10,17 @@ use Rattle.iox2_texts.specs.Attribute.{Visits}
 use Rattle.iox2_texts.specs.declared.bounded.callback_progression.CallbackProgression.{CallbackProgression}
 use Rattle.iox2_texts.specs.declared.bounded.callback_progression.CallbackProgression.TheVariants.{Continue, Stop}
 use Rattle.iox2_container.specs.declared.container.role.Role.{Role}
+use Rattle.iox2_container.specs.ContainerState.{ContainerState}
+use Rattle.iox2_container.specs.Mapped.{container_as, entry_as}
+use Rattle.iox2_container.specs.State.{Entry}
 use Rattle.iox2_container.specs.Steps.{Visit, listed}
 use Rattle.iox2_dynamic.specs.declared.dynamic_config.port_details.PortDetails.{PortDetails}
 use Rattle.iox2_dynamic.specs.Details.{port_of}
-use Rattle.iox2_dynamic.specs.Ports.{ListsIn, OfRole}
-use Rattle.iox2_dynamic.specs.Service.{HasRole, Service, first_role, second_role}
+use Rattle.iox2_dynamic.specs.Service.{Service}
 use Rattle.service_descriptions.specs.declared.replay.machine.line_answer.LineAnswer.TheVariants as answer
 use Rattle.service_descriptions.specs.declared.replay.machine.reply.Reply.TheVariants as reply
-use Rattle.service_descriptions.specs.LineAnswers.{PutsAll, PutsPorts, PutsWord, WritesLine, Written}
+use Rattle.service_descriptions.specs.LineAnswers.{IsRoleOf, PutsText, PutsWord, WritesLine, Written, kind_text, ports_text}
+use Rattle.service_descriptions.specs.Listings.{LacksRole}
 use Rattle.service_descriptions.specs.Replies.{id_word, port_word}
 use Rattle.service_descriptions.proofs.Appending.{front_stays}
 
@@ -43,7 +46,7 @@ err_so (Err why) P Q so p = so p
 -- the words of all items, where each was appended in turn
 puts_all : {A : Type 0} (word : A → List ℕ) (before : Written) (items : List A) (after : Written)
     → Visits (λ b x r a. PutsWord (word x) b r a) before items after
-    → PutsAll word items before after
+    → PutsText (flat_map word items) before after
 puts_all word before [] after end ok = (
   subst (λ r. OnOk r (after.0 ≡ before.0 ++ [])) (sym (ap (λ p. p.1) end ∙ ok))
       (ap (λ p. p.0) end ∙ sym (append-nil before.0)),
@@ -79,35 +82,32 @@ module _ {F T : Type 0} (calls : F → T → CallbackProgression → F → Type 
       (rest.0 ∙ s.0, rest.1 ∙ s.1, inr (k goes.0, s.2, rest.2))
 
   pub all_put : (f : F) (items : List T) (h : F) → Visit calls f items h
-      → (name h ≡ name f) × (refused h ≡ refused f) × PutsAll word items (k f) (k h)
+      → (name h ≡ name f) × (refused h ≡ refused f) × PutsText (flat_map word items) (k f) (k h)
   all_put f items h visit = let v = visits_put f items h visit.visits in
       (v.0, v.1, puts_all word (k f) items (k h) v.2)
 
--- the same for the ports of a role that the pattern has
-pub ports_put : {F : Type 0} (calls : F → PortDetails → CallbackProgression → F → Type 0)
-    (k : F → Written) (name refused : F → ℕ)
-    → ((f : F) (x : PortDetails) (r : CallbackProgression) (h : F) → calls f x r h
-    → (name h ≡ name f) × (refused h ≡ refused f) × PutsWord (port_word x) (k f) r (k h))
-    → (s : Service) (role : Role) → HasRole s.pattern role → (f : F) (has : Bool) (h : F)
-    → ListsIn calls (first_role s.pattern) (second_role s.pattern) s.ports role f has h
-    → (name h ≡ name f) × (refused h ≡ refused f) × PutsPorts s role (k f) (k h)
-ports_put calls k name refused step s role (inl is) f false h (neither, same) =
-    absurd (neither.0 is)
-ports_put calls k name refused step s role (inr is) f false h (neither, same) =
-    absurd (neither.1 is)
-ports_put calls k name refused step s role has f true h (inl (is, visit)) =
+-- the words of ports of one kind are those of ports of any kind
+words_as : {T : Type 0} (details : T → PortDetails) (es : List (Entry T))
+    → flat_map (λ x. port_word (details x)) (map (λ e. e.details) es)
+    ≡ flat_map port_word (map (λ e. e.details) (map (entry_as details) es))
+words_as details [] = refl
+words_as details (e ∷ es) = ap (λ l. port_word (details e.details) ++ l) (words_as details es)
+
+-- the same for the ports of one kind, with the details of their own
+pub kind_put : {F T : Type 0} (details : T → PortDetails)
+    (calls : F → T → CallbackProgression → F → Type 0) (k : F → Written) (name refused : F → ℕ)
+    → ((f : F) (x : T) (r : CallbackProgression) (h : F) → calls f x r h
+    → (name h ≡ name f) × (refused h ≡ refused f) × PutsWord (port_word (details x)) (k f) r (k h))
+    → (ports : ContainerState T) (f h : F) → Visit calls f (listed ports.registry) h
+    → (name h ≡ name f) × (refused h ≡ refused f)
+    × PutsText (ports_text (container_as details ports)) (k f) (k h)
+kind_put details calls k name refused step ports f h visit =
     let all =
-    all_put calls k name refused port_word step f (listed s.ports.first.registry) h visit in (
+    all_put calls k name refused (λ x. port_word (details x)) step f (listed ports.registry) h visit
+    in (
       all.0,
       all.1,
-      λ ok. let puts = all.2 ok in (ok_so (k h).1 _ _ (λ e. inl (is, e)) puts.0, puts.1),
-    )
-ports_put calls k name refused step s role has f true h (inr (is, visit)) =
-    let all =
-    all_put calls k name refused port_word step f (listed s.ports.second.registry) h visit in (
-      all.0,
-      all.1,
-      λ ok. let puts = all.2 ok in (ok_so (k h).1 _ _ (λ e. inr (is, e)) puts.0, puts.1),
+      subst (λ l. PutsText l (k f) (k h)) (words_as details ports.registry.entries) all.2,
     )
 
 -- no fewer bytes than items
@@ -165,31 +165,30 @@ nodes_line s before mid text out begins is ends =
     (reply.Nodes (list_of out ids fits), refl, line)
 
 -- the line of the ports of a role
-pub ports_line : (s : Service) (role : Role) (before mid text : List ℕ) (out : Vec ℕ)
-    → mid ≡ before ++ codes "list"
-    → OfRole (λ r end. end ≡ mid ++ flat_map port_word (listed r)) (first_role s.pattern)
-    (second_role s.pattern) s.ports role (Some text)
-    → out.items ≡ text ++ 10 ∷ [] → WritesLine s (answer.Ports role) before out.items
-ports_line s role before mid text out begins (inl (is_role, is)) ends =
+pub ports_line : (s : Service) (role : Role) (is_first : Bool) → IsRoleOf s.pattern role is_first
+    → (before mid text : List ℕ) (out : Vec ℕ) → mid ≡ before ++ codes "list"
+    → text ≡ mid ++ kind_text is_first s.ports → out.items ≡ text ++ 10 ∷ []
+    → WritesLine s (answer.Ports role) before out.items
+ports_line s role true of before mid text out begins is ends =
     let ports = listed s.ports.first.registry in
     let line = whole before mid text (flat_map port_word ports) out.items begins is ends in
     let fits =
     fits_in before (flat_map port_word ports) out.items (length ports) line
     (words_longer (λ d. port_value (port_of d)) ports) in
-    (reply.Ports (list_of out ports fits), inl (is_role, refl), line)
-ports_line s role before mid text out begins (inr (is_role, is)) ends =
+    (reply.Ports (list_of out ports fits), inl (of, refl), line)
+ports_line s role false of before mid text out begins is ends =
     let ports = listed s.ports.second.registry in
     let line = whole before mid text (flat_map port_word ports) out.items begins is ends in
     let fits =
     fits_in before (flat_map port_word ports) out.items (length ports) line
     (words_longer (λ d. port_value (port_of d)) ports) in
-    (reply.Ports (list_of out ports fits), inr (is_role, refl), line)
+    (reply.Ports (list_of out ports fits), inr (of, refl), line)
 
 -- the line that says that the pattern lacks the role
 pub lacks_line : (s : Service) (role : Role) (before line : List ℕ) (r : Refusal)
-    → ¬ (HasRole s.pattern role)
+    → LacksRole s role
     → line ≡ (if is_ok r then before ++ codes "wrong-pattern\n" else before)
     → OnOk r (WritesLine s (answer.Ports role) before line)
 lacks_line s role before line (Ok done) lacks is =
-    (reply.WrongPattern, (λ e. lacks (inl e), λ e. lacks (inr e)), is)
+    (reply.WrongPattern, lacks, is)
 lacks_line s role before line (Err why) lacks is = tt

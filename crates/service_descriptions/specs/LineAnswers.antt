@@ -1,13 +1,16 @@
 -- What answers commands that have a line, and how the lines of lists grow.
-use Rattle.std.specs.Prelude.{◌≡◌, ℕ, List, ◌++◌, Option, Some, None, Result, Ok, OnOk, OnErr, length, take}
+use Rattle.std.specs.Prelude.{◌≡◌, ℕ, Bool, true, false, List, ◌++◌, Option, None, Result, Ok, OnOk, OnErr, length, take}
 use Rattle.std.specs.List.{flat_map}
 use Rattle.std.specs.declared.alloc.AllocError.{AllocError}
 use Rattle.iox2_texts.specs.declared.bounded.callback_progression.CallbackProgression.{CallbackProgression}
 use Rattle.iox2_texts.specs.declared.bounded.callback_progression.CallbackProgression.TheVariants.{Continue, Stop}
+use Rattle.iox2_config.specs.declared.hash.input.PatternKind.{PatternKind}
 use Rattle.iox2_container.specs.declared.container.role.Role.{Role}
+use Rattle.iox2_container.specs.ContainerState.{ContainerState}
 use Rattle.iox2_container.specs.Handle.{Handle}
 use Rattle.iox2_container.specs.Steps.{listed}
-use Rattle.iox2_dynamic.specs.Ports.{OfRole}
+use Rattle.iox2_dynamic.specs.declared.dynamic_config.port_details.PortDetails.{PortDetails}
+use Rattle.iox2_dynamic.specs.Ports.{Ports}
 use Rattle.iox2_dynamic.specs.Service.{Service, first_role, second_role}
 use Rattle.iox2_static.specs.Description.{Description}
 use Rattle.service_descriptions.specs.declared.replay.machine.command.Command.{Command}
@@ -57,17 +60,22 @@ PutsWord word before Continue after = (after.0 ≡ before.0 ++ word) × (after.1
 PutsWord word before Stop after =
     (take (length before.0) after.0 ≡ before.0) × OnOk after.1 ⊥
 
--- the words of all items were appended; or memory was refused, and a part of them may have been
-abbrev pub PutsAll : {A : Type 0} → (A → List ℕ) → List A → Written → Written → Type 0
-PutsAll word items before after =
-    before.1 ≡ Ok tt → OnOk after.1 (after.0 ≡ before.0 ++ flat_map word items)
+-- a text was appended; or memory was refused, and a part of it may have been
+abbrev pub PutsText : List ℕ → Written → Written → Type 0
+PutsText text before after =
+    before.1 ≡ Ok tt → OnOk after.1 (after.0 ≡ before.0 ++ text)
     × OnErr after.1 (take (length before.0) after.0 ≡ before.0)
 
--- the same of the ports of a role
-abbrev pub PutsPorts : Service → Role → Written → Written → Type 0
-PutsPorts s role before after =
-    before.1 ≡ Ok tt
-    → OnOk after.1
-    (OfRole (λ r text. text ≡ before.0 ++ flat_map port_word (listed r)) (first_role s.pattern)
-    (second_role s.pattern) s.ports role (Some after.0))
-    × OnErr after.1 (take (length before.0) after.0 ≡ before.0)
+-- the words of some ports, by rising slot
+abbrev pub ports_text : ContainerState PortDetails → List ℕ
+ports_text ports = flat_map port_word (listed ports.registry)
+
+-- those of the first kind, or those of the second
+abbrev pub kind_text : Bool → Ports → List ℕ
+kind_text true ports = ports_text ports.first
+kind_text false ports = ports_text ports.second
+
+-- the role is that of the ports of the first kind, or of those of the second
+abbrev pub IsRoleOf : PatternKind → Role → Bool → Type 0
+IsRoleOf pattern role true = role ≡ first_role pattern
+IsRoleOf pattern role false = role ≡ second_role pattern

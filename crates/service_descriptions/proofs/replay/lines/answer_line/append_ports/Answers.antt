@@ -2,16 +2,16 @@ use Rattle.std.proofs.Common.{rules}
 use Rattle.service_descriptions.proofs.Listings.{lacks_line, ports_line}
 use Rattle.service_descriptions.proofs.replay.lines.answer_line.append_ports.Goals as goal
 
-pub returns-then-not-has_role-clause-ok : goal.returns-then-not-has_role-clause-ok
-returns-then-not-has_role-clause-ok c =
+pub returns-in_default-clause-ok : goal.returns-in_default-clause-ok
+returns-in_default-clause-ok c =
     lacks_line c.args.service.now c.args.role c.args.out.now.items
-    c.extend_from_slice.new.self.items c.extend_from_slice.result (λ has. search (rules, has))
-    c.extend_from_slice.ensures.items
+    c.extend_from_slice.new.self.items c.extend_from_slice.result
+    c.in_default.ensures.none c.extend_from_slice.ensures.items
 
 pub returns-clause-ok : goal.returns-clause-ok
 returns-clause-ok c =
     let line =
-    ports_line c.args.service.now c.args.role c.args.out.now.items
-    c.extend_from_slice-2.new.self.items c.put_ports.new.out.items
+    ports_line c.args.service.now c.args.role c.in-Some.is_first c.in-Some.ensures.some
+    c.args.out.now.items c.extend_from_slice-2.new.self.items c.put_ports.new.out.items
     c.extend_from_slice-3.new.self in
     search (rules, line)
