@@ -29,7 +29,7 @@ impl<T: Copy, N: Copy> Places<T, N> {
         ensures cell { slice_get (map shown self.now.cells) slot ≡ Some result }
         ensures looks { looks.new.touches.count ≡ looks.old.touches.count + 1 }
     {
-        self.look(slot, looks).occupant()
+        self.peek_counted(slot, looks).occupant()
     }
 }
 

@@ -96,7 +96,7 @@ impl<C: Copy> Slots<C> {
     }
 
     /// The cell in a slot, for calls of a container that change nothing. This is a look.
-    pub(crate) fn look(&self, index: usize, looks: &mut Looks) -> C
+    pub(crate) fn peek_counted(&self, index: usize, looks: &mut Looks) -> C
         requires { index < length self.now.cells }
         ensures cell { slice_get self.now.cells index ≡ Some result }
         ensures looks { looks.new.touches.count ≡ looks.old.touches.count + 1 }

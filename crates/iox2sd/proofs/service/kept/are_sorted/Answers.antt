@@ -7,4 +7,5 @@ use Rattle.iox2sd.proofs.service.kept.are_sorted.Goals as goal
 pub returns : goal.returns
 returns c =
     sorted_from_adjacent c.args.ids.now c.is_sorted_by_key.result
-    (c.is_sorted_by_key.ensures.cases number_of (answers_always _ _ _ (λ f a r g called. search rules)))
+    (c.is_sorted_by_key.ensures.cases number_of
+    (answers_always _ _ _ (λ f a r g called. search rules)))
