@@ -13,10 +13,11 @@ use std::io::{Read, Write};
 /// How the program is used.
 pub(crate) const HELP: &str = "usage: iox2-conform [--help | --version] < LOG
 
-Reads the log of one service from standard input: the line of the service, and then commands of
-scripts, each followed by a line that begins with `= ` and has the reply that was seen. Writes
-whether the replies are those of a run of the proved machine. If not, it writes the first reply that
-no run gives, every reply that a run gives in its place, and who was attached then.
+Reads the log of services from standard input: the line of a service, and then commands of scripts,
+each followed by a line that begins with `= ` and has the reply that was seen. Where there are
+several services, `7: ` before a command names the one with the number 7. Writes whether the replies
+are those of runs of the proved machine. If not, it writes the first reply that no run gives, every
+reply that a run gives in its place, and who was attached then.
 
   --help     write this text and read nothing
   --version  write the version and read nothing

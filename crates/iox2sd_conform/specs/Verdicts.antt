@@ -20,19 +20,19 @@ expected_status expected.Reply = status.NoReplyLine
 
 -- the status of a verdict
 abbrev pub verdict_status : Verdict → Status
-verdict_status (verdict.Conforms n) = status.Done
+verdict_status (verdict.Conforms n m) = status.Done
 verdict_status (verdict.NoRun told) = status.NoRun
 verdict_status (verdict.BadLine k e) = expected_status e
 
 -- the number of the reported line, or 0
 abbrev pub reported_line : Verdict → ℕ
-reported_line (verdict.Conforms n) = 0
+reported_line (verdict.Conforms n m) = 0
 reported_line (verdict.NoRun told) = told.line
 reported_line (verdict.BadLine k e) = k
 
 -- how many calls conform, or 0 where the log does not
 abbrev pub conforming_calls : Verdict → ℕ
-conforming_calls (verdict.Conforms n) = n
+conforming_calls (verdict.Conforms n m) = n
 conforming_calls (verdict.NoRun told) = 0
 conforming_calls (verdict.BadLine k e) = 0
 

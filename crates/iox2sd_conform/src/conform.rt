@@ -30,7 +30,7 @@ fn verdict_status(verdict: &Verdict) -> Status
     ensures { result ≡ verdict_status verdict.now }
 {
     match verdict {
-        Verdict::Conforms(_) => Status::Done,
+        Verdict::Conforms(_, _) => Status::Done,
         Verdict::NoRun(_) => Status::NoRun,
         Verdict::BadLine(_, Expected::Service) => Status::NoServiceLine,
         Verdict::BadLine(_, Expected::Command) => Status::NoCommandLine,
@@ -43,7 +43,7 @@ fn reported_line(verdict: &Verdict) -> usize
     ensures { result ≡ reported_line verdict.now }
 {
     match verdict {
-        Verdict::Conforms(_) => 0,
+        Verdict::Conforms(_, _) => 0,
         Verdict::NoRun(told) => told.line,
         Verdict::BadLine(line, _) => *line,
     }
@@ -54,7 +54,7 @@ fn conforming_calls(verdict: &Verdict) -> usize
     ensures { result ≡ conforming_calls verdict.now }
 {
     match verdict {
-        Verdict::Conforms(calls) => *calls,
+        Verdict::Conforms(calls, _) => *calls,
         _ => 0,
     }
 }

@@ -86,6 +86,10 @@ fn verdicts(rt: HostRuntime) {
                 "",
             ),
         ),
+        (
+            "service event 7 2 0 1\nservice event 8 2 0 1\n",
+            (0, "conforms, 0 calls on 2 services\n", ""),
+        ),
         ("", (2, "", "line 1: the line of a service is expected\n")),
         (
             "service event 7 2 0 1\nnode\n",

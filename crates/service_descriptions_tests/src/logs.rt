@@ -31,10 +31,10 @@ const OTHERS: [&str; 20] = [
     "",
 ];
 
-/// What a verdict says: its name, a number, and what is expected.
+/// What a verdict says: its name, its numbers, and what is expected.
 #[derive(Clone, Copy, Debug, PartialEq, Eq)]
 enum Said {
-    Conforms(usize),
+    Conforms(usize, usize),
     NoRun(usize),
     BadLine(usize, Expected),
 }
@@ -42,7 +42,7 @@ enum Said {
 /// The verdict on a log.
 fn verdict_on(alloc: Global, log: &[u8]) -> Result<Said, AllocError> {
     Ok(match check_log(alloc, log)? {
-        Verdict::Conforms(calls) => Said::Conforms(calls),
+        Verdict::Conforms(calls, services) => Said::Conforms(calls, services),
         Verdict::NoRun(told) => Said::NoRun(told.line),
         Verdict::BadLine(line, expected) => Said::BadLine(line, expected),
     })
@@ -75,7 +75,7 @@ fn worked_scripts_conform(rt: HostRuntime) -> Result<(), Fail> {
         let calls = row.1.split_terminator('\n').count();
         assert_eq!(rt;
             verdict_on(rt.alloc(), log.as_bytes())?,
-            Said::Conforms(calls)
+            Said::Conforms(calls, 1)
         );
     }
     Ok(())
@@ -113,7 +113,7 @@ fn cut_at(bytes: &[u8]) -> Said {
     match (lines, lines % 2) {
         (0, _) => Said::BadLine(1, Expected::Service),
         (_, 0) => Said::BadLine(lines + 1, Expected::Reply),
-        _ if whole => Said::Conforms(lines / 2),
+        _ if whole => Said::Conforms(lines / 2, 1),
         _ => Said::BadLine(lines + 1, Expected::Command),
     }
 }
@@ -134,7 +134,7 @@ fn notes_and_other_slots(rt: HostRuntime) -> Result<(), Fail> {
     let rows = [
         (
             "#\n\nservice event 7 2 2 2\n# a\nregister 1.0.0.1\n\n#\n= handle 1 0\n\n",
-            Said::Conforms(1),
+            Said::Conforms(1, 1),
         ),
         (
             "service event 7 2 2 2\nregister 1.0.0.1\n= handle 1 0\nregister 2.0.0.2\n= handle 1 1\n",
@@ -165,5 +165,61 @@ fn notes_and_other_slots(rt: HostRuntime) -> Result<(), Fail> {
             (log, wanted)
         );
     }
+    Ok(())
+}
+
+/// Calls on two services stand between each other, and handles are those of the own service.
+const BOTH: &str =
+    "service event 7 1 1 0\nregister 1.0.0.1\n= handle 0 0\nservice event 8 2 0 1\n8: register 1.0.0.1\n= handle 1 0\n7: add listener 1.0.0.2 1.0.0.1\n= handle 0 0\n8: deregister 0\n= no-owners\n";
+
+/// The verdict on a log of two services that goes on so.
+fn verdict_after(alloc: Global, rest: &str) -> Result<Said, AllocError> {
+    let mut log = String::from_str(alloc, BOTH)?;
+    log.push_str(rest)?;
+    verdict_on(alloc, log.as_bytes())
+}
+
+#[test]
+fn services_are_told_by_their_numbers(rt: HostRuntime) -> Result<(), Fail> {
+    let rows = [
+        ("", Said::Conforms(4, 2)),
+        (
+            "# a\n\n7: nodes\n= list 1000000000000000000000001\n",
+            Said::Conforms(5, 2),
+        ),
+        // A command is numbered among those on its service.
+        ("7: release 1\n= released\n", Said::Conforms(5, 2)),
+        ("8: release 1\n= released\n", Said::NoRun(12)),
+        (
+            "8: register 1.0.0.1\n= locked\nservice event 9 1 0 0\n",
+            Said::Conforms(5, 3),
+        ),
+        ("7: register 1.0.0.1\n= locked\n", Said::NoRun(12)),
+        // Without a name, with that of no service, and with one that is spelled otherwise.
+        ("nodes\n= list\n", Said::BadLine(11, Expected::Command)),
+        ("9: nodes\n= list\n", Said::BadLine(11, Expected::Command)),
+        ("08: nodes\n= list\n", Said::BadLine(11, Expected::Command)),
+        ("8 : nodes\n= list\n", Said::BadLine(11, Expected::Command)),
+        ("8:nodes\n= list\n", Said::BadLine(11, Expected::Command)),
+        ("8: \n= list\n", Said::BadLine(11, Expected::Command)),
+        (
+            "7: service event 9 1 0 0\n",
+            Said::BadLine(11, Expected::Command),
+        ),
+        // A number is that of one service.
+        (
+            "service blackboard 8 1 0 0\n",
+            Said::BadLine(11, Expected::Command),
+        ),
+        ("8: nodes\n8: = list\n", Said::BadLine(12, Expected::Reply)),
+    ];
+    for (rest, wanted) in rows {
+        assert_eq!(rt; (rest, verdict_after(rt.alloc(), rest)?), (rest, wanted));
+    }
+    let one = "service event 7 1 0 0\n7: nodes\n= list\nnodes\n= list\n";
+    assert_eq!(rt;
+        verdict_on(rt.alloc(), one.as_bytes())?,
+        Said::Conforms(2, 1)
+    );
     Ok(())
 }

@@ -1,6 +1,5 @@
--- Logs, line by line.
+-- Lines and runs of logs.
 use Rattle.std.proofs.Common.{◌≡◌, ◌≢◌, ℕ, ◌+◌, ◌<◌, ◌≤◌, List, [], ◌∷◌, ◌++◌, length, map, refl, sym, ◌∙◌, ap, subst, arith, append_assoc, length-append}
-use Rattle.std.specs.List.{AllByRecursion}
 use Rattle.std.proofs.ByRecursion.{All-push}
 use Rattle.std.proofs.lemmas.Grind.{flat_map-append}
 use Rattle.std.proofs.lemmas.List.{append-nil, map-append}
@@ -12,12 +11,9 @@ use Rattle.service_descriptions.specs.Replies.{text_of}
 use Rattle.service_descriptions.specs.Steps.{State, ServiceStep, Run}
 use Rattle.service_descriptions.proofs.Runs.{run_more}
 use Rattle.service_descriptions.proofs.Scripts.{shorter}
-use Rattle.service_logs.specs.declared.logs.verdict.Expected.TheVariants as expected
 use Rattle.service_logs.specs.declared.logs.verdict.Refusal.{Refusal}
-use Rattle.service_logs.specs.declared.logs.verdict.Verdict.{Verdict}
-use Rattle.service_logs.specs.declared.logs.verdict.Verdict.TheVariants as verdict
-use Rattle.service_logs.specs.Fronts.{HasCall, HasNotes, IsAfterNote, IsTold, LacksCall}
-use Rattle.service_logs.specs.Logs.{Call, CallsEnd, FirstIsNot, HasCalls, IsCall, IsNote, IsRefusal, LogRun, call_lines, calls_lines, reply_seen, text_of_lines, with_newline}
+use Rattle.service_logs.specs.Fronts.{HasCall, HasNotes, IsAfterNote, IsTold}
+use Rattle.service_logs.specs.Logs.{Call, FirstIsNot, IsNote, IsRefusal, LogRun, call_lines, reply_seen, text_of_lines}
 use Rattle.service_conformance.specs.Quiet.{quiet_state}
 use Rattle.service_conformance.specs.Words.{WordsStep}
 use Rattle.service_conformance.proofs.Quiet.{step_quiet}
@@ -50,20 +46,6 @@ pub notes_shorter : (lines rest more : List ℕ) (n : ℕ) → n + length rest �
     → IsAfterNote rest more → n + 1 + length more ≤ length lines
 notes_shorter lines rest more n so after =
     let less : length more < length rest = shorter after.note more rest after.spelled in omega arith
-
--- the parts of a log's head
-pub head_spelled : (notes below : List (List ℕ)) (line log a b rest : List ℕ)
-    → log ≡ text_of_lines notes ++ a → a ≡ line ++ 10 ∷ b → b ≡ text_of_lines below ++ rest
-    → log ≡ text_of_lines (notes ++ line ∷ below) ++ rest
-head_spelled notes below line log a b rest e f g =
-    simp (flat_map-append, append_assoc)
-    (e ∙ ap (λ (xs : List ℕ). text_of_lines notes ++ xs)
-    (f ∙ ap (λ (xs : List ℕ). line ++ 10 ∷ xs) g))
-
-pub head_counted : (notes below : List (List ℕ)) (line : List ℕ)
-    → length (notes ++ line ∷ below) ≡ length notes + length below + 1
-head_counted notes below line =
-    let both = length-append notes (line ∷ below) in omega (arith, both)
 
 -- the four parts of a call
 pub call_spelled : (call : Call) (whole a b c rest : List ℕ)
@@ -126,17 +108,10 @@ run_apart old new (d ∷ calls) call (r ∷ rs) s e =
       rest.2,
     )
 
--- so many first calls are explained, and the rest is left
-pub record Explained (first : State) (above : ℕ) (lines : List ℕ) (at count : ℕ) (rest : List ℕ)
-    (state : State) : Type 0 where
-  pub calls : List Call
-  pub are_calls : AllByRecursion IsCall calls
-  pub spelled : lines ≡ text_of_lines (calls_lines calls) ++ rest
-  pub run : LogRun first calls state
-  pub alone : (other : State) → LogRun first calls other → quiet_state other ≡ quiet_state state
-  pub counted : count ≡ length calls
-  pub placed : at ≡ above + length (calls_lines calls)
-  pub ends : FirstIsNot IsNote rest
+-- a run explains the calls, and leads to this state alone, but for touches
+pub record Stands (first : State) (calls : List Call) (s : State) : Type 0 where
+  pub run : LogRun first calls s
+  pub alone : (other : State) → LogRun first calls other → quiet_state other ≡ quiet_state s
 
 only_none : (first other : State) → LogRun first [] other → quiet_state other ≡ quiet_state first
 only_none first other so = by_replies so.replies so.run
@@ -145,27 +120,19 @@ only_none first other so = by_replies so.replies so.run
     by_replies [] e = ap quiet_state e
     by_replies (r ∷ rs) e = absurd e
 
-pub explained_none : (first : State) (above : ℕ) (lines : List ℕ) → FirstIsNot IsNote lines
-    → Explained first above lines above 0 lines first
-explained_none first above lines ends = record {
-  calls = [];
-  are_calls = tt;
-  spelled = refl;
+pub stands_none : (first : State) → Stands first [] first
+stands_none first = record {
   run = record { replies = []; seen = refl; run = refl };
   alone = only_none first;
-  counted = refl;
-  placed = omega arith;
-  ends = ends;
 }
 
-module _ (first : State) (above : ℕ) (lines : List ℕ) (at count : ℕ) (rest : List ℕ) (s : State)
-    (so : Explained first above lines at count rest s) where
+module _ (first : State) (calls : List Call) (s : State) (so : Stands first calls s) where
   -- a step from the state that each run leads to, seen so
-  seen_step : (call : Call) (new : State) → quiet_state s ≡ s
-      → LogRun first (so.calls ++ call ∷ []) new
+  pub seen_step : (call : Call) (new : State) → quiet_state s ≡ s
+      → LogRun first (calls ++ call ∷ []) new
       → WordsStep s call.command call.words (quiet_state new)
   seen_step call new q j =
-      let last = run_apart first new so.calls call j.replies j.run j.seen in
+      let last = run_apart first new calls call j.replies j.run j.seen in
       let step = last.2 in (
         step.0,
         step.1,
@@ -174,52 +141,23 @@ module _ (first : State) (above : ℕ) (lines : List ℕ) (at count : ℕ) (rest
             (step_quiet last.0 new call.command step.0 step.2),
       )
 
-  pub explained_more : (k : ℕ) (after : List ℕ) (new : State) → HasCall s rest k after new
-      → Explained first above lines (at + k) (count + 1) after new
-  explained_more k after new has =
-      let call = has.call in
-      let split : calls_lines (so.calls ++ call ∷ [])
-      ≡ calls_lines so.calls ++ call_lines call =
-      flat_map-append call_lines so.calls (call ∷ [])
-      ∙ ap (λ (l : List (List ℕ)). calls_lines so.calls ++ l) (append-nil (call_lines call)) in
-      let more : length (calls_lines (so.calls ++ call ∷ []))
-      ≡ length (calls_lines so.calls) + length (call_lines call) =
-      ap length split ∙ length-append (calls_lines so.calls) (call_lines call) in
-      record {
-        calls = so.calls ++ call ∷ [];
-        are_calls = All-push IsCall so.calls call so.are_calls has.is_call;
-        spelled = so.spelled
-            ∙ (ap (λ (xs : List ℕ). text_of_lines (calls_lines so.calls) ++ xs) has.spelled
-            ∙ sym (ap (λ (ls : List (List ℕ)). text_of_lines ls ++ after) split
-            ∙ (ap (λ (xs : List ℕ). xs ++ after)
-            (flat_map-append with_newline (calls_lines so.calls) (call_lines call))
-            ∙ append_assoc (text_of_lines (calls_lines so.calls))
-            (text_of_lines (call_lines call)) after)));
-        run = log_run_more first s new so.calls call so.run has.follows.0;
-        alone = λ other j. ap quiet_state
-            (has.follows.1 (quiet_state other) (seen_step call other has.rests j));
-        counted = ap (λ (n : ℕ). n + 1) so.counted ∙ sym (length-append so.calls (call ∷ []));
-        placed = omega (arith, so.placed, has.counted, more);
-        ends = has.ends;
-      }
-
-  has_calls : HasCalls first lines so.calls rest
-  has_calls = record {
-    are_calls = so.are_calls;
-    spelled = so.spelled;
-    last = s;
-    run = so.run;
+  pub stands_more : (lines rest : List ℕ) (k : ℕ) (new : State) (has : HasCall s lines k rest new)
+      → Stands first (calls ++ has.call ∷ []) new
+  stands_more lines rest k new has = record {
+    run = log_run_more first s new calls has.call so.run has.follows.0;
+    alone = λ other j. ap quiet_state
+        (has.follows.1 (quiet_state other) (seen_step has.call other has.rests j));
   }
 
-  refused : (call : Call) (told : Refusal) → quiet_state s ≡ s
-      → IsTold s call.command call.words told → IsRefusal first so.calls call told
+  pub refused : (call : Call) (told : Refusal) → quiet_state s ≡ s
+      → IsTold s call.command call.words told → IsRefusal first calls call told
   refused call told q is = record {
     words = is.words_are;
     possible = λ words. (
       λ a.
           let step = (is.possible words).0 a in (
             step.0,
-            log_run_more first s step.0 so.calls (record call { words = words }) so.run
+            log_run_more first s step.0 calls (record call { words = words }) so.run
                 step.1,
           ),
       λ j. (is.possible words).1
@@ -230,35 +168,3 @@ module _ (first : State) (above : ℕ) (lines : List ℕ) (at count : ℕ) (rest
     nodes = is.nodes;
     ports = is.ports;
   }
-
-  pub explained_end : rest ≡ [] → CallsEnd first above lines (verdict.Conforms count)
-  explained_end e = (so.calls, subst (HasCalls first lines so.calls) e has_calls, so.counted)
-
-  pub explained_stop : (v : Verdict) → rest ≢ [] → LacksCall s at rest v
-      → CallsEnd first above lines v
-  explained_stop (verdict.Conforms n) some lacks = absurd lacks
-  explained_stop (verdict.NoRun told) some lacks = (
-    so.calls,
-    lacks.0,
-    lacks.1,
-    lacks.2,
-    subst (HasCalls first lines so.calls) lacks.3 has_calls,
-    omega (arith, lacks.4, so.placed),
-    λ last j. lacks.6 (quiet_state last) (seen_step lacks.0 last lacks.5 j),
-    refused lacks.0 told lacks.5 lacks.7,
-  )
-  explained_stop (verdict.BadLine k expected.Service) some lacks = absurd lacks
-  explained_stop (verdict.BadLine k expected.Command) some lacks =
-      (so.calls, rest, has_calls, some, so.ends, lacks.0, omega (arith, lacks.1, so.placed))
-  explained_stop (verdict.BadLine k expected.Reply) some lacks = (
-    so.calls,
-    lacks.0,
-    lacks.1,
-    lacks.2,
-    lacks.3,
-    lacks.4,
-    subst (HasCalls first lines so.calls) lacks.5 has_calls,
-    lacks.6,
-    lacks.7,
-    omega (arith, lacks.8, so.placed),
-  )

@@ -1,2 +1,5 @@
 pub mod Judging
+pub mod NextLines
+pub mod Parts
 pub mod Reports
+pub mod ServiceChecks

@@ -1,5 +1,6 @@
 -- Promises: what a log is and is judged to be, and what is written of it.
 pub mod Logs
 pub mod Reports
--- Inner facts: what begins the lines of a log.
+-- Inner facts: what begins the lines of a log, and the checks of its services.
 pub mod Fronts
+pub mod Services

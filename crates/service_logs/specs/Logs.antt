@@ -1,5 +1,6 @@
 -- What a log is, and what it is judged to be.
-use Rattle.std.specs.Prelude.{◌≡◌, ◌≢◌, ◌↔◌, ◌==◌, ℕ, ◌+◌, Bool, true, IsTrue, List, [], ◌∷◌, ◌++◌, codes, length, map, ◌⊎◌}
+use Rattle.std.specs.Prelude.{◌≡◌, ◌≢◌, ◌↔◌, ◌==◌, ℕ, ◌+◌, ◌<◌, Bool, true, IsTrue, List, [], ◌∷◌, ◌++◌, All, Contains, codes, length, map, ◌⊎◌, Option, Some, None}
+use Rattle.std.specs.Fmt.{decimal}
 use Rattle.std.specs.List.{flat_map, AllByRecursion}
 use Rattle.iox2_container.specs.Steps.{listed}
 use Rattle.line_streams.specs.Spelling.{HasNo}
@@ -68,23 +69,11 @@ abbrev pub call_lines : Call → List (List ℕ)
 call_lines call =
     line_of call.command ∷ (call.between ++ reply_seen call.words ∷ call.below)
 
--- the lines of calls
-abbrev pub calls_lines : List Call → List (List ℕ)
-calls_lines calls = flat_map call_lines calls
-
 -- there are replies with the words that were seen, and they are a run of the commands
 pub record LogRun (first : State) (calls : List Call) (last : State) : Type 0 where
   pub replies : List Reply
   pub seen : map text_of replies ≡ map (λ (c : Call). c.words) calls
   pub run : Run first (map (λ (c : Call). c.command) calls) replies last
-
--- calls that a run explains begin the lines, and the rest follows them
-pub record HasCalls (first : State) (lines : List ℕ) (calls : List Call)
-    (rest : List ℕ) : Type 0 where
-  pub are_calls : AllByRecursion IsCall calls
-  pub spelled : lines ≡ text_of_lines (calls_lines calls) ++ rest
-  pub last : State
-  pub run : LogRun first calls last
 
 -- What is told of a reply that no run gives, where these calls were before: its words, exactly the
 -- replies that a run gives in its place, and who is attached then.
@@ -99,57 +88,115 @@ pub record IsRefusal (first : State) (calls : List Call) (call : Call) (told : R
     pub ports : told.ports.items
         ≡ listed now.service.ports.first.registry ++ listed now.service.ports.second.registry
 
--- The lines after those of a service may be judged so, where so many are above them.
--- Conforms: they are calls, so many, that a run explains.
--- NoRun: a run explains some first calls, and none explains them and the next one; the reply to it
--- stands in the line that is told.
--- BadLine: a run explains some first calls. Line k is no note, and no command's line where the next
--- call would begin, or no reply's line after a command.
-abbrev pub CallsEnd : State → ℕ → List ℕ → Verdict → Type 0
-CallsEnd first above lines (verdict.Conforms n) =
-    (calls : List Call) × HasCalls first lines calls [] × (n ≡ length calls)
-CallsEnd first above lines (verdict.NoRun told) =
-    (calls : List Call) × (call : Call) × (rest : List ℕ) × IsCall call
-    × HasCalls first lines calls (text_of_lines (call_lines call) ++ rest)
-    × (told.line ≡ above + length (calls_lines calls) + length call.between + 2)
-    × ((last : State) → ¬ (LogRun first (calls ++ call ∷ []) last))
-    × IsRefusal first calls call told
-CallsEnd first above lines (verdict.BadLine k expected.Command) =
-    (calls : List Call) × (rest : List ℕ) × HasCalls first lines calls rest × (rest ≢ [])
-    × FirstIsNot IsNote rest × FirstIsNot IsCommandLine rest
-    × (k ≡ above + length (calls_lines calls) + 1)
-CallsEnd first above lines (verdict.BadLine k expected.Reply) =
-    (calls : List Call) × (command : Command) × (notes : List (List ℕ)) × (rest : List ℕ)
-    × HasLine command × AllByRecursion IsNote notes
-    × HasCalls first lines calls (line_of command ++ 10 ∷ (text_of_lines notes ++ rest))
-    × FirstIsNot IsNote rest × FirstIsNot IsReplyLine rest
-    × (k ≡ above + length (calls_lines calls) + length notes + 2)
-CallsEnd first above lines (verdict.BadLine k expected.Service) = ⊥
+-- a service of a log, with its calls
+pub record LogService : Type 0 where
+  pub line : ServiceLine
+  pub calls : List Call
 
--- the log begins with notes, the line of a service and notes, and these lines follow
-pub record HasHead (log : List ℕ) (service : ServiceLine) (above : ℕ)
-    (lines : List ℕ) : Type 0 where
-  pub is_service : IsServiceLine service
-  pub notes : List (List ℕ)
-  pub are_notes : AllByRecursion IsNote notes
-  pub below : List (List ℕ)
-  pub are_below : AllByRecursion IsNote below
-  pub spelled : log ≡ text_of_lines (notes ++ service_line service ∷ below) ++ lines
-  pub counted : above ≡ length (notes ++ service_line service ∷ below)
-  pub ends : FirstIsNot IsNote lines
+-- no service has this number
+abbrev pub IsNew : ℕ → List LogService → Type 0
+IsNew number services = All (λ (s : LogService). s.line.number ≢ number) services
 
--- the log begins with notes, and line k follows them, which is no service's
-abbrev pub LacksService : List ℕ → Verdict → Type 0
-LacksService log (verdict.BadLine k expected.Service) =
-    (notes : List (List ℕ)) × (rest : List ℕ) × AllByRecursion IsNote notes
-    × (log ≡ text_of_lines notes ++ rest) × FirstIsNot IsNote rest
-    × ((service : ServiceLine) (lines : List ℕ) → IsServiceLine service
-    → rest ≢ service_line service ++ 10 ∷ lines) × (k ≡ length notes + 1)
-LacksService log _ = ⊥
+-- the number of a service before a command on it
+abbrev pub number_text : ℕ → List ℕ
+number_text number = decimal number ++ codes ": "
 
--- the log may be judged so
-abbrev pub Judged : List ℕ → Verdict → Type 0
-Judged log end =
-    LacksService log end
-    ⊎ ((service : ServiceLine) × (above : ℕ) × (lines : List ℕ) × HasHead log service above lines
-    × CallsEnd (first_state service) above lines end)
+-- what stands before a command: nothing, or the number of its service
+abbrev pub name_text : Option ℕ → List ℕ
+name_text None = []
+name_text (Some number) = number_text number
+
+-- with this before a command, it is one on that service: its number, or nothing where there is no
+-- other service
+abbrev pub IsNamed : Option ℕ → List LogService → LogService → Type 0
+IsNamed None services named = services ≡ named ∷ []
+IsNamed (Some number) services named = Contains services named × (named.line.number ≡ number)
+
+-- the text of a call with what stands before it
+abbrev pub call_text : Option ℕ → Call → List ℕ
+call_text name call = name_text name ++ text_of_lines (call_lines call)
+
+-- the service with one more call
+abbrev pub with_call : LogService → Call → LogService
+with_call named call = record named { calls = named.calls ++ call ∷ [] }
+
+-- The text, of so many lines, is a log of these services, each with its calls: notes, then the
+-- lines of services, each with a number of its own, and calls on those above, with notes below
+-- each.
+pub data IsLog : List ℕ → ℕ → List LogService → Type 0 where
+  log_begins : (notes : List (List ℕ)) → AllByRecursion IsNote notes
+      → IsLog (text_of_lines notes) (length notes) []
+  log_service : (text : List ℕ) (count : ℕ) (services : List LogService) → IsLog text count services
+      → (line : ServiceLine) → IsServiceLine line → IsNew line.number services
+      → (below : List (List ℕ)) → AllByRecursion IsNote below
+      → IsLog (text ++ text_of_lines (service_line line ∷ below))
+      (count + length (service_line line ∷ below))
+      (services ++ record { line = line; calls = [] } ∷ [])
+  log_call : (text : List ℕ) (count : ℕ) (front : List LogService) (named : LogService)
+      (back : List LogService) → IsLog text count (front ++ named ∷ back)
+      → (name : Option ℕ) → IsNamed name (front ++ named ∷ back) named
+      → (call : Call) → IsCall call
+      → IsLog (text ++ call_text name call) (count + length (call_lines call))
+      (front ++ with_call named call ∷ back)
+
+-- of each service a run explains the calls
+abbrev pub AreRuns : List LogService → Type 0
+AreRuns services =
+    AllByRecursion (λ (s : LogService). (last : State) × LogRun (first_state s.line) s.calls last)
+    services
+
+-- these services, of each of which a run explains the calls, have so many lines at the front of the
+-- log, and the rest follows them
+pub record HasLog (log : List ℕ) (count : ℕ) (services : List LogService)
+    (rest : List ℕ) : Type 0 where
+  pub text : List ℕ
+  pub is_log : IsLog text count services
+  pub spelled : log ≡ text ++ rest
+  pub runs : AreRuns services
+
+-- how many calls the services have
+abbrev pub calls_in : List LogService → ℕ
+calls_in services = length (flat_map (λ (s : LogService). s.calls) services)
+
+-- a line that may be the next one: that of a service with a number of its own, or of a command on
+-- a service above
+abbrev pub IsNext : List LogService → List ℕ → Type 0
+IsNext services line =
+    ((service : ServiceLine) × IsServiceLine service × IsNew service.number services
+    × (line ≡ service_line service))
+    ⊎ ((name : Option ℕ) × (named : LogService) × IsNamed name services named
+    × (command : Command) × HasLine command
+    × (line ≡ name_text name ++ line_of command))
+
+-- The log may be judged so.
+-- Conforms: it is one of so many calls on so many services, and of each a run explains the calls.
+-- NoRun: it is so up to a call, and no run explains the calls on its service and this one; the
+-- reply to it stands in the line that is told.
+-- BadLine: it is so up to line k, which is no note. Where there is a service above, k may not be
+-- the next line, or it is no reply's line after a command; else it is no service's line.
+unfoldable pub Judged : List ℕ → Verdict → Type 0
+Judged log (verdict.Conforms n m) =
+    (count : ℕ) × (services : List LogService) × HasLog log count services []
+    × (n ≡ calls_in services) × (m ≡ length services) × (0 < m)
+Judged log (verdict.NoRun told) =
+    (count : ℕ) × (services : List LogService) × (named : LogService) × (name : Option ℕ)
+    × (call : Call) × (rest : List ℕ) × IsNamed name services named
+    × IsCall call × HasLog log count services (call_text name call ++ rest)
+    × (told.line ≡ count + length call.between + 2)
+    × ((last : State) → ¬ (LogRun (first_state named.line) (named.calls ++ call ∷ []) last))
+    × IsRefusal (first_state named.line) named.calls call told
+Judged log (verdict.BadLine k expected.Service) =
+    (count : ℕ) × (rest : List ℕ) × HasLog log count [] rest × FirstIsNot IsNote rest
+    × FirstIsNot (IsNext []) rest × (k ≡ count + 1)
+Judged log (verdict.BadLine k expected.Command) =
+    (count : ℕ) × (services : List LogService) × (rest : List ℕ) × HasLog log count services rest
+    × (services ≢ []) × (rest ≢ []) × FirstIsNot IsNote rest × FirstIsNot (IsNext services) rest
+    × (k ≡ count + 1)
+Judged log (verdict.BadLine k expected.Reply) =
+    (count : ℕ) × (services : List LogService) × (named : LogService) × (name : Option ℕ)
+    × (command : Command) × (notes : List (List ℕ)) × (rest : List ℕ)
+    × IsNamed name services named × HasLine command
+    × AllByRecursion IsNote notes
+    × HasLog log count services
+    (name_text name ++ (line_of command ++ 10 ∷ (text_of_lines notes ++ rest)))
+    × FirstIsNot IsNote rest × FirstIsNot IsReplyLine rest × (k ≡ count + length notes + 2)

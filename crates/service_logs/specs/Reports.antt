@@ -1,5 +1,5 @@
 -- What is written of a verdict.
-use Rattle.std.specs.Prelude.{◌≡◌, ℕ, List, [], ◌∷◌, ◌++◌, codes, Option}
+use Rattle.std.specs.Prelude.{◌≡◌, ◌==◌, ℕ, if◌then◌else◌, List, [], ◌∷◌, ◌++◌, codes, Option}
 use Rattle.std.specs.Fmt.{decimal}
 use Rattle.std.specs.Io.KnownBytes.{Appends}
 use Rattle.std.specs.List.{flat_map}
@@ -49,13 +49,19 @@ expected_text expected.Service = codes ": the line of a service is expected" ++ 
 expected_text expected.Command = codes ": the line of a command is expected" ++ 10 ∷ []
 expected_text expected.Reply = codes ": the line of a reply is expected" ++ 10 ∷ []
 
--- the line of calls that conform
-abbrev pub conforms_text : ℕ → List ℕ
-conforms_text n = (codes "conforms, " ++ decimal n) ++ (codes " calls on 1 service" ++ 10 ∷ [])
+-- the last word of the line of calls that conform, on so many services
+abbrev pub services_text : ℕ → List ℕ
+services_text n = if n == 1 then codes " service" else codes " services"
+
+-- the line of so many calls that conform, on so many services
+abbrev pub conforms_text : ℕ → ℕ → List ℕ
+conforms_text n m =
+    (codes "conforms, " ++ decimal n)
+    ++ ((codes " calls on " ++ decimal m) ++ (services_text m ++ 10 ∷ []))
 
 -- the text of a verdict
 abbrev pub report_text : Verdict → List ℕ
-report_text (verdict.Conforms n) = conforms_text n
+report_text (verdict.Conforms n m) = conforms_text n m
 report_text (verdict.NoRun told) = seen_text told ++ there_text told
 report_text (verdict.BadLine k e) = (codes "line " ++ decimal k) ++ expected_text e
 
@@ -71,7 +77,7 @@ errors_text v = []
 
 -- the status of the program
 abbrev pub status_of : Verdict → ℕ
-status_of (verdict.Conforms n) = 0
+status_of (verdict.Conforms n m) = 0
 status_of (verdict.NoRun told) = 1
 status_of (verdict.BadLine k e) = 2
 

@@ -2,7 +2,7 @@
 ghost use Rattle.std.specs.Prelude.{◌≡◌, ◌++◌, OnOk, decimal};
 ghost use Rattle.std.specs.List.{flat_map};
 ghost use Rattle.service_logs.specs.Reports.{conforms_text, expected_text, next_text, possible_text, report_text};
-ghost use Rattle.service_logs.specs.Reports.{seen_text, slot_word, there_text};
+ghost use Rattle.service_logs.specs.Reports.{seen_text, services_text, slot_word, there_text};
 ghost use Rattle.service_descriptions.specs.Replies.{id_word, port_word, text_of};
 
 use super::verdict::{Expected, Refusal, Verdict};
@@ -145,12 +145,25 @@ fn expected_text(expected: Expected) -> &'static [u8]
     }
 }
 
-/// Appends that so many calls conform.
-fn append_conforms(calls: usize, out: &mut Vec<u8>) -> Result<(), AllocError>
-    ensures { OnOk result (out.new.items ≡ out.old.items ++ conforms_text calls) }
+/// The last word of the report on calls that conform.
+fn services_text(services: usize) -> &'static [u8]
+    ensures { result.now ≡ services_text services }
+{
+    if services == 1 {
+        b" service"
+    } else {
+        b" services"
+    }
+}
+
+/// Appends that so many calls conform, on so many services.
+fn append_conforms(calls: usize, services: usize, out: &mut Vec<u8>) -> Result<(), AllocError>
+    ensures { OnOk result (out.new.items ≡ out.old.items ++ conforms_text calls services) }
 {
     append_number(b"conforms, ", calls as u64, out)?;
-    out.extend_from_slice(b" calls on 1 service\n")?;
+    append_number(b" calls on ", services as u64, out)?;
+    out.extend_from_slice(services_text(services))?;
+    out.push(b'\n')?;
     Ok(())
 }
 
@@ -159,7 +172,7 @@ pub(super) fn append_report(verdict: &Verdict, out: &mut Vec<u8>) -> Result<(), 
     ensures { OnOk result (out.new.items ≡ out.old.items ++ report_text verdict.now) }
 {
     match verdict {
-        Verdict::Conforms(calls) => append_conforms(*calls, out),
+        Verdict::Conforms(calls, services) => append_conforms(*calls, *services, out),
         Verdict::NoRun(told) => append_refusal(told, out),
         Verdict::BadLine(line, expected) => {
             append_number(b"line ", *line as u64, out)?;

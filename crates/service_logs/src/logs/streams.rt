@@ -15,7 +15,7 @@ fn status(verdict: &Verdict) -> u8
     ensures { result ≡ status_of verdict.now }
 {
     match verdict {
-        Verdict::Conforms(_) => 0,
+        Verdict::Conforms(_, _) => 0,
         Verdict::NoRun(_) => 1,
         Verdict::BadLine(_, _) => 2,
     }
@@ -36,7 +36,7 @@ fn report<W: Write, E: Write>(
 {
     match verdict {
         Verdict::BadLine(_, _) => write_whole(errors, text)?,
-        Verdict::Conforms(_) => write_whole(output, text)?,
+        Verdict::Conforms(_, _) => write_whole(output, text)?,
         Verdict::NoRun(_) => write_whole(output, text)?,
     }
     output.flush()?;
@@ -75,7 +75,7 @@ fn run<R: Read, W: Write, E: Write>(
 
 /// Judges the log that the reader gives, and answers the status of the program.
 ///
-/// - 0: the replies are those of a run. `conforms, N calls on 1 service` was written to `output`.
+/// - 0: the replies are those of runs. `conforms, N calls on M services` was written to `output`.
 /// - 1: they are none. The first that no run gives was written to `output`: its line, its words,
 ///   every reply that a run gives instead, and the nodes and ports that are there then.
 /// - 2: a line is not what it should be. Which one, and what is expected, was written to `errors`.

@@ -33,11 +33,11 @@ pub struct Refusal {
 /// What a log is judged to be. Lines are numbered from 1.
 #[derive(Debug, Drop)]
 pub enum Verdict {
-    /// All replies, so many, are those of a run.
-    Conforms(usize),
-    /// The replies before this one are those of a run, and no run goes on with it.
+    /// All replies are those of runs: so many calls, on so many services.
+    Conforms(usize, usize),
+    /// The replies before this one are those of runs, and no run goes on with it.
     NoRun(Refusal),
-    /// The replies before the line of this number are those of a run, and the line is not what
+    /// The replies before the line of this number are those of runs, and the line is not what
     /// it should be, or has no newline, or the log ends before it.
     BadLine(usize, Expected),
 }

@@ -1,0 +1,148 @@
+-- Which line may come next.
+use Rattle.std.proofs.Common.{◌≡◌, ◌≢◌, ℕ, ◌<◌, ◌≤◌, ◌^◌, inl, inr, List, [], ◌∷◌, ◌++◌, codes, decimal, length, get_or, Option, Some, None, refl, sym, ◌∙◌, ap, subst, arith, append_assoc, length-append, lit<}
+use Rattle.std.proofs.lemmas.Fmt.{decimal_nonempty}
+use Rattle.std.proofs.lemmas.List.{append_cancel_left, get_or_append_left}
+use Rattle.std.proofs.lemmas.Option.{slice_get_within}
+use Rattle.std.proofs.lemmas.List.Elements.{All-contains}
+use Rattle.line_streams.specs.Numerals.{decimal_first, same_number}
+use Rattle.line_streams.specs.Spelling.{EndsNumber, HasNo}
+use Rattle.service_descriptions.specs.declared.replay.lines.service_line.ServiceLine.{ServiceLine}
+use Rattle.service_descriptions.specs.declared.replay.machine.command.Cleanup.TheVariants.{ByPort}
+use Rattle.service_descriptions.specs.declared.replay.machine.command.Command.{Command}
+use Rattle.service_descriptions.specs.declared.replay.machine.command.Command.TheVariants as command
+use Rattle.service_descriptions.specs.Lines.{HasLine, line_of}
+use Rattle.service_descriptions.specs.Script.{IsServiceLine, service_line}
+use Rattle.service_logs.specs.declared.logs.services.NamedCheck.{NamedCheck}
+use Rattle.service_logs.specs.Logs.{FirstIsNot, IsCommandLine, IsNamed, IsNew, IsNext, LogService, name_text, number_text}
+use Rattle.service_logs.specs.Services.{LacksName, LacksNumber, NamesCheck}
+use Rattle.service_logs.proofs.ServiceChecks.{AreChecksOf, all_back, all_fit, all_new, same_length}
+
+abbrev first_byte : List ℕ → ℕ
+first_byte bytes = get_or bytes 0 0
+
+command_first : (c : Command) (x : List ℕ) → HasLine c
+    → (96 < first_byte (line_of c ++ x)) × (first_byte (line_of c ++ x) < 115)
+command_first (command.Register id) x p = (lit< tt, lit< tt)
+command_first (command.Deregister k) x p = (lit< tt, lit< tt)
+command_first command.Nodes x p = (lit< tt, lit< tt)
+command_first (command.Add d) x p = (lit< tt, lit< tt)
+command_first (command.Release k) x p = (lit< tt, lit< tt)
+command_first (command.List r) x p = (lit< tt, lit< tt)
+command_first (command.Count r) x p = (lit< tt, lit< tt)
+command_first (command.Dead id (ByPort kept)) x p = (lit< tt, lit< tt)
+command_first _ x p = absurd p
+
+number_first : (n : ℕ) (x : List ℕ) → n < 2 ^ 64 → first_byte (number_text n ++ x) < 58
+number_first n x fits =
+    let digit = decimal_first n fits in
+    let same : first_byte (number_text n ++ x) ≡ get_or (decimal n) 0 0 =
+    ap first_byte (append_assoc (decimal n) (codes ": ") x)
+    ∙ get_or_append_left (decimal n) (codes ": " ++ x) 0 0 (decimal_nonempty n fits) in
+    omega (arith, same, digit.1)
+
+one_number : (m n : ℕ) (x y : List ℕ) → m < 2 ^ 64 → n < 2 ^ 64
+    → number_text m ++ x ≡ number_text n ++ y → (m ≡ n) × (x ≡ y)
+one_number m n x y p q e =
+    let colon : (z : List ℕ) → EndsNumber (codes ": " ++ z) = λ z digit. omega arith in
+    let same = same_number m n (codes ": " ++ x) (codes ": " ++ y) p q (colon x) (colon y)
+    (sym (append_assoc (decimal m) (codes ": ") x) ∙ e ∙ append_assoc (decimal n) (codes ": ") y) in
+    (same.0, append_cancel_left (codes ": ") x y same.1)
+
+-- what a next line of a call would be, where it is none
+abbrev pub NoCall : List LogService → List ℕ → Type 0
+NoCall ss bytes =
+    (name : Option ℕ) (named : LogService) (command : Command) (rest : List ℕ)
+    → IsNamed name ss named → HasLine command → HasNo 10 (line_of command)
+    → bytes ≢ name_text name ++ (line_of command ++ 10 ∷ rest)
+
+pub not_next : (ss : List LogService) (bytes : List ℕ)
+    → ((line : ServiceLine) (rest : List ℕ) → IsServiceLine line → IsNew line.number ss
+    → bytes ≢ service_line line ++ 10 ∷ rest)
+    → NoCall ss bytes → FirstIsNot (IsNext ss) bytes
+not_next ss bytes no_service no_call line rest whole e (inl (service, is, new, f)) =
+    no_service service rest is new (e ∙ ap (λ (l : List ℕ). l ++ 10 ∷ rest) f)
+not_next ss bytes no_service no_call line rest whole e (inr (name, named, is, command, has, f)) =
+    no_call name named command rest is has
+    (all_back (λ b. b ≢ 10) (name_text name) (line_of command) (subst (HasNo 10) f whole))
+    (e ∙ (ap (λ (l : List ℕ). l ++ 10 ∷ rest) f
+    ∙ append_assoc (name_text name) (line_of command) (10 ∷ rest)))
+
+pub nothing : {A : Type 0} (l : List A) → length l ≡ 0 → l ≡ []
+nothing [] e = refl
+nothing (x ∷ l) e = absurd (omega (arith, e))
+
+-- the index is one of the checks, and what follows the name is no longer
+pub names_fit : (cs : List NamedCheck) (lines after : List ℕ) (at : ℕ)
+    → NamesCheck cs lines at after
+    → (at < length cs) × (length after ≤ length lines)
+names_fit cs lines after at (inl (number, fits, (c, there, is), e)) =
+    let both = length-append (number_text number) after in
+    let same = ap length e in (slice_get_within cs at c there, omega (arith, both, same))
+names_fit cs lines after at (inr (none, one, first, e)) =
+    let same = ap length e in (omega (arith, one, first), omega (arith, same))
+
+module _ (ss : List LogService) (cs : List NamedCheck) (p : AreChecksOf ss cs) where
+  fits_of : (n : ℕ) (named : LogService) → IsNamed (Some n) ss named → n < 2 ^ 64
+  fits_of n named is = subst (λ m. m < 2 ^ 64) is.1
+      (All-contains (λ (s : LogService). s.line.number < 2 ^ 64) ss named (all_fit ss cs p) is.0)
+
+  -- a service's line is no call's
+  pub service_no_call : (service : ServiceLine) (bytes rest : List ℕ)
+      → bytes ≡ service_line service ++ 10 ∷ rest → NoCall ss bytes
+  service_no_call service bytes rest e None named command tail is has whole f =
+      let first : first_byte bytes ≡ 115 = ap first_byte e in
+      let letter = command_first command (10 ∷ tail) has in
+      let same = ap first_byte f in omega (arith, first, letter.0, letter.1, same)
+  service_no_call service bytes rest e (Some n) named command tail is has whole f =
+      let first : first_byte bytes ≡ 115 = ap first_byte e in
+      let digit = number_first n (line_of command ++ 10 ∷ tail) (fits_of n named is) in
+      let same = ap first_byte f in omega (arith, first, digit, same)
+
+  -- a line with a number is the call of that number alone
+  number_no_call : (number : ℕ) (bytes after : List ℕ) → number < 2 ^ 64
+      → bytes ≡ number_text number ++ after
+      → ((named : LogService) (command : Command) (rest : List ℕ) → IsNamed (Some number) ss named
+      → HasLine command → HasNo 10 (line_of command) → after ≢ line_of command ++ 10 ∷ rest)
+      → NoCall ss bytes
+  number_no_call number bytes after fits e lacks None named command tail is has whole f =
+      let letter = command_first command (10 ∷ tail) has in
+      let digit = number_first number after fits in
+      let same = ap first_byte e in
+      let other = ap first_byte f in omega (arith, letter.0, digit, same, other)
+  number_no_call number bytes after fits e lacks (Some n) named command tail is has whole f =
+      let same = one_number number n after (line_of command ++ 10 ∷ tail) fits
+      (fits_of n named is) (sym e ∙ f) in
+      lacks named command tail (subst (λ m. IsNamed (Some m) ss named) (sym same.0) is) has whole
+      same.1
+
+  -- a line without a number is a call where there is one service
+  bare_no_call : (bytes : List ℕ) → LacksNumber bytes
+      → ((named : LogService) (command : Command) (rest : List ℕ) → ss ≡ named ∷ []
+      → HasLine command → HasNo 10 (line_of command) → bytes ≢ line_of command ++ 10 ∷ rest)
+      → NoCall ss bytes
+  bare_no_call bytes lacks none None named command tail is has whole f =
+      none named command tail is has whole f
+  bare_no_call bytes lacks none (Some n) named command tail is has whole f =
+      lacks n (line_of command ++ 10 ∷ tail) (fits_of n named is) f
+
+  -- a line that names no service
+  pub lacks_name : (bytes : List ℕ) → LacksName cs bytes → NoCall ss bytes
+  lacks_name bytes (inl (number, after, fits, new, e)) =
+      number_no_call number bytes after fits e
+      (λ named command rest is has whole f. All-contains
+      (λ (s : LogService). s.line.number ≢ number) ss named (all_new number ss cs p new) is.0 is.1)
+  lacks_name bytes (inr (lacks, other)) =
+      bare_no_call bytes lacks
+      (λ named command rest is has whole f. other (sym (same_length ss cs p) ∙ ap length is))
+
+  -- a line that names one, after which no command stands
+  pub lacks_command : (at : ℕ) (bytes after : List ℕ) → NamesCheck cs bytes at after
+      → FirstIsNot IsCommandLine after → NoCall ss bytes
+  lacks_command at bytes after (inl (number, fits, there, e)) lacks =
+      number_no_call number bytes after fits e
+      (λ named command rest is has whole f.
+      lacks (line_of command) rest whole f (command, has, refl))
+  lacks_command at bytes after (inr (none, one, first, e)) lacks =
+      bare_no_call bytes none
+      (λ named command rest is has whole f.
+      lacks (line_of command) rest whole (e ∙ f) (command, has, refl))

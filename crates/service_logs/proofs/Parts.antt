@@ -1,0 +1,284 @@
+-- Logs, part by part.
+use Rattle.std.proofs.Common.{◌≡◌, ◌≢◌, ℕ, ◌+◌, ◌<◌, inl, inr, List, [], ◌∷◌, ◌++◌, Contains, length, Option, Some, None, refl, sym, ◌∙◌, ap, subst, arith, append_assoc, length-append}
+use Rattle.std.specs.List.{flat_map}
+use Rattle.std.proofs.lemmas.List.Elements.{All-nil}
+use Rattle.service_descriptions.specs.declared.replay.lines.service_line.ServiceLine.{ServiceLine}
+use Rattle.service_descriptions.specs.Script.{IsServiceLine, first_state, service_line}
+use Rattle.service_descriptions.proofs.Services.{same_service}
+use Rattle.service_logs.specs.declared.logs.services.NamedCheck.{NamedCheck}
+use Rattle.service_logs.specs.declared.logs.verdict.Expected.TheVariants as expected
+use Rattle.service_logs.specs.declared.logs.verdict.Verdict.{Verdict}
+use Rattle.service_logs.specs.declared.logs.verdict.Verdict.TheVariants as verdict
+use Rattle.service_logs.specs.Fronts.{HasNotes, LacksCall}
+use Rattle.service_logs.specs.Logs.{Call, FirstIsNot, HasLog, IsLog, IsNamed, IsNew, IsNext, IsNote, Judged, LogService, call_text, calls_in, name_text, text_of_lines, with_call}
+use Rattle.service_logs.specs.Logs.IsLog.{log_begins, log_call, log_service}
+use Rattle.service_logs.specs.Services.{Begins, CallsAt, HasPart, LacksPart, LacksService, NamesCheck, StopsAt}
+use Rattle.service_conformance.specs.Quiet.{quiet_state}
+use Rattle.service_logs.proofs.Judging.{refused, seen_step, stands_more, stands_none}
+use Rattle.service_logs.proofs.ServiceChecks.{AreChecksOf, ServiceAt, all_new, are_runs, checks_push, named_at, none_among, same_length, service_among, service_at, taken}
+use Rattle.service_logs.proofs.NextLines.{lacks_command, lacks_name, not_next, nothing, service_no_call}
+
+-- so many first parts are explained, and the rest is left
+pub record Explained (log : List ℕ) (at count : ℕ) (rest : List ℕ) (checks : List NamedCheck)
+    : Type 0 where
+  pub text : List ℕ
+  pub services : List LogService
+  pub is_log : IsLog text at services
+  pub spelled : log ≡ text ++ rest
+  pub stand : AreChecksOf services checks
+  pub counted : count ≡ calls_in services
+  pub ends : FirstIsNot IsNote rest
+
+pub explained_none : (log rest : List ℕ) (at : ℕ) → HasNotes log at rest → FirstIsNot IsNote rest
+    → Explained log at 0 rest []
+explained_none log rest at notes ends = record {
+  text = text_of_lines notes.notes;
+  services = [];
+  is_log = subst (λ n. IsLog (text_of_lines notes.notes) n []) (sym notes.counted)
+      (log_begins notes.notes notes.are_notes);
+  spelled = notes.spelled;
+  stand = tt;
+  counted = refl;
+  ends = ends;
+}
+
+abbrev calls_of : List LogService → List Call
+calls_of services = flat_map (λ (s : LogService). s.calls) services
+
+more_calls : (front back : List LogService) (named : LogService) (call : Call)
+    → calls_in (front ++ with_call named call ∷ back) ≡ calls_in (front ++ named ∷ back) + 1
+more_calls [] back named call =
+    let more = length-append named.calls (call ∷ []) in
+    let now = length-append (named.calls ++ call ∷ []) (calls_of back) in
+    let before = length-append named.calls (calls_of back) in omega (arith, more, now, before)
+more_calls (f ∷ front) back named call =
+    let rest = more_calls front back named call in
+    let now = length-append f.calls (calls_of (front ++ with_call named call ∷ back)) in
+    let before = length-append f.calls (calls_of (front ++ named ∷ back)) in
+    omega (arith, rest, now, before)
+
+as_many_calls : (ss : List LogService) (line : ServiceLine)
+    → calls_in (ss ++ record { line = line; calls = [] } ∷ []) ≡ calls_in ss
+as_many_calls [] line = refl
+as_many_calls (s ∷ ss) line =
+    let rest = as_many_calls ss line in
+    let now = length-append s.calls (calls_of (ss ++ record { line = line; calls = [] } ∷ [])) in
+    let before = length-append s.calls (calls_of ss) in omega (arith, rest, now, before)
+
+-- a service's line and notes after what was read
+service_spelled : (log text line after rest lines : List ℕ) (below : List (List ℕ))
+    → log ≡ text ++ rest → rest ≡ line ++ 10 ∷ lines → lines ≡ text_of_lines below ++ after
+    → log ≡ (text ++ text_of_lines (line ∷ below)) ++ after
+service_spelled log text line after rest lines below e f g =
+    simp append_assoc
+    (e ∙ ap (λ (xs : List ℕ). text ++ xs) (f ∙ ap (λ (xs : List ℕ). line ++ 10 ∷ xs) g))
+
+explained_service : (log : List ℕ) (at count : ℕ) (rest : List ℕ) (checks : List NamedCheck)
+    (so : Explained log at count rest checks) (line : ServiceLine) (lines : List ℕ) (k calls : ℕ)
+    (after : List ℕ) (new : List NamedCheck) → IsServiceLine line
+    → rest ≡ service_line line ++ 10 ∷ lines → Begins checks line lines k calls after new
+    → Explained log (at + k) (count + calls) after new
+explained_service log at count rest checks so line lines k calls after new is e has = record {
+  text = so.text ++ text_of_lines (service_line line ∷ has.below);
+  services = so.services ++ record { line = line; calls = [] } ∷ [];
+  is_log = subst
+      (λ n. IsLog (so.text ++ text_of_lines (service_line line ∷ has.below)) n
+      (so.services ++ record { line = line; calls = [] } ∷ []))
+      (omega (arith, has.counted))
+      (log_service so.text at so.services so.is_log line is
+      (all_new line.number so.services checks so.stand has.is_new) has.below has.are_below);
+  spelled = service_spelled log so.text (service_line line) after rest lines has.below so.spelled e
+      has.spelled;
+  stand = subst (AreChecksOf (so.services ++ record { line = line; calls = [] } ∷ [])) (sym has.now)
+      (checks_push so.services checks (record { line = line; calls = [] })
+      (record { number = line.number; check = first_state line }) so.stand
+      (record { number = refl; fits = is.number; stands = stands_none (first_state line) }));
+  counted = omega (arith, so.counted, has.no_call, as_many_calls so.services line);
+  ends = has.ends;
+}
+
+explained_call : (log : List ℕ) (at count : ℕ) (rest : List ℕ) (checks : List NamedCheck)
+    (so : Explained log at count rest checks) (index : ℕ) (lines : List ℕ) (k calls : ℕ)
+    (after : List ℕ) (new : List NamedCheck) → NamesCheck checks rest index lines
+    → CallsAt checks index lines k calls after new
+    → Explained log (at + k) (count + calls) after new
+explained_call log at count rest checks so index lines k calls after new names has =
+    let found = service_at so.services checks index has.c so.stand has.there in
+    let name = named_at so.services checks index has.c rest lines so.stand has.there found names in
+    let call = has.has.call in
+    let all : List LogService = found.front ++ found.named ∷ found.back in
+    let with_one : List LogService = found.front ++ with_call found.named call ∷ found.back in
+    record {
+      text = so.text ++ call_text name.0 call;
+      services = with_one;
+      is_log = subst (λ n. IsLog (so.text ++ call_text name.0 call) n with_one)
+          (omega (arith, has.has.counted))
+          (log_call so.text at found.front found.named found.back
+          (subst (λ (l : List LogService). IsLog so.text at l) found.split so.is_log) name.0
+          (subst (λ (l : List LogService). IsNamed name.0 l found.named) found.split name.1)
+          call has.has.is_call);
+      spelled = so.spelled
+          ∙ (ap (λ (xs : List ℕ). so.text ++ xs) name.2
+          ∙ (ap (λ (xs : List ℕ). so.text ++ (name_text name.0 ++ xs)) has.has.spelled
+          ∙ simp append_assoc));
+      stand = subst (AreChecksOf with_one) (sym has.now)
+          (found.others (with_call found.named call)
+          (record { number = has.c.number; check = has.state })
+          (record {
+            number = found.is.number;
+            fits = found.is.fits;
+            stands = stands_more (first_state found.named.line) found.named.calls has.c.check
+                found.is.stands lines after k has.state has.has;
+          }));
+      counted = omega (
+        arith,
+        so.counted,
+        has.one,
+        more_calls found.front found.back found.named call,
+        ap calls_in found.split,
+      );
+      ends = has.has.ends;
+    }
+
+module _ (log : List ℕ) (at count : ℕ) (rest : List ℕ) (checks : List NamedCheck)
+    (so : Explained log at count rest checks) where
+  has_log : HasLog log at so.services rest
+  has_log = record {
+    text = so.text;
+    is_log = so.is_log;
+    spelled = so.spelled;
+    runs = are_runs so.services checks so.stand;
+  }
+
+  no_services : checks ≡ [] → so.services ≡ []
+  no_services e = nothing so.services (same_length so.services checks so.stand ∙ ap length e)
+
+  pub explained_end : rest ≡ [] → 0 < length checks
+      → Judged log (verdict.Conforms count (length checks))
+  unfolding Judged
+  explained_end e some = (
+    at,
+    so.services,
+    subst (HasLog log at so.services) e has_log,
+    so.counted,
+    sym (same_length so.services checks so.stand),
+    some,
+  )
+
+  -- the line is none of a service, and there is no service above
+  pub explained_bare : checks ≡ [] → LacksService rest
+      → Judged log (verdict.BadLine (at + 1) expected.Service)
+  unfolding Judged
+  explained_bare none lacks = (
+    at,
+    rest,
+    subst (λ (l : List LogService). HasLog log at l rest) (no_services none) has_log,
+    so.ends,
+    not_next [] rest (λ line after is new e. lacks line after is e)
+        (λ name named command after is has whole e. no_name name named is),
+    refl,
+  )
+    where
+      no_name : (name : Option ℕ) (named : LogService) → ¬ (IsNamed name [] named)
+      no_name None named is = cc
+      no_name (Some n) named is = none_among named is.0
+
+  bad_command : so.services ≢ [] → rest ≢ [] → FirstIsNot (IsNext so.services) rest
+      → Judged log (verdict.BadLine (at + 1) expected.Command)
+  unfolding Judged
+  bad_command some left lacks = (at, so.services, rest, has_log, some, left, so.ends, lacks, refl)
+
+  stops : (v : Verdict) (index : ℕ) (after : List ℕ) → rest ≢ [] → LacksService rest
+      → NamesCheck checks rest index after → StopsAt checks index at after v → Judged log v
+  unfolding Judged
+  stops v index after left none names (c, there, lacks) = by_verdict v lacks
+    where
+      found : ServiceAt so.services checks index c
+      found = service_at so.services checks index c so.stand there
+
+      name : (name : Option ℕ) × IsNamed name so.services found.named
+          × (rest ≡ name_text name ++ after)
+      name = named_at so.services checks index c rest after so.stand there found names
+
+      by_verdict : (w : Verdict) → LacksCall c.check at after w → Judged log w
+      by_verdict (verdict.Conforms n m) l = absurd l
+      by_verdict (verdict.NoRun told) l = (
+        at,
+        so.services,
+        found.named,
+        name.0,
+        l.0,
+        l.1,
+        name.1,
+        l.2,
+        subst (HasLog log at so.services)
+            (name.2 ∙ (ap (λ (xs : List ℕ). name_text name.0 ++ xs) l.3 ∙ simp append_assoc))
+            has_log,
+        l.4,
+        λ last j. l.6 (quiet_state last)
+            (seen_step (first_state found.named.line) found.named.calls c.check found.is.stands l.0
+            last l.5 j),
+        refused (first_state found.named.line) found.named.calls c.check found.is.stands l.0 told
+            l.5 l.7,
+      )
+      by_verdict (verdict.BadLine k expected.Service) l = absurd l
+      by_verdict (verdict.BadLine k expected.Command) l =
+          subst (λ n. Judged log (verdict.BadLine n expected.Command)) (sym l.1)
+          (bad_command some_services left
+          (not_next so.services rest (λ line tail is new e. none line tail is e)
+          (lacks_command so.services checks so.stand index rest after names l.0)))
+        where
+          some_services : so.services ≢ []
+          some_services e = none_among found.named
+              (subst (λ (ls : List LogService). Contains ls found.named) e
+              (service_among so.services found.front found.back found.named found.split))
+      by_verdict (verdict.BadLine k expected.Reply) l = (
+        at,
+        so.services,
+        found.named,
+        name.0,
+        l.0,
+        l.1,
+        l.2,
+        name.1,
+        l.3,
+        l.4,
+        subst (HasLog log at so.services)
+            (name.2 ∙ ap (λ (xs : List ℕ). name_text name.0 ++ xs) l.5) has_log,
+        l.6,
+        l.7,
+        l.8,
+      )
+
+  pub explained_stop : (v : Verdict) → rest ≢ [] → LacksPart checks at rest v → Judged log v
+  explained_stop v left (inl (line, after, is, e, (index, has), f)) =
+      subst (Judged log) (sym f)
+      (bad_command
+      (λ none. taken line.number index so.services checks so.stand has
+      (subst (IsNew line.number) (sym none)
+      (All-nil (λ (s : LogService). s.line.number ≢ line.number))))
+      left
+      (not_next so.services rest
+      (λ other tail fits new g.
+      let same = same_service line other after tail is fits (sym e ∙ g) in
+      taken line.number index so.services checks so.stand has
+      (subst (λ (l : ServiceLine). IsNew l.number so.services) (sym same.0) new))
+      (service_no_call so.services checks so.stand line rest after e)))
+  explained_stop v left (inr (inl (none, bare, f))) =
+      subst (Judged log) (sym f) (explained_bare bare none)
+  explained_stop v left (inr (inr (inl (none, lacks, some, f)))) =
+      subst (Judged log) (sym f)
+      (bad_command
+      (λ e. some (nothing checks (sym (same_length so.services checks so.stand) ∙ ap length e)))
+      left
+      (not_next so.services rest (λ line tail is new e. none line tail is e)
+      (lacks_name so.services checks so.stand rest lacks)))
+  explained_stop v left (inr (inr (inr (none, (index, after, names, at_it))))) =
+      stops v index after left none names at_it
+
+  pub explained_part : (k calls : ℕ) (after : List ℕ) (new : List NamedCheck)
+      → HasPart checks rest k calls after new → Explained log (at + k) (count + calls) after new
+  explained_part k calls after new (inl (line, lines, is, e, has)) =
+      explained_service log at count rest checks so line lines k calls after new is e has
+  explained_part k calls after new (inr (index, lines, names, has)) =
+      explained_call log at count rest checks so index lines k calls after new names has
