@@ -536,15 +536,34 @@ public:
     /// there are. Errors: those of the call; `NoMemory`.
     template <class Call>
     static Result<List> written_by(Call call) noexcept {
-        List made;
         const iox2sd_count_answer needed = call(nullptr, 0);
-        if (needed.status == IOX2SD_DONE) return made;
+        if (needed.status == IOX2SD_DONE) return List();
         if (needed.status != IOX2SD_BUFFER_TOO_SHORT) return Status{needed.status};
-        if (!made.move_to(needed.count)) return Status::NoMemory;
-        const iox2sd_count_answer found = call(made.items_, needed.count);
+        return written_by(call, needed.count);
+    }
+
+    /// The same, where it is known how many there are.
+    template <class Call>
+    static Result<List> written_by(Call call, std::size_t count) noexcept {
+        List made;
+        if (!made.move_to(count)) return Status::NoMemory;
+        const iox2sd_count_answer found = call(made.items_, count);
         if (found.status != IOX2SD_DONE) return Status{found.status};
         made.size_ = found.count;
         return made;
+    }
+
+    /// What a function makes of the items that a call of the C headers writes so: of a few, by one
+    /// call and with memory taken once. Errors: those of the call; `NoMemory`.
+    template <class C, class Call>
+    static Result<List> made_by(Call call, T make(const C&)) noexcept {
+        C few[16];
+        const iox2sd_count_answer found = call(few, std::size(few));
+        if (found.status == IOX2SD_DONE) return of(few, found.count, make);
+        if (found.status != IOX2SD_BUFFER_TOO_SHORT) return Status{found.status};
+        const Result<List<C>> many = List<C>::written_by(call, found.count);
+        if (!many) return many.error();
+        return of(many->begin(), many->size(), make);
     }
 
     std::size_t size() const noexcept { return size_; }
@@ -2745,6 +2764,7 @@ public:
     /// ports, which is read once. The numbers of ids are compared, not their roles: a listener that
     /// is kept keeps the notifier of the same number too, though their `UniquePortId`s are not
     /// equal. Where none of its ports is left, the node is removed too, with all its handles.
+    /// Many ids are fast where they are sorted by their numbers.
     /// Error: `NoMemory`, before `NoService`; never where nothing is to be kept.
     template <class Range>
     Result<DeadNodeRemoval> remove_dead_node_id(const UniqueNodeId& dead, Range&& kept) noexcept {
@@ -2836,27 +2856,27 @@ public:
 
     /// The ids of the nodes by rising slot, one for each handle. Error: `NoMemory`.
     Result<List<UniqueNodeId>> nodes() const noexcept {
-        const auto ids =
-            List<iox2sd_id>::written_by([this](iox2sd_id* out, std::size_t capacity) {
+        return List<UniqueNodeId>::made_by(
+            [this](iox2sd_id* out, std::size_t capacity) {
                 return iox2sd_nodes(&place_, out, capacity);
-            });
-        return listed(ids, detail::node_id);
+            },
+            detail::node_id);
     }
 
     /// The ports of a role by rising slot.
     /// Errors: `UnknownRole`; `RoleNotInPattern`, also for `Role::Node`; `NoMemory`.
     Result<List<PortDetails>> ports(Role role) const noexcept {
-        return listed(ports_as_c(role), detail::port_details);
+        return ports_as(role, detail::port_details);
     }
 
     /// The ports of a node, with exactly this id, those of the first role first, by rising slot.
     /// Errors: `TooLarge` for more than 2^64 - 1 ports; `NoMemory`.
     Result<List<PortDetails>> ports_of(const UniqueNodeId& node) const noexcept {
-        const auto ports =
-            PortsAsC::written_by([this, &node](iox2sd_port_details* out, std::size_t capacity) {
+        return List<PortDetails>::made_by(
+            [this, &node](iox2sd_port_details* out, std::size_t capacity) {
                 return iox2sd_ports_of(&place_, node.parts(), out, capacity);
-            });
-        return listed(ports, detail::port_details);
+            },
+            detail::port_details);
     }
 
     /// The ports of one kind by rising slot. Errors: `RoleNotInPattern`; `NoMemory`.
@@ -2897,24 +2917,19 @@ private:
                                             : DeregisterNodeState::HasOwners;
     }
 
-    using PortsAsC = List<iox2sd_port_details>;
-
-    Result<PortsAsC> ports_as_c(Role role) const noexcept {
-        return PortsAsC::written_by([this, role](iox2sd_port_details* out, std::size_t capacity) {
-            return iox2sd_ports(&place_, number(role), out, capacity);
-        });
-    }
-
-    /// What a function makes of each item of a list.
-    template <class Made, class C>
-    static Result<List<Made>> listed(const Result<List<C>>& found, Made make(const C&)) noexcept {
-        if (!found) return found.error();
-        return List<Made>::of(found->begin(), found->size(), make);
+    template <class Details>
+    Result<List<Details>> ports_as(Role role,
+                                   Details make(const iox2sd_port_details&)) const noexcept {
+        return List<Details>::made_by(
+            [this, role](iox2sd_port_details* out, std::size_t capacity) {
+                return iox2sd_ports(&place_, number(role), out, capacity);
+            },
+            make);
     }
 
     template <class Details>
     Result<List<Details>> ports_as() const noexcept {
-        return listed(ports_as_c(Details::role), Details::from_c);
+        return ports_as(Details::role, Details::from_c);
     }
 
     /// Frees what the object holds, if it holds a service.

@@ -38,24 +38,35 @@ Status without(int request, Call call) {
     }
 }
 
-/// Each call that lists takes memory twice, and a script and a log once. The service is as it was.
-void lists() {
-    Service service = Service::create(PatternKind::Event, 7, {2, 2, 2}).value();
+/// Each call that lists so many takes memory so often. The service is as it was.
+void lists_of(std::uint32_t count, int requests) {
+    Service service = Service::create(PatternKind::Event, 7, {count, count, 2}).value();
     const UniqueNodeId node = UniqueNodeId::create(1, 2, 3, 4).value();
-    const ListenerDetails listener{UniqueListenerId(1, 2, 3, 5), node};
-    CHECK(service.register_node_id(node) && service.attach(listener));
-    for (int request = 0; request < 2; ++request) {
+    for (std::uint32_t counter = 0; counter < count; ++counter) {
+        CHECK(service.register_node_id(node));
+        CHECK(service.attach(ListenerDetails{UniqueListenerId(1, 2, 3, counter), node}));
+    }
+    for (int request = 0; request <= requests; ++request) {
         const auto refused = [request](auto call) {
             return without(request, call) == Status::NoMemory;
         };
-        CHECK(refused([&] { return service.nodes(); }));
-        CHECK(refused([&] { return service.ports(Role::Listener); }));
-        CHECK(refused([&] { return service.ports_of(node); }));
-        CHECK(refused([&] { return service.list_listeners(); }));
+        const bool is_refused = request < requests;
+        CHECK(refused([&] { return service.nodes(); }) == is_refused);
+        CHECK(refused([&] { return service.ports(Role::Listener); }) == is_refused);
+        CHECK(refused([&] { return service.ports_of(node); }) == is_refused);
+        CHECK(refused([&] { return service.list_listeners(); }) == is_refused);
         CHECK(!refused([&] { return service.list_notifiers(); }));
-        CHECK(service.nodes()->size() == 1 && (*service.list_listeners())[0] == listener);
+        CHECK(service.nodes()->size() == count && service.ports_of(node)->size() == count);
+        CHECK(service.list_listeners()->back().listener_id == UniqueListenerId(1, 2, 3, count - 1));
     }
-    CHECK(without(2, [&] { return service.nodes(); }) == Status::Done);
+}
+
+/// A list of a few takes memory once, a longer one twice, and a script and a log once.
+void lists() {
+    lists_of(1, 1);
+    lists_of(16, 1);
+    lists_of(17, 2);
+    lists_of(100, 2);
     const auto run = [] { return run_script("service event 7 1 2 2\nregister 1.0.0.1\n"); };
     CHECK(without(0, run) == Status::NoMemory && without(1, run) == Status::Done);
     const auto judge = [] { return check_log("service event 7 1 2 2\nnodes\n= list\n"); };
