@@ -66,6 +66,7 @@ impl Role {
         Role::Writer,
     ];
 
+    #[inline]
     pub(crate) fn of(number: u64) -> Self {
         library::choice(&Role::ALL, |role| role as u64, number)
     }
@@ -84,6 +85,7 @@ shown_by_name!(Role);
 /// assert_eq!((handle.slot(), handle.ticket()), (0, 3));
 /// ```
 #[derive(Clone, Copy, Debug, PartialEq, Eq, PartialOrd, Ord, Hash)]
+#[repr(C)]
 pub struct ContainerHandle {
     service: u64,
     role: Role,
@@ -155,6 +157,7 @@ impl ContainerHandle {
         self.ticket
     }
 
+    #[inline]
     pub(crate) fn of(handle: sys::iox2sd_handle) -> Self {
         Self::from_parts(
             handle.service,
@@ -164,6 +167,7 @@ impl ContainerHandle {
         )
     }
 
+    #[inline]
     pub(crate) fn parts(&self) -> sys::iox2sd_handle {
         sys::iox2sd_handle {
             service: self.service,

@@ -142,6 +142,7 @@ macro_rules! unique_id {
         }
 
         impl $name {
+            #[inline]
             pub(crate) fn of(parts: sys::iox2sd_id) -> Self {
                 $name { parts }
             }
@@ -493,7 +494,7 @@ fn parts(value: u128) -> sys::iox2sd_id {
     }
 }
 
-fn order(one: sys::iox2sd_id, other: sys::iox2sd_id) -> Ordering {
+pub(crate) fn order(one: sys::iox2sd_id, other: sys::iox2sd_id) -> Ordering {
     if library::id_is_before(one, other) {
         Ordering::Less
     } else if library::id_is_before(other, one) {

@@ -17,6 +17,7 @@ pub(crate) use service::Service;
 use crate::sys;
 
 /// `Ok` exactly for `IOX2SD_DONE`.
+#[inline]
 fn done(status: u32) -> Result<(), u32> {
     match status {
         sys::IOX2SD_DONE => Ok(()),
@@ -25,6 +26,7 @@ fn done(status: u32) -> Result<(), u32> {
 }
 
 /// Ends the program at a status that the header excludes for a call.
+#[cold]
 pub(crate) fn unexpected(status: u32) -> ! {
     let text = status_text(status).unwrap_or_default();
     panic!("the library answered the status {status} ({text}), which the call excludes")
@@ -42,30 +44,17 @@ pub(crate) fn choice<T: Copy, N: Copy + PartialEq + std::fmt::Display>(
     }
 }
 
-/// Has a list written into a buffer that is just as long as the library says.
-fn list<T: Clone + Default>(
-    call: impl Fn(&mut [T]) -> sys::iox2sd_count_answer,
-) -> Result<Vec<T>, u32> {
-    let mut items = Vec::new();
+/// Has a text written into a buffer that is just as long as the library says.
+fn text(call: impl Fn(&mut [u8]) -> sys::iox2sd_text_answer) -> Result<String, u32> {
+    let mut bytes = Vec::new();
     loop {
-        let answer = call(&mut items);
+        let answer = call(&mut bytes);
         match answer.status {
-            sys::IOX2SD_DONE => return Ok(items),
-            sys::IOX2SD_BUFFER_TOO_SHORT => items.resize(answer.count, T::default()),
+            sys::IOX2SD_DONE => break,
+            sys::IOX2SD_BUFFER_TOO_SHORT => bytes.resize(answer.length, 0),
             refusal => return Err(refusal),
         }
     }
-}
-
-/// Has a text written.
-fn text(call: impl Fn(&mut [u8]) -> sys::iox2sd_text_answer) -> Result<String, u32> {
-    let bytes = list(|out| {
-        let answer = call(out);
-        sys::iox2sd_count_answer {
-            status: answer.status,
-            count: answer.length,
-        }
-    })?;
     Ok(String::from_utf8(bytes).expect("the library writes texts"))
 }
 

@@ -10,6 +10,7 @@ use iox2sd::dynamic_config::{
 };
 use iox2sd::identifiers::{UniqueListenerId, UniqueNotifierId, UniquePortId};
 use iox2sd::messaging_pattern::MessagingPattern;
+use iox2sd::CallbackProgression;
 use std::panic::{catch_unwind, AssertUnwindSafe};
 
 /// A service where the nodes 1 and 2 are registered twice, and have two ports of each kind.
@@ -90,6 +91,54 @@ fn a_port_that_stays_keeps_its_node() {
         assert_eq!(ports_of(&service, 1), [kept]);
         assert_eq!(service.number_of_nodes(), 4);
         assert_eq!(ports_of(&service, 2).len(), 4);
+    }
+}
+
+/// A service whose node 1 has so many ports of the first kind, of which the ids fall as the slots rise.
+fn with_ports(kind: MessagingPattern, count: u32) -> (DynamicConfig, Vec<PortDetails>) {
+    let mut service = service(kind, 2, [count as usize, 0]);
+    service.register_node_id(node(1)).unwrap();
+    let ports: Vec<_> = (0..count)
+        .rev()
+        .map(|counter| ports_of_kind(kind, node(1), counter)[0])
+        .collect();
+    for port in &ports {
+        service.attach(*port).unwrap();
+    }
+    (service, ports)
+}
+
+/// Short lists and long ones are written to memory of different kinds.
+#[test]
+fn lists_of_each_length_are_whole() {
+    for (kind, first, _) in KINDS {
+        for count in (0..20).chain([100, 1000]) {
+            let (service, ports) = with_ports(kind, count);
+            assert_eq!(ports_of(&service, 1), ports);
+            assert!(service.ports(first).unwrap().eq(ports.iter().copied()));
+            let mut listed = Vec::new();
+            assert!(service.list_ports(first, |port| {
+                listed.push(*port);
+                CallbackProgression::Continue
+            }));
+            assert_eq!(listed, ports);
+        }
+    }
+}
+
+#[test]
+fn of_many_ports_those_that_are_skipped_stay() {
+    for (kind, ..) in KINDS {
+        for step in [1, 2, 3, 50] {
+            let (mut service, mut ports) = with_ports(kind, 100);
+            let is_skipped = |port: &UniquePortId| port.value() % step == 0;
+            service.remove_dead_node_id(&node(1), |port| match is_skipped(&port) {
+                true => PortCleanupAction::SkipPort,
+                false => PortCleanupAction::RemovePort,
+            });
+            ports.retain(|port| is_skipped(&port.port_id()));
+            assert_eq!(ports_of(&service, 1), ports);
+        }
     }
 }
 

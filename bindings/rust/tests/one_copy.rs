@@ -58,13 +58,18 @@ fn no_limit_stands_in_the_code() {
         let is_number = |word: &&str| word.starts_with(|letter: char| letter.is_ascii_digit());
         numbers.extend(words.filter(is_number).map(str::to_string));
     }
-    // The size of an array of roles, the room of a short text and of a report, and the radix of an
-    // id's text, besides 0, 1 and 2.
+    // The size of an array of roles, those of buffers for a short text, a short list and a report,
+    // and the radix of an id's text, besides 0, 1 and 2.
     let expected = ["0", "1", "16", "2", "256", "512", "9"].map(str::to_string);
     assert_eq!(numbers, BTreeSet::from(expected));
     assert_eq!(places("256"), ["text.rs: const CAPACITY: usize = 256;"]);
     assert_eq!(places("512"), ["library.rs: const REPORT: usize = 512;"]);
-    assert_eq!(places(" 16;"), ["identifiers.rs: const RADIX: u32 = 16;"]);
+    let sixteens = [
+        "identifiers.rs: const RADIX: u32 = 16;",
+        "library/service.rs: const SHORT: usize = 16;",
+    ];
+    let found = BTreeSet::from_iter(places(" 16;"));
+    assert_eq!(found, BTreeSet::from(sixteens.map(str::to_string)));
     for limit in ["isize::MAX", "checked_", "wrapping_", "saturating_"] {
         assert_eq!(places(limit), Vec::<String>::new(), "{limit}");
     }
@@ -115,10 +120,20 @@ fn no_text_of_the_layer_stands_in_the_code() {
     }
 }
 
+/// Sets are sorted by the library. The ids of ports that stay are sorted for it, since it is faster
+/// then.
+#[test]
+fn the_ids_to_keep_alone_are_sorted() {
+    let sorted = "kept.sort_unstable_by(|id, other| order(*id, *other));";
+    assert_eq!(
+        places(".sort"),
+        [format!("dynamic_config/service.rs: {sorted}")]
+    );
+}
+
 #[test]
 fn no_rule_stands_in_the_code() {
     for rule in [
-        ".sort",
         "sha1",
         "Sha1",
         "base64",

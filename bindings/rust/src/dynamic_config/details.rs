@@ -47,6 +47,7 @@ macro_rules! details {
         impl Details for $name {
             const ROLE: Role = Role::$role;
 
+            #[inline]
             fn of(port: &sys::iox2sd_port_details) -> Self {
                 $name {
                     $id: $id_type::of(port.port),
@@ -57,6 +58,7 @@ macro_rules! details {
         }
 
         impl From<$name> for sys::iox2sd_port_details {
+            #[inline]
             fn from(details: $name) -> Self {
                 sys::iox2sd_port_details {
                     role: Role::$role as u64,
@@ -69,6 +71,7 @@ macro_rules! details {
         }
 
         impl From<$name> for PortDetails {
+            #[inline]
             fn from(details: $name) -> Self {
                 PortDetails::$role(details)
             }
@@ -304,6 +307,7 @@ impl PortDetails {
         }
     }
 
+    #[inline]
     pub(super) fn parts(self) -> sys::iox2sd_port_details {
         match self {
             PortDetails::Publisher(details) => details.into(),
@@ -356,7 +360,16 @@ impl PortDetails {
     /// ```
     #[must_use]
     pub fn node_id(&self) -> UniqueNodeId {
-        UniqueNodeId::of(self.parts().node)
+        match self {
+            PortDetails::Publisher(details) => details.node_id,
+            PortDetails::Subscriber(details) => details.node_id,
+            PortDetails::Listener(details) => details.node_id,
+            PortDetails::Notifier(details) => details.node_id,
+            PortDetails::Server(details) => details.node_id,
+            PortDetails::Client(details) => details.node_id,
+            PortDetails::Reader(details) => details.node_id,
+            PortDetails::Writer(details) => details.node_id,
+        }
     }
 
     /// The id of the port.
@@ -371,6 +384,7 @@ impl PortDetails {
     /// assert_eq!(port.port_id(), UniquePortId::Reader(reader_id));
     /// ```
     #[must_use]
+    #[inline]
     pub fn port_id(&self) -> UniquePortId {
         match self {
             PortDetails::Publisher(details) => UniquePortId::Publisher(details.publisher_id),

@@ -15,7 +15,6 @@
 use super::listing::{self, ports_of_pattern};
 pub use super::{ListenerDetails, NotifierDetails};
 
-use crate::callback_progression::visit;
 use crate::config::Config;
 use crate::library::Service;
 use crate::static_config::event::StaticConfig;

@@ -1,17 +1,32 @@
 //! Listings of the ports of one kind.
 
 use super::details::Details;
+use crate::callback_progression::visit;
 use crate::library::Service;
+use crate::CallbackProgression;
 use std::vec;
 
 /// The ports of a kind that the pattern has, by rising slot.
+#[inline]
 pub(super) fn ports<T: Details>(service: &Service) -> vec::IntoIter<T> {
-    let ports = service.ports(T::ROLE as u64).unwrap_or_default();
-    let ports: Vec<T> = ports.iter().map(T::of).collect();
-    ports.into_iter()
+    let of_each = |ports: &[_]| ports.iter().map(T::of).collect();
+    let ports: Option<Vec<T>> = service.ports(T::ROLE as u64, of_each);
+    ports.unwrap_or_default().into_iter()
+}
+
+/// Calls the callback on these ports, up to and with the first answer `Stop`.
+#[inline]
+pub(super) fn visit_ports<T: Details>(
+    service: &Service,
+    mut callback: impl FnMut(&T) -> CallbackProgression,
+) {
+    service.ports(T::ROLE as u64, |ports| {
+        visit(ports, |port| callback(&T::of(port)));
+    });
 }
 
 /// How many ports of a kind that the pattern has there are.
+#[inline]
 pub(super) fn count<T: Details>(service: &Service) -> usize {
     service.count_ports(T::ROLE as u64).unwrap_or_default()
 }
@@ -47,6 +62,7 @@ macro_rules! ports_of_pattern {
                 )]
                 /// # Ok::<(), Box<dyn std::error::Error>>(())
                 /// ```
+                #[inline]
                 pub fn $number(&self) -> usize {
                     listing::count::<$details>(&self.service)
                 }
@@ -69,8 +85,8 @@ macro_rules! ports_of_pattern {
                 /// assert_eq!(seen, [details]);
                 /// # Ok::<(), Box<dyn std::error::Error>>(())
                 /// ```
-                pub fn $list<F: FnMut(&$details) -> CallbackProgression>(&self, mut callback: F) {
-                    visit(self.$all(), |details| callback(&details));
+                pub fn $list<F: FnMut(&$details) -> CallbackProgression>(&self, callback: F) {
+                    listing::visit_ports(&self.service, callback);
                 }
 
                 #[doc = concat!(
@@ -85,6 +101,7 @@ macro_rules! ports_of_pattern {
                 )]
                 /// # Ok::<(), Box<dyn std::error::Error>>(())
                 /// ```
+                #[inline]
                 pub fn $all(&self) -> vec::IntoIter<$details> {
                     listing::ports(&self.service)
                 }

@@ -15,7 +15,6 @@
 use super::listing::{self, ports_of_pattern};
 pub use super::{ClientDetails, ServerDetails};
 
-use crate::callback_progression::visit;
 use crate::config::Config;
 use crate::library::Service;
 use crate::static_config::request_response::StaticConfig;

@@ -4,7 +4,7 @@ use super::{
 };
 use crate::callback_progression::visit;
 use crate::container::{ContainerHandle, ContainerRemoveError, Role};
-use crate::identifiers::{UniqueNodeId, UniquePortId};
+use crate::identifiers::{order, UniqueNodeId, UniquePortId};
 use crate::library::{self, Service};
 use crate::messaging_pattern::MessagingPattern as Kind;
 use crate::static_config::messaging_pattern::MessagingPattern as Pattern;
@@ -218,6 +218,7 @@ impl DynamicConfig {
         DynamicConfig { messaging_pattern }
     }
 
+    #[inline]
     fn service(&self) -> &Service {
         match &self.messaging_pattern {
             MessagingPattern::RequestResponse(ports) => &ports.service,
@@ -227,6 +228,7 @@ impl DynamicConfig {
         }
     }
 
+    #[inline]
     fn service_mut(&mut self) -> &mut Service {
         match &mut self.messaging_pattern {
             MessagingPattern::RequestResponse(ports) => &mut ports.service,
@@ -265,6 +267,7 @@ impl DynamicConfig {
     /// );
     /// # Ok::<(), Box<dyn std::error::Error>>(())
     /// ```
+    #[inline]
     pub fn register_node_id(
         &mut self,
         id: UniqueNodeId,
@@ -305,6 +308,7 @@ impl DynamicConfig {
     /// );
     /// # Ok::<(), Box<dyn std::error::Error>>(())
     /// ```
+    #[inline]
     pub fn deregister_node_id(
         &mut self,
         handle: ContainerHandle,
@@ -350,6 +354,7 @@ impl DynamicConfig {
     /// assert_eq!(service.attach(subscriber), Err(AttachError::OutOfSpace));
     /// # Ok::<(), Box<dyn std::error::Error>>(())
     /// ```
+    #[inline]
     pub fn attach(
         &mut self,
         details: impl Into<PortDetails>,
@@ -384,6 +389,7 @@ impl DynamicConfig {
     /// );
     /// # Ok::<(), Box<dyn std::error::Error>>(())
     /// ```
+    #[inline]
     pub fn release_port(&mut self, handle: ContainerHandle) -> Result<(), ContainerRemoveError> {
         let released = self.service_mut().release(handle.parts());
         released.map_err(|status| match status {
@@ -431,17 +437,22 @@ impl DynamicConfig {
     /// assert_eq!(service.event().number_of_notifiers(), 0);
     /// # Ok::<(), Box<dyn std::error::Error>>(())
     /// ```
+    #[inline]
     pub fn remove_dead_node_id<F: FnMut(UniquePortId) -> PortCleanupAction>(
         &mut self,
         dead: &UniqueNodeId,
         mut callback: F,
     ) -> DeregisterNodeState {
         let mut kept = Vec::new();
-        for port in self.ports_of(dead) {
-            if callback(port.port_id()) == PortCleanupAction::SkipPort {
-                kept.push(port.port_id().parts());
+        self.service().ports_of(dead.parts, |ports| {
+            for port in ports {
+                let id = PortDetails::of(port).port_id();
+                if callback(id) == PortCleanupAction::SkipPort {
+                    kept.push(port.port);
+                }
             }
-        }
+        });
+        kept.sort_unstable_by(|id, other| order(*id, *other));
         match self.service_mut().dead(dead.parts, &kept) {
             Ok(locked) => DeregisterNodeState::of(locked),
             Err(other) => library::unexpected(other),
@@ -465,6 +476,7 @@ impl DynamicConfig {
     /// # Ok::<(), Box<dyn std::error::Error>>(())
     /// ```
     #[must_use]
+    #[inline]
     pub fn kind(&self) -> Kind {
         match self.messaging_pattern {
             MessagingPattern::RequestResponse(_) => Kind::RequestResponse,
@@ -486,6 +498,7 @@ impl DynamicConfig {
     /// # Ok::<(), Box<dyn std::error::Error>>(())
     /// ```
     #[must_use]
+    #[inline]
     pub fn service_number(&self) -> u64 {
         self.service().number()
     }
@@ -524,6 +537,7 @@ impl DynamicConfig {
     /// # Ok::<(), Box<dyn std::error::Error>>(())
     /// ```
     #[must_use]
+    #[inline]
     pub fn has_role(&self, role: Role) -> bool {
         self.service().has_role(role as u64)
     }
@@ -547,6 +561,7 @@ impl DynamicConfig {
     /// # Ok::<(), Box<dyn std::error::Error>>(())
     /// ```
     #[must_use]
+    #[inline]
     pub fn is_locked(&self) -> bool {
         self.service().is_locked()
     }
@@ -568,6 +583,7 @@ impl DynamicConfig {
     /// # Ok::<(), Box<dyn std::error::Error>>(())
     /// ```
     #[must_use]
+    #[inline]
     pub fn number_of_nodes(&self) -> usize {
         self.service().number_of_nodes()
     }
@@ -583,6 +599,7 @@ impl DynamicConfig {
     /// # Ok::<(), Box<dyn std::error::Error>>(())
     /// ```
     #[must_use]
+    #[inline]
     pub fn max_nodes(&self) -> usize {
         self.service().max_nodes()
     }
@@ -603,6 +620,7 @@ impl DynamicConfig {
     /// # Ok::<(), Box<dyn std::error::Error>>(())
     /// ```
     #[must_use]
+    #[inline]
     pub fn has_room_for_node(&self) -> bool {
         self.service().has_room_for_node()
     }
@@ -622,6 +640,7 @@ impl DynamicConfig {
     /// # Ok::<(), Box<dyn std::error::Error>>(())
     /// ```
     #[must_use]
+    #[inline]
     pub fn count_ports(&self, role: Role) -> Option<usize> {
         self.service().count_ports(role as u64)
     }
@@ -642,6 +661,7 @@ impl DynamicConfig {
     /// # Ok::<(), Box<dyn std::error::Error>>(())
     /// ```
     #[must_use]
+    #[inline]
     pub fn max_ports(&self, role: Role) -> Option<usize> {
         self.service().max_ports(role as u64)
     }
@@ -662,6 +682,7 @@ impl DynamicConfig {
     /// # Ok::<(), Box<dyn std::error::Error>>(())
     /// ```
     #[must_use]
+    #[inline]
     pub fn has_room(&self, role: Role) -> Option<bool> {
         self.service().has_room(role as u64)
     }
@@ -684,6 +705,7 @@ impl DynamicConfig {
     /// assert_eq!(service.node(handle), None);
     /// # Ok::<(), Box<dyn std::error::Error>>(())
     /// ```
+    #[inline]
     pub fn node(&self, handle: ContainerHandle) -> Option<UniqueNodeId> {
         self.service().node(handle.parts()).map(UniqueNodeId::of)
     }
@@ -708,9 +730,9 @@ impl DynamicConfig {
     /// # Ok::<(), Box<dyn std::error::Error>>(())
     /// ```
     #[must_use]
+    #[inline]
     pub fn port(&self, handle: ContainerHandle) -> Option<PortDetails> {
-        let port = self.service().port(handle.parts())?;
-        Some(PortDetails::of(&port))
+        self.service().port(handle.parts(), PortDetails::of)
     }
 
     /// The ids of the nodes that are registered now, by rising slot, one for each handle.
@@ -729,9 +751,10 @@ impl DynamicConfig {
     /// assert!(service.nodes().eq([node, node]));
     /// # Ok::<(), Box<dyn std::error::Error>>(())
     /// ```
+    #[inline]
     pub fn nodes(&self) -> vec::IntoIter<UniqueNodeId> {
-        let nodes = self.service().nodes();
-        let nodes: Vec<_> = nodes.into_iter().map(UniqueNodeId::of).collect();
+        let of_each = |nodes: &[_]| nodes.iter().copied().map(UniqueNodeId::of).collect();
+        let nodes: Vec<_> = self.service().nodes(of_each);
         nodes.into_iter()
     }
 
@@ -757,9 +780,10 @@ impl DynamicConfig {
     /// assert!(service.ports(Role::Reader).is_none());
     /// # Ok::<(), Box<dyn std::error::Error>>(())
     /// ```
+    #[inline]
     pub fn ports(&self, role: Role) -> Option<vec::IntoIter<PortDetails>> {
-        let ports = self.service().ports(role as u64)?;
-        let ports: Vec<_> = ports.iter().map(PortDetails::of).collect();
+        let of_each = |ports: &[_]| ports.iter().map(PortDetails::of).collect();
+        let ports: Vec<_> = self.service().ports(role as u64, of_each)?;
         Some(ports.into_iter())
     }
 
@@ -783,9 +807,10 @@ impl DynamicConfig {
     /// assert_eq!(service.ports_of(&other).count(), 0);
     /// # Ok::<(), Box<dyn std::error::Error>>(())
     /// ```
+    #[inline]
     pub fn ports_of(&self, node: &UniqueNodeId) -> vec::IntoIter<PortDetails> {
-        let ports = self.service().ports_of(node.parts);
-        let ports: Vec<_> = ports.iter().map(PortDetails::of).collect();
+        let of_each = |ports: &[_]| ports.iter().map(PortDetails::of).collect();
+        let ports: Vec<_> = self.service().ports_of(node.parts, of_each);
         ports.into_iter()
     }
 
@@ -812,8 +837,10 @@ impl DynamicConfig {
     /// assert_eq!(seen, [node]);
     /// # Ok::<(), Box<dyn std::error::Error>>(())
     /// ```
+    #[inline]
     pub fn list_node_ids<F: FnMut(&UniqueNodeId) -> CallbackProgression>(&self, mut callback: F) {
-        visit(self.nodes(), |node| callback(&node));
+        let show = |nodes: &[_]| visit(nodes, |node| callback(&UniqueNodeId::of(*node)));
+        self.service().nodes(show);
     }
 
     /// Calls the callback on the ports of the role by rising slot, up to and with the first answer
@@ -845,16 +872,14 @@ impl DynamicConfig {
     /// assert!(!service.list_ports(Role::Reader, |_| CallbackProgression::Stop));
     /// # Ok::<(), Box<dyn std::error::Error>>(())
     /// ```
+    #[inline]
     pub fn list_ports<F: FnMut(&PortDetails) -> CallbackProgression>(
         &self,
         role: Role,
         mut callback: F,
     ) -> bool {
-        let Some(ports) = self.ports(role) else {
-            return false;
-        };
-        visit(ports, |port| callback(&port));
-        true
+        let show = |ports: &[_]| visit(ports, |port| callback(&PortDetails::of(port)));
+        self.service().ports(role as u64, show).is_some()
     }
 }
 

@@ -1,8 +1,13 @@
 //! Calls on a service.
 
-use super::{done, list, unexpected};
+use super::{done, unexpected};
 use crate::sys;
+use std::mem::MaybeUninit;
 use std::ptr;
+use std::slice;
+
+/// A list of so many items is written to the stack, and a longer one to a vector.
+const SHORT: usize = 16;
 
 /// A service of the library's, which is freed where it is dropped.
 pub(crate) struct Service {
@@ -61,6 +66,7 @@ impl Service {
         Ok(service)
     }
 
+    #[inline]
     pub(crate) fn register(&mut self, node: sys::iox2sd_id) -> Result<sys::iox2sd_handle, u32> {
         let answer = change!(self, iox2sd_register_node_id_at, node);
         done(answer.status)?;
@@ -68,10 +74,12 @@ impl Service {
     }
 
     /// Whether the service is locked now.
+    #[inline]
     pub(crate) fn deregister(&mut self, handle: sys::iox2sd_handle) -> Result<bool, u32> {
         locked(change!(self, iox2sd_deregister_node_id_at, handle))
     }
 
+    #[inline]
     pub(crate) fn attach(
         &mut self,
         port: &sys::iox2sd_port_details,
@@ -81,11 +89,13 @@ impl Service {
         Ok(answer.handle)
     }
 
+    #[inline]
     pub(crate) fn release(&mut self, handle: sys::iox2sd_handle) -> Result<(), u32> {
         done(change!(self, iox2sd_release_port_at, handle))
     }
 
     /// Whether the service is locked now.
+    #[inline]
     pub(crate) fn dead(
         &mut self,
         dead: sys::iox2sd_id,
@@ -103,84 +113,118 @@ impl Service {
         )
     }
 
+    #[inline]
     pub(crate) fn number(&self) -> u64 {
         let answer = ask!(self, iox2sd_service_number_at);
         granted(answer.status, answer.number)
     }
 
     /// The roles of the two kinds of ports.
+    #[inline]
     pub(crate) fn roles(&self) -> (u64, u64) {
         let answer = ask!(self, iox2sd_port_roles_at);
         granted(answer.status, (answer.first, answer.second))
     }
 
+    #[inline]
     pub(crate) fn has_role(&self, role: u64) -> bool {
         let answer = ask!(self, iox2sd_has_role_at, role);
         granted(answer.status, answer.yes)
     }
 
+    #[inline]
     pub(crate) fn is_locked(&self) -> bool {
         let answer = ask!(self, iox2sd_is_locked_at);
         granted(answer.status, answer.yes)
     }
 
+    #[inline]
     pub(crate) fn number_of_nodes(&self) -> usize {
         let answer = ask!(self, iox2sd_number_of_nodes_at);
         granted(answer.status, answer.count)
     }
 
+    #[inline]
     pub(crate) fn max_nodes(&self) -> usize {
         let answer = ask!(self, iox2sd_max_nodes_at);
         granted(answer.status, answer.count)
     }
 
+    #[inline]
     pub(crate) fn has_room_for_node(&self) -> bool {
         let answer = ask!(self, iox2sd_has_room_for_node_at);
         granted(answer.status, answer.yes)
     }
 
+    #[inline]
     pub(crate) fn count_ports(&self, role: u64) -> Option<usize> {
         let answer = ask!(self, iox2sd_count_ports_at, role);
         of_role(answer.status, answer.count)
     }
 
+    #[inline]
     pub(crate) fn max_ports(&self, role: u64) -> Option<usize> {
         let answer = ask!(self, iox2sd_max_ports_at, role);
         of_role(answer.status, answer.count)
     }
 
+    #[inline]
     pub(crate) fn has_room(&self, role: u64) -> Option<bool> {
         let answer = ask!(self, iox2sd_has_room_at, role);
         of_role(answer.status, answer.yes)
     }
 
+    #[inline]
     pub(crate) fn node(&self, handle: sys::iox2sd_handle) -> Option<sys::iox2sd_id> {
         let answer = ask!(self, iox2sd_node_at, handle);
         of_handle(answer.status, answer.id)
     }
 
-    pub(crate) fn port(&self, handle: sys::iox2sd_handle) -> Option<sys::iox2sd_port_details> {
+    #[inline]
+    /// What is read of the port of a handle, where it is.
+    pub(crate) fn port<R>(
+        &self,
+        handle: sys::iox2sd_handle,
+        read: impl FnOnce(&sys::iox2sd_port_details) -> R,
+    ) -> Option<R> {
         let answer = ask!(self, iox2sd_port_at, handle);
-        of_handle(answer.status, answer.port)
+        of_handle(answer.status, &answer.port).map(read)
     }
 
-    pub(crate) fn nodes(&self) -> Vec<sys::iox2sd_id> {
-        list(|out| ask!(self, iox2sd_nodes_at, out.as_mut_ptr(), out.len()))
-            .unwrap_or_else(|status| unexpected(status))
+    /// What is read of the nodes.
+    #[inline]
+    pub(crate) fn nodes<R>(&self, read: impl FnOnce(&[sys::iox2sd_id]) -> R) -> R {
+        let call = |out, capacity| ask!(self, iox2sd_nodes_at, out, capacity);
+        // SAFETY: the export writes so.
+        unsafe { listed(call, read) }.unwrap_or_else(|status| unexpected(status))
     }
 
-    pub(crate) fn ports(&self, role: u64) -> Option<Vec<sys::iox2sd_port_details>> {
-        match list(|out| ask!(self, iox2sd_ports_at, role, out.as_mut_ptr(), out.len())) {
+    /// What is read of the ports of a role, or `None` where the pattern has no such ports.
+    #[inline]
+    pub(crate) fn ports<R>(
+        &self,
+        role: u64,
+        read: impl FnOnce(&[sys::iox2sd_port_details]) -> R,
+    ) -> Option<R> {
+        let call = |out, capacity| ask!(self, iox2sd_ports_at, role, out, capacity);
+        // SAFETY: the export writes so.
+        match unsafe { listed(call, read) } {
             Ok(ports) => Some(ports),
             Err(sys::IOX2SD_ROLE_NOT_IN_PATTERN) => None,
             Err(other) => unexpected(other),
         }
     }
 
-    /// The ports of the node with exactly this id.
-    pub(crate) fn ports_of(&self, node: sys::iox2sd_id) -> Vec<sys::iox2sd_port_details> {
-        list(|out| ask!(self, iox2sd_ports_of_at, node, out.as_mut_ptr(), out.len()))
-            .unwrap_or_else(|status| unexpected(status))
+    /// What is read of the ports of the node with exactly this id.
+    #[inline]
+    pub(crate) fn ports_of<R>(
+        &self,
+        node: sys::iox2sd_id,
+        read: impl FnOnce(&[sys::iox2sd_port_details]) -> R,
+    ) -> R {
+        let call = |out, capacity| ask!(self, iox2sd_ports_of_at, node, out, capacity);
+        // SAFETY: the export writes so.
+        unsafe { listed(call, read) }.unwrap_or_else(|status| unexpected(status))
     }
 }
 
@@ -191,7 +235,35 @@ impl Drop for Service {
     }
 }
 
+/// Has a list written, and what is read of it: to the stack, or where it is longer than there is
+/// room, to a vector that is just as long.
+///
+/// # Safety
+///
+/// The call is passed a pointer to room for so many items. It answers `IOX2SD_DONE` with a count
+/// only where it wrote so many, and the same count of a second call as of the first.
+#[inline]
+unsafe fn listed<T, R>(
+    call: impl Fn(*mut T, usize) -> sys::iox2sd_count_answer,
+    read: impl FnOnce(&[T]) -> R,
+) -> Result<R, u32> {
+    let mut short = MaybeUninit::<[T; SHORT]>::uninit();
+    let answer = call(short.as_mut_ptr().cast(), SHORT);
+    if answer.status == sys::IOX2SD_BUFFER_TOO_SHORT {
+        let mut long = Vec::with_capacity(answer.count);
+        done(call(long.as_mut_ptr(), answer.count).status)?;
+        // SAFETY: the call wrote so many.
+        unsafe { long.set_len(answer.count) };
+        return Ok(read(&long));
+    }
+    done(answer.status)?;
+    // SAFETY: the call wrote so many.
+    let items = unsafe { slice::from_raw_parts(short.as_ptr().cast(), answer.count) };
+    Ok(read(items))
+}
+
 /// Whether a call that was done left the service locked.
+#[inline]
 fn locked(status: u32) -> Result<bool, u32> {
     match status {
         sys::IOX2SD_DONE => Ok(false),
@@ -201,6 +273,7 @@ fn locked(status: u32) -> Result<bool, u32> {
 }
 
 /// The answer to a query that is never refused.
+#[inline]
 fn granted<T>(status: u32, answer: T) -> T {
     match status {
         sys::IOX2SD_DONE => answer,
@@ -209,6 +282,7 @@ fn granted<T>(status: u32, answer: T) -> T {
 }
 
 /// The answer to a query about a role, or `None` where the pattern has no such ports.
+#[inline]
 fn of_role<T>(status: u32, answer: T) -> Option<T> {
     match status {
         sys::IOX2SD_DONE => Some(answer),
@@ -218,6 +292,7 @@ fn of_role<T>(status: u32, answer: T) -> Option<T> {
 }
 
 /// The answer to a query about a handle, or `None` where nothing has it.
+#[inline]
 fn of_handle<T>(status: u32, answer: T) -> Option<T> {
     match status {
         sys::IOX2SD_DONE => Some(answer),
