@@ -1,19 +1,22 @@
 -- Listings of a node's ports by a callback that puts and counts what it is shown.
 use Rattle.std.proofs.Common.{◌≡◌, ◌∙◌, ℕ, ◌+◌, ◌<◌, ◌≤◌, Bool, true, false, Option, Some, None, List, [], ◌∷◌, ◌++◌, map, length, refl, sym, ap, subst, inl, inr, arith, slice_set, add-one, suc}
-use Rattle.std.specs.Prelude.{drop, filter, if◌then◌else◌}
-use Rattle.std.proofs.lemmas.List.{append-nil, append_assoc, length-append, length-set, map-append}
+use Rattle.std.specs.Prelude.{◌^◌, drop, filter, if◌then◌else◌}
+use Rattle.std.proofs.lemmas.List.{append-nil, append_assoc, length-append, length-map, length-set, map-append}
+use Rattle.std.proofs.lemmas.List.Sums.{count_by-le-length, length-filter}
 use Rattle.std.proofs.Math.Seq.{drop-cons, set-append_seam}
 use Rattle.iox2_texts.specs.Attribute.{Visits}
 use Rattle.iox2_texts.specs.declared.bounded.callback_progression.CallbackProgression.{CallbackProgression}
 use Rattle.iox2_texts.specs.declared.bounded.callback_progression.CallbackProgression.TheVariants.{Continue, Stop}
 use Rattle.iox2_container.proofs.ListEdits.{filter-map}
-use Rattle.iox2_container.specs.Steps.{is_of, listed}
+use Rattle.iox2_container.specs.ContainerState.{ContainerState}
+use Rattle.iox2_container.specs.Steps.{asked_about, is_of, listed}
 use Rattle.iox2_container.specs.declared.container.role.Role.{Role}
 use Rattle.iox2_dynamic.specs.Details.{node_of}
-use Rattle.iox2_dynamic.specs.Ports.{ListsIn}
+use Rattle.iox2_dynamic.specs.Ports.{ListsIn, Ports, ports_of_node}
 use Rattle.iox2_dynamic.specs.Service.{Service, first_role, second_role}
 use Rattle.iox2_dynamic.specs.declared.dynamic_config.port_details.PortDetails.{PortDetails}
 use Rattle.iox2_dynamic.proofs.Rooms.{roles_differ}
+use Rattle.iox2sd.specs.Listings.{ListsAll}
 use Rattle.iox2sd.specs.NodeListings.{Counts, PutsAt, Stand, Notes, NotesAll, ports_of_in}
 use Rattle.iox2sd.specs.Ports.{told_port}
 use Rattle.iox2sd.specs.declared.port.Port.{Port}
@@ -136,3 +139,46 @@ pub both_noted : (xs ys : List PortDetails) (before : List Port)
 both_noted xs ys before between after first second =
     subst (λ (l : List Port). Stand before l after.0 after.1) (sym (map-append told_port xs ys))
     (second before (map told_port xs) (first before [] (refl, refl, λ fits. refl)))
+
+few_of_one : (node : ℕ) (ports : ContainerState PortDetails)
+    → length (asked_about (is_of node_of node) ports.registry) ≤ length ports.registry.entries
+few_of_one node ports =
+    omega (
+      arith,
+      length-map (filter (λ e. is_of node_of node e.details) ports.registry.entries)
+          (λ e. e.details),
+      length-filter (λ e. is_of node_of node e.details) ports.registry.entries,
+      count_by-le-length (λ e. is_of node_of node e.details) ports.registry.entries,
+    )
+
+-- a node has no more ports than there are
+pub few_of_node : (node : ℕ) (ports : Ports)
+    → length (map told_port (ports_of_node node ports))
+    ≤ length ports.first.registry.entries + length ports.second.registry.entries
+few_of_node node ports =
+    omega (
+      arith,
+      length-map (ports_of_node node ports) told_port,
+      length-append (asked_about (is_of node_of node) ports.first.registry)
+          (asked_about (is_of node_of node) ports.second.registry),
+      few_of_one node ports.first,
+      few_of_one node ports.second,
+    )
+
+-- where all ports there are fit an array, those of a node stand in it
+pub all_fit : (node : ℕ) (ports : Ports) (before after : List Port) (n : ℕ)
+    → length ports.first.registry.entries + length ports.second.registry.entries ≤ length before
+    → Stand before (map told_port (ports_of_node node ports)) after (Some n)
+    → ListsAll (map told_port (ports_of_node node ports)) before n after
+all_fit node ports before after n room s =
+    let fits : length (map told_port (ports_of_node node ports)) ≤ length before =
+    omega (arith, room, few_of_node node ports) in
+    (fits, s.2 fits, s.0)
+
+-- and they are not too many to be counted
+pub not_too_many : (node : ℕ) (ports : Ports) (before after : List Port)
+    → length before < 2 ^ 64
+    → length ports.first.registry.entries + length ports.second.registry.entries ≤ length before
+    → Stand before (map told_port (ports_of_node node ports)) after None → ⊥
+not_too_many node ports before after long room s =
+    omega (arith, long, room, s.0, few_of_node node ports)

@@ -1,5 +1,5 @@
 -- Listings of a node's ports into a caller's array.
-use Rattle.std.specs.Prelude.{◌≡◌, ℕ, ◌^◌, ◌<◌, ◌≤◌, Bool, true, false, Option, List, [], ◌∷◌, ◌++◌, Some, None, map, drop, length, slice_set, ◌⊎◌}
+use Rattle.std.specs.Prelude.{◌≡◌, ℕ, ◌+◌, ◌^◌, ◌<◌, ◌≤◌, Bool, true, false, Option, List, [], ◌∷◌, ◌++◌, Some, None, map, drop, length, slice_set, ◌⊎◌}
 use Rattle.iox2_container.specs.ContainerState.{ContainerState}
 use Rattle.iox2_container.specs.Steps.{asked_about, is_of}
 use Rattle.iox2_dynamic.specs.Details.{node_of}
@@ -45,6 +45,12 @@ NotesAll {A} items old new =
 abbrev pub Notes : {A : Type 0} → Bool → List A × Option ℕ → A → List A × Option ℕ → Type 0
 Notes true old item new = NotesAll (item ∷ []) old new
 Notes false old item new = (new.0 ≡ old.0) × (new.1 ≡ old.1)
+
+-- an array of this length has room for all ports of the service
+abbrev pub AllFit : Held → ℕ → Type 0
+AllFit service room =
+    length service.ports.first.registry.entries + length service.ports.second.registry.entries
+    ≤ room
 
 -- the ports of a registry that have the node, by rising slot
 abbrev pub ports_of_in : ℕ → ContainerState PortDetails → List Port

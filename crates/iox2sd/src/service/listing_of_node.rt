@@ -1,18 +1,19 @@
 //! Listings of a node's ports into a caller's array.
-ghost use Rattle.std.specs.Prelude.{◌≡◌, ℕ, ◌+◌, All, map};
+ghost use Rattle.std.specs.Prelude.{◌≡◌, ℕ, ◌+◌, All, IsTrue, length, map};
 ghost use Rattle.iox2_container.specs.Steps.{is_of};
 ghost use Rattle.iox2_dynamic.specs.Details.{node_of};
 ghost use Rattle.iox2_dynamic.specs.Ports.{ports_of_node};
 ghost use Rattle.iox2_dynamic.specs.Service.{first_role, second_role};
-ghost use Rattle.iox2sd.specs.Listings.{listed_answer};
-ghost use Rattle.iox2sd.specs.NodeListings.{Counts, PutsAt, Notes, NotesAll};
-ghost use Rattle.iox2sd.specs.NodeListings.{Stand, ports_of_in, ListsPortsOf};
+ghost use Rattle.iox2sd.specs.Listings.{ListsAll, listed_answer};
+ghost use Rattle.iox2sd.specs.NodeListings.{Counts as CountsTo, PutsAt, Notes, NotesAll};
+ghost use Rattle.iox2sd.specs.NodeListings.{AllFit, Stand, ports_of_in, ListsPortsOf};
 ghost use Rattle.iox2sd.specs.Places.{IsSoundPlace, Asked};
 ghost use Rattle.iox2sd.specs.Ports.{told_port};
 ghost use Rattle.iox2sd.specs.declared.service.listing.Listed.TheVariants as listed;
 
 use super::Service;
 use super::listing::Listed;
+use super::roles::Counts;
 use crate::port::Port;
 use iox2_container::container::Role;
 use iox2_dynamic::dynamic_config::{DynamicConfig, PortDetails, PortRoles};
@@ -24,7 +25,7 @@ use iox2sd_common::status::Status;
 
 /// One more, unless that is too large.
 fn one_more(count: Option<usize>) -> Option<usize>
-    ensures { (n : ℕ) → Counts n count → Counts (n + 1) result }
+    ensures { (n : ℕ) → CountsTo n count → CountsTo (n + 1) result }
 {
     match count {
         Some(number) => number.checked_add(1),
@@ -97,6 +98,28 @@ fn note_all(service: &DynamicConfig, node: &UniqueNodeId, out: &mut [Port]) -> O
     count
 }
 
+/// Whether all ports that there are, of whatever node, would fit an array of this length.
+fn all_fit(service: &DynamicConfig, length: usize) -> bool
+    ensures { IsTrue result → AllFit service.now length }
+{
+    let ports = Counts::of(service);
+    ports.first <= length && ports.second <= length - ports.first
+}
+
+/// Puts the ports of the node at the front of an array that has room for all ports that there are,
+/// and counts them.
+fn note_few(service: &DynamicConfig, node: &UniqueNodeId, out: &mut [Port]) -> usize
+    requires { AllFit service.now (length out.old) }
+    ensures { ListsAll (map told_port (ports_of_node node.now service.now.ports))
+        out.old result out.new }
+{
+    let _fits = out.len();
+    match note_all(service, node, out) {
+        Some(number) => number,
+        None => unreachable!(),
+    }
+}
+
 /// Lists the ports of the node of these parts.
 fn list_ports_of(service: &DynamicConfig, node: Id, out: &mut [Port]) -> Listed
     ensures { ListsPortsOf node out.old service.now result out.new }
@@ -104,6 +127,9 @@ fn list_ports_of(service: &DynamicConfig, node: Id, out: &mut [Port]) -> Listed
     let Some(node) = node.of_node() else {
         return Listed::Refused(Status::NoNode);
     };
+    if all_fit(service, out.len()) {
+        return Listed::All(note_few(service, &node, out));
+    }
     let Some(number) = note_all(service, &node, &mut []) else {
         return Listed::Refused(Status::TooLarge);
     };
