@@ -235,12 +235,12 @@ impl Drop for Service {
     }
 }
 
-/// Has a list written, and what is read of it: to the stack, or where it is longer than there is
-/// room, to a vector that is just as long.
+/// What is read of a list, which is written to the stack, or to a vector that is just as long where
+/// the stack is too short.
 ///
 /// # Safety
 ///
-/// The call is passed a pointer to room for so many items. It answers `IOX2SD_DONE` with a count
+/// The call is passed a pointer to memory for so many items. It answers `IOX2SD_DONE` with a count
 /// only where it wrote so many, and the same count of a second call as of the first.
 #[inline]
 unsafe fn listed<T, R>(
