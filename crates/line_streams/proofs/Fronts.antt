@@ -1,12 +1,12 @@
 -- Numbers at the front of a text.
-use Rattle.std.proofs.Common.{◌≡◌, ◌≢◌, ℕ, zero, suc, ◌<◌, ◌≤◌, ◌^◌, ◌+◌, List, [], ◌∷◌, ◌++◌, length, get_or, take, drop, ◌-◌, ◌*◌, ◌%◌, ◌⊎◌, inl, inr, Fits, w8, arith, sym, ◌∙◌, refl, ap}
+use Rattle.std.proofs.Common.{◌≡◌, ◌≢◌, ℕ, zero, suc, ◌<◌, ◌≤◌, ◌^◌, ◌+◌, List, [], ◌∷◌, ◌++◌, length, get_or, take, drop, ◌-◌, ◌*◌, ◌⊎◌, inl, inr, arith, sym, ◌∙◌, refl, ap}
 use Rattle.std.specs.Fmt.{decimal}
 use Rattle.std.specs.Str.Parse.{AllDigits, digits_value}
 use Rattle.std.proofs.lemmas.Fmt.{digits_value-decimal, decimal_nonempty, decimal-digits_value}
 use Rattle.std.proofs.lemmas.Str.Parse.{digit_from_value, digits_value-take-le}
 use Rattle.std.proofs.lemmas.Str.{digit_value_digit}
 use Rattle.std.proofs.lemmas.Int.Digits.{digits_more, digits_value_more}
-use Rattle.std.proofs.lemmas.List.{length-append, length-take-le, take-append-drop, get_or-take, length-drop, get_or-drop, get_or_past}
+use Rattle.std.proofs.lemmas.List.{drop-drop, length-append, length-take-le, take-append-drop, get_or-take, length-drop, get_or-drop, get_or_past}
 use Rattle.std.proofs.Math.Seq.{take-length}
 use Rattle.line_streams.specs.Spelling.{EndsNumber, IsDigit}
 use Rattle.line_streams.specs.Numerals.{own, decimal_first, decimal_no_zero}
@@ -120,19 +120,80 @@ pub starts_somewhere : (n : ℕ) (rest bytes : List ℕ) → n < 2 ^ 64 → byte
 starts_somewhere n rest bytes h e = let some = decimal_nonempty n h in let both =
     length-append (decimal n) rest in rw e (omega (arith, some, both))
 
--- the first digit is a zero where the number of one digit is 0
-pub first_value : (bytes : List ℕ) (value : ℕ) → 0 < length bytes → AllDigits 10 (take 1 bytes)
-    → value ≡ digits_value 10 (take 1 bytes) → get_or bytes 0 0 ≡ value + 48
-first_value [] value some d is = absurd (omega arith)
-first_value (b ∷ bs) value some d is = let v = digit_value_digit b (digit_from_value b d.0) in
-    omega (arith, v, is)
+-- some first digits, their number, and what follows them
+pub record DigitsSoFar (bytes rest : List ℕ) (value most : ℕ) : Type 0 where
+  pub count : ℕ
+  pub some : 0 < count
+  pub within : count ≤ length bytes
+  pub left : rest ≡ drop count bytes
+  pub digits : AllDigits 10 (take count bytes)
+  pub value_is : value ≡ digits_value 10 (take count bytes)
+  pub small : value ≤ most
 
--- what the wrapped difference to `0` says of a byte
-pub digit_below : (b : ℕ) → Fits w8 b → (b + 208) % 256 ≤ 9 → IsDigit b
-digit_below b small low = (omega (arith, small), omega (arith, small))
+-- the first digit alone
+abbrev pub first_digit : (bytes : List ℕ) (first most : ℕ) → 0 < length bytes → IsDigit (get_or bytes 0 0)
+    → first ≡ get_or bytes 0 0 - 48 → first ≤ most → DigitsSoFar bytes (drop 1 bytes) first most
+first_digit bytes first most some digit is small =
+    let one = digit_more bytes 0 0 some tt refl digit in
+    record {
+      count = 1;
+      some = omega arith;
+      within = some;
+      left = refl;
+      digits = one.0;
+      value_is = omega (arith, is, one.1);
+      small = small;
+    }
 
-pub digit_above : (b : ℕ) → Fits w8 b → 9 < (b + 208) % 256 → IsDigit b → ⊥
-digit_above b small high digit = omega (arith, small)
+module _ (bytes rest : List ℕ) (value most : ℕ) (so : DigitsSoFar bytes rest value most) where
+  -- what follows begins with a byte
+  module _ (b : ℕ) (tail : List ℕ) (begins : rest ≡ b ∷ tail) where
+    at_count : get_or bytes so.count 0 ≡ b
+    at_count =
+        let there = get_or-drop so.count bytes 0 0 in
+        let plus : so.count + 0 ≡ so.count = omega arith in
+        let is = ap (λ l. get_or l 0 0) (sym begins ∙ so.left) in
+        sym (rw plus at (is ∙ there))
 
-pub digit_is : (b : ℕ) → IsDigit b → (b + 208) % 256 ≡ b - 48
-digit_is b digit = omega arith
+    more_left : so.count < length bytes
+    more_left =
+        let len = ap (length {A = ℕ}) (sym begins ∙ so.left) ∙ length-drop so.count bytes in
+        omega (arith, len)
+
+    -- one digit more
+    pub next_digit : (n : ℕ) → IsDigit b → n ≡ value * 10 + (b - 48) → n ≤ most
+        → DigitsSoFar bytes tail n most
+    next_digit n digit is small =
+        let here : IsDigit (get_or bytes so.count 0) = rw at_count digit in
+        let one = digit_more bytes so.count value more_left so.digits so.value_is here in
+        let value_too : n ≡ value * 10 + (get_or bytes so.count 0 - 48) = rw at_count is in
+        record {
+          count = so.count + 1;
+          some = omega arith;
+          within = omega (arith, more_left);
+          left = ap (drop 1) (sym begins ∙ so.left) ∙ drop-drop 1 so.count bytes;
+          digits = one.0;
+          value_is = value_too ∙ one.1;
+          small = small;
+        }
+
+    -- no smaller number has the digits
+    pub least_number : IsDigit b → (n : ℕ) (after : List ℕ) → n < 2 ^ 64 → EndsNumber after
+        → bytes ≡ decimal n ++ after → value * 10 + (b - 48) ≤ n
+    least_number digit n after h u e =
+        rw at_count at
+        (too_large n after bytes so.count value h u e more_left so.digits so.value_is
+        (rw at_count digit))
+
+    pub ends_before : ¬ (IsDigit b) → EndsNumber rest
+    ends_before out = λ digit. out (rw begins at digit)
+
+  -- these are all the digits
+  pub all_digits : most < 2 ^ 64 → (1 < so.count → get_or bytes 0 0 ≢ 48) → EndsNumber rest
+      → ((value ≤ most) × (value < 2 ^ 64) × EndsNumber rest) × (bytes ≡ decimal value ++ rest)
+  all_digits fits plain ends =
+      let same = sym so.left in
+      let found =
+      number_found bytes so.count value most so.some so.within so.digits so.value_is so.small fits
+      plain (rw so.left at ends) in
+      rw (slice_tail bytes so.count, same) at found

@@ -1,23 +1,70 @@
 //! Decimal numbers without leading zeros.
-ghost use Rattle.std.specs.Prelude.{◌≡◌, ◌+◌, ◌*◌, ◌<◌, ◌≤◌, ℕ, false, IfSome, IfNone};
+ghost use Rattle.std.specs.Prelude.{◌≡◌, ◌≢◌, ◌↔◌, ◌+◌, ◌-◌, ◌*◌, ◌<◌, ◌≤◌, ℕ, false};
+ghost use Rattle.std.specs.Prelude.{IfSome, IfNone, IsTrue, get_or, length};
 ghost use Rattle.std.specs.Option.{option_map};
-ghost use Rattle.line_streams.specs.Spelling.{Reads, number};
+ghost use Rattle.line_streams.specs.Spelling.{IsDigit, Reads, number};
 ghost use Rattle.line_streams.specs.OneWay.{number_one};
 
 use super::phrase::Phrase;
 use std::alloc::{AllocError, Global};
 
+/// The digit that a byte is the code of; above 9 where it is none.
+#[inline(always)]
+fn digit_of(byte: u8) -> u64
+    ensures some { result ≤ 9 → IsDigit byte × (result ≡ byte - 48) }
+    ensures none { 9 < result → ¬ (IsDigit byte) }
+{
+    (byte as u64).wrapping_sub(48)
+}
+
+/// Whether a digit comes first.
+#[inline(always)]
+fn has_digit(bytes: &[u8]) -> bool
+    ensures { IsTrue result ↔ IsDigit (get_or bytes.now 0 0) }
+{
+    match bytes {
+        [first, ..] => digit_of(*first) <= 9,
+        _ => false,
+    }
+}
+
 /// The number with one more digit, unless it is greater than `most`.
 #[inline(always)]
-fn with_digit(value: u64, digit: u8, most: u64) -> Option<u64>
+fn with_digit(value: u64, digit: u64, most: u64) -> Option<u64>
     requires { digit ≤ 9 }
     ensures some { IfSome result (λ n. (n ≡ value * 10 + digit) × (n ≤ most)) }
     ensures none { IfNone result (most < value * 10 + digit) }
 {
-    if value >= most / 10 && (value > most / 10 || digit as u64 > most % 10) {
+    if value >= most / 10 && (value > most / 10 || digit > most % 10) {
         return None;
     }
-    Some(value * 10 + digit as u64)
+    Some(value * 10 + digit)
+}
+
+/// The number that all the digits at the front are the text of, unless it is greater than `most`,
+/// and what follows them. Its first digit is `first`, which is not 0.
+#[inline(always)]
+fn digits_before(bytes: &[u8], first: u64, most: u64) -> Option<(u64, &[u8])>
+    requires some { 0 < length bytes.now }
+    requires digit { IsDigit (get_or bytes.now 0 0) × (first ≡ get_or bytes.now 0 0 - 48) }
+    requires own { (first ≢ 0) × (first ≤ most) }
+    ensures { Reads (number most).Fits (number most).text
+        (option_map (λ found. (found.0, found.1.now)) result) bytes.now }
+{
+    let mut rest = &bytes[1..];
+    let mut value = first;
+    while let Some((b, tail)) = rest.split_first() {
+        let digit = digit_of(*b);
+        if digit > 9 {
+            return Some((value, rest));
+        }
+        let Some(more) = with_digit(value, digit, most) else {
+            return None;
+        };
+        value = more;
+        rest = tail;
+    }
+    Some((value, rest))
 }
 
 /// The number that all the digits at the front are the text of, unless it is greater than `most`,
@@ -27,27 +74,24 @@ pub fn number_before(bytes: &[u8], most: u64) -> Option<(u64, &[u8])>
     ensures { Reads (number most).Fits (number most).text
         (option_map (λ found. (found.0, found.1.now)) result) bytes.now }
 {
-    let mut value = 0u64;
-    for (i, b) in bytes.iter().enumerate() {
-        let digit = b.wrapping_sub(b'0');
-        if digit > 9 {
-            if i == 0 {
-                return None;
-            }
-            return Some((value, &bytes[i..]));
-        }
-        if i == 1 && value == 0 {
-            return None;
-        }
-        let Some(more) = with_digit(value, digit, most) else {
-            return None;
-        };
-        value = more;
-    }
-    if bytes.len() == 0 {
+    let Some((b, rest)) = bytes.split_first() else {
+        return None;
+    };
+    let first = digit_of(*b);
+    if first > 9 {
         return None;
     }
-    Some((value, &bytes[bytes.len()..]))
+    if first > most {
+        return None;
+    }
+    if first != 0 {
+        return digits_before(bytes, first, most);
+    }
+    // A zero stands alone.
+    if has_digit(rest) {
+        return None;
+    }
+    Some((0, rest))
 }
 
 /// A number of at most so much, in decimal digits without a leading zero.

@@ -1,77 +1,53 @@
-use Rattle.std.proofs.Common.{◌≡◌, length, get_or, arith}
-use Rattle.line_streams.proofs.Fronts.{no_spare_zero, starts_with_digit, number_found, digit_more, too_large, ends_at, ends_there, starts_somewhere, first_value, digit_below, digit_above, digit_is}
+use Rattle.std.proofs.Common.{◌≡◌, ◌<◌, ap, arith, drop, get_or, length, refl}
+use Rattle.line_streams.specs.Spelling.{IsDigit}
+use Rattle.line_streams.proofs.Fronts.{all_digits, first_digit, no_spare_zero, starts_somewhere, starts_with_digit, too_large}
 use Rattle.line_streams.proofs.number.number_before.Goals as goal
-use Rattle.line_streams.proofs.number.number_before.Goals.{else-i-eq1-via-then-i-eq1+else-value-eq0, else-i-eq1-via-else-i-eq1}
-
-pub returns-then-i-eq0 : goal.returns-then-i-eq0
-returns-then-i-eq0 c a fits e =
-    let small = fits.0 in
-    digit_above (get_or c.args.bytes.now 0 0) (c.type_inv.bytes 0)
-    (rw c.if-i-eq0.true at c.if-digit-gt9.true)
-    (starts_with_digit a.0 a.1 c.args.bytes.now (omega (arith, small)) e)
-
-pub returns-then-digit-gt9 : goal.returns-then-digit-gt9
-returns-then-digit-gt9 c =
-    number_found c.args.bytes.now c.loop-i.i c.loop-i.value c.args.most (omega arith)
-    (omega arith) c.loop-i.invariant.0 c.loop-i.invariant.1 c.loop-i.invariant.2
-    (omega arith) c.loop-i.invariant.3
-    (ends_at c.args.bytes.now c.loop-i.i
-    (digit_above _ (c.type_inv.bytes c.loop-i.i) c.if-digit-gt9.true))
-
-pub returns-then-value-eq0 : goal.returns-then-value-eq0
-returns-then-value-eq0 c a fits e =
-    let small = fits.0 in
-    let first =
-    first_value c.args.bytes.now c.loop-i.value (omega arith)
-    (rw c.if-i-eq1.true at c.loop-i.invariant.0)
-    (rw c.if-i-eq1.true at c.loop-i.invariant.1) in
-    no_spare_zero a.0 a.1 c.args.bytes.now (omega (arith, small)) fits.2 e (omega (arith, first))
-    (digit_below _ (c.type_inv.bytes 1) (rw c.if-i-eq1.true at c.if-digit-gt9.false))
-
-pub returns-then-bytes-eq0 : goal.returns-then-bytes-eq0
-returns-then-bytes-eq0 c a fits e =
-    let small = fits.0 in
-    let some = starts_somewhere a.0 a.1 c.args.bytes.now (omega (arith, small)) e in omega arith
-
-pub returns : goal.returns
-returns c =
-    let same : c.loop-i.i ≡ length c.args.bytes.now = omega arith in
-    number_found c.args.bytes.now (length c.args.bytes.now) c.loop-i.value c.args.most (omega arith)
-    (omega arith) (rw same at c.loop-i.invariant.0)
-    (rw same at c.loop-i.invariant.1) c.loop-i.invariant.2 (omega arith)
-    (rw same at c.loop-i.invariant.3)
-    (ends_there c.args.bytes.now (length c.args.bytes.now) (omega arith))
 
 pub returns-in_default : goal.returns-in_default
 returns-in_default c a fits e =
-    let small = fits.0 in
-    let digit = digit_below _ (c.type_inv.bytes c.loop-i.i) c.if-digit-gt9.false in
-    let is = digit_is _ digit in
-    let least =
-    too_large a.0 a.1 c.args.bytes.now c.loop-i.i c.loop-i.value (omega (arith, small)) fits.2 e
-    (omega arith) c.loop-i.invariant.0 c.loop-i.invariant.1 digit in
-    let over = c.in_default.ensures.none in
-    omega (arith, least, is, over, small)
+    let some = starts_somewhere a.0 a.1 c.args.bytes.now fits.1 e in
+    omega (arith, some, c.in_default.ensures.cases)
 
-pub loop-i-preserved : goal.loop-i-preserved
-loop-i-preserved c =
-    let digit = digit_below _ (c.type_inv.bytes c.loop-i.i) c.if-digit-gt9.false in
-    let is = digit_is _ digit in
-    let more =
-    digit_more c.args.bytes.now c.loop-i.i c.loop-i.value
-    (omega arith) c.loop-i.invariant.0 c.loop-i.invariant.1 digit in
-    let sum = c.in-Some.ensures.some in (
-      more.0,
-      omega (arith, more.1, is, sum.0),
-      sum.1,
-      λ more naught. elim c.else-i-eq1.branch [
-        | else-i-eq1-via-then-i-eq1+else-value-eq0 w ↦
-            let first =
-            first_value c.args.bytes.now c.loop-i.value (omega arith)
-            (rw w.if-i-eq1.true at c.loop-i.invariant.0)
-            (rw w.if-i-eq1.true at c.loop-i.invariant.1) in
-            w.if-value-eq0.false (omega (arith, first, naught))
-        | else-i-eq1-via-else-i-eq1 w ↦ c.loop-i.invariant.3
-            (let other = w.if-i-eq1.false in omega (arith, more, other)) naught
-      ],
-    )
+pub returns-then-first-gt9 : goal.returns-then-first-gt9
+returns-then-first-gt9 c a fits e =
+    c.digit_of-first.ensures.none c.if-first-gt9.true
+    (rw c.in-Some.ensures.cases.0 at (starts_with_digit a.0 a.1 c.args.bytes.now fits.1 e))
+
+pub returns-then-first-most : goal.returns-then-first-most
+returns-then-first-most c a fits e =
+    let begins = c.in-Some.ensures.cases.0 in
+    let digit = c.digit_of-first.ensures.some (omega arith) in
+    let there : get_or c.args.bytes.now 0 0 ≡ c.in-Some.b.now = ap (λ l. get_or l 0 0) begins in
+    let here : IsDigit (get_or c.args.bytes.now 0 0) = rw there digit.0 in
+    let least =
+    too_large a.0 a.1 c.args.bytes.now 0 0 fits.1 fits.2 e
+    (omega (arith, c.in-Some.ensures.cases.1)) tt refl here in
+    let small = fits.0 in
+    omega (arith, least, digit.1, there, small)
+
+pub returns-then-has_digit : goal.returns-then-has_digit
+returns-then-has_digit c a fits e =
+    let begins = c.in-Some.ensures.cases.0 in
+    let digit = c.digit_of-first.ensures.some (omega arith) in
+    let there : get_or c.args.bytes.now 0 0 ≡ c.in-Some.b.now = ap (λ l. get_or l 0 0) begins in
+    let next : get_or c.args.bytes.now 1 0 ≡ get_or c.in-Some.rest.now 0 0 =
+    ap (λ l. get_or l 1 0) begins in
+    let low = digit.0.0 in
+    no_spare_zero a.0 a.1 c.args.bytes.now fits.1 fits.2 e
+    (omega (arith, there, digit.1, low)) (rw next (c.has_digit.ensures.0 c.if-has_digit.true))
+
+pub returns : goal.returns
+returns c =
+    let bytes = c.args.bytes.now in
+    let begins = c.in-Some.ensures.cases.0 in
+    let digit = c.digit_of-first.ensures.some (omega arith) in
+    let there : get_or bytes 0 0 ≡ c.in-Some.b.now = ap (λ l. get_or l 0 0) begins in
+    let here : IsDigit (get_or bytes 0 0) = rw there digit.0 in
+    let some : 0 < length bytes = omega (arith, c.in-Some.ensures.cases.1) in
+    let found =
+    all_digits bytes (drop 1 bytes) 0 c.args.most
+    (first_digit bytes 0 c.args.most some here (omega (arith, there, digit.1)) (omega arith))
+    (omega arith) (λ more. absurd (omega (arith, more))) in
+    let after : drop 1 bytes ≡ c.in-Some.rest.now = ap (drop 1) begins in
+    rw after at
+    (found (rw after (λ d. (let yes = c.has_digit.ensures.1 d in let none = c.if-has_digit.false in cc))))

@@ -139,7 +139,9 @@ fn is_first(service: &DynamicConfig, role: Role) -> Option<bool>
     None
 }
 
-/// Appends the line that lists the nodes, perhaps a part of it where memory is refused.
+/// Appends the line that lists the nodes, perhaps a part of it where memory is refused. It is not
+/// inlined, so that its loop has all registers.
+#[inline(never)]
 fn append_nodes(service: &DynamicConfig, out: &mut Vec<u8>) -> Result<(), AllocError>
     ensures ok { OnOk result
         (WritesLine service.now answers.Nodes out.old.items out.new.items) }
@@ -152,8 +154,10 @@ fn append_nodes(service: &DynamicConfig, out: &mut Vec<u8>) -> Result<(), AllocE
     out.extend_from_slice(b"\n")
 }
 
-/// Appends the line that lists the ports of a role, or says that the pattern
-/// has no such ports; perhaps a part of it where memory is refused.
+/// Appends the line that lists the ports of a role, or says that the pattern has no such ports;
+/// perhaps a part of it where memory is refused. It is not inlined, so that its loops have all
+/// registers.
+#[inline(never)]
 fn append_ports(service: &DynamicConfig, role: Role, out: &mut Vec<u8>) -> Result<(), AllocError>
     ensures ok { OnOk result
         (WritesLine service.now (answers.Ports role) out.old.items out.new.items) }
