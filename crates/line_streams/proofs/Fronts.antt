@@ -131,7 +131,8 @@ pub record DigitsSoFar (bytes rest : List ℕ) (value most : ℕ) : Type 0 where
   pub small : value ≤ most
 
 -- the first digit alone
-abbrev pub first_digit : (bytes : List ℕ) (first most : ℕ) → 0 < length bytes → IsDigit (get_or bytes 0 0)
+abbrev pub first_digit : (bytes : List ℕ) (first most : ℕ) → 0 < length bytes
+    → IsDigit (get_or bytes 0 0)
     → first ≡ get_or bytes 0 0 - 48 → first ≤ most → DigitsSoFar bytes (drop 1 bytes) first most
 first_digit bytes first most some digit is small =
     let one = digit_more bytes 0 0 some tt refl digit in

@@ -50,4 +50,5 @@ returns c =
     (omega arith) (λ more. absurd (omega (arith, more))) in
     let after : drop 1 bytes ≡ c.in-Some.rest.now = ap (drop 1) begins in
     rw after at
-    (found (rw after (λ d. (let yes = c.has_digit.ensures.1 d in let none = c.if-has_digit.false in cc))))
+    (found
+    (rw after (λ d. (let yes = c.has_digit.ensures.1 d in let none = c.if-has_digit.false in cc))))
