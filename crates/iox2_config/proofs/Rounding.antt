@@ -1,5 +1,5 @@
 -- Rounding up to a power of two by a mask.
-use Rattle.std.proofs.Common.{◌≡◌, ℕ, ◌+◌, ◌-◌, ◌*◌, ◌%◌, ◌/◌, ◌^◌, ◌<◌, ◌≤◌, arith, subst, sym, inl, inr, ap, ◌∙◌, bit_and}
+use Rattle.std.proofs.Common.{◌≡◌, ℕ, ◌+◌, ◌-◌, ◌*◌, ◌/◌, ◌^◌, ◌<◌, ◌≤◌, arith, subst, sym, inl, inr, ap, ◌∙◌, bit_and}
 use Rattle.std.specs.Prelude.{IsTrue}
 use Rattle.std.specs.Int.{◌∣◌, is_power_of_two}
 use Rattle.std.proofs.Math.Nat.{dvd-mul_left}

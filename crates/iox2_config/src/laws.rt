@@ -4,14 +4,17 @@ ghost use Rattle.iox2_texts.specs.Pair.{text_cmp, text_writes};
 ghost use Rattle.iox2_config.specs.Compatible.{IsCompatibleToItself, IsCompatibleThrough};
 ghost use Rattle.iox2_config.specs.Compatible.{AreEqualBothWays};
 ghost use Rattle.iox2_config.specs.HashWrites.{variant_writes, detail_writes, details_writes};
-ghost use Rattle.iox2_config.specs.Hashing.{HashInputsDiffer};
+ghost use Rattle.iox2_config.specs.Hashing.{HashInputsDiffer, hash_input, sha1_text};
+ghost use Rattle.iox2_texts.specs.Path.{IsRestrictedName};
 
 use crate::config::{AllocationStrategy, BackpressureStrategy, Config, DataSegmentType, EventId};
-use crate::hash::{HashError, PatternKind, ServiceHash, ServiceHashError};
+use crate::hash::{HashError, PatternKind, ServiceHash, ServiceHashError, Sha1Hasher, hash_input};
 use crate::types::{
     Incompatibility, MessageTypeDetails, Places, SampleLayout, TypeDetail, TypeDetailError,
     TypeVariant,
 };
+use iox2_texts::service_name::ServiceName;
+use sha1::Sha1;
 use std::alloc::AllocError;
 use std::cmp::Ordering;
 use std::hash::{Hash, Hasher};
@@ -20,6 +23,24 @@ use std::hash::{Hash, Hasher};
 pub fn hash_inputs_differ()
     ensures { HashInputsDiffer }
 {}
+
+/// The SHA-1 text of each input can be the name of a file: it is 27 letters, digits, `-` and `_`.
+pub fn sha1_texts_are_file_names(input: &[u8])
+    ensures { IsRestrictedName 64 (sha1_text input.now) }
+{
+    let _digest = Sha1::digest(input);
+}
+
+/// SHA-1 makes a hash text of each name and pattern.
+pub fn sha1_refuses_nothing(
+    name: &ServiceName,
+    kind: PatternKind,
+) -> Result<ServiceHash, ServiceHashError>
+    ensures { IsOkAnd result (λ hash. hash ≡ sha1_text (hash_input kind name.now)) }
+{
+    sha1_texts_are_file_names(hash_input(kind, name).as_bytes());
+    ServiceHash::new::<Sha1Hasher>(name, kind)
+}
 
 /// Details are compatible to themselves.
 #[tactic(auto, using(crate::proofs::Compatible::compatible_to_itself))]

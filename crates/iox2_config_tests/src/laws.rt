@@ -67,6 +67,8 @@ fn laws_of_hash_texts_can_be_called(rt: HostRuntime) {
         (true, Ordering::Equal)
     );
     assert!(rt; other.expect(&rt, "a hash") != hash);
+    let made = sha1_refuses_nothing(&name, PatternKind::Event);
+    assert!(rt; made.expect(&rt, "a hash") == hash);
 }
 
 #[test]

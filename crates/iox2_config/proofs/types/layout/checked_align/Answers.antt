@@ -1,4 +1,4 @@
-use Rattle.std.proofs.Common.{◌+◌, ◌-◌, ◌^◌, ◌<◌, ◌≤◌, arith, inl, inr}
+use Rattle.std.proofs.Common.{◌+◌, ◌-◌, ◌^◌, arith, inl, inr}
 use Rattle.std.proofs.lemmas.Bool.{cases_lt}
 use Rattle.iox2_config.proofs.Rounding.{power_positive, rounded, not_rounded}
 use Rattle.iox2_config.proofs.types.layout.checked_align.Goals as goal
