@@ -1,5 +1,5 @@
 //! Ids as plain values.
-ghost use Rattle.std.specs.Prelude.{◌≡◌};
+ghost use Rattle.std.specs.Prelude.{◌≡◌, ◌+◌, ◌*◌, ◌/◌, ◌%◌, ◌^◌};
 ghost use Rattle.iox2sd_common.specs.Ids.{number_of, id_of, ReadsNode, ReadsNumber, ReadsText};
 
 use super::status::Status;
@@ -18,6 +18,14 @@ pub struct Id {
     pub nanoseconds: u32,
     /// The number that distinguishes it from others.
     pub counter: u32,
+}
+
+/// A number whose two halves are exchanged.
+#[inline(always)]
+fn exchanged(value: u64) -> u64
+    ensures { result ≡ value % 2 ^ 32 * 2 ^ 32 + value / 2 ^ 32 }
+{
+    value % (1 << 32) * (1 << 32) + value / (1 << 32)
 }
 
 impl Id {
@@ -47,11 +55,14 @@ impl Id {
     pub fn of_number(value: u128) -> Id
         ensures { result ≡ id_of value }
     {
+        // The two parts of each half lie as in an id then, and are written at once.
+        let front = exchanged((value >> 64) as u64);
+        let back = exchanged((value % (1 << 64)) as u64);
         Id {
-            process: (value >> 96) as u32,
-            seconds: ((value >> 64) % (1 << 32)) as u32,
-            nanoseconds: ((value >> 32) % (1 << 32)) as u32,
-            counter: (value % (1 << 32)) as u32,
+            process: (front % (1 << 32)) as u32,
+            seconds: (front >> 32) as u32,
+            nanoseconds: (back % (1 << 32)) as u32,
+            counter: (back >> 32) as u32,
         }
     }
 
