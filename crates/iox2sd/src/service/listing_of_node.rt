@@ -106,8 +106,7 @@ fn all_fit(service: &DynamicConfig, length: usize) -> bool
     ports.first <= length && ports.second <= length - ports.first
 }
 
-/// Puts the ports of the node at the front of an array that all ports that there are would fit, and
-/// counts them.
+/// Puts the ports of the node at the front of an array that all ports would fit, and counts them.
 fn note_few(service: &DynamicConfig, node: &UniqueNodeId, out: &mut [Port]) -> usize
     requires { AllFit service.now (length out.old) }
     ensures { ListsAll (map told_port (ports_of_node node.now service.now.ports))
