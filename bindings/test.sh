@@ -128,7 +128,8 @@ for compiler in gcc clang; do
         run "$compiler: each header compiles alone, in C++11" \
             headers_compile "$compiler" -std=c++11 -x c++
     fi
-    for source in c/test_service.c c/test_values.c c/test_walk.c c/test_threads.c c/test_header.c; do
+    for source in c/test_service.c c/test_values.c c/test_satisfies.c c/test_walk.c \
+        c/test_threads.c c/test_header.c; do
         caller "$compiler" iox2sd "$source" -std=c99
         sanitized "$compiler" address,undefined "$source" -std=c99
     done
@@ -176,8 +177,8 @@ for compiler in g++ clang++; do
     runs "$compiler" iox2sd cpp/test_enumerators.cpp -std=c++17
     runs "$compiler" iox2sd cpp/test_fields.cpp -std=c++17 "$wrapped_settings"
     caller "$compiler" iox2sd c/test_values.cpp -std=c++11
-    for source in cpp/test_values.cpp cpp/test_service.cpp cpp/test_config.cpp \
-        cpp/test_conform.cpp; do
+    for source in cpp/test_values.cpp cpp/test_satisfies.cpp cpp/test_service.cpp \
+        cpp/test_config.cpp cpp/test_conform.cpp; do
         caller "$compiler" iox2sd "$source" -std=c++17
         runs "$compiler" iox2sd "$source" -std=c++20
         sanitized "$compiler" address,undefined "$source" -std=c++17

@@ -898,7 +898,7 @@ enum class PatternKind : std::uint32_t {
 /// The hash text of a service's pattern and name by SHA-1, under which its files are found.
 class ServiceHash : public RestrictedFileName {
 public:
-    /// Errors: `UnknownPattern`; `IllegalHash`, which was never seen.
+    /// Errors: `UnknownPattern`; `IllegalHash`, which SHA-1 is proved never to make.
     static Result<ServiceHash> create(const ServiceName& name, PatternKind kind) noexcept {
         const auto made = written_by([&](std::uint8_t* out, std::size_t capacity) {
             return iox2sd_internal_hash_text(static_cast<std::uint32_t>(kind), detail::bytes(name),
@@ -2209,7 +2209,7 @@ class StaticConfig {
 public:
     /// What the library makes of the name, the id and the pattern's part, with these attributes and
     /// the part's types. A blackboard has one writer, whatever the part says.
-    /// Errors: `BadDuration` of a deadline; `IllegalHash`, which was never seen.
+    /// Errors: `BadDuration` of a deadline; `IllegalHash`, which SHA-1 is proved never to make.
     static Result<StaticConfig> create(const ServiceName& name, const UniqueServiceId& id,
                                        const AttributeSet& attributes,
                                        const MessagingPattern& pattern) noexcept {

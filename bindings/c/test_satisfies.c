@@ -32,6 +32,7 @@ static void publish_subscribe(void) {
         CHECK(is_field(iox2sd_publish_subscribe_satisfies(&required, &service), IOX2SD_DONE, 0));
         *numbers[i] = 4;
         CHECK(is_field(iox2sd_publish_subscribe_satisfies(&service, &required), IOX2SD_DONE, 0));
+        *numbers[i] = 5;
     }
     required.enable_safe_overflow = false;
     CHECK(is_field(iox2sd_publish_subscribe_satisfies(&service, &required), IOX2SD_UNMET,

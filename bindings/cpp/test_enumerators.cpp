@@ -67,6 +67,7 @@ constexpr StatusText texts[] = {
     {Status::BadLine, "a line of the script is not valid"},
     {Status::UnknownStrategy, "unknown strategy"},
     {Status::BadDuration, "the nanoseconds of a duration are a second or more"},
+    {Status::Unmet, "a setting is not what the opener requires"},
     {Status::NotToml, "not TOML"},
     {Status::WrongType, "a value of another type is wanted"},
     {Status::BelowZero, "the number is below 0"},
@@ -162,6 +163,36 @@ std::uint64_t of_header(SettingsField field) {
         case SettingsField::ClientAllocationStrategy: return IOX2SD_CLIENT_ALLOCATION_STRATEGY;
         case SettingsField::ServerAllocationStrategy: return IOX2SD_SERVER_ALLOCATION_STRATEGY;
         case SettingsField::CreationTimeout: return IOX2SD_CREATION_TIMEOUT;
+        case SettingsField::MaxSubscribers: return IOX2SD_MAX_SUBSCRIBERS;
+        case SettingsField::MaxPublishers: return IOX2SD_MAX_PUBLISHERS;
+        case SettingsField::HistorySize: return IOX2SD_HISTORY_SIZE;
+        case SettingsField::SubscriberMaxBufferSize: return IOX2SD_SUBSCRIBER_MAX_BUFFER_SIZE;
+        case SettingsField::SubscriberMaxBorrowedSamples:
+            return IOX2SD_SUBSCRIBER_MAX_BORROWED_SAMPLES;
+        case SettingsField::EnableSafeOverflow: return IOX2SD_ENABLE_SAFE_OVERFLOW;
+        case SettingsField::MaxNotifiers: return IOX2SD_MAX_NOTIFIERS;
+        case SettingsField::MaxListeners: return IOX2SD_MAX_LISTENERS;
+        case SettingsField::EventIdMaxValue: return IOX2SD_EVENT_ID_MAX_VALUE;
+        case SettingsField::NotifierCreatedEvent: return IOX2SD_NOTIFIER_CREATED_EVENT;
+        case SettingsField::NotifierDroppedEvent: return IOX2SD_NOTIFIER_DROPPED_EVENT;
+        case SettingsField::NotifierDeadEvent: return IOX2SD_NOTIFIER_DEAD_EVENT;
+        case SettingsField::EnableSafeOverflowForRequests:
+            return IOX2SD_ENABLE_SAFE_OVERFLOW_FOR_REQUESTS;
+        case SettingsField::EnableSafeOverflowForResponses:
+            return IOX2SD_ENABLE_SAFE_OVERFLOW_FOR_RESPONSES;
+        case SettingsField::EnableFireAndForgetRequests:
+            return IOX2SD_ENABLE_FIRE_AND_FORGET_REQUESTS;
+        case SettingsField::MaxActiveRequestsPerClient:
+            return IOX2SD_MAX_ACTIVE_REQUESTS_PER_CLIENT;
+        case SettingsField::MaxLoanedRequests: return IOX2SD_MAX_LOANED_REQUESTS;
+        case SettingsField::MaxResponseBufferSize: return IOX2SD_MAX_RESPONSE_BUFFER_SIZE;
+        case SettingsField::MaxServers: return IOX2SD_MAX_SERVERS;
+        case SettingsField::MaxClients: return IOX2SD_MAX_CLIENTS;
+        case SettingsField::MaxBorrowedResponsesPerPendingResponse:
+            return IOX2SD_MAX_BORROWED_RESPONSES_PER_PENDING_RESPONSE;
+        case SettingsField::MaxReaders: return IOX2SD_MAX_READERS;
+        case SettingsField::MaxWriters: return IOX2SD_MAX_WRITERS;
+        case SettingsField::MaxNodes: return IOX2SD_MAX_NODES;
     }
     return none;
 }
@@ -244,6 +275,7 @@ std::uint64_t of_header(Status status) {
         case Status::BadLine: return IOX2SD_BAD_LINE;
         case Status::UnknownStrategy: return IOX2SD_UNKNOWN_STRATEGY;
         case Status::BadDuration: return IOX2SD_BAD_DURATION;
+        case Status::Unmet: return IOX2SD_UNMET;
         case Status::NotToml: return IOX2SD_NOT_TOML;
         case Status::WrongType: return IOX2SD_WRONG_TYPE;
         case Status::BelowZero: return IOX2SD_BELOW_ZERO;
@@ -275,7 +307,7 @@ void enumerators() {
     numbers<MessagePart>(IOX2SD_HEADER, 3);
     numbers<BackpressureStrategy>(IOX2SD_RETRY_UNTIL_DELIVERED, 2);
     numbers<AllocationStrategy>(IOX2SD_ALLOCATION_BEST_FIT, 3);
-    numbers<SettingsField>(IOX2SD_BACKPRESSURE_STRATEGY, 8);
+    numbers<SettingsField>(IOX2SD_BACKPRESSURE_STRATEGY, 32);
     numbers<ConfigEntry>(IOX2SD_ROOT_PATH, 20);
     // Some numbers are those of no status. C has a text for each status.
     std::size_t statuses = 0;

@@ -45,6 +45,7 @@ from .dynamic_config import (
     DeadNodeRemoval,
     DeregisterNodeState,
     DynamicConfig,
+    ServiceNumbers,
 )
 from .errors import (
     BadAlignment,
@@ -124,6 +125,7 @@ from .static_config import (
     BlackboardStaticConfig,
     Capacities,
     EventStaticConfig,
+    PatternSettings,
     PatternStaticConfig,
     PublishSubscribeStaticConfig,
     RequestResponseStaticConfig,
@@ -226,6 +228,7 @@ __all__ = [
     "OutOfRange",
     "OutOfSpace",
     "Path",
+    "PatternSettings",
     "PatternStaticConfig",
     "Places",
     "PortDetails",
@@ -248,6 +251,7 @@ __all__ = [
     "ServiceConfig",
     "ServiceHash",
     "ServiceName",
+    "ServiceNumbers",
     "StaticConfig",
     "SubscriberDetails",
     "TooLarge",

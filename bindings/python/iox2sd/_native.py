@@ -32,9 +32,13 @@ ABI = 2
 DONE = 0
 DONE_LOCKED = 1
 BUFFER_TOO_SHORT = 2
+OUT_OF_SPACE = 10
 UNKNOWN_STATUS = 21
 NO_SUCH_VALUE = 56
+UNMET = 69
 NO_RUN = 90
+DEADLINE = 2
+MAX_SUBSCRIBERS = 8
 
 
 _PATH = os.environ.get("IOX2SD_LIBRARY") or str(Path(__file__).with_name("libiox2sd.so.0"))
@@ -102,6 +106,26 @@ PORT = struct.Struct("=Q4I4I7QIB3x")
 
 class Capacities(ctypes.Structure):
     _fields_ = [("nodes", c_size_t), ("first", c_size_t), ("second", c_size_t)]
+
+
+class PublishSubscribeCapacities(ctypes.Structure):
+    _fields_ = [("nodes", c_size_t), ("publishers", c_size_t), ("subscribers", c_size_t)]
+
+
+class EventCapacities(ctypes.Structure):
+    _fields_ = [("nodes", c_size_t), ("listeners", c_size_t), ("notifiers", c_size_t)]
+
+
+class RequestResponseCapacities(ctypes.Structure):
+    _fields_ = [("nodes", c_size_t), ("servers", c_size_t), ("clients", c_size_t)]
+
+
+class BlackboardCapacities(ctypes.Structure):
+    _fields_ = [("nodes", c_size_t), ("readers", c_size_t), ("writers", c_size_t)]
+
+
+class ServiceNumbers(ctypes.Structure):
+    _fields_ = [("last", c_uint64)]
 
 
 class Service(ctypes.Structure):
@@ -449,6 +473,9 @@ service_create_at = _export(
     "service_create_at", c_uint32, *_SERVICE, c_uint32, c_uint64, Capacities, c_uint64
 )
 service_free_at = _export("service_free_at", c_uint32, *_SERVICE)
+next_service_number_at = _export(
+    "next_service_number_at", NumberAnswer, POINTER(ServiceNumbers), c_size_t
+)
 register_node_id_at = _export("register_node_id_at", HandleAnswer, *_SERVICE, Id)
 deregister_node_id_at = _export("deregister_node_id_at", c_uint32, *_SERVICE, Handle)
 attach_at = _export(
@@ -557,6 +584,42 @@ describe_request_response_at = _export(
 )
 describe_blackboard_at = _export(
     "describe_blackboard_at", FieldAnswer, POINTER(BlackboardSettings), *_DESCRIBED
+)
+publish_subscribe_satisfies_at = _export(
+    "publish_subscribe_satisfies_at", FieldAnswer, *[POINTER(PublishSubscribeConfig), c_size_t] * 2
+)
+event_satisfies_at = _export(
+    "event_satisfies_at", FieldAnswer, *[POINTER(EventConfig), c_size_t] * 2
+)
+request_response_satisfies_at = _export(
+    "request_response_satisfies_at", FieldAnswer, *[POINTER(RequestResponseConfig), c_size_t] * 2
+)
+blackboard_satisfies_at = _export(
+    "blackboard_satisfies_at", FieldAnswer, *[POINTER(BlackboardConfig), c_size_t] * 2
+)
+publish_subscribe_capacities_of_settings_at = _export(
+    "publish_subscribe_capacities_of_settings_at",
+    PublishSubscribeCapacities,
+    POINTER(PublishSubscribeSettings),
+    c_size_t,
+)
+event_capacities_of_settings_at = _export(
+    "event_capacities_of_settings_at",
+    EventCapacities,
+    POINTER(EventSettings),
+    c_size_t,
+)
+request_response_capacities_of_settings_at = _export(
+    "request_response_capacities_of_settings_at",
+    RequestResponseCapacities,
+    POINTER(RequestResponseSettings),
+    c_size_t,
+)
+blackboard_capacities_of_settings_at = _export(
+    "blackboard_capacities_of_settings_at",
+    BlackboardCapacities,
+    POINTER(BlackboardSettings),
+    c_size_t,
 )
 default_text_at = _export("default_text_at", TextAnswer, c_uint32, *_OUT)
 service_dir_at = _export("service_dir_at", TextAnswer, *_TEXT, *_OUT)

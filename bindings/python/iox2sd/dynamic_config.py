@@ -53,6 +53,37 @@ class ContainerHandle(Checked):
         return unchecked(cls, values)
 
 
+class ServiceNumbers:
+    """Numbers for services, for those who have none: 1, 2, 3, .., each once, up to 2^64 - 1, from
+    the one after `last` on. Two objects return the same numbers, so one serves all services whose
+    handles may meet.
+    """
+
+    __slots__ = ("_numbers",)
+
+    def __init__(self, last: int = 0) -> None:
+        self._numbers = _native.ServiceNumbers(number(last, U64, "ServiceNumbers"))
+
+    @property
+    def last(self) -> int:
+        """The number that was returned last, or 0."""
+        last: int = self._numbers.last
+        return last
+
+    def __iter__(self) -> "ServiceNumbers":
+        return self
+
+    def __next__(self) -> int:
+        answer = _native.next_service_number_at(self._numbers, 1)
+        if answer.status == _native.OUT_OF_SPACE:
+            raise StopIteration
+        check(answer.status, "ServiceNumbers")
+        return self.last
+
+    def __repr__(self) -> str:
+        return f"{type(self).__name__}({self.last})"
+
+
 class DeregisterNodeState(Choice):
     """Whether a service has nodes left."""
 

@@ -1,7 +1,7 @@
 """What a service is: its name, id, attributes, limits and message types."""
 
 from dataclasses import dataclass, field, fields, replace
-from typing import Any, Union
+from typing import Any, TypeVar, Union
 
 from . import _native
 from ._arguments import Checked, Size, instance, number, shown
@@ -22,8 +22,66 @@ from .settings import (
 from .texts import InternalServiceName, MessagingPattern, ServiceHash, ServiceName, lent
 
 
+_SETTINGS = (
+    "max_subscribers",
+    "max_publishers",
+    "history_size",
+    "subscriber_max_buffer_size",
+    "subscriber_max_borrowed_samples",
+    "enable_safe_overflow",
+    "max_notifiers",
+    "max_listeners",
+    "event_id_max_value",
+    "notifier_created_event",
+    "notifier_dropped_event",
+    "notifier_dead_event",
+    "enable_safe_overflow_for_requests",
+    "enable_safe_overflow_for_responses",
+    "enable_fire_and_forget_requests",
+    "max_active_requests_per_client",
+    "max_loaned_requests",
+    "max_response_buffer_size",
+    "max_servers",
+    "max_clients",
+    "max_borrowed_responses_per_pending_response",
+    "max_readers",
+    "max_writers",
+    "max_nodes",
+)
+"""What is fixed of services, by the numbers of the header from `MAX_SUBSCRIBERS` on."""
+
+_Fixed = TypeVar("_Fixed", bound="Fixed")
+
+
+class Fixed(Checked):
+    """What is fixed of a service of one pattern."""
+
+    __slots__ = ()
+
+    def first_unmet(self: _Fixed, required: _Fixed) -> "str | None":
+        """The name of the first setting in which the service does not meet what an opener requires:
+        each number is to be at least the required one, and each choice, each event and the deadline
+        the same. Types are not compared.
+        """
+        pattern = next(row for row in _PATTERNS if isinstance(self, row[0]))
+        what = f"{pattern[0].__name__}.first_unmet"
+        instance(required, pattern[0], what)
+        kind, satisfies = pattern[4:]
+        answer = satisfies(_plain(self, kind), 1, _plain(required, kind), 1)
+        if answer.status != _native.UNMET:
+            check(answer.status, what)
+            return None
+        if answer.field == _native.DEADLINE:
+            return "deadline"
+        return _SETTINGS[answer.field - _native.MAX_SUBSCRIBERS]
+
+    def satisfies(self: _Fixed, required: _Fixed) -> bool:
+        """Whether the service meets all that an opener requires."""
+        return self.first_unmet(required) is None
+
+
 @dataclass(frozen=True, slots=True, kw_only=True)
-class PublishSubscribeStaticConfig(Checked):
+class PublishSubscribeStaticConfig(Fixed):
     """What a publish-subscribe service is. The fields are those of `PublishSubscribeSettings`."""
 
     max_subscribers: Size
@@ -72,7 +130,7 @@ class PublishSubscribeStaticConfig(Checked):
 
 
 @dataclass(frozen=True, slots=True, kw_only=True)
-class EventStaticConfig(Checked):
+class EventStaticConfig(Fixed):
     """What an event service is. The fields are those of `EventSettings`."""
 
     max_listeners: Size
@@ -92,7 +150,7 @@ class EventStaticConfig(Checked):
 
 
 @dataclass(frozen=True, slots=True, kw_only=True)
-class RequestResponseStaticConfig(Checked):
+class RequestResponseStaticConfig(Fixed):
     """What a request-response service is. The fields are those of `RequestResponseSettings`."""
 
     max_active_requests_per_client: Size
@@ -156,7 +214,7 @@ class RequestResponseStaticConfig(Checked):
 
 
 @dataclass(frozen=True, slots=True, kw_only=True)
-class BlackboardStaticConfig(Checked):
+class BlackboardStaticConfig(Fixed):
     """What a blackboard service is. The numbers are those of `BlackboardSettings`."""
 
     max_readers: Size
@@ -186,30 +244,43 @@ PatternStaticConfig = Union[
 ]
 """What a service of any pattern is."""
 
+PatternSettings = Union[
+    PublishSubscribeSettings, EventSettings, RequestResponseSettings, BlackboardSettings
+]
+"""The settings of a service of any pattern."""
+
 _PATTERNS = (
     (
         PublishSubscribeStaticConfig,
         MessagingPattern.PUBLISH_SUBSCRIBE,
         _native.PublishSubscribeSettings,
         _native.describe_publish_subscribe_at,
+        _native.PublishSubscribeConfig,
+        _native.publish_subscribe_satisfies_at,
     ),
     (
         EventStaticConfig,
         MessagingPattern.EVENT,
         _native.EventSettings,
         _native.describe_event_at,
+        _native.EventConfig,
+        _native.event_satisfies_at,
     ),
     (
         RequestResponseStaticConfig,
         MessagingPattern.REQUEST_RESPONSE,
         _native.RequestResponseSettings,
         _native.describe_request_response_at,
+        _native.RequestResponseConfig,
+        _native.request_response_satisfies_at,
     ),
     (
         BlackboardStaticConfig,
         MessagingPattern.BLACKBOARD,
         _native.BlackboardSettings,
         _native.describe_blackboard_at,
+        _native.BlackboardConfig,
+        _native.blackboard_satisfies_at,
     ),
 )
 
@@ -232,6 +303,42 @@ class Capacities(Checked):
     """Publishers, listeners, servers or readers."""
     second: Size
     """Subscribers, notifiers, clients or writers."""
+
+    @classmethod
+    def of(cls, settings: PatternSettings) -> "Capacities":
+        """The capacities with which a service of these settings is made. A blackboard has one
+        writer.
+        """
+        instance(settings, PatternSettings, f"{cls.__name__}.of")
+        kind, call = next(row[1:] for row in _CAPACITIES if isinstance(settings, row[0]))
+        made = call(_plain(settings, kind), 1)
+        return cls(*(getattr(made, name) for name, _ in made._fields_))
+
+
+_CAPACITIES = (
+    (
+        PublishSubscribeSettings,
+        _native.PublishSubscribeSettings,
+        _native.publish_subscribe_capacities_of_settings_at,
+    ),
+    (EventSettings, _native.EventSettings, _native.event_capacities_of_settings_at),
+    (
+        RequestResponseSettings,
+        _native.RequestResponseSettings,
+        _native.request_response_capacities_of_settings_at,
+    ),
+    (BlackboardSettings, _native.BlackboardSettings, _native.blackboard_capacities_of_settings_at),
+)
+
+
+def _plain(value: Any, kind: Any) -> Any:
+    """What is fixed, or settings, as the library takes them."""
+    made = kind()
+    for name, _ in made._fields_:
+        given = getattr(value, name)
+        if given is not None:
+            setattr(made, name, plain(given))
+    return made
 
 
 def _settings(config: Any, kind: Any) -> Any:
@@ -276,7 +383,7 @@ class StaticConfig(Checked):
     def _described(self) -> _native.Description:
         """What the library makes of the name, the id and the settings."""
         config, made = self.pattern_config, _native.Description()
-        kind, describe = next(row[2:] for row in _PATTERNS if isinstance(config, row[0]))
+        kind, describe = next(row[2:4] for row in _PATTERNS if isinstance(config, row[0]))
         answer = describe(
             _settings(config, kind),
             1,

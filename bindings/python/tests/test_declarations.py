@@ -35,6 +35,7 @@ NO_CLASS = {
     "UNKNOWN_VARIANT": "variants are members of an enum",
     "UNKNOWN_TEXT": "texts of the configuration are members of an enum",
     "UNKNOWN_STRATEGY": "strategies are members of an enum",
+    "UNMET": "the name of the setting is returned",
     "NOT_TOML": "it is a fault of a BadConfig; so are the next three",
     "WRONG_TYPE": "",
     "BELOW_ZERO": "",
@@ -166,8 +167,9 @@ class Declarations(unittest.TestCase):
                 with self.subTest(member=member):
                     name = front + member.name + end
                     self.assertEqual(headers.CONSTANTS[name], member.value)
-        for name in ("DONE", "DONE_LOCKED", "BUFFER_TOO_SHORT", "NO_SUCH_VALUE", "NO_RUN"):
-            self.assertEqual(headers.STATUSES[name], getattr(_native, name))
+        statuses = ("DONE", "DONE_LOCKED", "BUFFER_TOO_SHORT", "OUT_OF_SPACE", "NO_SUCH_VALUE")
+        for name in (*statuses, "UNMET", "NO_RUN", "DEADLINE", "MAX_SUBSCRIBERS"):
+            self.assertEqual(headers.CONSTANTS[name], getattr(_native, name))
 
     def test_each_refusal_has_a_class(self):
         named = {snake(kind.__name__).upper(): s for s, kind in errors._KINDS.items()}

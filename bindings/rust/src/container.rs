@@ -17,6 +17,7 @@
 use crate::display::{error_by_path, shown_by_name};
 use crate::library;
 use crate::sys;
+use std::iter::FusedIterator;
 
 /// What an entry of a service is: a node, or a port of one kind.
 ///
@@ -201,3 +202,59 @@ pub enum ContainerRemoveError {
 }
 
 error_by_path!(ContainerRemoveError);
+
+/// Numbers for services, for those who have none: 1, 2, 3, .., each once, up to 2^64 - 1.
+///
+/// Two values return the same numbers, so one serves all services whose handles may meet.
+///
+/// ```
+/// use iox2sd::container::ServiceNumbers;
+///
+/// let mut numbers = ServiceNumbers::default();
+/// assert_eq!((numbers.next(), numbers.next()), (Some(1), Some(2)));
+/// ```
+#[derive(Debug, Default)]
+pub struct ServiceNumbers {
+    last: u64,
+}
+
+impl ServiceNumbers {
+    /// The numbers above this one.
+    ///
+    /// ```
+    /// use iox2sd::container::ServiceNumbers;
+    ///
+    /// let mut numbers = ServiceNumbers::after(u64::MAX - 1);
+    /// assert_eq!((numbers.next(), numbers.next()), (Some(u64::MAX), None));
+    /// ```
+    #[must_use]
+    pub fn after(last: u64) -> Self {
+        ServiceNumbers { last }
+    }
+
+    /// The number that was returned last, or 0.
+    ///
+    /// ```
+    /// use iox2sd::container::ServiceNumbers;
+    ///
+    /// let mut numbers = ServiceNumbers::after(4);
+    /// numbers.next();
+    /// assert_eq!(numbers.last_number(), 5);
+    /// ```
+    #[must_use]
+    pub fn last_number(&self) -> u64 {
+        self.last
+    }
+}
+
+impl Iterator for ServiceNumbers {
+    type Item = u64;
+
+    fn next(&mut self) -> Option<u64> {
+        let number = library::next_service_number(self.last)?;
+        self.last = number;
+        Some(number)
+    }
+}
+
+impl FusedIterator for ServiceNumbers {}

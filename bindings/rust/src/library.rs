@@ -6,12 +6,17 @@ mod attributes;
 mod config;
 mod descriptions;
 mod messages;
+mod satisfies;
 mod service;
 
 pub(crate) use attributes::{attribute_value, attribute_values, sorted, verify, Missing};
 pub(crate) use config::{config_faults, config_read, config_unknown, config_write};
-pub(crate) use descriptions::Settings;
+pub(crate) use descriptions::{
+    blackboard_capacities, event_capacities, publish_subscribe_capacities,
+    request_response_capacities, Settings,
+};
 pub(crate) use messages::{check_type, check_type_name, compatible, layout, places};
+pub(crate) use satisfies::Fixed;
 pub(crate) use service::Service;
 
 use crate::sys;
@@ -202,6 +207,18 @@ pub(crate) fn file_path_join(path: &str, file: &str) -> Result<String, u32> {
             out.len(),
         )
     })
+}
+
+/// The number after the last one that was returned, or `None` after the greatest.
+pub(crate) fn next_service_number(last: u64) -> Option<u64> {
+    let mut numbers = sys::iox2sd_service_numbers { last };
+    // SAFETY: the pointer is that of one struct, which the call may write to.
+    let answer = unsafe { sys::iox2sd_next_service_number_at(&mut numbers, 1) };
+    match answer.status {
+        sys::IOX2SD_DONE => Some(answer.number),
+        sys::IOX2SD_OUT_OF_SPACE => None,
+        other => unexpected(other),
+    }
 }
 
 /// How a script ended, with the reply lines that were written.

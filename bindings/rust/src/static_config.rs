@@ -23,6 +23,7 @@ pub mod message_type_details;
 pub mod messaging_pattern;
 pub mod publish_subscribe;
 pub mod request_response;
+pub mod setting;
 
 use crate::attribute::AttributeSet;
 use crate::config::Config;

@@ -36,6 +36,7 @@ pub const IOX2SD_OTHER_ALIGNMENT: u32 = 63;
 pub const IOX2SD_GREATER_ALIGNMENT: u32 = 64;
 pub const IOX2SD_BAD_LINE: u32 = 66;
 pub const IOX2SD_BAD_DURATION: u32 = 68;
+pub const IOX2SD_UNMET: u32 = 69;
 pub const IOX2SD_NOT_TOML: u32 = 80;
 pub const IOX2SD_WRONG_TYPE: u32 = 81;
 pub const IOX2SD_BELOW_ZERO: u32 = 82;
@@ -45,6 +46,32 @@ pub const IOX2SD_NO_RUN: u32 = 90;
 pub const IOX2SD_NO_SERVICE_LINE: u32 = 91;
 pub const IOX2SD_NO_COMMAND_LINE: u32 = 92;
 pub const IOX2SD_NO_REPLY_LINE: u32 = 93;
+
+pub const IOX2SD_DEADLINE: u32 = 2;
+pub const IOX2SD_MAX_SUBSCRIBERS: u32 = 8;
+pub const IOX2SD_MAX_PUBLISHERS: u32 = 9;
+pub const IOX2SD_HISTORY_SIZE: u32 = 10;
+pub const IOX2SD_SUBSCRIBER_MAX_BUFFER_SIZE: u32 = 11;
+pub const IOX2SD_SUBSCRIBER_MAX_BORROWED_SAMPLES: u32 = 12;
+pub const IOX2SD_ENABLE_SAFE_OVERFLOW: u32 = 13;
+pub const IOX2SD_MAX_NOTIFIERS: u32 = 14;
+pub const IOX2SD_MAX_LISTENERS: u32 = 15;
+pub const IOX2SD_EVENT_ID_MAX_VALUE: u32 = 16;
+pub const IOX2SD_NOTIFIER_CREATED_EVENT: u32 = 17;
+pub const IOX2SD_NOTIFIER_DROPPED_EVENT: u32 = 18;
+pub const IOX2SD_NOTIFIER_DEAD_EVENT: u32 = 19;
+pub const IOX2SD_ENABLE_SAFE_OVERFLOW_FOR_REQUESTS: u32 = 20;
+pub const IOX2SD_ENABLE_SAFE_OVERFLOW_FOR_RESPONSES: u32 = 21;
+pub const IOX2SD_ENABLE_FIRE_AND_FORGET_REQUESTS: u32 = 22;
+pub const IOX2SD_MAX_ACTIVE_REQUESTS_PER_CLIENT: u32 = 23;
+pub const IOX2SD_MAX_LOANED_REQUESTS: u32 = 24;
+pub const IOX2SD_MAX_RESPONSE_BUFFER_SIZE: u32 = 25;
+pub const IOX2SD_MAX_SERVERS: u32 = 26;
+pub const IOX2SD_MAX_CLIENTS: u32 = 27;
+pub const IOX2SD_MAX_BORROWED_RESPONSES_PER_PENDING_RESPONSE: u32 = 28;
+pub const IOX2SD_MAX_READERS: u32 = 29;
+pub const IOX2SD_MAX_WRITERS: u32 = 30;
+pub const IOX2SD_MAX_NODES: u32 = 31;
 
 pub const IOX2SD_PUBLISH_SUBSCRIBE: u32 = 0;
 pub const IOX2SD_EVENT: u32 = 1;
@@ -377,6 +404,39 @@ pub struct iox2sd_blackboard_settings {
 }
 
 #[repr(C)]
+pub struct iox2sd_publish_subscribe_capacities {
+    pub nodes: usize,
+    pub publishers: usize,
+    pub subscribers: usize,
+}
+
+#[repr(C)]
+pub struct iox2sd_event_capacities {
+    pub nodes: usize,
+    pub listeners: usize,
+    pub notifiers: usize,
+}
+
+#[repr(C)]
+pub struct iox2sd_request_response_capacities {
+    pub nodes: usize,
+    pub servers: usize,
+    pub clients: usize,
+}
+
+#[repr(C)]
+pub struct iox2sd_blackboard_capacities {
+    pub nodes: usize,
+    pub readers: usize,
+    pub writers: usize,
+}
+
+#[repr(C)]
+pub struct iox2sd_service_numbers {
+    pub last: u64,
+}
+
+#[repr(C)]
 pub struct iox2sd_field_answer {
     pub status: u32,
     pub field: u32,
@@ -554,6 +614,10 @@ extern "C" {
         ports: *const iox2sd_port_details,
         port_count: usize,
     ) -> iox2sd_handle_answer;
+    pub fn iox2sd_next_service_number_at(
+        numbers: *mut iox2sd_service_numbers,
+        count: usize,
+    ) -> iox2sd_number_answer;
     pub fn iox2sd_release_port_at(
         places: *mut iox2sd_service,
         count: usize,
@@ -802,6 +866,46 @@ extern "C" {
         out: *mut iox2sd_description,
         out_count: usize,
     ) -> iox2sd_field_answer;
+    pub fn iox2sd_publish_subscribe_satisfies_at(
+        service: *const iox2sd_publish_subscribe_config,
+        count: usize,
+        required: *const iox2sd_publish_subscribe_config,
+        required_count: usize,
+    ) -> iox2sd_field_answer;
+    pub fn iox2sd_event_satisfies_at(
+        service: *const iox2sd_event_config,
+        count: usize,
+        required: *const iox2sd_event_config,
+        required_count: usize,
+    ) -> iox2sd_field_answer;
+    pub fn iox2sd_request_response_satisfies_at(
+        service: *const iox2sd_request_response_config,
+        count: usize,
+        required: *const iox2sd_request_response_config,
+        required_count: usize,
+    ) -> iox2sd_field_answer;
+    pub fn iox2sd_blackboard_satisfies_at(
+        service: *const iox2sd_blackboard_config,
+        count: usize,
+        required: *const iox2sd_blackboard_config,
+        required_count: usize,
+    ) -> iox2sd_field_answer;
+    pub fn iox2sd_publish_subscribe_capacities_of_settings_at(
+        settings: *const iox2sd_publish_subscribe_settings,
+        count: usize,
+    ) -> iox2sd_publish_subscribe_capacities;
+    pub fn iox2sd_event_capacities_of_settings_at(
+        settings: *const iox2sd_event_settings,
+        count: usize,
+    ) -> iox2sd_event_capacities;
+    pub fn iox2sd_request_response_capacities_of_settings_at(
+        settings: *const iox2sd_request_response_settings,
+        count: usize,
+    ) -> iox2sd_request_response_capacities;
+    pub fn iox2sd_blackboard_capacities_of_settings_at(
+        settings: *const iox2sd_blackboard_settings,
+        count: usize,
+    ) -> iox2sd_blackboard_capacities;
     pub fn iox2sd_default_text_at(which: u32, out: *mut u8, capacity: usize) -> iox2sd_text_answer;
     pub fn iox2sd_config_read_at(
         text: *const u8,

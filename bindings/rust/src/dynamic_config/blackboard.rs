@@ -15,8 +15,8 @@
 use super::listing::{self, ports_of_pattern};
 pub use super::{ReaderDetails, WriterDetails};
 
-use crate::config::Config;
-use crate::library::Service;
+use crate::config::{Blackboard, Config};
+use crate::library::{self, Service};
 use crate::static_config::blackboard::StaticConfig;
 use crate::CallbackProgression;
 use std::fmt;
@@ -57,6 +57,17 @@ impl From<&StaticConfig> for DynamicConfigSettings {
         DynamicConfigSettings {
             number_of_readers: service.max_readers,
             number_of_writers: service.max_writers,
+        }
+    }
+}
+
+/// As many as a blackboard service with these settings has, which has one writer.
+impl From<&Blackboard> for DynamicConfigSettings {
+    fn from(settings: &Blackboard) -> Self {
+        let room = library::blackboard_capacities(settings);
+        DynamicConfigSettings {
+            number_of_readers: room.readers,
+            number_of_writers: room.writers,
         }
     }
 }

@@ -15,8 +15,8 @@
 use super::listing::{self, ports_of_pattern};
 pub use super::{ListenerDetails, NotifierDetails};
 
-use crate::config::Config;
-use crate::library::Service;
+use crate::config::{Config, Event};
+use crate::library::{self, Service};
 use crate::static_config::event::StaticConfig;
 use crate::CallbackProgression;
 use std::fmt;
@@ -57,6 +57,17 @@ impl From<&StaticConfig> for DynamicConfigSettings {
         DynamicConfigSettings {
             number_of_listeners: service.max_listeners,
             number_of_notifiers: service.max_notifiers,
+        }
+    }
+}
+
+/// As many as an event service with these settings has.
+impl From<&Event> for DynamicConfigSettings {
+    fn from(settings: &Event) -> Self {
+        let room = library::event_capacities(settings);
+        DynamicConfigSettings {
+            number_of_listeners: room.listeners,
+            number_of_notifiers: room.notifiers,
         }
     }
 }

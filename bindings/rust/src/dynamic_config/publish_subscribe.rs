@@ -15,8 +15,8 @@
 use super::listing::{self, ports_of_pattern};
 pub use super::{PublisherDetails, SubscriberDetails};
 
-use crate::config::Config;
-use crate::library::Service;
+use crate::config::{Config, PublishSubscribe};
+use crate::library::{self, Service};
 use crate::static_config::publish_subscribe::StaticConfig;
 use crate::CallbackProgression;
 use std::fmt;
@@ -57,6 +57,17 @@ impl From<&StaticConfig> for DynamicConfigSettings {
         DynamicConfigSettings {
             number_of_publishers: service.max_publishers,
             number_of_subscribers: service.max_subscribers,
+        }
+    }
+}
+
+/// As many as a publish-subscribe service with these settings has.
+impl From<&PublishSubscribe> for DynamicConfigSettings {
+    fn from(settings: &PublishSubscribe) -> Self {
+        let room = library::publish_subscribe_capacities(settings);
+        DynamicConfigSettings {
+            number_of_publishers: room.publishers,
+            number_of_subscribers: room.subscribers,
         }
     }
 }

@@ -15,8 +15,8 @@
 use super::listing::{self, ports_of_pattern};
 pub use super::{ClientDetails, ServerDetails};
 
-use crate::config::Config;
-use crate::library::Service;
+use crate::config::{Config, RequestResonse};
+use crate::library::{self, Service};
 use crate::static_config::request_response::StaticConfig;
 use crate::CallbackProgression;
 use std::fmt;
@@ -57,6 +57,17 @@ impl From<&StaticConfig> for DynamicConfigSettings {
         DynamicConfigSettings {
             number_of_servers: service.max_servers,
             number_of_clients: service.max_clients,
+        }
+    }
+}
+
+/// As many as a request-response service with these settings has.
+impl From<&RequestResonse> for DynamicConfigSettings {
+    fn from(settings: &RequestResonse) -> Self {
+        let room = library::request_response_capacities(settings);
+        DynamicConfigSettings {
+            number_of_servers: room.servers,
+            number_of_clients: room.clients,
         }
     }
 }

@@ -57,6 +57,29 @@ described! {
     Blackboard: iox2sd_describe_blackboard_at blackboard
 }
 
+/// Defines the capacities of services with some settings.
+macro_rules! capacities {
+    ($($name:ident($settings:ident) -> $answer:ident: $export:ident $as_c:ident)*) => {
+        $(
+            pub(crate) fn $name(settings: &$settings) -> sys::$answer {
+                // SAFETY: the pointer is that of one struct.
+                unsafe { sys::$export(&$as_c(settings), 1) }
+            }
+        )*
+    };
+}
+
+capacities! {
+    publish_subscribe_capacities(PublishSubscribe) -> iox2sd_publish_subscribe_capacities:
+        iox2sd_publish_subscribe_capacities_of_settings_at publish_subscribe
+    event_capacities(Event) -> iox2sd_event_capacities:
+        iox2sd_event_capacities_of_settings_at event
+    request_response_capacities(RequestResonse) -> iox2sd_request_response_capacities:
+        iox2sd_request_response_capacities_of_settings_at request_response
+    blackboard_capacities(Blackboard) -> iox2sd_blackboard_capacities:
+        iox2sd_blackboard_capacities_of_settings_at blackboard
+}
+
 pub(super) fn publish_subscribe(
     settings: &PublishSubscribe,
 ) -> sys::iox2sd_publish_subscribe_settings {
@@ -75,25 +98,32 @@ pub(super) fn publish_subscribe(
     }
 }
 
-pub(super) fn event(settings: &Event) -> sys::iox2sd_event_settings {
-    let number = |event: Option<usize>| sys::iox2sd_optional_event_id {
+pub(super) fn optional_event_id(event: Option<usize>) -> sys::iox2sd_optional_event_id {
+    sys::iox2sd_optional_event_id {
         number: event.unwrap_or(0),
         is_some: event.is_some(),
-    };
-    let deadline = settings.deadline.unwrap_or(Duration::ZERO);
+    }
+}
+
+pub(super) fn optional_duration(span: Option<Duration>) -> sys::iox2sd_optional_duration {
+    let given = span.unwrap_or(Duration::ZERO);
+    sys::iox2sd_optional_duration {
+        seconds: given.as_secs(),
+        nanoseconds: given.subsec_nanos(),
+        is_some: span.is_some(),
+    }
+}
+
+pub(super) fn event(settings: &Event) -> sys::iox2sd_event_settings {
     sys::iox2sd_event_settings {
         max_listeners: settings.max_listeners,
         max_notifiers: settings.max_notifiers,
         max_nodes: settings.max_nodes,
         event_id_max_value: settings.event_id_max_value,
-        deadline: sys::iox2sd_optional_duration {
-            seconds: deadline.as_secs(),
-            nanoseconds: deadline.subsec_nanos(),
-            is_some: settings.deadline.is_some(),
-        },
-        notifier_created_event: number(settings.notifier_created_event),
-        notifier_dropped_event: number(settings.notifier_dropped_event),
-        notifier_dead_event: number(settings.notifier_dead_event),
+        deadline: optional_duration(settings.deadline),
+        notifier_created_event: optional_event_id(settings.notifier_created_event),
+        notifier_dropped_event: optional_event_id(settings.notifier_dropped_event),
+        notifier_dead_event: optional_event_id(settings.notifier_dead_event),
     }
 }
 

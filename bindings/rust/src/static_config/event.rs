@@ -8,9 +8,10 @@
 //! assert_eq!(fixed.event_id_max_value(), 255);
 //! ```
 
+use super::setting::Setting;
 use crate::config::{Config, EventId};
 use crate::identifiers::Time;
-use crate::library::Settings;
+use crate::library::{Fixed, Settings};
 use crate::sys;
 use std::time::Duration;
 
@@ -220,5 +221,40 @@ impl StaticConfig {
     /// ```
     pub fn notifier_dead_event(&self) -> Option<EventId> {
         self.notifier_dead_event.map(EventId::new)
+    }
+
+    /// The first setting, in the order of the fields, in which the service does not meet what an
+    /// opener requires, or `None` exactly where it meets all.
+    ///
+    /// Each number must be at least the required one, and the deadline and each event the same;
+    /// when a deadline was set does not count.
+    ///
+    /// ```
+    /// use iox2sd::config::Config;
+    /// use iox2sd::static_config::event::StaticConfig;
+    /// use iox2sd::static_config::setting::Setting;
+    ///
+    /// let service = StaticConfig::new(&Config::default());
+    /// let required = StaticConfig { max_nodes: 37, ..service };
+    /// assert_eq!(service.first_unmet(&required), Some(Setting::MaxNodes));
+    /// assert_eq!(required.first_unmet(&service), None);
+    /// ```
+    #[must_use]
+    pub fn first_unmet(&self, required: &Self) -> Option<Setting> {
+        self.unmet(required)
+    }
+
+    /// Whether the service meets all that an opener requires.
+    ///
+    /// ```
+    /// use iox2sd::config::Config;
+    /// use iox2sd::static_config::event::StaticConfig;
+    ///
+    /// let service = StaticConfig::new(&Config::default());
+    /// assert!(service.satisfies(&StaticConfig { max_nodes: 1, ..service }));
+    /// ```
+    #[must_use]
+    pub fn satisfies(&self, required: &Self) -> bool {
+        self.first_unmet(required).is_none()
     }
 }

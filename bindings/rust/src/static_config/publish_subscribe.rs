@@ -9,8 +9,9 @@
 //! ```
 
 use super::message_type_details::MessageTypeDetails;
+use super::setting::Setting;
 use crate::config::Config;
-use crate::library::{self, Settings};
+use crate::library::{self, Fixed, Settings};
 use crate::sys;
 
 /// What is fixed of a publish-subscribe service.
@@ -220,5 +221,40 @@ impl StaticConfig {
     #[must_use]
     pub fn message_type_details(&self) -> &MessageTypeDetails {
         &self.message_type_details
+    }
+
+    /// The first setting, in the order of the fields, in which the service does not meet what an
+    /// opener requires, or `None` exactly where it meets all.
+    ///
+    /// Each number must be at least the required one, and each choice the same. The types of
+    /// messages are no part of it.
+    ///
+    /// ```
+    /// use iox2sd::config::Config;
+    /// use iox2sd::static_config::publish_subscribe::StaticConfig;
+    /// use iox2sd::static_config::setting::Setting;
+    ///
+    /// let service = StaticConfig::new(&Config::default());
+    /// let required = StaticConfig { max_nodes: 21, ..service };
+    /// assert_eq!(service.first_unmet(&required), Some(Setting::MaxNodes));
+    /// assert_eq!(required.first_unmet(&service), None);
+    /// ```
+    #[must_use]
+    pub fn first_unmet(&self, required: &Self) -> Option<Setting> {
+        self.unmet(required)
+    }
+
+    /// Whether the service meets all that an opener requires.
+    ///
+    /// ```
+    /// use iox2sd::config::Config;
+    /// use iox2sd::static_config::publish_subscribe::StaticConfig;
+    ///
+    /// let service = StaticConfig::new(&Config::default());
+    /// assert!(service.satisfies(&StaticConfig { max_nodes: 1, ..service }));
+    /// ```
+    #[must_use]
+    pub fn satisfies(&self, required: &Self) -> bool {
+        self.first_unmet(required).is_none()
     }
 }
