@@ -38,7 +38,7 @@ why_text InvalidContent = codes "a byte or the whole text is not allowed"
 why_text ExceedsMaximumLength = codes "it has more than 255 bytes"
 
 -- what is wrong with a value
-abbrev pub reason_text : Fault → List ℕ
+unfoldable pub reason_text : Fault → List ℕ
 reason_text (WrongType found wanted) =
     codes "is " ++ (type_text found ++ (codes ", and " ++ (kind_text wanted ++ codes " is wanted")))
 reason_text OutOfRange = codes "is below 0"

@@ -75,6 +75,7 @@ impl Error for Fault {}
 impl fmt::Display for Fault {
     ghost output = { λ fault. Some (reason_text fault) };
 
+    #[tactic(auto, unfolding(crate::specs::Faults::reason_text))]
     fn fmt<W: fmt::Write>(&self, f: &mut fmt::Formatter<W>) -> fmt::Result {
         match self {
             Fault::WrongType { found, wanted } => write!(f, "is {found}, and {wanted} is wanted"),

@@ -1,5 +1,6 @@
 //! What is wrong with a file of settings, as plain values.
 ghost use Rattle.std.specs.Prelude.{◌≡◌, ◌++◌, IfOk, string_bytes, take, map};
+ghost use Rattle.iox2_config_file.specs.Faults.{reason_text};
 ghost use Rattle.iox2_config_file.specs.Read.{fault_view};
 ghost use Rattle.iox2sd_common.specs.Answers.{zero_padded};
 ghost use Rattle.iox2sd_config.specs.Faults.{section_number, type_number, kind_number, fault_status};
@@ -170,13 +171,20 @@ impl PlainFault {
     }
 }
 
+/// What is wrong with a value, in words.
+fn reason_of(alloc: Global, fault: Fault) -> Result<String, AllocError>
+    ensures { IfOk result (λ reason. string_bytes reason ≡ reason_text fault) }
+{
+    format!(in alloc; "{fault}")
+}
+
 /// What is wrong with the value of a key.
 pub(crate) fn plain_fault(alloc: Global, fault: &SettingFault) -> Result<PlainFault, AllocError>
     ensures { IfOk result (λ plain. known_of plain ≡ told_fault (fault_view fault.now)) }
 {
     let what = fault.fault;
     let path = key_path(alloc, fault.section, fault.key)?;
-    let reason = format!(in alloc; "{what}")?;
+    let reason = reason_of(alloc, what)?;
     Ok(PlainFault {
         status: fault_status(what).code(),
         table: section_number(fault.section),
