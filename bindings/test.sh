@@ -142,6 +142,7 @@ for compiler in gcc clang; do
     for source in c/test_memory.c c/test_questions.c; do
         runs "$compiler" iox2sd "$source" -std=c99 -D_GNU_SOURCE "$wrapped"
     done
+    runs "$compiler" iox2sd c/test_stack.c -std=c99 -D_GNU_SOURCE
 done
 wrapped_settings=-Wl,--wrap=iox2sd_script_run_at
 for name in {global,publish_subscribe,event,request_response}_{defaults,settings_check_at} \

@@ -21,7 +21,8 @@
  *   one service any number of queries may run at once, or one change alone. A service may be moved
  *   to another thread. The caller orders moves and changes with other calls, by a lock or by a
  *   thread's start or join.
- * - Only iox2sd_service_create takes memory, by malloc, and only iox2sd_service_free frees it.
+ * - Only iox2sd_service_create takes memory, by malloc, and only iox2sd_service_free frees it. A
+ *   call takes at most IOX2SD_STACK_BYTES of its thread's stack.
  *
  * What is proved, and what not
  *
@@ -57,6 +58,10 @@
 #define IOX2SD_VERSION_MINOR 1
 #define IOX2SD_VERSION_PATCH 0
 #define IOX2SD_VERSION "0.1.0"
+
+/* How much of the stack a call of this header or of iox2sd_values.h takes at most, in bytes. Calls
+ * of the other headers take more, as they say. It is measured, not proved. */
+#define IOX2SD_STACK_BYTES 8192
 
 #ifdef __cplusplus
 extern "C" {

@@ -3,12 +3,16 @@
  * here too. docs/CONFIG.md shows a file.
  *
  * A call takes memory by malloc and realloc, and frees all of it before it returns; where it is
- * refused, the status is IOX2SD_NO_MEMORY.
+ * refused, the status is IOX2SD_NO_MEMORY. It takes at most IOX2SD_CONFIG_STACK_BYTES of the stack.
  */
 #ifndef IOX2SD_CONFIG_H
 #define IOX2SD_CONFIG_H
 
 #include "iox2sd_values.h"
+
+/* How much of the stack a call takes at most, in bytes: a configuration has some 5,000, and arrays
+ * in one another take more. It is measured, not proved. */
+#define IOX2SD_CONFIG_STACK_BYTES 131072
 
 #ifdef __cplusplus
 extern "C" {

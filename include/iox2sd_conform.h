@@ -3,12 +3,16 @@
  * for every call, and what it says of what is proved, hold here too. docs/CONFORM.md has the lines
  * of logs and of reports.
  *
- * A check takes memory by malloc and realloc, and frees all of it before it returns.
+ * A check takes memory by malloc and realloc, and frees all of it before it returns. It takes at
+ * most IOX2SD_CONFORM_STACK_BYTES of the stack.
  */
 #ifndef IOX2SD_CONFORM_H
 #define IOX2SD_CONFORM_H
 
 #include "iox2sd.h"
+
+/* How much of the stack a check takes at most, in bytes. It is measured, not proved. */
+#define IOX2SD_CONFORM_STACK_BYTES 65536
 
 #ifdef __cplusplus
 extern "C" {

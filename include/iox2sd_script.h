@@ -2,12 +2,16 @@
  * replies. The rules of iox2sd.h for every call, and what it says of what is proved, hold here too.
  * docs/SCRIPT.md has all lines and replies.
  *
- * A run takes memory by malloc and realloc, and frees all of it before it returns.
+ * A run takes memory by malloc and realloc, and frees all of it before it returns. It takes at most
+ * IOX2SD_SCRIPT_STACK_BYTES of the stack.
  */
 #ifndef IOX2SD_SCRIPT_H
 #define IOX2SD_SCRIPT_H
 
 #include "iox2sd.h"
+
+/* How much of the stack a run takes at most, in bytes. It is measured, not proved. */
+#define IOX2SD_SCRIPT_STACK_BYTES 65536
 
 #ifdef __cplusplus
 extern "C" {

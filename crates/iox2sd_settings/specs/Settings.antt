@@ -9,8 +9,10 @@ use Rattle.iox2_config.specs.declared.config.choices.AllocationStrategy.TheVaria
 use Rattle.iox2_config.specs.declared.config.choices.BackpressureStrategy.{BackpressureStrategy}
 use Rattle.iox2_config.specs.declared.config.choices.BackpressureStrategy.TheVariants.{RetryUntilDelivered, DiscardData}
 use Rattle.iox2_config.specs.declared.config.event.Event.{Event}
+use Rattle.iox2_config.specs.declared.config.node.Node.{Node}
 use Rattle.iox2_config.specs.declared.config.publish_subscribe.PublishSubscribe.{PublishSubscribe}
 use Rattle.iox2_config.specs.declared.config.request_response.RequestResonse.{RequestResonse}
+use Rattle.iox2_config.specs.declared.config.service.Service.{Service}
 use Rattle.iox2sd_settings.specs.declared.settings.BlackboardSettings.{BlackboardSettings}
 use Rattle.iox2sd_settings.specs.declared.settings.EventSettings.{EventSettings}
 use Rattle.iox2sd_settings.specs.declared.settings.GlobalSettings.{GlobalSettings as PlainGlobal}
@@ -51,14 +53,18 @@ abbrev pub told_event_id : Option ℕ → OptionalEventId
 told_event_id (Some number) = record { number = number; is_some = true }
 told_event_id None = record { number = 0; is_some = false }
 
+-- the settings of a system beside its texts, of which these are parts
+abbrev pub told_global_with : Duration → Service → Node → PlainGlobal
+told_global_with timeout service node = record {
+  creation_timeout = told_span timeout;
+  cleanup_dead_nodes_on_open = service.cleanup_dead_nodes_on_open;
+  cleanup_dead_nodes_on_creation = node.cleanup_dead_nodes_on_creation;
+  cleanup_dead_nodes_on_destruction = node.cleanup_dead_nodes_on_destruction;
+}
+
 -- the settings of a system beside its texts
 abbrev pub told_global : GlobalSettings → PlainGlobal
-told_global s = record {
-  creation_timeout = told_span s.creation_timeout;
-  cleanup_dead_nodes_on_open = s.service.cleanup_dead_nodes_on_open;
-  cleanup_dead_nodes_on_creation = s.node.cleanup_dead_nodes_on_creation;
-  cleanup_dead_nodes_on_destruction = s.node.cleanup_dead_nodes_on_destruction;
-}
+told_global s = told_global_with s.creation_timeout s.service s.node
 
 -- the settings of a publish-subscribe service
 abbrev pub told_publish_subscribe : PublishSubscribe → PublishSubscribeSettings

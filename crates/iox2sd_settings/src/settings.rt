@@ -2,12 +2,13 @@
 ghost use Rattle.std.specs.Prelude.{◌≡◌};
 ghost use Rattle.iox2sd_settings.specs.Settings.{backpressure_number, allocation_number, told_span};
 ghost use Rattle.iox2sd_settings.specs.Settings.{told_duration, told_event_id, told_global};
+ghost use Rattle.iox2sd_settings.specs.Settings.{told_global_with};
 ghost use Rattle.iox2sd_settings.specs.Settings.{told_publish_subscribe, told_event};
 ghost use Rattle.iox2sd_settings.specs.Settings.{told_request_response, told_blackboard};
 
 use iox2_config::config::{
-    AllocationStrategy, BackpressureStrategy, Blackboard, Event, Global, PublishSubscribe,
-    RequestResonse,
+    AllocationStrategy, BackpressureStrategy, Blackboard, Event, Global, Node, PublishSubscribe,
+    RequestResonse, Service,
 };
 use std::time::Duration;
 
@@ -222,11 +223,18 @@ fn span_of(duration: Duration) -> PlainDuration
 pub fn global_of(settings: &Global) -> GlobalSettings
     ensures { result ≡ told_global settings.now }
 {
+    global_with(settings.creation_timeout, &settings.service, &settings.node)
+}
+
+/// The same of a system with this timeout and these settings of files.
+pub fn global_with(timeout: Duration, service: &Service, node: &Node) -> GlobalSettings
+    ensures { result ≡ told_global_with timeout service.now node.now }
+{
     GlobalSettings {
-        creation_timeout: span_of(settings.creation_timeout),
-        cleanup_dead_nodes_on_open: settings.service.cleanup_dead_nodes_on_open,
-        cleanup_dead_nodes_on_creation: settings.node.cleanup_dead_nodes_on_creation,
-        cleanup_dead_nodes_on_destruction: settings.node.cleanup_dead_nodes_on_destruction,
+        creation_timeout: span_of(timeout),
+        cleanup_dead_nodes_on_open: service.cleanup_dead_nodes_on_open,
+        cleanup_dead_nodes_on_creation: node.cleanup_dead_nodes_on_creation,
+        cleanup_dead_nodes_on_destruction: node.cleanup_dead_nodes_on_destruction,
     }
 }
 

@@ -2,7 +2,6 @@
 use Rattle.std.specs.Prelude.{◌≡◌, ◌≢◌, ℕ, List, Option, Some, None, Result, Ok, Err}
 use lib.Chars.{codes}
 use Rattle.iox2_config.specs.Defaults.{default_service, default_node}
-use Rattle.iox2_config.specs.GlobalSettings.{GlobalSettings}
 use Rattle.iox2_texts.specs.Path.{MakesJoined}
 use Rattle.iox2_texts.specs.declared.bounded.SemanticStringError.{SemanticStringError}
 use Rattle.iox2sd_common.specs.Answers.{text_answer, TellsText, Written}
@@ -73,14 +72,6 @@ WritesNamed None old answer new = (answer ≡ text_answer status.UnknownText 0) 
 abbrev pub TellsNamed : ℕ → List ℕ → TextAnswer → List ℕ → Type 0
 TellsNamed number old answer new = (text : Option Named) × ReadsNamed number text
     × WritesNamed text old answer new
-
--- the root path is the caller's, and the directories are the default ones
-abbrev pub Roots : List ℕ → Result GlobalSettings Status → Type 0
-Roots root (Ok global) =
-    MakesPath root (Ok global.root_path) × (global.service ≡ default_service)
-    × (global.node ≡ default_node)
-Roots root (Err status.BadPath) = (error : SemanticStringError) × MakesPath root (Err error)
-Roots root (Err _) = ⊥
 
 -- the directory below the root path: the root path is looked at first, and then the length
 abbrev pub JoinsBelow : List ℕ → List ℕ → Result (List ℕ) Status → Type 0

@@ -1,5 +1,6 @@
 //! Descriptions of services, from their names and settings.
-ghost use Rattle.std.specs.Prelude.{◌≡◌};
+ghost use Rattle.std.specs.Prelude.{◌≡◌, [], Ok};
+ghost use Rattle.iox2sd_values.specs.Descriptions.{told_description};
 ghost use Rattle.iox2sd_common.specs.Ids.{number_of};
 ghost use Rattle.iox2_static.specs.PublishSubscribe.{publish_subscribe_of};
 ghost use Rattle.iox2_static.specs.RequestResponse.{request_response_of};
@@ -40,10 +41,30 @@ fn describe(
     let name = name?;
     let pattern = pattern?;
     match ServiceHash::new::<Sha1Hasher>(&name, pattern.kind()) {
-        Ok(hash) => Ok(told_description(&name, &hash, &pattern, id)),
+        Ok(hash) => described(&name, &hash, &pattern, id),
         Err(ServiceHashError::IllegalText) => Err(Refusal::Cause(Status::IllegalHash)),
         Err(ServiceHashError::HasherFailed) => unreachable!(),
     }
+}
+
+/// The description of the service that has these. Not inlined, it takes no stack while the hash
+/// text is made.
+#[inline(never)]
+fn described(
+    name: &ServiceName,
+    hash: &ServiceHash,
+    pattern: &MessagingPattern,
+    id: Id,
+) -> Result<ServiceDescription, Refusal>
+    ensures { result ≡ Ok (told_description (record {
+      name = name.now;
+      id = number_of id;
+      hash = hash.now;
+      attributes = [];
+      pattern = pattern.now;
+    }) id) }
+{
+    Ok(told_description(name, hash, pattern, id))
 }
 
 /// Fills the first struct with what was made, or leaves it as it is.

@@ -1,10 +1,10 @@
 //! Where the system's files lie and how they are called, where nothing else is said.
-ghost use Rattle.iox2_config.specs.Defaults.{IsDefaultGlobal, default_service, default_node};
+ghost use Rattle.std.specs.Prelude.{◌≡◌};
+ghost use Rattle.iox2_config.specs.Defaults.{default_service, default_node};
 ghost use Rattle.iox2sd_common.specs.Answers.{Written};
-ghost use Rattle.iox2sd_values.specs.Files.{named, ReadsNamed, TellsNamed, Roots, JoinsBelow};
-ghost use Rattle.iox2sd_values.specs.Files.{TellsBelow};
+ghost use Rattle.iox2sd_values.specs.Files.{named, ReadsNamed, TellsNamed, JoinsBelow, TellsBelow};
 
-use iox2_config::config::{Config, Global};
+use iox2_config::config::{Config, Node, Service};
 use iox2_texts::paths::Path;
 use iox2sd_common::answers::{TextAnswer, no_text, write};
 use iox2sd_common::status::Status;
@@ -83,15 +83,16 @@ fn named_of(number: u32) -> Option<Named>
     }
 }
 
-/// Writes the text of these settings, which are the default ones.
-fn write_text(text: Named, global: &Global, out: &mut [u8]) -> TextAnswer
-    requires { IsDefaultGlobal global.now }
+/// Writes the text of these settings, which are the default ones. The whole settings of a system
+/// would take too much of the stack.
+fn write_text(text: Named, service: &Service, node: &Node, out: &mut [u8]) -> TextAnswer
+    requires service { service.now ≡ default_service }
+    requires node { node.now ≡ default_node }
     ensures { Written (named text) out.old result out.new }
 {
-    let (service, node) = (&global.service, &global.node);
     match text {
-        Named::RootPath => write(global.root_path().as_bytes(), out),
-        Named::Prefix => write(global.prefix.as_bytes(), out),
+        Named::RootPath => write(b"/tmp/iceoryx2/", out),
+        Named::Prefix => write(b"iox2_", out),
         Named::ServiceDirectory => write(service.directory.as_bytes(), out),
         Named::DataSegmentSuffix => write(service.data_segment_suffix.as_bytes(), out),
         Named::StaticConfigStorageSuffix => write(
@@ -123,7 +124,7 @@ fn write_text(text: Named, global: &Global, out: &mut [u8]) -> TextAnswer
 fn write_named(text: Named, out: &mut [u8]) -> TextAnswer
     ensures { Written (named text) out.old result out.new }
 {
-    write_text(text, &Global::default(), out)
+    write_text(text, &Service::default(), &Node::default(), out)
 }
 
 /// Writes a text of the configuration that stands where nothing else is said.
@@ -139,41 +140,17 @@ pub extern "C" fn iox2sd_default_text_at(which: u32, out: &mut [u8]) -> TextAnsw
     }
 }
 
-/// The default settings with this root path.
-fn rooted(root: &[u8]) -> Result<Global, Status>
-    ensures { Roots root.now result }
+/// A directory below a root path.
+fn below(root: &[u8], directory: &Path) -> Result<Path, Status>
+    ensures { JoinsBelow root.now directory.now result }
 {
     let Ok(root) = Path::new(root) else {
         return Err(Status::BadPath);
     };
-    let mut global = Global::default();
-    global.set_root_path(&root);
-    Ok(global)
-}
-
-/// The directory of services below a root path.
-fn service_directory(root: &[u8]) -> Result<Path, Status>
-    ensures { JoinsBelow root.now default_service.directory result }
-{
-    match rooted(root) {
-        Ok(global) => match global.service_dir() {
-            Ok(directory) => Ok(directory),
-            Err(_) => Err(Status::TooLong),
-        },
-        Err(status) => Err(status),
-    }
-}
-
-/// The directory of nodes below a root path.
-fn node_directory(root: &[u8]) -> Result<Path, Status>
-    ensures { JoinsBelow root.now default_node.directory result }
-{
-    match rooted(root) {
-        Ok(global) => match global.node_dir() {
-            Ok(directory) => Ok(directory),
-            Err(_) => Err(Status::TooLong),
-        },
-        Err(status) => Err(status),
+    let mut joined = root;
+    match joined.add_path_entry(directory) {
+        Ok(()) => Ok(joined),
+        Err(_) => Err(Status::TooLong),
     }
 }
 
@@ -184,7 +161,7 @@ fn node_directory(root: &[u8]) -> Result<Path, Status>
 pub extern "C" fn iox2sd_service_dir_at(root: &[u8], out: &mut [u8]) -> TextAnswer
     ensures { TellsBelow root.now default_service.directory out.old result out.new }
 {
-    match service_directory(root) {
+    match below(root, &Service::default().directory) {
         Ok(directory) => write(directory.as_bytes(), out),
         Err(status) => no_text(status),
     }
@@ -195,7 +172,7 @@ pub extern "C" fn iox2sd_service_dir_at(root: &[u8], out: &mut [u8]) -> TextAnsw
 pub extern "C" fn iox2sd_node_dir_at(root: &[u8], out: &mut [u8]) -> TextAnswer
     ensures { TellsBelow root.now default_node.directory out.old result out.new }
 {
-    match node_directory(root) {
+    match below(root, &Node::default().directory) {
         Ok(directory) => write(directory.as_bytes(), out),
         Err(status) => no_text(status),
     }

@@ -6,19 +6,25 @@ ghost use Rattle.iox2sd_settings.specs.Settings.{told_publish_subscribe, told_ev
 ghost use Rattle.iox2sd_settings.specs.Settings.{told_request_response, told_blackboard};
 ghost use Rattle.iox2sd_values.specs.Settings.{TellsGlobalDefaults};
 
-use iox2_config::config::{Blackboard, Event, Global, PublishSubscribe, RequestResonse};
+use iox2_config::config::{Blackboard, Event, Node, PublishSubscribe, RequestResonse, Service};
 use iox2sd_settings::settings::{
     BlackboardSettings, EventSettings, GlobalSettings, PublishSubscribeSettings,
-    RequestResponseSettings, blackboard_of, event_of, global_of, publish_subscribe_of,
+    RequestResponseSettings, blackboard_of, event_of, global_with, publish_subscribe_of,
     request_response_of,
 };
+use std::time::Duration;
 
-/// The settings that a system has by default.
+/// The settings that a system has by default. Those with all their texts would take too much of the
+/// stack.
 #[unsafe(no_mangle)]
 pub extern "C" fn iox2sd_global_defaults() -> GlobalSettings
     ensures { TellsGlobalDefaults result }
 {
-    global_of(&Global::default())
+    global_with(
+        Duration::from_millis(500),
+        &Service::default(),
+        &Node::default(),
+    )
 }
 
 /// The settings that a publish-subscribe service gets by default.

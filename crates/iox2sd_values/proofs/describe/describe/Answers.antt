@@ -13,4 +13,5 @@ returns-in-Ok c =
       pattern = c.in_ok-pattern.pattern;
     } in
     let makes = rw c.kind.ensures at c.in-Ok.ensures in
-    (d, rw c.in_ok-name.was (rw c.in_ok-pattern.was (makes, refl)), c.told_description.ensures)
+    rw c.described.ensures
+    (d, rw c.in_ok-name.was (rw c.in_ok-pattern.was (makes, refl)), refl)
