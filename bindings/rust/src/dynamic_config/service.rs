@@ -751,6 +751,7 @@ impl DynamicConfig {
     /// assert!(service.nodes().eq([node, node]));
     /// # Ok::<(), Box<dyn std::error::Error>>(())
     /// ```
+    #[must_use]
     #[inline]
     pub fn nodes(&self) -> vec::IntoIter<UniqueNodeId> {
         let of_each = |nodes: &[_]| nodes.iter().copied().map(UniqueNodeId::of).collect();
@@ -780,6 +781,7 @@ impl DynamicConfig {
     /// assert!(service.ports(Role::Reader).is_none());
     /// # Ok::<(), Box<dyn std::error::Error>>(())
     /// ```
+    #[must_use]
     #[inline]
     pub fn ports(&self, role: Role) -> Option<vec::IntoIter<PortDetails>> {
         let of_each = |ports: &[_]| ports.iter().map(PortDetails::of).collect();
@@ -807,6 +809,7 @@ impl DynamicConfig {
     /// assert_eq!(service.ports_of(&other).count(), 0);
     /// # Ok::<(), Box<dyn std::error::Error>>(())
     /// ```
+    #[must_use]
     #[inline]
     pub fn ports_of(&self, node: &UniqueNodeId) -> vec::IntoIter<PortDetails> {
         let of_each = |ports: &[_]| ports.iter().map(PortDetails::of).collect();
