@@ -58,7 +58,7 @@ private:
     }
 };
 
-/// Judges a log of one service.
+/// Judges a log of services.
 inline LogVerdict check_log(std::string_view log) noexcept {
     // The report of a log that conforms fits here, so such a log is judged once.
     std::uint8_t front[512];

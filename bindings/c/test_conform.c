@@ -27,6 +27,13 @@ static const char refused[] = "service event 7 2 2 0\n"
                               "add listener 1.0.0.11 1.0.0.1\n"
                               "= handle 0 0\n";
 
+static const char two_services[] = "service event 7 1 0 0\n"
+                                   "service blackboard 8 1 0 0\n"
+                                   "8: register 1.0.0.1\n"
+                                   "= handle 0 0\n"
+                                   "7: nodes\n"
+                                   "= list\n";
+
 static const char conforming_report[] = "conforms, 3 calls on 1 service\n";
 
 static const char refused_report[] = "line 9: no run gives this reply\n"
@@ -115,6 +122,7 @@ static void no_memory(const char *log, size_t capacity, uint32_t status) {
 
 int main(void) {
     buffers(conforming, conforming_report, IOX2SD_DONE, 0, 3);
+    buffers(two_services, "conforms, 2 calls on 2 services\n", IOX2SD_DONE, 0, 2);
     buffers(refused, refused_report, IOX2SD_NO_RUN, 9, 0);
     bad_lines();
     CHECK(answers(iox2sd_conform_run(NULL, 1, out, MOST), IOX2SD_NULL, 0, 0, 0));

@@ -68,7 +68,7 @@ Verdict = Union[Conforms, NoRun, UnexpectedLine]
 
 
 def check_log(log: Union[str, bytes]) -> Verdict:
-    """What a log of one service is judged to be: the calls that were made on a service of any
+    """What a log of services is judged to be: the calls that were made on services of any
     implementation, and the replies that were seen. `docs/CONFORM.md` has its lines.
 
     Raises `NoMemory`.

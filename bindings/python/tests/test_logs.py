@@ -28,6 +28,9 @@ class Logs(unittest.TestCase):
             self.assertEqual(check_log(log), Conforms(calls))
             self.assertEqual(check_log(log.encode()), Conforms(calls))
         self.assertTrue(check_log(SERVICE))
+        both = SERVICE + "service blackboard 8 1 0 0\n8: nodes\n= list\n7: nodes\n= list\n"
+        self.assertEqual(check_log(both), Conforms(2))
+        self.assertEqual(check_log(both + "nodes\n"), UnexpectedLine(7, Expected.COMMAND))
 
     def test_unexpected_lines(self):
         cases = {

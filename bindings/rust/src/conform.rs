@@ -94,7 +94,7 @@ pub enum Expected {
     Reply,
 }
 
-/// Judges a log of one service.
+/// Judges a log of services.
 ///
 /// # Errors
 ///

@@ -256,7 +256,8 @@ pub(crate) struct Judged {
     pub(crate) report: String,
 }
 
-/// The buffer for a report at first. That of a log that conforms fits, so such a log is judged once.
+/// The length of the first buffer for a report. That of a log that conforms fits, so such a log is
+/// judged once.
 const REPORT: usize = 512;
 
 pub(crate) fn conform_run(log: &str) -> Judged {
