@@ -11,7 +11,7 @@
 #include "iox2sd.h"
 
 /* How much of the stack a run takes at most, in bytes. It is measured, not proved. */
-#define IOX2SD_SCRIPT_STACK_BYTES 65536
+#define IOX2SD_SCRIPT_STACK_BYTES 40960
 
 #ifdef __cplusplus
 extern "C" {
