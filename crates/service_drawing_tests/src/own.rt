@@ -2,6 +2,8 @@
 
 use super::expected::own::{FILES, NO_TOML, OWN, REFUSED};
 use super::running::run;
+use std::alloc::Global;
+use std::process::Abort;
 
 /// Settings in front take the place of the defaults, and the description changes them once more.
 #[test]
@@ -13,31 +15,41 @@ fn own_settings_are_drawn(rt: HostRuntime) {
     );
 }
 
+/// Asserts that an input is drawn with five nodes, and that these warnings are reported.
+fn assert_drawn(rt: &impl Abort, alloc: Global, input: &str, warnings: &str) {
+    let (status, output, errors) = run(rt, alloc, &["iox2-describe"], input);
+    let part = b"\n! max_nodes                                    5, by default 36\n";
+    let found = output
+        .windows(part.len())
+        .any(|piece| piece == part.as_slice());
+    assert_eq!(rt;
+        (status, errors.as_slice(), found),
+        (0, warnings.as_bytes(), true)
+    );
+}
+
 /// Other forms of such settings, and keys that none has, which are reported beside the drawing.
 #[test]
 fn own_settings_have_any_form(rt: HostRuntime) {
     for (input, warnings) in FILES {
-        let (status, output, errors) = run(&rt, rt.alloc(), &["iox2-describe"], input);
-        let part = b"\n! max_nodes                                    5, by default 36\n";
-        let found = output
-            .windows(part.len())
-            .any(|piece| piece == part.as_slice());
-        assert_eq!(rt;
-            (status, errors.as_slice(), found),
-            (0, warnings.as_bytes(), true)
-        );
+        assert_drawn(&rt, rt.alloc(), input, warnings);
     }
+}
+
+/// Asserts that an input is refused with this report, and that nothing is drawn.
+fn assert_refused(rt: &impl Abort, alloc: Global, input: &str, report: &str) {
+    let (status, output, errors) = run(rt, alloc, &["iox2-describe"], input);
+    assert_eq!(rt;
+        (status, output.len(), errors.as_slice()),
+        (1, 0, report.as_bytes())
+    );
 }
 
 /// What is wrong with settings in front is reported, and nothing is drawn.
 #[test]
 fn own_settings_are_refused(rt: HostRuntime) {
     for (input, report) in REFUSED {
-        let (status, output, errors) = run(&rt, rt.alloc(), &["iox2-describe"], input);
-        assert_eq!(rt;
-            (status, output.len(), errors.as_slice()),
-            (1, 0, report.as_bytes())
-        );
+        assert_refused(&rt, rt.alloc(), input, report);
     }
 }
 
