@@ -1,14 +1,14 @@
 //! The program: what its arguments request, done with its streams.
 ghost use Rattle.std.specs.Prelude.{◌<◌};
 ghost use Rattle.std.specs.Io.KnownBytes.{IsAtEnd};
+ghost use Rattle.line_streams.specs.Streams.{IsFlushed};
 ghost use Rattle.iox2_conform.specs.Program.{Ran, RequestsCheck};
 
-use line_streams::{Request, RequestError, print, request_of};
+use line_streams::{Request, RequestError, Sink, Source, print, request_of};
 use service_logs::logs::check_streams;
 use std::alloc::Global;
 use std::env::Args;
 use std::io;
-use std::io::{Read, Write};
 
 /// How the program is used.
 pub(crate) const HELP: &str = "usage: iox2-conform [--help | --version] < LOG
@@ -40,7 +40,7 @@ pub(crate) const BAD_ARGUMENT: &str = "bad argument: iox2-conform --help says ho
 /// - 1: the log does not conform.
 /// - 2: an argument or a line is bad.
 /// - 3: memory was refused, or a read, a write or a flush failed.
-pub(crate) fn conform_streams<R: Read, W: Write, E: Write>(
+pub(crate) fn conform_streams<R: Source, W: Sink, E: Sink>(
     alloc: Global,
     arguments: io::Result<Args>,
     input: &mut R,
@@ -51,6 +51,9 @@ pub(crate) fn conform_streams<R: Read, W: Write, E: Write>(
     ensures ran { result < 3 → Ran arguments result (R.remaining input.old)
         (W.contents output.old) (W.contents output.new)
         (E.contents errors.old) (E.contents errors.new) }
+    // After a verdict both writers were flushed last.
+    ensures flushed { result < 3 → RequestsCheck arguments
+        → IsFlushed W.Flushes output.new × IsFlushed E.Flushes errors.new }
     // All of a log was read.
     ensures read { result < 3 → RequestsCheck arguments → IsAtEnd (R.remaining input.new) }
 {

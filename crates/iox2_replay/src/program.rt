@@ -1,7 +1,7 @@
 //! The program: what its arguments request, done with its streams.
-ghost use Rattle.std.specs.Prelude.{◌<◌};
+ghost use Rattle.std.specs.Prelude.{◌≡◌, ◌<◌, ◌⊎◌};
 ghost use Rattle.std.specs.Io.KnownBytes.{IsAtEnd};
-ghost use Rattle.line_streams.specs.Streams.{IsFlushed};
+ghost use Rattle.line_streams.specs.Streams.{Fails, IsFlushed, ReadFails};
 ghost use Rattle.iox2_replay.specs.Program.{Ran, RequestsScript};
 
 use line_streams::{Request, RequestError, Sink, Source, print, request_of};
@@ -9,6 +9,7 @@ use service_descriptions::replay::run_streams;
 use std::alloc::Global;
 use std::env::Args;
 use std::io;
+use std::io::Error;
 
 /// How the program is used.
 pub(crate) const HELP: &str = "usage: iox2-replay [--help | --version] < SCRIPT
@@ -68,6 +69,12 @@ pub(crate) fn replay_streams<R: Source, W: Sink, E: Sink>(
     // After a script both writers were flushed last.
     ensures flushed { result < 3 → RequestsScript arguments
         → IsFlushed W.Flushes output.new × IsFlushed E.Flushes errors.new }
+    // A text was flushed where it was written.
+    ensures printed { result < 3 → IsFlushed W.Flushes output.new ⊎ IsFlushed E.Flushes errors.new }
+    // A read, a write or a flush failed, and that stream was left as it was then.
+    ensures failed { result ≡ 3 → (e : Error) × (ReadFails R.FailsBy input.new e
+        ⊎ (Fails W.Writes W.FailsToFlush output.new e
+        ⊎ Fails E.Writes E.FailsToFlush errors.new e)) }
     // All of a script was read, unless memory ran out.
     ensures read { result < 2 → RequestsScript arguments → IsAtEnd (R.remaining input.new) }
 {

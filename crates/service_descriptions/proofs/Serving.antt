@@ -16,8 +16,8 @@ use Rattle.service_descriptions.specs.declared.replay.machine.reply.Reply.{Reply
 use Rattle.service_descriptions.specs.declared.replay.machine.reply.Reply.TheVariants as reply
 use Rattle.service_descriptions.specs.declared.replay.machine.earlier.Earlier.{Earlier}
 use Rattle.service_descriptions.specs.Handles.{Differ, IsGiven, KeepsHandles, handle_at, handles_in, tickets_of}
-use Rattle.service_descriptions.specs.declared.replay.machine.state.ServiceState.TheInside.{Inside}
-use Rattle.service_descriptions.specs.Fields.{IsSound, state_of}
+use Rattle.service_descriptions.specs.declared.replay.machine.session.Session.TheInside.{Inside}
+use Rattle.service_descriptions.specs.Fields.{IsSound, described, session_of}
 use Rattle.service_descriptions.specs.LineAnswers.{LineStep, ServesLine, StandsFor, handle_given}
 use Rattle.service_descriptions.specs.Listings.{ServesList, ServesNodes}
 use Rattle.service_descriptions.specs.Replies.{reply_of}
@@ -66,7 +66,7 @@ next_number number old new (Some h) is n = n.service ∙ is
 abbrev pub after : Inside → Service → Vec Earlier → Inside
 after old service earlier = record old { service = service; earlier = earlier }
 
-module _ (old : Inside) (service : Service) (earlier : Vec Earlier) (cell : Earlier)
+module _ (about : Option Description) (old : Inside) (service : Service) (earlier : Vec Earlier) (cell : Earlier)
     (given : Option Handle)
     (told : (n : ℕ) → IfSome given (λ h. h.service ≡ n) → handle_at n cell ≡ given)
     (more : earlier.items ≡ old.earlier.items ++ cell ∷ []) (sound : IsSound old)
@@ -101,11 +101,11 @@ module _ (old : Inside) (service : Service) (earlier : Vec Earlier) (cell : Earl
 
   -- and it was a step, where a reply may be given with this handle
   pub stepped : (c : Command) (r : Reply) → handle_in r ≡ given
-      → Serves old.service old.description (handles_in old.number old.earlier.items) c r service
-      → ServiceStep (state_of old) c r (state_of new)
+      → Serves old.service about (handles_in old.number old.earlier.items) c r service
+      → ServiceStep (described (session_of old) about) c r (described (session_of new) about)
   stepped c r is s =
       let state : List (Option Handle) → State =
-      λ hs. record { service = service; description = old.description; handles = hs } in
+      λ hs. record { service = service; description = about; handles = hs } in
       let same : given ≡ handle_in r = sym is in (
         s,
         ap state (noted_more
@@ -114,22 +114,23 @@ module _ (old : Inside) (service : Service) (earlier : Vec Earlier) (cell : Earl
       )
 
 -- the fields after a command are sound, and it was a step
-pub served : (old : Inside) (service : Service) (earlier : Vec Earlier) (cell : Earlier)
-    (c : Command) (r : Reply) → IsSound old → IsService service
-    → Serves old.service old.description (handles_in old.number old.earlier.items) c r service
+pub served : (about : Option Description) (old : Inside) (service : Service) (earlier : Vec Earlier)
+    (cell : Earlier) (c : Command) (r : Reply) → IsSound old → IsService service
+    → Serves old.service about (handles_in old.number old.earlier.items) c r service
     → ((n : ℕ) → IfSome (handle_in r) (λ h. h.service ≡ n) → handle_at n cell ≡ handle_in r)
     → earlier.items ≡ old.earlier.items ++ cell ∷ []
     → IsSound (after old service earlier)
-    × ServiceStep (state_of old) c r (state_of (after old service earlier))
-served old service earlier cell c r sound is_service s told more =
+    × ServiceStep (described (session_of old) about) c r
+    (described (session_of (after old service earlier)) about)
+served about old service earlier cell c r sound is_service s told more =
     let handles = handles_in old.number old.earlier.items in
-    let m = moves old.service old.description handles c r service sound.is_service s in (
-      noted old service earlier cell (handle_in r) told more sound is_service m,
-      stepped old service earlier cell (handle_in r) told more sound is_service m c r refl s,
+    let m = moves old.service about handles c r service sound.is_service s in (
+      noted about old service earlier cell (handle_in r) told more sound is_service m,
+      stepped about old service earlier cell (handle_in r) told more sound is_service m c r refl s,
     )
 
 -- what sound fields stand for is a state
-pub sound_state : (s : Inside) → IsSound s → IsState (state_of s)
+pub sound_state : (s : Inside) → IsSound s → IsState (session_of s)
 sound_state s sound = record { is_service = sound.is_service; differ = sound.keeps.differ }
 
 -- an answer moves a service on
@@ -173,17 +174,17 @@ line_serves old about handles c (answer.Ports role) new s r so = (
 -- the fields after a command that has a line are sound, and it was a step with each such reply
 pub served_line : (old : Inside) (service : Service) (earlier : Vec Earlier) (cell : Earlier)
     (c : Command) (a : LineAnswer) → IsSound old → IsService service
-    → ServesLine old.service old.description (handles_in old.number old.earlier.items) c a service
+    → ServesLine old.service None (handles_in old.number old.earlier.items) c a service
     → ((n : ℕ) → IfSome (handle_given a) (λ h. h.service ≡ n) → handle_at n cell ≡ handle_given a)
     → earlier.items ≡ old.earlier.items ++ cell ∷ []
     → IsSound (after old service earlier)
-    × LineStep (state_of old) c a (state_of (after old service earlier))
+    × LineStep (session_of old) c a (session_of (after old service earlier))
 served_line old service earlier cell c a sound is_service s told more =
     let handles = handles_in old.number old.earlier.items in
-    let m = line_moves old.service old.description handles c a service sound.is_service s in (
-      noted old service earlier cell (handle_given a) told more sound is_service m,
+    let m = line_moves old.service None handles c a service sound.is_service s in (
+      noted None old service earlier cell (handle_given a) told more sound is_service m,
       λ r so.
-          let may = line_serves old.service old.description handles c a service s r so in
-          stepped old service earlier cell (handle_given a) told more sound is_service m c r may.0
+          let may = line_serves old.service None handles c a service s r so in
+          stepped None old service earlier cell (handle_given a) told more sound is_service m c r may.0
           may.1,
     )

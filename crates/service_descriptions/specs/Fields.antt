@@ -1,16 +1,17 @@
--- What the fields of a state say.
-use Rattle.std.specs.Prelude.{◌≡◌}
+-- What the fields of a session say.
+use Rattle.std.specs.Prelude.{◌≡◌, Option, None}
 use Rattle.iox2_dynamic.specs.Service.{IsService}
-use Rattle.service_descriptions.specs.declared.replay.machine.state.ServiceState.TheInside.{Inside}
+use Rattle.iox2_static.specs.Description.{Description}
+use Rattle.service_descriptions.specs.declared.replay.machine.session.Session.TheInside.{Inside}
 use Rattle.service_descriptions.specs.Handles.{handles_in, KeepsHandles}
 use Rattle.service_descriptions.specs.Steps.{State}
 
--- the state that the fields stand for
-abbrev pub state_of : Inside → State
-state_of s =
+-- the state that the fields of a session stand for: nothing describes its service
+abbrev pub session_of : Inside → State
+session_of s =
     record {
       service = s.service;
-      description = s.description;
+      description = None;
       handles = handles_in s.number s.earlier.items;
     }
 
@@ -20,3 +21,7 @@ pub record IsSound (s : Inside) : Type 0 where
   pub is_service : IsService s.service
   pub number_is : s.service.nodes.registry.service ≡ s.number
   pub keeps : KeepsHandles s.service (handles_in s.number s.earlier.items)
+
+-- a state whose service is described so
+abbrev pub described : State → Option Description → State
+described s about = record s { description = about }

@@ -42,7 +42,7 @@ pub fn join(
     ensures step { JoinStep service.old node port result service.new }
     ensures exact { OnErr result (¬ CanJoin service.old node port) }
 {
-    ask(service, node, &port)?;
+    check_can_join(service, node, &port)?;
     let Ok(node) = service.register_node_id(node) else {
         unreachable!();
     };
@@ -53,7 +53,11 @@ pub fn join(
 }
 
 /// Whether the node may join with this port, or the first cause for which it may not.
-fn ask(service: &DynamicConfig, node: UniqueNodeId, port: &PortDetails) -> Result<(), JoinError>
+fn check_can_join(
+    service: &DynamicConfig,
+    node: UniqueNodeId,
+    port: &PortDetails,
+) -> Result<(), JoinError>
     ensures free { IfOk result (λ _. MayJoin service.now node port.now) }
     ensures cause { IfErr result (RefusesToJoin service.now node port.now) }
 {

@@ -7,7 +7,7 @@ use super::MAX_PATH_LENGTH;
 use crate::bounded::{SemanticStringError, StaticString};
 
 /// Whether a `/` is needed before an entry.
-fn is_open(path: &[u8]) -> bool
+fn needs_slash(path: &[u8]) -> bool
     ensures { result ≡ needs_slash path.now }
 {
     !path.is_empty() && path[path.len() - 1] != b'/'
@@ -23,7 +23,7 @@ pub(super) fn joined(
     ensures value { MakesJoined path.now entry.now result }
     ensures legal { IfOk result (IsTextUpTo 255) }
 {
-    let slash = if is_open(path) { b"/".as_slice() } else { &[] };
+    let slash = if needs_slash(path) { b"/".as_slice() } else { &[] };
     if path.len() + slash.len() + entry.len() > MAX_PATH_LENGTH {
         return Err(SemanticStringError::ExceedsMaximumLength);
     }

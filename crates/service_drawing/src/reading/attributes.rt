@@ -6,7 +6,7 @@ ghost use Rattle.service_drawing.specs.Lines.{HasRequirements, RequiresMore, Req
 ghost use Rattle.service_drawing.specs.declared.reading.cause.Reason.TheVariants.{OtherForm};
 
 use super::expected::Expected;
-use super::message::line_after;
+use super::words::line_after;
 use iox2_texts::attribute::{AttributeKey, AttributeSet, AttributeValue, AttributeVerifier};
 use line_streams::{after_word, before_byte};
 

@@ -8,40 +8,17 @@ ghost use Rattle.iox2_config.specs.declared.types.message_details.MessageTypeDet
 };
 ghost use Rattle.iox2_config.specs.declared.types.type_detail.TypeVariant.TheVariants.{Dynamic};
 ghost use Rattle.service_drawing.specs.Lines.{type_text, payload_text, alignments_text};
-ghost use Rattle.service_drawing.specs.Lines.{IsLine, HasNoLine, IsDescribed, IsOpenerOf};
+ghost use Rattle.service_drawing.specs.Lines.{IsDescribed, IsOpenerOf};
 ghost use Rattle.service_drawing.specs.Lines.{AreAlignments, HasType, HasPayload, HasElements};
 ghost use Rattle.service_drawing.specs.Lines.{IsPlain, HasOpener, HasMessage, StopsAt};
 ghost use Rattle.service_drawing.specs.declared.reading.cause.Reason.TheVariants.{OtherForm};
 
 use super::expected::Expected;
-use super::words::{next_line, number, number_word};
+use super::words::{line_after, number, number_word};
 use crate::description::Message;
 use iox2_config::types::{MessageTypeDetails, TypeDetail, TypeVariant};
 use line_streams::after_word;
 use std::str;
-
-/// The first line without the prefix, the word and its newline,
-/// and what follows the newline, where that line begins so.
-pub(super) fn line_after<'a>(
-    bytes: &'a [u8],
-    prefix: &str,
-    word: &str,
-) -> Option<(&'a [u8], &'a [u8])>
-    ensures line { MatchOption result (HasNoLine (prefix.now ++ word.now) bytes.now)
-        (λ found. IsLine (prefix.now ++ word.now ++ found.0.now) found.1.now bytes.now) }
-    ensures shorter { IfSome result (λ found. length found.1.now < length bytes.now) }
-{
-    let Some((line, rest)) = next_line(bytes) else {
-        return None;
-    };
-    let Some(text) = after_word(line, prefix.as_bytes()) else {
-        return None;
-    };
-    let Some(text) = after_word(text, word.as_bytes()) else {
-        return None;
-    };
-    Some((text, rest))
-}
 
 /// Two numbers with a space after each, and what follows that.
 fn numbers_in(text: &[u8]) -> Option<(usize, usize, &[u8])>

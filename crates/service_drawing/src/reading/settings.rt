@@ -8,7 +8,7 @@ ghost use Rattle.service_drawing.specs.Settings.{IsSetting, Sets, dash_for};
 
 use super::cause::Reason;
 use super::expected::Expected;
-use super::message::line_after;
+use super::words::line_after;
 use crate::settings::{Settings, Value};
 use line_streams::before_byte;
 

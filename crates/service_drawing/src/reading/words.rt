@@ -1,7 +1,7 @@
 //! Lines and numbers, each with one text.
 ghost use Rattle.std.specs.Prelude.{◌≡◌, ◌∷◌, ◌++◌, ◌<◌, ◌^◌, ◌↔◌, ℕ, List, length};
 ghost use Rattle.std.specs.Prelude.{IsTrue, IfSome, MatchOption, decimal};
-ghost use Rattle.service_drawing.specs.Lines.{IsPlain, IsLine};
+ghost use Rattle.service_drawing.specs.Lines.{IsPlain, IsLine, HasNoLine};
 
 use line_streams::{after_word, before_byte, number_before};
 
@@ -26,6 +26,29 @@ pub(super) fn next_line(bytes: &[u8]) -> Option<(&[u8], &[u8])>
         return None;
     }
     Some((line, rest))
+}
+
+/// The first line without the prefix, the word and its newline,
+/// and what follows the newline, where that line begins so.
+pub(super) fn line_after<'a>(
+    bytes: &'a [u8],
+    prefix: &str,
+    word: &str,
+) -> Option<(&'a [u8], &'a [u8])>
+    ensures line { MatchOption result (HasNoLine (prefix.now ++ word.now) bytes.now)
+        (λ found. IsLine (prefix.now ++ word.now ++ found.0.now) found.1.now bytes.now) }
+    ensures shorter { IfSome result (λ found. length found.1.now < length bytes.now) }
+{
+    let Some((line, rest)) = next_line(bytes) else {
+        return None;
+    };
+    let Some(text) = after_word(line, prefix.as_bytes()) else {
+        return None;
+    };
+    let Some(text) = after_word(text, word.as_bytes()) else {
+        return None;
+    };
+    Some((text, rest))
 }
 
 /// The number of the text: no sign and no leading zero.

@@ -1,14 +1,14 @@
 //! Logs that come from a stream.
 ghost use Rattle.std.specs.Prelude.{◌≡◌, ◌<◌, IfOk, IfSome, OnOk};
 ghost use Rattle.std.specs.Io.KnownBytes.{Appends, IsAtEnd};
+ghost use Rattle.line_streams.specs.Streams.{IsFlushed};
 ghost use Rattle.service_logs.specs.Reports.{Reported, errors_text, output_text, report_text, status_of};
 
 use super::report_log;
 use super::verdict::Verdict;
-use line_streams::{read_all, write_whole};
+use line_streams::{Sink, Source, read_all, write_whole};
 use std::alloc::Global;
 use std::io;
-use std::io::{Read, Write};
 
 /// The status of a verdict.
 fn status(verdict: &Verdict) -> u8
@@ -22,7 +22,7 @@ fn status(verdict: &Verdict) -> u8
 }
 
 /// Writes the text of a verdict where it belongs, and flushes both writers.
-fn report<W: Write, E: Write>(
+fn report<W: Sink, E: Sink>(
     output: &mut W,
     errors: &mut E,
     verdict: &Verdict,
@@ -33,18 +33,20 @@ fn report<W: Write, E: Write>(
         (Appends (W.contents output.old) (W.contents output.new) (output_text verdict.now)) }
     ensures errors { OnOk result
         (Appends (E.contents errors.old) (E.contents errors.new) (errors_text verdict.now)) }
+    ensures flushed { OnOk result
+        (IsFlushed W.Flushes output.new × IsFlushed E.Flushes errors.new) }
 {
     match verdict {
         Verdict::BadLine(_, _) => write_whole(errors, text)?,
         Verdict::Conforms(_, _) => write_whole(output, text)?,
         Verdict::NoRun(_) => write_whole(output, text)?,
     }
-    output.flush()?;
-    errors.flush()
+    output.flush_pieces()?;
+    errors.flush_pieces()
 }
 
 /// Judges the log that the reader gives, and answers the status unless a stream fails.
-fn run<R: Read, W: Write, E: Write>(
+fn run<R: Source, W: Sink, E: Sink>(
     alloc: Global,
     input: &mut R,
     output: &mut W,
@@ -54,6 +56,8 @@ fn run<R: Read, W: Write, E: Write>(
     ensures reported { IfOk result (λ status. status < 3 → IfSome (R.remaining input.old)
         (λ log. Reported log status (W.contents output.old) (W.contents output.new)
         (E.contents errors.old) (E.contents errors.new))) }
+    ensures flushed { IfOk result (λ status. status < 3
+        → IsFlushed W.Flushes output.new × IsFlushed E.Flushes errors.new) }
     ensures read { IfOk result (λ status. status < 3 → IsAtEnd (R.remaining input.new)) }
 {
     let end = match read_all(alloc, input)? {
@@ -67,7 +71,7 @@ fn run<R: Read, W: Write, E: Write>(
         }
         Err(_) => {
             write_whole(errors, b"no memory\n")?;
-            errors.flush()?;
+            errors.flush_pieces()?;
             Ok(3)
         }
     }
@@ -81,7 +85,7 @@ fn run<R: Read, W: Write, E: Write>(
 /// - 2: a line is not what it should be. Which one, and what is expected, was written to `errors`.
 /// - 3: memory was refused, and `no memory` was written to `errors`; or a read, a write or a flush
 ///   failed, for any cause, and it was tried to write `a stream failed` to `errors`.
-pub fn check_streams<R: Read, W: Write, E: Write>(
+pub fn check_streams<R: Source, W: Sink, E: Sink>(
     alloc: Global,
     input: &mut R,
     output: &mut W,
@@ -92,6 +96,9 @@ pub fn check_streams<R: Read, W: Write, E: Write>(
     ensures reported { result < 3 → IfSome (R.remaining input.old) (λ log. Reported log result
         (W.contents output.old) (W.contents output.new)
         (E.contents errors.old) (E.contents errors.new)) }
+    // Both writers were flushed last.
+    ensures flushed { result < 3
+        → IsFlushed W.Flushes output.new × IsFlushed E.Flushes errors.new }
     // All input was read.
     ensures read { result < 3 → IsAtEnd (R.remaining input.new) }
 {

@@ -7,7 +7,7 @@ ghost use Rattle.service_descriptions.specs.Script.{LinesEnd, RanLine, Scripted}
 use super::answer_line::write_line;
 use super::line::command_before;
 use super::service_line::service_before;
-use crate::replay::machine::ServiceState;
+use crate::replay::machine::Session;
 use iox2_dynamic::dynamic_config::MessagingPatternSettings;
 use line_streams::LineEnd;
 use std::alloc::{AllocError, Global};
@@ -41,11 +41,11 @@ const BYTES_FOR_REPLY: usize = 2;
 
 /// Takes at once the memory that the lines and their replies are likely to need, or is refused.
 /// More is taken bit by bit.
-fn make_room(state: &mut ServiceState, lines: &[u8], out: &mut Vec<u8>) -> Result<(), AllocError>
-    ensures state { state.new ≡ state.old }
+fn make_room(session: &mut Session, lines: &[u8], out: &mut Vec<u8>) -> Result<(), AllocError>
+    ensures session { session.new ≡ session.old }
     ensures out { out.new.items ≡ out.old.items }
 {
-    state.reserve(lines.len() / BYTES_OF_LINE)?;
+    session.reserve(lines.len() / BYTES_OF_LINE)?;
     out.reserve(lines.len() / BYTES_FOR_REPLY)
 }
 
@@ -53,19 +53,19 @@ fn make_room(state: &mut ServiceState, lines: &[u8], out: &mut Vec<u8>) -> Resul
 #[inline(always)]
 fn run_line<'a>(
     alloc: Global,
-    state: &mut ServiceState,
+    session: &mut Session,
     lines: &'a [u8],
     out: &mut Vec<u8>,
 ) -> Result<Option<&'a [u8]>, AllocError>
-    ensures ok { IfOk result (λ found. RanLine state.old lines.now out.old.items
-        (option_map (λ rest. rest.now) found) state.new out.new.items) }
+    ensures ok { IfOk result (λ found. RanLine session.old lines.now out.old.items
+        (option_map (λ rest. rest.now) found) session.new out.new.items) }
     ensures err { OnErr result (out.new.items ≡ out.old.items) }
 {
     let Some((command, rest)) = command_before(alloc, lines, LineEnd::Newline)? else {
         return Ok(None);
     };
-    match state.serve_line(&command) {
-        Ok(answer) => write_line(answer, state.service(), out)?,
+    match session.serve_line(&command) {
+        Ok(answer) => write_line(answer, session.service(), out)?,
         Err(refused) => return Err(refused),
     }
     Ok(Some(rest))
@@ -74,17 +74,17 @@ fn run_line<'a>(
 /// Runs the lines after the service line.
 fn run_lines(
     alloc: Global,
-    state: &mut ServiceState,
+    session: &mut Session,
     lines: &[u8],
     out: &mut Vec<u8>,
 ) -> Result<(), ScriptError>
     ensures { (text : List ℕ) × (out.new.items ≡ out.old.items ++ text)
-        × LinesEnd state.old lines.now result text }
+        × LinesEnd session.old lines.now result text }
 {
     let mut rest = lines;
     let mut count = 0;
     while rest.len() > 0 {
-        let Some(tail) = run_line(alloc, state, rest, out)? else {
+        let Some(tail) = run_line(alloc, session, rest, out)? else {
             return Err(ScriptError::BadLine(count + 2));
         };
         rest = tail;
@@ -122,7 +122,7 @@ pub fn run_script(alloc: Global, script: &[u8], out: &mut Vec<u8>) -> Result<(),
         return Err(ScriptError::BadLine(1));
     };
     let settings = MessagingPatternSettings::new(service.pattern, service.first, service.second);
-    let mut state = ServiceState::new(alloc, &settings, service.max_nodes, service.number)?;
-    make_room(&mut state, lines, out)?;
-    run_lines(alloc, &mut state, lines, out)
+    let mut session = Session::new(alloc, &settings, service.max_nodes, service.number)?;
+    make_room(&mut session, lines, out)?;
+    run_lines(alloc, &mut session, lines, out)
 }

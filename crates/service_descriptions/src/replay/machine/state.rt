@@ -3,18 +3,13 @@ ghost use Rattle.std.specs.Prelude.{◌≡◌, ◌+◌, ◌<◌, Some, IfOk, IsT
 ghost use Rattle.std.specs.Prelude.{OnOk, OnErr, length, vec_len};
 ghost use Rattle.iox2_dynamic.specs.Service.{HasNoPort, capacities_in};
 ghost use Rattle.iox2_static.specs.MessagingPattern.{kind_of};
-ghost use Rattle.service_descriptions.specs.LineAnswers.{LineStep};
-ghost use Rattle.service_descriptions.specs.Lines.{command_of};
 ghost use Rattle.service_descriptions.specs.Steps.{ServiceStep, IsState, Did, new_state};
 
 use super::command::Command;
-use super::earlier::Earlier;
-use super::line_answer::LineAnswer;
-use super::line_command::LineCommand;
 use super::reply::Reply;
-use super::serve::{serve_command, serve_line};
+use super::session::Session;
 use iox2_config::hash::PatternKind;
-use iox2_dynamic::dynamic_config::{DynamicConfig, MessagingPatternSettings};
+use iox2_dynamic::dynamic_config::MessagingPatternSettings;
 use iox2_static::static_config::StaticConfig;
 use std::alloc::{AllocError, Global};
 use std::marker::Model;
@@ -29,21 +24,17 @@ use std::marker::Model;
 /// ```
 #[derive(Drop)]
 pub struct ServiceState {
-    service: DynamicConfig,
+    session: Session,
     description: Option<StaticConfig>,
-    number: u64,
-    earlier: Vec<Earlier>,
 }
 
 impl Model for ServiceState {
-    ghost use Rattle.service_descriptions.specs.Fields.{state_of, IsSound};
+    ghost use Rattle.service_descriptions.specs.Fields.{described};
     ghost use Rattle.service_descriptions.specs.Steps.{State};
 
     ghost Value = { State };
 
-    ghost view = { state_of };
-
-    ghost invariant = { IsSound };
+    ghost view = { λ s. described s.session s.description };
 }
 
 impl ServiceState {
@@ -60,10 +51,8 @@ impl ServiceState {
             s ≡ new_state (capacities_in settings.now) max_nodes service_number) }
     {
         Ok(ServiceState {
-            service: DynamicConfig::new(alloc, settings, max_nodes, service_number)?,
+            session: Session::new(alloc, settings, max_nodes, service_number)?,
             description: None,
-            number: service_number,
-            earlier: Vec::new(alloc),
         })
     }
 
@@ -71,7 +60,7 @@ impl ServiceState {
     pub fn kind(&self) -> PatternKind
         ensures { result ≡ self.now.service.pattern }
     {
-        self.service.kind()
+        self.session.service().kind()
     }
 
     /// Describes the service, in place of what described it before. The description is one of a
@@ -83,52 +72,13 @@ impl ServiceState {
         self.description = Some(description);
     }
 
-    /// Takes the memory for what is kept of this many more commands, or is refused.
-    pub(crate) fn reserve(&mut self, commands: usize) -> Result<(), AllocError>
-        ensures { self.new ≡ self.old }
-    {
-        self.earlier.reserve(commands)
-    }
-
     /// One command. All its memory is taken before anything changes.
-    pub(super) fn serve(&mut self, alloc: Global, command: &Command) -> Result<Reply, AllocError>
+    fn serve(&mut self, alloc: Global, command: &Command) -> Result<Reply, AllocError>
         ensures ok { IfOk result (λ reply. ServiceStep self.old command.now reply self.new) }
         ensures err { OnErr result (self.new ≡ self.old) }
         ensures state { IsState self.new }
     {
-        self.earlier.reserve(1)?;
-        let reply = serve_command(
-            alloc,
-            &mut self.service,
-            &self.description,
-            self.number,
-            &self.earlier,
-            command,
-        )?;
-        self.earlier.push_reserved(Earlier::of(reply.handle()));
-        Ok(reply)
-    }
-
-    /// The same for a command that has a line: what its
-    /// line lists is left to be read off the service.
-    #[inline(always)]
-    pub(crate) fn serve_line(&mut self, command: &LineCommand) -> Result<LineAnswer, AllocError>
-        ensures ok { IfOk result
-            (λ answer. LineStep self.old (command_of command.now) answer self.new) }
-        ensures err { OnErr result (self.new ≡ self.old) }
-        ensures state { IsState self.new }
-    {
-        self.earlier.reserve(1)?;
-        let answer = serve_line(&mut self.service, self.number, &self.earlier, command);
-        self.earlier.push_reserved(Earlier::of(answer.handle()));
-        Ok(answer)
-    }
-
-    /// The service.
-    pub(crate) fn service(&self) -> &DynamicConfig
-        ensures { result.now ≡ self.now.service }
-    {
-        &self.service
+        self.session.serve(alloc, &self.description, command)
     }
 }
 
@@ -160,7 +110,7 @@ pub fn replay(
         → HasNoPort state.new.service.ports }
 {
     // For the proof: what is true of every state.
-    let _service = &state.service;
+    let _service = state.session.service();
     for command in commands {
         replies.reserve(1)?;
         let reply = state.serve(alloc, command)?;

@@ -4,7 +4,7 @@ use Rattle.service_descriptions.proofs.Scripts.{start, more, shorter, some_left}
 use Rattle.service_descriptions.proofs.replay.lines.script.run_lines.Goals as goal
 
 pub loop-rest-init : goal.loop-rest-init
-loop-rest-init c = (omega arith, start c.args.state.now c.args.lines.now c.args.out.now.items)
+loop-rest-init c = (omega arith, start c.args.session.now c.args.lines.now c.args.out.now.items)
 
 pub returns-in_default : goal.returns-in_default
 returns-in_default c =
@@ -15,7 +15,7 @@ returns-in_default c =
       bad.2 ∙ so.appended,
       (
         c.loop-rest.rest.now,
-        c.loop-rest.state,
+        c.loop-rest.session,
         so.ran,
         ap (λ n. n + 2) (sym so.counted),
         (some_left _ some, bad.0),
@@ -27,7 +27,7 @@ loop-rest-preserved c =
     let ran = rw c.in-Some.is at c.in_ok-tail.ensures.ok in
     let room = shorter (line_of ran.0) c.in-Some.tail.now c.loop-rest.rest.now ran.3 in (
       omega (arith, room, c.loop-rest.invariant.0),
-      more c.args.state.now c.args.lines.now c.loop-rest.rest.now c.args.out.now.items
-          c.loop-rest.out.items c.in-Some.tail.now _ c.loop-rest.count c.loop-rest.state _ ran.0
+      more c.args.session.now c.args.lines.now c.loop-rest.rest.now c.args.out.now.items
+          c.loop-rest.out.items c.in-Some.tail.now _ c.loop-rest.count c.loop-rest.session _ ran.0
           ran.1 c.loop-rest.invariant.1 ran.2 ran.3 ran.4 ran.5,
     )

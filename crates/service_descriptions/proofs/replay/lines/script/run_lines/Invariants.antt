@@ -6,7 +6,7 @@ use Rattle.service_descriptions.proofs.replay.lines.script.run_lines.Given as go
 abbrev pub invariant-loop-rest : goal.invariant-loop-rest
 invariant-loop-rest l =
     (l.count + length l.rest ≤ length l.lines)
-    × SoFar l.fn.state l.lines l.rest l.fn.out.items l.out.items l.count l.state
+    × SoFar l.fn.session l.lines l.rest l.fn.out.items l.out.items l.count l.session
 
 abbrev pub decreases-loop-rest : goal.decreases-loop-rest
 decreases-loop-rest l = length l.rest
