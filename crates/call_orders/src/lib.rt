@@ -2,7 +2,9 @@
 #![tactic(auto)]
 
 mod machine;
+mod outcome;
 mod search;
 
 pub use machine::Machine;
-pub use search::reached;
+pub use outcome::{MAX_STATES, Outcome};
+pub use search::judge;

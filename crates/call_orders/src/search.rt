@@ -1,53 +1,170 @@
 //! The search through the orders of a group of calls.
-ghost use Rattle.std.specs.Prelude.{◌≡◌, ◌≢◌, ◌<◌, ◌↔◌, IfOk, IsTrue, All, length, take};
-ghost use Rattle.call_orders.specs.Orders.{AreReached};
-ghost use Rattle.call_orders.specs.Search.{MakesNext};
+ghost use Rattle.std.specs.Prelude.{◌≡◌, ◌<◌, ◌+◌, ◌↔◌, ℕ, [], IfOk, OnOk, IsTrue, All, length, map};
+ghost use Rattle.call_orders.specs.Orders.{IsOutcome, ReachedFrom, Reaches};
+ghost use Rattle.call_orders.specs.Search.{Gathers, HasLeft, IsKnown, IsSame, LeadTo, MakesNext};
 
 use super::machine::Machine;
+use super::outcome::{MAX_STATES, Outcome};
 use std::alloc::{AllocError, Global};
 
-/// Whether the caller made none of these calls.
-fn made_none<M: Machine>(machine: &M, calls: &[usize], caller: u64) -> bool
-    ensures { IsTrue result ↔ All (λ c. M.caller_of machine.now c ≢ caller) calls.now }
+/// How far one order has come: the state that its first calls left, and the calls that remain.
+#[derive(Drop)]
+struct Stage<S> {
+    state: S,
+    rest: Vec<usize>,
+}
+
+/// Whether none of these calls was over when the call began.
+fn is_first<M: Machine>(machine: &M, rest: &[usize], call: usize) -> bool
+    ensures { IsTrue result ↔ All (λ c. ¬ (M.Before machine.now c call)) rest.now }
 {
-    for call in calls {
-        if machine.caller(*call) == caller {
+    for other in rest {
+        if machine.comes_before(*other, call) {
             return false;
         }
     }
     true
 }
 
-/// Makes the call at this index next. Returns the state that it leaves and the calls that remain,
-/// or `None` where an earlier call of its caller remains, or it cannot be made in this state.
+/// Makes the remaining call at this index next, or returns `None` where another one comes before
+/// it, or it cannot be made in this state.
 fn make_next<M: Machine>(
     alloc: Global,
     machine: &M,
-    state: &M::State,
-    group: &[usize],
+    stage: &Stage<M::State>,
     index: usize,
-) -> Result<Option<(M::State, Vec<usize>)>, AllocError>
-    requires { index < length group.now }
-    ensures { IfOk result (MakesNext (M.Step machine.now) (M.caller_of machine.now)
-        state.now group.now index) }
+) -> Result<Option<Stage<M::State>>, AllocError>
+    requires { index < length stage.now.rest.items }
+    ensures { IfOk result (MakesNext (M.Step machine.now) (M.Before machine.now)
+        stage.now.state stage.now.rest.items index) }
 {
-    let call = group[index];
-    if !made_none(machine, &group[..index], machine.caller(call)) {
+    let call = stage.rest[index];
+    let mut rest = Vec::from_slice(alloc, &stage.rest)?;
+    rest.remove(index);
+    if !is_first(machine, &rest, call) {
         return Ok(None);
     }
-    let Some(mid) = machine.follow(state, call)? else {
+    let Some(state) = machine.follow(&stage.state, call)? else {
         return Ok(None);
     };
-    let mut rest = Vec::from_slice(alloc, group)?;
-    rest.remove(index);
-    Ok(Some((mid, rest)))
+    Ok(Some(Stage { state, rest }))
 }
 
-/// Returns the states that some order of the group's calls leads to, all of them and no other. An
-/// order keeps the calls of each caller in the order in which the group has them.
+/// Whether two orders have come equally far: to one state, with the same calls that remain.
+fn is_same<M: Machine>(machine: &M, one: &Stage<M::State>, other: &Stage<M::State>) -> bool
+    ensures { IsTrue result ↔ IsSame one.now other.now }
+{
+    one.rest == other.rest && machine.same(&one.state, &other.state)
+}
+
+/// Whether one of the stages is the same.
+fn is_known<M: Machine>(machine: &M, stages: &[Stage<M::State>], stage: &Stage<M::State>) -> bool
+    ensures { IsKnown stages.now stage.now result }
+{
+    for known in stages {
+        if is_same(machine, known, stage) {
+            return true;
+        }
+    }
+    false
+}
+
+/// Adds a stage, unless there is the same.
+fn add_stage<M: Machine>(
+    machine: &M,
+    stages: &mut Vec<Stage<M::State>>,
+    stage: Stage<M::State>,
+) -> Result<(), AllocError>
+    ensures { OnOk result (Gathers (M.Step machine.now) (M.Before machine.now)
+        (Reaches (M.Step machine.now) (M.Before machine.now) stage.state stage.rest.items)
+        (length stage.rest.items) stages.old.items stages.new.items) }
+{
+    if is_known(machine, stages, &stage) {
+        return Ok(());
+    }
+    stages.push(stage)?;
+    Ok(())
+}
+
+/// Adds the stages to which one more call leads.
+fn advance_stage<M: Machine>(
+    alloc: Global,
+    machine: &M,
+    stage: &Stage<M::State>,
+    next: &mut Vec<Stage<M::State>>,
+) -> Result<(), AllocError>
+    ensures { OnOk result ((left : ℕ) → HasLeft (left + 1) stage.now
+        → Gathers (M.Step machine.now) (M.Before machine.now)
+        (Reaches (M.Step machine.now) (M.Before machine.now) stage.now.state stage.now.rest.items)
+        left next.old.items next.new.items) }
+{
+    for index in 0..stage.rest.len() {
+        let Some(made) = make_next(alloc, machine, stage, index)? else {
+            continue;
+        };
+        add_stage(machine, next, made)?;
+    }
+    Ok(())
+}
+
+/// The stages to which one more call leads from these, each once.
+fn advance<M: Machine>(
+    alloc: Global,
+    machine: &M,
+    layer: &[Stage<M::State>],
+) -> Result<Vec<Stage<M::State>>, AllocError>
+    ensures { IfOk result (λ next. (left : ℕ) → All (HasLeft (left + 1)) layer.now
+        → Gathers (M.Step machine.now) (M.Before machine.now)
+        (LeadTo (M.Step machine.now) (M.Before machine.now) layer.now) left [] next.items) }
+{
+    let mut next = Vec::new(alloc);
+    for stage in layer {
+        advance_stage(alloc, machine, stage, &mut next)?;
+    }
+    Ok(next)
+}
+
+/// The stages before any call, each once.
+fn begin<M: Machine>(
+    alloc: Global,
+    machine: &M,
+    states: &[M::State],
+    group: &[usize],
+) -> Result<Vec<Stage<M::State>>, AllocError>
+    ensures { IfOk result (λ layer. Gathers (M.Step machine.now) (M.Before machine.now)
+        (ReachedFrom (M.Step machine.now) (M.Before machine.now) states.now group.now)
+        (length group.now) [] layer.items) }
+{
+    let mut layer = Vec::new(alloc);
+    for from in states {
+        let state = machine.copied(from)?;
+        let rest = Vec::from_slice(alloc, group)?;
+        add_stage(machine, &mut layer, Stage { state, rest })?;
+    }
+    Ok(layer)
+}
+
+/// Copies of the states of the stages.
+fn states_of<M: Machine>(
+    alloc: Global,
+    machine: &M,
+    layer: &[Stage<M::State>],
+) -> Result<Vec<M::State>, AllocError>
+    ensures { IfOk result (λ states. states.items ≡ map (λ s. s.state) layer.now) }
+{
+    let mut states = Vec::new(alloc);
+    for stage in layer {
+        states.push(machine.copied(&stage.state)?)?;
+    }
+    Ok(states)
+}
+
+/// Returns the states to which some order of the group's calls leads from one of these states.
 ///
-/// A state that several orders lead to is returned once for each of them. The search follows each
-/// order as far as its calls can be made: of n calls by n callers there are up to n! orders.
+/// An order has each call of the group once, with the reply that was seen, and a call that was
+/// over when another one began stands before it (`Machine::comes_before`). All orders are
+/// followed together, call by call. Where several have made the same calls and left the same
+/// state, one is followed, so that of n calls at most 2^n sets are distinguished.
 ///
 /// From `crates/call_orders_tests/src/orders.rt`:
 ///
@@ -55,28 +172,29 @@ fn make_next<M: Machine>(
 /// let machine = Recorded {
 ///     calls: Vec::from_slice(alloc, calls)?,
 /// };
-/// reached(alloc, &machine, &0, &group[..calls.len().min(4)])
+/// judge(alloc, &machine, from, &group[..calls.len().min(4)])
 /// ```
-pub fn reached<M: Machine>(
+pub fn judge<M: Machine>(
     alloc: Global,
     machine: &M,
-    state: &M::State,
+    states: &[M::State],
     group: &[usize],
-) -> Result<Vec<M::State>, AllocError>
-    ensures { IfOk result (λ states. AreReached (M.Step machine.now) (M.caller_of machine.now)
-        state.now group.now states.items) }
+) -> Result<Outcome<M::State>, AllocError>
+    ensures { IfOk result (IsOutcome (M.Step machine.now) (M.Before machine.now)
+        states.now group.now) }
 {
-    let mut states = Vec::new(alloc);
-    if group.is_empty() {
-        states.push(machine.copied(state)?)?;
-        return Ok(states);
+    let mut layer = begin(alloc, machine, states, group)?;
+    let mut left = group.len();
+    while left > 0 {
+        layer = advance(alloc, machine, &layer)?;
+        left -= 1;
     }
-    for index in 0..group.len() {
-        let Some((mid, rest)) = make_next(alloc, machine, state, group, index)? else {
-            continue;
-        };
-        let mut more = reached(alloc, machine, &mid, &rest)?;
-        states.append(&mut more)?;
+    if layer.is_empty() {
+        return Ok(Outcome::NoOrder);
     }
-    Ok(states)
+    if layer.len() > MAX_STATES {
+        return Ok(Outcome::TooManyStates);
+    }
+    let found = states_of(alloc, machine, &layer)?;
+    Ok(Outcome::States(found))
 }

@@ -1,5 +1,5 @@
 //! A register that is written and read.
-ghost use Rattle.std.specs.Prelude.{slice_get};
+ghost use Rattle.std.specs.Prelude.{◌≡◌, ◌<◌, slice_get};
 ghost use Rattle.call_orders.specs.Orders.{Follows};
 ghost use Rattle.call_orders_tests.specs.Register.{Makes, MakesCall, caller_in};
 
@@ -39,12 +39,27 @@ fn after(access: &Access, value: u64) -> Option<u64>
     }
 }
 
+impl Recorded {
+    /// Who made a call.
+    fn caller(&self, call: usize) -> u64
+        ensures { result ≡ caller_in (slice_get self.now.calls.items call) }
+    {
+        match self.calls.get(call) {
+            Some(made) => made.caller,
+            None => 0,
+        }
+    }
+}
+
 impl Machine for Recorded {
     type State = u64;
 
     ghost Step = { λ m value call new. MakesCall (slice_get m.calls.items call) value new };
 
-    ghost caller_of = { λ m call. caller_in (slice_get m.calls.items call) };
+    // The earlier call of one caller was over first.
+    ghost Before = { λ m first second.
+        (caller_in (slice_get m.calls.items first) ≡ caller_in (slice_get m.calls.items second))
+        × (first < second) };
 
     fn follow(&self, value: &u64, call: usize) -> Result<Option<u64>, AllocError> {
         match self.calls.get(call) {
@@ -53,14 +68,15 @@ impl Machine for Recorded {
         }
     }
 
-    fn caller(&self, call: usize) -> u64 {
-        match self.calls.get(call) {
-            Some(made) => made.caller,
-            None => 0,
-        }
+    fn comes_before(&self, first: usize, second: usize) -> bool {
+        self.caller(first) == self.caller(second) && first < second
     }
 
     fn copied(&self, value: &u64) -> Result<u64, AllocError> {
         Ok(*value)
+    }
+
+    fn same(&self, one: &u64, other: &u64) -> bool {
+        *one == *other
     }
 }
