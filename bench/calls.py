@@ -15,20 +15,20 @@ import measure
 HERE = Path(__file__).resolve().parent
 PLAIN = HERE / "plain_calls"
 PROVED = HERE.parent / "crates" / "bench_calls"
-MARK = 1.0
 DEBIAN = Path("/usr/share/cargo/registry")
 
 
 class Call(NamedTuple):
     """A call with the places of its service (nodes, subscribers, publishers; for a layout the size
-    of the header, the alignment and the size of an element), and how often it is made in each of
-    some rounds."""
+    of the header, the alignment and the size of an element), how often it is made in each of some
+    rounds, and its mark, the most of the plain program's instructions."""
 
     name: str
     places: str
     rounds: int
     few: int
     many: int
+    mark: float = 1.0
 
 
 DEFAULT, LARGE, SIZES, NONE = "20 8 2", "500 250 250", "40 8 24", "0 0 0"
@@ -51,8 +51,8 @@ CALLS = [
     Call("death", DEFAULT, 50, 4, 8),
     Call("death", LARGE, 2, 125, 250),
     Call("layout", SIZES, 1, 1_000, 2_000),
-    Call("verification", NONE, 1, 100, 200),
-    Call("hash-text", NONE, 1, 100, 200),
+    Call("verification", NONE, 1, 100, 200, 0.78),
+    Call("hash-text", NONE, 1, 100, 200, 1.18),
 ]
 
 
@@ -88,14 +88,14 @@ def table(programs):
     """Prints a row for each call, and gives what each came to and its mark."""
     if programs is None:
         print("Single calls are not measured: librust-sha1-dev and librust-base64-dev are not installed.")
-        return [marks.Mark(f"{call.name} {call.places}", None, MARK) for call in CALLS]
-    print("| Call | Nodes, subscribers, publishers | Instructions a call | Ratio, at most 1.0 |\n|---|---|---|---|", flush=True)
+        return [marks.Mark(f"{call.name} {call.places}", None, call.mark) for call in CALLS]
+    print("| Call | Nodes, subscribers, publishers | Instructions a call | Ratio | Mark |\n|---|---|---|---|---|", flush=True)
     found = []
     for call in CALLS:
         places = call.places.replace(" ", ", ") if call.places in (DEFAULT, LARGE) else ""
         with tempfile.TemporaryDirectory() as work:
             proved, plain = measured(programs, call, work)
-        mark = marks.Mark(f"{call.name} {call.places}", marks.ratio(proved, plain), MARK)
-        print(f"| {call.name} | {places} | {marks.pair(',.0f', proved, plain)} | {mark.of()}{', missed' * mark.is_missed()} |", flush=True)
+        mark = marks.Mark(f"{call.name} {call.places}", marks.ratio(proved, plain), call.mark)
+        print(f"| {call.name} | {places} | {marks.pair(',.0f', proved, plain)} | {mark.of()}{', missed' * mark.is_missed()} | {call.mark} |", flush=True)
         found.append(mark)
     return found
