@@ -11,9 +11,9 @@ returns-in-Ok-clause-reported g c = record {
   told = c.status.ensures;
   read = λ e. answered_at_zero c.in_ok-end.end _ c.in_ok-end.ensures.read
       (sym c.status.ensures ∙ e);
-  output = c.report.ensures.output;
-  errors = c.report.ensures.errors;
+  output = c.in-Ok.ensures.output;
+  errors = c.in-Ok.ensures.errors;
 }
 
-pub returns-in-Err-clause-failed : goal.returns-in-Err-clause-failed
-returns-in-Err-clause-failed g c = inr c.in-Err.ensures.failed
+pub returns-clause-failed : goal.returns-clause-failed
+returns-clause-failed g c = inr c.in-Err.ensures.failed
