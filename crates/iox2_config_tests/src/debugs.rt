@@ -343,7 +343,7 @@ fn hash_texts_are_shown_by_their_bytes(rt: HostRuntime) {
     let value = HashValue::new(b"ab").expect(&rt, "a text");
     assert_eq!(rt;
         [
-            is_shown_as(&value, "HashValue { bytes: [97, 98] }"),
+            is_shown_as(&value, "HashValue { bytes: [97, 98], names_a_file: false }"),
             // The digest of three letters, as FIPS 180-4 works it out.
             is_shown_as(
                 &<Sha1Hasher as Hash>::new(b"abc"),

@@ -114,7 +114,7 @@ impl<const N: usize> StaticString<N> {
     }
 
     /// Appends these legal bytes, for which there must be capacity left.
-    pub(crate) fn push_bytes(&mut self, more: &[u8])
+    pub fn push_bytes(&mut self, more: &[u8])
         requires room { length self.old + length more.now ≤ N }
         requires legal { IsText more.now }
         ensures value { self.new ≡ self.old ++ more.now }

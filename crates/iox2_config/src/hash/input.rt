@@ -2,7 +2,6 @@
 ghost use Rattle.std.specs.Prelude.{◌≡◌};
 ghost use Rattle.iox2_config.specs.Hashing.{hash_input, pattern_word, ReadsPattern};
 
-use arrayvec::ArrayVec;
 use iox2_texts::bounded::StaticString;
 use iox2_texts::service_name::ServiceName;
 
@@ -53,12 +52,8 @@ impl PatternKind {
 pub fn hash_input(kind: PatternKind, name: &ServiceName) -> StaticString<256>
     ensures { result ≡ hash_input kind name.now }
 {
-    let mut bytes: ArrayVec<u8, 256> = ArrayVec::new();
-    bytes.push(b'0' + kind as u8);
-    // Never refused: one digit and at most 255 bytes fit 256.
-    let _fits = bytes.try_extend_from_slice(name.as_str().as_bytes());
-    match StaticString::from_bytes(bytes.as_slice()) {
-        Ok(text) => text,
-        Err(_) => unreachable!(),
-    }
+    let mut input = StaticString::new();
+    input.push_bytes(&[b'0' + kind as u8]);
+    input.push_bytes(name.as_str().as_bytes());
+    input
 }

@@ -61,7 +61,7 @@ impl ServiceHash {
             Ok(value) => value,
             Err(_) => return Err(ServiceHashError::HasherFailed),
         };
-        match RestrictedFileName::new(value.as_base64url()) {
+        match value.file_name() {
             Ok(text) => Ok(ServiceHash { text }),
             Err(_) => Err(ServiceHashError::IllegalText),
         }

@@ -1,10 +1,23 @@
 //! The hasher that uses SHA-1.
+ghost use Rattle.std.specs.Prelude.{◌≡◌};
+ghost use Rattle.base64.specs.Engines.{url_safe_no_pad};
+ghost use Rattle.base64.specs.GeneralPurpose.{encode_of};
 
 use super::hash_value::HashValue;
 use super::hasher::{Hash, HashError};
 use base64::engine::general_purpose::URL_SAFE_NO_PAD;
 use sha1::Sha1;
 use std::marker::Model;
+
+/// The text of a digest. It is the name of a file, whatever the digest.
+fn text_of(digest: [u8; 20]) -> HashValue
+    ensures { result ≡ encode_of url_safe_no_pad digest }
+{
+    let mut text = [0u8; 27];
+    // Always 27, the length of the text.
+    let _length = URL_SAFE_NO_PAD.encode_slice(&digest, &mut text);
+    HashValue::of_file_name(&text)
+}
 
 /// A hasher whose texts are the SHA-1 digest (FIPS 180-4, section 6.1) of the input in the URL-safe
 /// alphabet (RFC 4648, section 5) without padding: 27 bytes. It refuses no input.
@@ -39,12 +52,6 @@ impl Hash for Sha1Hasher {
     }
 
     fn value(&self) -> Result<HashValue, HashError> {
-        let mut text = [0u8; 27];
-        // Always 27, the length of the text.
-        let _length = URL_SAFE_NO_PAD.encode_slice(&self.digest, &mut text);
-        match HashValue::new(&text) {
-            Some(value) => Ok(value),
-            None => unreachable!(),
-        }
+        Ok(text_of(self.digest))
     }
 }
