@@ -66,8 +66,8 @@ next_number number old new (Some h) is n = n.service ∙ is
 abbrev pub after : Inside → Service → Vec Earlier → Inside
 after old service earlier = record old { service = service; earlier = earlier }
 
-module _ (about : Option Description) (old : Inside) (service : Service) (earlier : Vec Earlier) (cell : Earlier)
-    (given : Option Handle)
+module _ (about : Option Description) (old : Inside) (service : Service) (earlier : Vec Earlier)
+    (cell : Earlier) (given : Option Handle)
     (told : (n : ℕ) → IfSome given (λ h. h.service ≡ n) → handle_at n cell ≡ given)
     (more : earlier.items ≡ old.earlier.items ++ cell ∷ []) (sound : IsSound old)
     (is_service : IsService service) (m : Moves old.service service given) where
@@ -185,6 +185,6 @@ served_line old service earlier cell c a sound is_service s told more =
       noted None old service earlier cell (handle_given a) told more sound is_service m,
       λ r so.
           let may = line_serves old.service None handles c a service s r so in
-          stepped None old service earlier cell (handle_given a) told more sound is_service m c r may.0
-          may.1,
+          stepped None old service earlier cell (handle_given a) told more sound is_service m c r
+          may.0 may.1,
     )

@@ -23,7 +23,11 @@ pub(super) fn joined(
     ensures value { MakesJoined path.now entry.now result }
     ensures legal { IfOk result (IsTextUpTo 255) }
 {
-    let slash = if needs_slash(path) { b"/".as_slice() } else { &[] };
+    let slash = if needs_slash(path) {
+        b"/".as_slice()
+    } else {
+        &[]
+    };
     if path.len() + slash.len() + entry.len() > MAX_PATH_LENGTH {
         return Err(SemanticStringError::ExceedsMaximumLength);
     }

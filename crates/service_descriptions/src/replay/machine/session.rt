@@ -18,7 +18,7 @@ use std::alloc::{AllocError, Global};
 use std::marker::Model;
 
 /// A service, and for each earlier command the handle that it returned. No two of these handles are
-/// equal. Scripts run on it: no line of a script asks for a description, which takes kilobytes.
+/// equal. Scripts run on it: no line of a script needs a description, which takes kilobytes.
 #[derive(Drop)]
 pub(crate) struct Session {
     service: DynamicConfig,

@@ -6,8 +6,8 @@ use Rattle.service_descriptions.proofs.replay.machine.session.Session.serve.Goal
 
 pub invariant_of-self-2 : goal.invariant_of-self-2
 invariant_of-self-2 c =
-    (served c.args.about.now c.self.inside c.serve_command.new.service c.push_reserved.new.self c.of.result
-    c.args.command.now c.in_ok-reply.reply c.self.invariant
+    (served c.args.about.now c.self.inside c.serve_command.new.service c.push_reserved.new.self
+    c.of.result c.args.command.now c.in_ok-reply.reply c.self.invariant
     c.serve_command.ensures.kept
     (rw (c.deref.ensures.value, c.reserve.ensures.items) at c.in_ok-reply.ensures.ok)
     (rw c.handle.ensures at c.of.ensures)
@@ -18,8 +18,8 @@ returns-clause-ok c =
     let new = after c.self.inside c.serve_command.new.service c.push_reserved.new.self in
     subst (λ v. ServiceStep (described v c.args.about.now) c.args.command.now
     c.in_ok-reply.reply (described (session_of new) c.args.about.now)) c.self.view_is
-    (served c.args.about.now c.self.inside c.serve_command.new.service c.push_reserved.new.self c.of.result
-    c.args.command.now c.in_ok-reply.reply c.self.invariant
+    (served c.args.about.now c.self.inside c.serve_command.new.service c.push_reserved.new.self
+    c.of.result c.args.command.now c.in_ok-reply.reply c.self.invariant
     c.serve_command.ensures.kept
     (rw (c.deref.ensures.value, c.reserve.ensures.items) at c.in_ok-reply.ensures.ok)
     (rw c.handle.ensures at c.of.ensures)
