@@ -1,6 +1,7 @@
 -- How many entries a test holds of.
 use Rattle.std.proofs.Common.{◌≡◌, ℕ, suc, ◌+◌, ◌≤◌, ◌<◌, Bool, true, false, Option, Some, None, List, [], ◌∷◌, ◌++◌, length, map, take, refl, sym, ◌∙◌, ap, arith, add-one, inl, inr}
-use Rattle.std.specs.Prelude.{All, MatchOption, is_some, if◌then◌else◌, nat_lt, not, slice_get, ◌&&◌}
+use Rattle.std.specs.Bool.{MatchBool}
+use Rattle.std.specs.Prelude.{All, MatchOption, if◌then◌else◌, nat_lt, not, slice_get, ◌&&◌}
 use Rattle.std.proofs.lemmas.List.{append-nil}
 use Rattle.std.proofs.lemmas.List.Elements.{All-nil, All-cons}
 use Rattle.iox2_container.specs.declared.container.slots.cell.Occupant.{Occupant}
@@ -8,8 +9,8 @@ use Rattle.iox2_container.specs.declared.container.passes.Found.{Found}
 use Rattle.iox2_container.specs.declared.container.slots.cell.Cell.{Cell}
 use Rattle.std.proofs.lemmas.Bool.{lt-ltb}
 use Rattle.std.proofs.lemmas.Bool.Decides.{leb_tells}
-use Rattle.iox2_container.specs.Cells.{occupant, shown}
-use Rattle.iox2_container.specs.Passes.{AreOthers, IsAt, IsNextOf, PlaceIsOf, cell_is_of}
+use Rattle.iox2_container.specs.Cells.{shown}
+use Rattle.iox2_container.specs.Passes.{AreOthers, IsAt, IsLastOf, IsNextOf, PlaceIsOf, cell_is_of}
 use Rattle.iox2_container.specs.Places.{NoneFrom, entries_from}
 use Rattle.iox2_container.specs.State.{Entry}
 use Rattle.iox2_container.specs.Steps.{InsertsOne, candidates, is_of, staying}
@@ -219,14 +220,6 @@ found_after node id from at to a b None l others b_is after =
 found_after node id from at to a b (Some found) l others b_is next =
     next_after node id from at to to a b found l (omega arith) others b_is next
 
--- the node's details in a place are an entry of it
-pub is_at_counted : {T : Type 0} (node : T → ℕ) (id at : ℕ) (cells : List (Option (Occupant T)))
-    (details : T) → IsAt node id cells at details
-    → true ≡ nat_lt 0 (counted (is_of node id) (entries_from 0 cells))
-is_at_counted node id at cells details here =
-    sym (some_counted node id at cells true
-    (Some (occupant here.1.0 details), here.1.1, sym here.0) refl)
-
 -- where no place has an entry of the node, it has none
 pub nowhere_counted : {T : Type 0} (node : T → ℕ) (id end : ℕ) (cells : List (Option (Occupant T)))
     → NoneFrom cells end → AreOthers node id cells 0 end
@@ -237,42 +230,57 @@ nowhere_counted {T} node id end cells free others =
     ∙ none_counted node id end cells others in
     ap (nat_lt 0) (sym all)
 
--- a search says whether the node has an entry, where the places before it have none
-pub found_is : {T N : Type 0} (node : T → ℕ) (id at end : ℕ) (a b : List (Cell T N))
-    (o : Option (Found T)) → NoneFrom (map shown a) end → AreOthers node id (map shown a) 0 at
-    → b ≡ a
-    → MatchOption o (AreOthers node id (map shown b) at end) (IsNextOf node id (map shown b) at end)
-    → is_some o ≡ nat_lt 0 (counted (is_of node id) (entries_from 0 (map shown a)))
-found_is node id at end a b None free others b_is after =
-    nowhere_counted node id end (map shown a) free
-    (others_after node id 0 at end a b others b_is after)
-found_is node id at end a b (Some found) free others b_is next =
-    is_at_counted node id found.slot (map shown a) found.details (rw b_is at next).here
-
--- what a search found is an entry of the node
-pub found_counted : {T N : Type 0} (node : T → ℕ) (id at end : ℕ) (a b : List (Cell T N))
-    (o : Option (Found T)) → b ≡ a
-    → MatchOption o (AreOthers node id (map shown b) at end) (IsNextOf node id (map shown b) at end)
-    → is_some o ≡ true
-    → true ≡ nat_lt 0 (counted (is_of node id) (entries_from 0 (map shown a)))
-found_counted node id at end a b None b_is after some = (cc)
-found_counted node id at end a b (Some found) b_is next some =
-    is_at_counted node id found.slot (map shown a) found.details (rw b_is at next).here
-
--- as are the node's details in a place
-pub here_counted : {T : Type 0} (node : T → ℕ) (id at : ℕ) (cells : List (Option (Occupant T)))
-    (o : Option T) → MatchOption o (PlaceIsOf node id cells at false) (IsAt node id cells at)
-    → is_some o ≡ true
+-- where a place has an entry of the node, it has one
+pub last_counted : {T : Type 0} (node : T → ℕ) (id from to old new : ℕ)
+    (cells : List (Option (Occupant T))) → IsLastOf node id cells from to old new
     → true ≡ nat_lt 0 (counted (is_of node id) (entries_from 0 cells))
-here_counted node id at cells None other some = (cc)
-here_counted node id at cells (Some details) here some =
-    is_at_counted node id at cells details here
+last_counted node id from to old new cells last =
+    sym (some_counted node id last.slot cells true last.here refl)
 
--- what is true where nothing was found
-pub nothing_found : {X : Type 0} (P : Type 0) (Q : X → Type 0) (o : Option X) → MatchOption o P Q
-    → is_some o ≡ false → P
-nothing_found P Q None holds none = holds
-nothing_found P Q (Some x) holds none = (cc)
+-- a search says whether the node has an entry, where the places before it have none
+pub tells_last : {T N : Type 0} (node : T → ℕ) (id at from end old new : ℕ) (a b : List (Cell T N))
+    (has : Bool) → NoneFrom (map shown a) end → AreOthers node id (map shown a) 0 at → b ≡ a
+    → from ≤ at
+    → MatchBool has (IsLastOf node id (map shown b) from end old new)
+    (AreOthers node id (map shown b) from end)
+    → has ≡ nat_lt 0 (counted (is_of node id) (entries_from 0 (map shown a)))
+tells_last node id at from end old new a b true free others b_is l last =
+    last_counted node id from end old new (map shown a) (rw b_is at last)
+tells_last node id at from end old new a b false free others b_is l after =
+    nowhere_counted node id end (map shown a) free
+    (others_join node id 0 at from end (map shown a) others (rw b_is at after) l)
+
+-- what the answer of a search says
+pub what_is_true : (P Q : Type 0) (has : Bool) → MatchBool has P Q → has ≡ true → P
+what_is_true P Q true holds is = holds
+what_is_true P Q false holds is = (cc)
+
+pub what_is_false : (P Q : Type 0) (has : Bool) → MatchBool has P Q → has ≡ false → Q
+what_is_false P Q true holds is = (cc)
+what_is_false P Q false holds is = holds
+
+-- a place that has one, as a search from the last down meets it
+pub last_at : {T N : Type 0} (node : T → ℕ) (id at from after to old new : ℕ)
+    (a b : List (Cell T N)) (has : Bool) → PlaceIsOf node id (map shown b) at has
+    → has ≡ true → b ≡ a → from ≤ at → after ≡ at + 1
+    → AreOthers node id (map shown a) after to → new + at ≡ old + to
+    → IsLastOf node id (map shown a) from to old new
+last_at node id at from after to old new a b has is hit b_is l e others looks =
+    let mine = rw b_is at is in record {
+      slot = at;
+      order = l;
+      others = rw e at others;
+      here = (mine.0, mine.1, sym hit ∙ mine.2);
+      looks = looks;
+    }
+
+-- one place that has none, before others
+pub others_before : {T N : Type 0} (node : T → ℕ) (id at from to : ℕ) (a b : List (Cell T N))
+    (has : Bool) → PlaceIsOf node id (map shown b) at has → has ≡ false → from ≡ at + 1 → b ≡ a
+    → AreOthers node id (map shown a) from to → AreOthers node id (map shown a) at to
+others_before node id at from to a b has is miss e b_is others =
+    others_join node id at from from to (map shown a)
+    (other_at node id at from (map shown a) has (rw b_is at is) miss e) others (omega arith)
 
 -- one entry more
 pub counted-InsertsOne : {T : Type 0} (p : T → Bool) (old new : List (Entry T)) (x : Entry T)

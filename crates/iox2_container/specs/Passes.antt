@@ -59,6 +59,16 @@ pub record IsNextOf {T : Type 0} (node : T → ℕ) (id : ℕ) (cells : List (Op
   pub others : AreOthers node id cells from found.slot
   pub here : IsAt node id cells found.slot found.details
 
+-- the last slot from `from` on and before `to` with an entry of the node,
+-- and slots were looked at from the last one down to it: none twice
+pub record IsLastOf {T : Type 0} (node : T → ℕ) (id : ℕ) (cells : List (Option (Occupant T)))
+    (from to old new : ℕ) : Type 0 where
+  pub slot : ℕ
+  pub order : from ≤ slot
+  pub others : AreOthers node id cells (slot + 1) to
+  pub here : PlaceIsOf node id cells slot true
+  pub looks : new + slot ≡ old + to
+
 -- how many slots a search from `from` on looked at: those up
 -- to the one that it found, and with it, or all before `to`
 abbrev pub looked_at : {T : Type 0} → ℕ → ℕ → Option (Found T) → ℕ

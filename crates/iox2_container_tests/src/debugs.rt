@@ -110,7 +110,7 @@ fn a_scan_is_shown_by_field(rt: HostRuntime) -> Result<(), Fail> {
         "SlotMap { header: RegistryHeader { service: 7, role: Node, budget: 9, count: 1, \
         locked: false, used: 2 }, places: Slots { cells: [Free(()), Taken { ticket: 1, \
         details: UniqueNodeId { id: UniqueId { value: 6, kind: PhantomData<_> } } }, Free(())], \
-        touches: Touches }, free: LowestFree, recent: 1 }",
+        touches: Touches }, free: LowestFree, newest_end: 2 }",
     )
 }
 
@@ -122,7 +122,8 @@ fn a_list_is_shown_by_field(rt: HostRuntime) -> Result<(), Fail> {
         "SlotMap { header: RegistryHeader { service: 7, role: Node, budget: 9, count: 1, \
         locked: false, used: 2 }, places: Slots { cells: [Free(None), Taken { ticket: 1, \
         details: UniqueNodeId { id: UniqueId { value: 6, kind: PhantomData<_> } } }, \
-        Free(None)], touches: Touches }, free: FreeList { head: Some(0), fresh: 2 }, recent: 1 }",
+        Free(None)], touches: Touches }, free: FreeList { head: Some(0), fresh: 2 }, \
+        newest_end: 2 }",
     )
 }
 

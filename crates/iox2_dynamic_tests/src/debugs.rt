@@ -193,18 +193,18 @@ fn details_are_shown_by_field(rt: HostRuntime) {
 }
 
 /// The text of a registry of service 7 that has two places and nine tickets, with this count of
-/// entries, which was given as many, and these cells, list of free places and recent place.
+/// entries, which was given as many, and these cells, list of free places and end of the newest.
 fn registry(
     rt: &(impl Abort + AllocGlobal),
     role: Role,
     count: usize,
-    [cells, free, recent]: [&str; 3],
+    [cells, free, newest_end]: [&str; 3],
 ) -> String {
     format!(in rt.alloc();
         "SlotMap {{ header: RegistryHeader {{ service: 7, role: {role:?}, budget: 9, \
         count: {count}, locked: false, used: {count} }}, \
         places: Slots {{ cells: [{cells}], touches: Touches }}, \
-        free: FreeList {{ {free} }}, recent: {recent} }}"
+        free: FreeList {{ {free} }}, newest_end: {newest_end} }}"
     )
     .expect(rt, "memory for a text")
 }
@@ -271,8 +271,8 @@ fn a_service_is_shown_with_who_is_attached(rt: HostRuntime) -> Result<(), Fail> 
         &EVENT,
         [
             (0, NONE),
-            (2, [ports.as_str(), "head: None, fresh: 2", "1"]),
-            (1, [nodes.as_str(), "head: None, fresh: 1", "0"]),
+            (2, [ports.as_str(), "head: None, fresh: 2", "2"]),
+            (1, [nodes.as_str(), "head: None, fresh: 1", "1"]),
         ],
     );
     Ok(())

@@ -49,8 +49,8 @@ pub struct SlotMap<T: Copy, S: SlotAllocator<T>> {
     header: RegistryHeader,
     places: Places<T, S::Next>,
     free: S,
-    // Where the entry was put that came last, which is likely to be asked for next.
-    recent: usize,
+    // Behind the slot of the entry that came last, whose node is likely to be asked for next.
+    newest_end: usize,
 }
 
 impl<T: Copy, S: SlotAllocator<T>> Model for SlotMap<T, S> {
@@ -88,7 +88,7 @@ impl<T: Copy, S: SlotAllocator<T>> SlotMap<T, S> {
             header: RegistryHeader::new(service, role, tickets),
             places,
             free,
-            recent: 0,
+            newest_end: 0,
         })
     }
 }
@@ -109,7 +109,7 @@ impl<T: Attached + Copy, S: SlotAllocator<T>> Registry<T> for SlotMap<T, S> {
         }
         let ticket = self.header.enter();
         let slot = self.free.put(&mut self.places, ticket, details);
-        self.recent = slot;
+        self.newest_end = slot + 1;
         Ok(self.header.handle(slot, ticket))
     }
 
@@ -168,7 +168,7 @@ impl<T: Attached + Copy, S: SlotAllocator<T>> Registry<T> for SlotMap<T, S> {
         if self.header.count() == 0 {
             return false;
         }
-        has_of(&mut self.places, &self.free, self.recent, node)
+        has_of(&mut self.places, &self.free, self.newest_end, node)
     }
 
     fn len(&self) -> usize {

@@ -107,6 +107,19 @@ impl<C: Copy> Slots<C> {
 }
 
 impl<T: Attached + Copy, N: Copy> Slots<Cell<T, N>> {
+    /// Whether the entry in a slot is the node's. This is a touch.
+    #[inline(always)]
+    pub(crate) fn has_at(&mut self, slot: usize, node: &UniqueNodeId) -> bool
+        requires { slot < length self.old.cells }
+        ensures cells { self.new.cells ≡ self.old.cells }
+        ensures room { self.new.room ≡ self.old.room }
+        ensures touches { self.new.touches ≡ self.old.touches + 1 }
+        ensures has { PlaceIsOf T.node node.now (map shown self.old.cells) slot result }
+    {
+        self.touches = self.touches.one_more();
+        self.cells[slot].is_of(node)
+    }
+
     /// The details in a slot, if they are the node's. This is a touch.
     #[inline(always)]
     pub(crate) fn look_for(&mut self, slot: usize, node: &UniqueNodeId) -> Option<T>

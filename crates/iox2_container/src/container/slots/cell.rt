@@ -1,10 +1,32 @@
 //! What is in a slot of a container.
-ghost use Rattle.std.specs.Prelude.{◌≡◌, MatchOption, false};
+ghost use Rattle.std.specs.Prelude.{◌≡◌, ◌==◌, MatchOption, false};
 ghost use Rattle.iox2_container.specs.Cells.{shown};
 ghost use Rattle.iox2_container.specs.Passes.{CellHas, cell_is_of};
 
 use crate::container::attached::Attached;
 use iox2_ids::identifiers::UniqueNodeId;
+
+/// Whether two numbers are equal. Where this is inlined, both halves are compared at once again.
+#[cold]
+#[inline(never)]
+fn is_equal(one: u64, other: u64) -> bool
+    ensures { result ≡ (one == other) }
+{
+    one == other
+}
+
+/// Whether the numbers of two ids are equal. The lower halves, which
+/// differ most since the counters are there, are compared first.
+#[inline(always)]
+fn is_same(one: u128, other: u128) -> bool
+    ensures { result ≡ (one == other) }
+{
+    const HALF: u128 = 1 << 64;
+    if (one % HALF) as u64 != (other % HALF) as u64 {
+        return false;
+    }
+    is_equal((one / HALF) as u64, (other / HALF) as u64)
+}
 
 /// The entry of a slot: details and ticket.
 #[derive(Clone, Copy, Debug)]
@@ -35,11 +57,11 @@ impl<T: Copy, N: Copy> Cell<T, N> {
 impl<T: Attached + Copy, N: Copy> Cell<T, N> {
     /// Whether its entry is the node's.
     #[inline(always)]
-    fn is_of(&self, node: &UniqueNodeId) -> bool
+    pub(crate) fn is_of(&self, node: &UniqueNodeId) -> bool
         ensures { result ≡ cell_is_of T.node node.now (shown self.now) }
     {
         match self {
-            Cell::Taken { details, .. } => details.node_id() == *node,
+            Cell::Taken { details, .. } => is_same(details.node_id().value(), node.value()),
             Cell::Free(_) => false,
         }
     }
