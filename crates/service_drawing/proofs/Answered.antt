@@ -1,5 +1,5 @@
 -- What is answered, and what follows from a status.
-use Rattle.std.proofs.Common.{◌≡◌, ℕ, List, ◌++◌, Option, Some, None, IfSome, Result, Ok, Err, IfOk, subst, sym, ap, ◌∙◌, arith, append_assoc}
+use Rattle.std.proofs.Common.{◌≡◌, ℕ, List, ◌++◌, Option, Some, None, IfSome, Result, Ok, Err, IfOk, IfErr, subst, sym, ap, ◌∙◌, arith, append_assoc}
 use Rattle.std.specs.Result.{IsErr, IsErrAnd, MatchResult}
 use Rattle.iox2_config.specs.declared.config.Config.{Config}
 use Rattle.service_drawing.specs.Descriptions.{StopsReading}
@@ -29,6 +29,12 @@ pub handed_on : {A E : Type 0} (Good : A → Type 0) (Bad : E → Type 0) (r : R
     → IsErr r × IsErrAnd r (λ e. e ≡ why) → Bad why → MatchResult r Good Bad
 handed_on Good Bad (Ok x) why h bad = absurd h.1
 handed_on Good Bad (Err e) why h bad = subst Bad (sym h.1) bad
+
+-- an error that was handed on is bad as it was
+pub failed_on : {A E : Type 0} (Bad : E → Type 0) (r : Result A E) (why : E)
+    → IsErr r × IsErrAnd r (λ e. e ≡ why) → Bad why → IfErr r Bad
+failed_on Bad (Ok x) why h bad = absurd h.1
+failed_on Bad (Err e) why h bad = subst Bad (sym h.1) bad
 
 -- what is answered to this request
 pub answers_for : (given : Option (List ℕ)) (asked : Result Asked Fault) (field expected : Asked)

@@ -1,6 +1,7 @@
 //! Why nothing was drawn, and how it is reported.
-ghost use Rattle.std.specs.Prelude.{◌≡◌, ℕ, List, ◌+◌, ◌++◌, ◌==◌, OnOk, count_by};
+ghost use Rattle.std.specs.Prelude.{◌≡◌, ℕ, List, ◌+◌, ◌++◌, ◌==◌, IfErr, OnOk, count_by};
 ghost use Rattle.std.specs.Io.KnownBytes.{Appends};
+ghost use Rattle.line_streams.specs.Streams.{WriteFails};
 ghost use Rattle.service_drawing.specs.Streams.{expected_text, cause_text, bad_line_text, fault_text};
 ghost use Rattle.service_drawing.specs.Streams.{TellsBadLine};
 ghost use Rattle.service_drawing.specs.declared.reading.cause.Cause.TheVariants.{ForeignByte};
@@ -8,9 +9,8 @@ ghost use Rattle.service_drawing.specs.declared.reading.cause.Cause.TheVariants.
 use crate::reading::Expected;
 use crate::reading::cause::{Cause, Reason, cause_of};
 use itoa::Buffer;
-use line_streams::write_whole;
+use line_streams::{Sink, write_whole};
 use std::io;
-use std::io::Write;
 
 /// Why nothing was drawn.
 #[derive(Drop)]
@@ -57,28 +57,31 @@ pub(crate) fn bad_line(bytes: &[u8], expected: Expected<'_>) -> Fault
 }
 
 /// Writes one after the other.
-fn write_both<W: Write>(writer: &mut W, first: &[u8], second: &[u8]) -> io::Result<()>
-    ensures { OnOk result
+fn write_both<W: Sink>(writer: &mut W, first: &[u8], second: &[u8]) -> io::Result<()>
+    ensures whole { OnOk result
         (Appends (W.contents writer.old) (W.contents writer.new) (first.now ++ second.now)) }
+    ensures failed { IfErr result (WriteFails W.Writes writer.new) }
 {
     write_whole(writer, first)?;
     write_whole(writer, second)
 }
 
 /// Writes what was expected instead of a bad line, and a newline.
-fn write_expected<E: Write>(errors: &mut E, prefix: &str, form: &str) -> io::Result<()>
-    ensures { OnOk result
+fn write_expected<E: Sink>(errors: &mut E, prefix: &str, form: &str) -> io::Result<()>
+    ensures whole { OnOk result
         (Appends (E.contents errors.old) (E.contents errors.new)
         (expected_text prefix.now form.now)) }
+    ensures failed { IfErr result (WriteFails E.Writes errors.new) }
 {
     write_both(errors, b"expected ", prefix.as_bytes())?;
     write_both(errors, form.as_bytes(), b"\n")
 }
 
 /// Writes why a line is bad.
-fn write_cause<E: Write>(errors: &mut E, cause: Cause) -> io::Result<()>
-    ensures { OnOk result
+fn write_cause<E: Sink>(errors: &mut E, cause: Cause) -> io::Result<()>
+    ensures whole { OnOk result
         (Appends (E.contents errors.old) (E.contents errors.new) (cause_text cause)) }
+    ensures failed { IfErr result (WriteFails E.Writes errors.new) }
 {
     match cause {
         Cause::NoNewline => write_whole(errors, b": no newline ends it; "),
@@ -101,9 +104,10 @@ fn write_cause<E: Write>(errors: &mut E, cause: Cause) -> io::Result<()>
 }
 
 /// Writes that a line holds this byte.
-fn write_byte<E: Write>(errors: &mut E, byte: u8) -> io::Result<()>
-    ensures { OnOk result (Appends (E.contents errors.old) (E.contents errors.new)
+fn write_byte<E: Sink>(errors: &mut E, byte: u8) -> io::Result<()>
+    ensures whole { OnOk result (Appends (E.contents errors.old) (E.contents errors.new)
         (cause_text (ForeignByte byte))) }
+    ensures failed { IfErr result (WriteFails E.Writes errors.new) }
 {
     let mut digits = Buffer::new();
     write_both(
@@ -115,15 +119,16 @@ fn write_byte<E: Write>(errors: &mut E, byte: u8) -> io::Result<()>
 }
 
 /// Writes the line that reports a bad line.
-fn write_bad_line<E: Write>(
+fn write_bad_line<E: Sink>(
     errors: &mut E,
     line: usize,
     cause: Cause,
     prefix: &str,
     form: &str,
 ) -> io::Result<()>
-    ensures { OnOk result (Appends (E.contents errors.old) (E.contents errors.new)
+    ensures whole { OnOk result (Appends (E.contents errors.old) (E.contents errors.new)
         (bad_line_text line cause prefix.now form.now)) }
+    ensures failed { IfErr result (WriteFails E.Writes errors.new) }
 {
     let mut digits = Buffer::new();
     write_both(errors, b"bad line ", digits.format(line).as_bytes())?;
@@ -131,18 +136,20 @@ fn write_bad_line<E: Write>(
 }
 
 /// Writes why a line is bad, and what was expected.
-fn write_reason<E: Write>(errors: &mut E, cause: Cause, prefix: &str, form: &str) -> io::Result<()>
-    ensures { OnOk result (Appends (E.contents errors.old) (E.contents errors.new)
+fn write_reason<E: Sink>(errors: &mut E, cause: Cause, prefix: &str, form: &str) -> io::Result<()>
+    ensures whole { OnOk result (Appends (E.contents errors.old) (E.contents errors.new)
         (cause_text cause ++ expected_text prefix.now form.now)) }
+    ensures failed { IfErr result (WriteFails E.Writes errors.new) }
 {
     write_cause(errors, cause)?;
     write_expected(errors, prefix, form)
 }
 
 /// Writes the line that says why nothing was drawn.
-pub(crate) fn write_fault<E: Write>(errors: &mut E, fault: &Fault) -> io::Result<()>
-    ensures { OnOk result
+pub(crate) fn write_fault<E: Sink>(errors: &mut E, fault: &Fault) -> io::Result<()>
+    ensures whole { OnOk result
         (Appends (E.contents errors.old) (E.contents errors.new) (fault_text fault.now)) }
+    ensures failed { IfErr result (WriteFails E.Writes errors.new) }
 {
     match fault {
         Fault::BadLine {

@@ -1,6 +1,7 @@
 //! The program: a description comes from a reader, and goes to a writer as text or as a picture.
-ghost use Rattle.std.specs.Prelude.{◌≡◌, ◌<◌, [], IfOk, OnOk, string_bytes};
+ghost use Rattle.std.specs.Prelude.{◌≡◌, ◌<◌, ◌⊎◌, [], IfErr, IfOk, OnOk, string_bytes};
 ghost use Rattle.std.specs.Io.KnownBytes.{Appends, IsAtEnd};
+ghost use Rattle.line_streams.specs.Streams.{Fails, IsFlushed, ReadFails};
 ghost use Rattle.service_drawing.specs.Arguments.{IsRead, IsTextOrNoMemory};
 ghost use Rattle.service_drawing.specs.Fronts.{IsOver};
 ghost use Rattle.service_drawing.specs.Streams.{status_of, output_text, error_text};
@@ -13,11 +14,11 @@ use crate::reading::read_description;
 use crate::svg::write_svg;
 use crate::text::write_text;
 use config_report::{ReportError, default_file, report_file};
-use line_streams::{read_all, write_whole};
+use line_streams::{Sink, Source, read_all, write_whole};
 use std::alloc::Global;
 use std::env::Args;
 use std::io;
-use std::io::{Read, Write};
+use std::io::Error;
 
 /// What is written to the output, and to the errors although there is no fault.
 #[derive(Drop)]
@@ -106,7 +107,7 @@ fn status(end: &Result<Written, Fault>) -> u8
 }
 
 /// Writes what was drawn, or why nothing was, and flushes both writers.
-fn report<W: Write, E: Write>(
+fn report<W: Sink, E: Sink>(
     output: &mut W,
     errors: &mut E,
     end: &Result<Written, Fault>,
@@ -115,6 +116,10 @@ fn report<W: Write, E: Write>(
         (Appends (W.contents output.old) (W.contents output.new) (output_text end.now)) }
     ensures errors { OnOk result
         (Appends (E.contents errors.old) (E.contents errors.new) (error_text end.now)) }
+    ensures flushed { OnOk result
+        (IsFlushed W.Flushes output.new × IsFlushed E.Flushes errors.new) }
+    ensures failed { IfErr result (λ e. Fails W.Writes W.FailsToFlush output.new e
+        ⊎ Fails E.Writes E.FailsToFlush errors.new e) }
 {
     match end {
         Ok(written) => {
@@ -123,13 +128,13 @@ fn report<W: Write, E: Write>(
         }
         Err(fault) => write_fault(errors, fault)?,
     }
-    output.flush()?;
-    errors.flush()
+    output.flush_pieces()?;
+    errors.flush_pieces()
 }
 
 /// What there is to write: a drawing of the description
 /// that the reader gives, or what is reported without one.
-fn answer<R: Read>(
+fn answer<R: Source>(
     alloc: Global,
     asked: Result<Asked, Fault>,
     input: &mut R,
@@ -137,6 +142,7 @@ fn answer<R: Read>(
     ensures told { IfOk result (λ end. Answers (R.remaining input.old) asked end) }
     ensures read { IfOk result (λ end. IfOk end (λ written.
         IsRead asked → IsAtEnd (R.remaining input.new))) }
+    ensures failed { IfErr result (ReadFails R.FailsBy input.new) }
 {
     match asked {
         Ok(Asked::Drawing(form)) => match read_all(alloc, input)? {
@@ -165,17 +171,22 @@ fn text_of(alloc: Global, text: &str) -> Result<Written, Fault>
 }
 
 /// Does what is requested, and returns the status unless a stream fails.
-fn run<R: Read, W: Write, E: Write>(
+fn run<R: Source, W: Sink, E: Sink>(
     alloc: Global,
     arguments: io::Result<Args>,
     input: &mut R,
     output: &mut W,
     errors: &mut E,
 ) -> io::Result<u8>
-    ensures { IfOk result (λ status. Reported arguments status
+    ensures reported { IfOk result (λ status. Reported arguments status
         (R.remaining input.old) (R.remaining input.new)
         (W.contents output.old) (W.contents output.new)
         (E.contents errors.old) (E.contents errors.new)) }
+    ensures flushed { OnOk result
+        (IsFlushed W.Flushes output.new × IsFlushed E.Flushes errors.new) }
+    ensures failed { IfErr result (λ e. ReadFails R.FailsBy input.new e
+        ⊎ (Fails W.Writes W.FailsToFlush output.new e
+        ⊎ Fails E.Writes E.FailsToFlush errors.new e)) }
 {
     let asked = asked_by(arguments);
     let end = answer(alloc, asked, input)?;
@@ -197,7 +208,7 @@ fn run<R: Read, W: Write, E: Write>(
 ///   expected, or what is wrong with the file of settings.
 /// - 2: memory was refused. Nothing was written to `output`, and `no memory` to `errors`.
 /// - 3: a read, a write or a flush failed, for any cause. Nothing was written after it.
-pub fn describe_streams<R: Read, W: Write, E: Write>(
+pub fn describe_streams<R: Source, W: Sink, E: Sink>(
     alloc: Global,
     arguments: io::Result<Args>,
     input: &mut R,
@@ -211,6 +222,13 @@ pub fn describe_streams<R: Read, W: Write, E: Write>(
         (R.remaining input.old) (R.remaining input.new)
         (W.contents output.old) (W.contents output.new)
         (E.contents errors.old) (E.contents errors.new) }
+    // Both writers were flushed last.
+    ensures flushed { result < 3
+        → IsFlushed W.Flushes output.new × IsFlushed E.Flushes errors.new }
+    // A read, a write or a flush failed, and that stream was left as it was then.
+    ensures failed { result ≡ 3 → (e : Error) × (ReadFails R.FailsBy input.new e
+        ⊎ (Fails W.Writes W.FailsToFlush output.new e
+        ⊎ Fails E.Writes E.FailsToFlush errors.new e)) }
 {
     match run(alloc, arguments, input, output, errors) {
         Ok(status) => status,

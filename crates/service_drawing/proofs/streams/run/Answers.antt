@@ -1,9 +1,9 @@
-use Rattle.std.proofs.Common.{sym, ◌∙◌}
-use Rattle.service_drawing.proofs.Answered.{answered_at_zero}
+use Rattle.std.proofs.Common.{inr, sym, ◌∙◌}
+use Rattle.service_drawing.proofs.Answered.{answered_at_zero, failed_on}
 use Rattle.service_drawing.proofs.streams.run.Goals as goal
 
-pub returns : goal.returns
-returns g c = record {
+pub returns-clause-reported : goal.returns-clause-reported
+returns-clause-reported g c = record {
   asked = c.asked_by-asked.result;
   end = c.in_ok-end.end;
   asks = c.asked_by-asked.ensures;
@@ -14,3 +14,8 @@ returns g c = record {
   output = c.in_ok-report.ensures.output;
   errors = c.in_ok-report.ensures.errors;
 }
+
+-- the report failed, and not the reader
+pub returns-in_err-report-clause-failed : goal.returns-in_err-report-clause-failed
+returns-in_err-report-clause-failed g c =
+    failed_on _ _ _ c.from_residual-in_err-report.ensures (inr c.in_err-report.ensures.failed)
