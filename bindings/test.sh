@@ -144,7 +144,7 @@ for compiler in gcc clang; do
     done
     runs "$compiler" iox2sd c/test_stack.c -std=c99 -D_GNU_SOURCE
 done
-wrapped_settings=-Wl,--wrap=iox2sd_script_run_at
+wrapped_settings=-Wl,--wrap=iox2sd_script_run_at,--wrap=iox2sd_service_create_at
 for name in {global,publish_subscribe,event,request_response}_{defaults,settings_check_at} \
     blackboard_defaults; do
     wrapped_settings+=,--wrap=iox2sd_$name

@@ -150,21 +150,29 @@ static void texts_of_null(void) {
         iox2sd_path_check_str,          iox2sd_file_name_check_str,
         iox2sd_file_path_check_str,     iox2sd_restricted_file_name_check_str};
     static const write_text writers[] = {iox2sd_version, iox2sd_layer_version};
+    static char longest[258];
+    /* Of any two checks, one refuses a text that the other takes. */
+    const char *const texts[] = {"",   "iox2://a", "a/b",       "a b",
+                                 "..", longest,    longest + 1, longest + 192};
     static const uint8_t a = 'a';
     const iox2sd_attribute pair = {&a, 1, &a, 1};
     const iox2sd_event_settings settings = iox2sd_event_defaults();
     const iox2sd_id some = id(1, 2, 3, 4);
     iox2sd_description made;
     uint8_t out[64];
+    memset(longest, 'a', sizeof longest - 1);
     for (size_t i = 0; i < sizeof checks / sizeof *checks; i++) {
         iox2sd_place_answer empty = checks[i]((const uint8_t *)"", 0);
         CHECK(at(checks[i](NULL, 1), IOX2SD_NULL, 0));
         CHECK(at(checks[i](NULL, SIZE_MAX), IOX2SD_NULL, 0));
         CHECK(at(checks[i](NULL, 0), empty.status, empty.at));
         CHECK(at(strs[i](NULL), IOX2SD_NULL, 0));
-        CHECK(at(strs[i](""), empty.status, empty.at));
         CHECK(at(strs[i]("ab.c"), IOX2SD_DONE, 0));
         CHECK(at(strs[i]("ab\x80"), IOX2SD_ILLEGAL_BYTE, 2));
+        for (size_t j = 0; j < sizeof texts / sizeof *texts; j++) {
+            iox2sd_place_answer wanted = checks[i]((const uint8_t *)texts[j], strlen(texts[j]));
+            CHECK(at(strs[i](texts[j]), wanted.status, wanted.at));
+        }
     }
     for (size_t i = 0; i < sizeof writers / sizeof *writers; i++) {
         CHECK(writers[i](NULL, 1).status == IOX2SD_NULL);
@@ -229,6 +237,8 @@ static void texts_that_end(void) {
                 "mywygMzqC6QIJwxFGFv7zTYWQjc"));
     CHECK(wrote(iox2sd_internal_hash_text_str(IOX2SD_BLACKBOARD, "iox2://x", out, 64), out,
                 "dBa6f4MAuXbGPrWuZe58tIdzmlw"));
+    CHECK(iox2sd_hash_text_str(IOX2SD_BLACKBOARD, "iox2://x", out, 64).status ==
+          IOX2SD_BAD_SERVICE_NAME);
     CHECK(wrote(iox2sd_service_dir_str("/a", out, 64), out, "/a/services"));
     CHECK(wrote(iox2sd_node_dir_str("/a", out, 64), out, "/a/nodes"));
     CHECK(at(iox2sd_attributes_verify(&pair, 1, &pair, 1, &key, 1), IOX2SD_DONE, 0));
@@ -238,6 +248,7 @@ static void texts_that_end(void) {
     CHECK(type.size == 16 && type.alignment == 8 && type.variant == IOX2SD_VARIANT_FIXED_SIZE);
     type = iox2sd_type_detail_str(NULL, IOX2SD_VARIANT_DYNAMIC, 0, 3);
     CHECK(iox2sd_type_detail_check(&type) == IOX2SD_BAD_ALIGNMENT);
+    CHECK(type.variant == IOX2SD_VARIANT_DYNAMIC && type.name_length == 0);
     CHECK(iox2sd_describe_publish_subscribe_str(&samples, "a", false, some, &made).status == 0);
     CHECK(made.pattern == IOX2SD_PUBLISH_SUBSCRIBE && made.name_length == 1);
     CHECK(iox2sd_describe_event_str(&events, "iox2://a", true, some, &made).status == 0);
@@ -246,6 +257,16 @@ static void texts_that_end(void) {
     CHECK(made.pattern == IOX2SD_REQUEST_RESPONSE && made.name_length == 2);
     CHECK(iox2sd_describe_blackboard_str(&board, "abc", false, some, &made).status == 0);
     CHECK(made.pattern == IOX2SD_BLACKBOARD && made.name_length == 3);
+    for (size_t i = 0; i < 2; i++) {
+        const bool internal = i == 1;
+        const iox2sd_field_answer answers[] = {
+            iox2sd_describe_publish_subscribe_str(&samples, "iox2://a", internal, some, &made),
+            iox2sd_describe_event_str(&events, "iox2://a", internal, some, &made),
+            iox2sd_describe_request_response_str(&requests, "iox2://a", internal, some, &made),
+            iox2sd_describe_blackboard_str(&board, "iox2://a", internal, some, &made)};
+        const uint32_t wanted = internal ? IOX2SD_DONE : IOX2SD_BAD_SERVICE_NAME;
+        for (size_t j = 0; j < 4; j++) CHECK(answers[j].status == wanted);
+    }
 }
 
 static bool reads(const char *text, uint32_t status, iox2sd_id expected) {

@@ -70,6 +70,9 @@ static void buffers(void) {
     CHECK(answers(iox2sd_script_run((const uint8_t *)script, strlen(script), NULL, 0),
                   IOX2SD_BUFFER_TOO_SHORT, 0, LENGTH));
     CHECK(answers(run("service event 7 1 2 2\n", 0), IOX2SD_DONE, 0, 0));
+    memset(out, 0xAA, sizeof out);
+    CHECK(answers(iox2sd_script_run_str(script, out, MOST), IOX2SD_DONE, 0, LENGTH));
+    CHECK(wrote(replies, LENGTH));
 }
 
 static void bad_lines(void) {

@@ -58,6 +58,25 @@ void settings() {
     CHECK(text.has_value() && read({text->data(), text->size()}) == config);
 }
 
+/// Each text is read and written by its own name.
+void texts() {
+    const Config config = read(
+        "[global]\nroot-path = '/r'\nprefix = 'p_'\n[global.service]\ndirectory = 's'\n"
+        "data-segment-suffix = '.a'\nstatic-config-storage-suffix = '.b'\n"
+        "dynamic-config-storage-suffix = '.c'\nconnection-suffix = '.d'\n"
+        "event-connection-suffix = '.e'\nblackboard-mgmt-suffix = '.f'\n"
+        "blackboard-data-suffix = '.g'\n[global.node]\ndirectory = 'n'\nmonitor-suffix = '.h'\n"
+        "static-config-suffix = '.i'\nservice-tag-suffix = '.j'\nport-tag-suffix = '.k'\n"
+        "global-mgmt-suffix = '.l'\n");
+    const auto& [root, prefix, services, a, b, c, d, e, f, g, nodes, h, i, j, k, l] = config.texts;
+    CHECK(root == "/r" && prefix == "p_" && services == "s" && a == ".a" && b == ".b" && c == ".c");
+    CHECK(d == ".d" && e == ".e" && f == ".f" && g == ".g" && nodes == "n" && h == ".h");
+    CHECK(i == ".i" && j == ".j" && k == ".k" && l == ".l");
+    CHECK(*config.service_dir() == "/r/s" && *config.node_dir() == "/r/n");
+    const auto text = config.to_toml();
+    CHECK(text.has_value() && read({text->data(), text->size()}) == config);
+}
+
 void unknown_keys() {
     auto file = Config::from_toml("[defaults.publish-subscribe]\nmax-publisher = 3\n[other]\n");
     CHECK(file.has_value() && file->unknown.size() == 2);
@@ -99,17 +118,29 @@ void writing() {
     CHECK(refused.error().field == SettingsField::Deadline);
 }
 
-void files() {
+/// What is read of a file with these bytes, which is closed again.
+Result<ConfigFile, ConfigError> of_file(const string& bytes) {
     char path[] = "/tmp/iox2sd_config_XXXXXX";
     const int file = mkstemp(path);
-    const string text = "[global]\nprefix = 'own_'\n" + string(5000, '#') + "\nprefx = 1\n";
-    CHECK(write(file, text.data(), text.size()) == static_cast<ssize_t>(text.size()));
+    CHECK(write(file, bytes.data(), bytes.size()) == static_cast<ssize_t>(bytes.size()));
     close(file);
-    const auto read = Config::from_toml_file(path);
+    auto read = Config::from_toml_file(path);
+    unlink(path);
+    const int next = dup(STDOUT_FILENO);
+    CHECK(next == file);
+    close(next);
+    return read;
+}
+
+void files() {
+    const auto read =
+        of_file("[global]\nprefix = 'own_'\n" + string(5000, '#') + "\nprefx = 1\n");
     CHECK(read.has_value() && read->config.texts.prefix == "own_" && read->unknown.size() == 1);
     CHECK(read->unknown[0].meant == "global.prefix");
-    unlink(path);
-    const auto missing = Config::from_toml_file(path);
+    // No byte ends a file.
+    CHECK(of_file("prefix = 1\n" + string(1, '\0')).status() == Status::NotToml);
+    CHECK(of_file("prefix = 1\n\xff").status() == Status::NotUtf8);
+    const auto missing = Config::from_toml_file("/nowhere/iceoryx2.toml");
     CHECK(missing.status() == Status::NoFile && missing.error().system_error == ENOENT);
     const auto folder = Config::from_toml_file("/tmp");
     CHECK(folder.status() == Status::NoFile && folder.error().system_error == EISDIR);
@@ -117,19 +148,6 @@ void files() {
     CHECK(empty.has_value() && empty->config == Config::from_toml("")->config);
 }
 
-constexpr bool has_numbers() {
-    return static_cast<int>(ConfigTable::Root) == IOX2SD_TABLE_ROOT &&
-           static_cast<int>(ConfigTable::Global) == IOX2SD_TABLE_GLOBAL &&
-           static_cast<int>(ConfigTable::Service) == IOX2SD_TABLE_SERVICE &&
-           static_cast<int>(ConfigTable::Node) == IOX2SD_TABLE_NODE &&
-           static_cast<int>(ConfigTable::Defaults) == IOX2SD_TABLE_DEFAULTS &&
-           static_cast<int>(ConfigTable::PublishSubscribe) == IOX2SD_TABLE_PUBLISH_SUBSCRIBE &&
-           static_cast<int>(ConfigTable::Event) == IOX2SD_TABLE_EVENT &&
-           static_cast<int>(ConfigTable::RequestResponse) == IOX2SD_TABLE_REQUEST_RESPONSE &&
-           static_cast<int>(ConfigTable::Blackboard) == IOX2SD_TABLE_BLACKBOARD;
-}
-
-static_assert(has_numbers());
 static_assert(std::is_nothrow_move_constructible_v<ConfigFile>);
 static_assert(!std::is_copy_constructible_v<ConfigFile>);
 
@@ -138,6 +156,7 @@ static_assert(!std::is_copy_constructible_v<ConfigFile>);
 int main() {
     defaults();
     settings();
+    texts();
     unknown_keys();
     faults();
     writing();

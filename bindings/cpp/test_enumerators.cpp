@@ -4,7 +4,7 @@
 #include <string_view>
 
 #include "check.hpp"
-#include "iox2sd.hpp"
+#include "iox2sd_config.hpp"
 
 namespace {
 
@@ -223,6 +223,50 @@ std::uint64_t of_header(ConfigEntry entry) {
     return none;
 }
 
+std::uint64_t of_header(ConfigTable table) {
+    switch (table) {
+        case ConfigTable::Root: return IOX2SD_TABLE_ROOT;
+        case ConfigTable::Global: return IOX2SD_TABLE_GLOBAL;
+        case ConfigTable::Service: return IOX2SD_TABLE_SERVICE;
+        case ConfigTable::Node: return IOX2SD_TABLE_NODE;
+        case ConfigTable::Defaults: return IOX2SD_TABLE_DEFAULTS;
+        case ConfigTable::PublishSubscribe: return IOX2SD_TABLE_PUBLISH_SUBSCRIBE;
+        case ConfigTable::Event: return IOX2SD_TABLE_EVENT;
+        case ConfigTable::RequestResponse: return IOX2SD_TABLE_REQUEST_RESPONSE;
+        case ConfigTable::Blackboard: return IOX2SD_TABLE_BLACKBOARD;
+    }
+    return none;
+}
+
+std::uint64_t of_header(TomlType type) {
+    switch (type) {
+        case TomlType::None: return IOX2SD_TOML_NONE;
+        case TomlType::String: return IOX2SD_TOML_STRING;
+        case TomlType::Integer: return IOX2SD_TOML_INTEGER;
+        case TomlType::Float: return IOX2SD_TOML_FLOAT;
+        case TomlType::Boolean: return IOX2SD_TOML_BOOLEAN;
+        case TomlType::Datetime: return IOX2SD_TOML_DATETIME;
+        case TomlType::Array: return IOX2SD_TOML_ARRAY;
+        case TomlType::Table: return IOX2SD_TOML_TABLE;
+    }
+    return none;
+}
+
+std::uint64_t of_header(SettingKind kind) {
+    switch (kind) {
+        case SettingKind::None: return IOX2SD_KIND_NONE;
+        case SettingKind::Table: return IOX2SD_KIND_TABLE;
+        case SettingKind::Number: return IOX2SD_KIND_NUMBER;
+        case SettingKind::Flag: return IOX2SD_KIND_FLAG;
+        case SettingKind::Path: return IOX2SD_KIND_PATH;
+        case SettingKind::NameOfFile: return IOX2SD_KIND_FILE_NAME;
+        case SettingKind::Backpressure: return IOX2SD_KIND_BACKPRESSURE;
+        case SettingKind::Allocation: return IOX2SD_KIND_ALLOCATION;
+        case SettingKind::Duration: return IOX2SD_KIND_DURATION;
+    }
+    return none;
+}
+
 std::uint64_t of_header(Status status) {
     switch (status) {
         case Status::Done: return IOX2SD_DONE;
@@ -309,6 +353,9 @@ void enumerators() {
     numbers<AllocationStrategy>(IOX2SD_ALLOCATION_BEST_FIT, 3);
     numbers<SettingsField>(IOX2SD_BACKPRESSURE_STRATEGY, 32);
     numbers<ConfigEntry>(IOX2SD_ROOT_PATH, 20);
+    numbers<ConfigTable>(IOX2SD_TABLE_ROOT, 9);
+    numbers<TomlType>(IOX2SD_TOML_NONE, 8);
+    numbers<SettingKind>(IOX2SD_KIND_NONE, 9);
     // Some numbers are those of no status. C has a text for each status.
     std::size_t statuses = 0;
     for (std::uint32_t number = 0; number < 1000; ++number) {

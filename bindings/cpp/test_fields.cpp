@@ -1,12 +1,12 @@
 // Each field counts: a value with one field changed is unequal, ordered and hashed otherwise, and
 // each field of a struct of C is read and written by its own name. The linker puts the functions
-// `__wrap_..` below in the place of the library's, which alone see settings. The last line is
-// 'N checks, N failed'.
+// `__wrap_..` below in the place of the library's, which alone see settings and tickets. The last
+// line is 'N checks, N failed'.
 #include <string>
 #include <vector>
 
 #include "check.hpp"
-#include "iox2sd.hpp"
+#include "iox2sd_config.hpp"
 
 namespace {
 
@@ -70,6 +70,19 @@ void change(Duration& span) { ++span.nanoseconds; }
 void change(EventId& id) { ++id.value; }
 void change(TypeDetail& detail) { detail = type("changed"); }
 void change(MessageTypeDetails& details) { change(details.payload); }
+void change(std::string_view& text) { text = "changed"; }
+template <std::size_t Capacity>
+void change(Text<Capacity>& text) {
+    text = Text<Capacity>::written_by(iox2sd_version).value();
+}
+void change(Path& text) { text = Path::create("changed").value(); }
+void change(FileName& text) { text = FileName::create("changed").value(); }
+void change(ConfigTexts& texts) { change(texts.prefix); }
+void change(GlobalSettings& settings) { change(settings.creation_timeout); }
+template <class T>
+auto change(T& settings) -> decltype(static_cast<void>(settings.max_nodes)) {
+    ++settings.max_nodes;
+}
 
 template <class T>
 constexpr bool is_optional = false;
@@ -177,6 +190,28 @@ void settings() {
     BlackboardStaticConfig fixed(boards, type("k"));
     auto& [max_readers, max_writers, max_nodes, key_type] = fixed;
     each_counts(fixed, max_readers, max_writers, max_nodes, key_type);
+}
+
+void config_files() {
+    ConfigFault fault{Status::WrongType, ConfigTable::Event, TomlType::Float, SettingKind::Number,
+                      {}, {}};
+    {
+        auto& [a, b, c, d, e, f] = fault;
+        each_counts(fault, a, b, c, d, e, f);
+    }
+    ConfigWriteError unwritten{Status::BadDuration, SettingsField::Deadline, {}};
+    auto& [status, field, written_key] = unwritten;
+    each_counts(unwritten, status, field, written_key);
+    UnknownKey unknown{ConfigTable::Event, "key", {}};
+    auto& [table, unknown_key, meant] = unknown;
+    each_counts(unknown, table, unknown_key, meant);
+    Config config = Config::from_toml("").value().config;
+    {
+        auto& [a, b, c, d, e, f, g, h, i, j, k, l, m, n, o, p] = config.texts;
+        each_counts(config.texts, a, b, c, d, e, f, g, h, i, j, k, l, m, n, o, p);
+    }
+    auto& [global, texts, samples, events, requests, boards] = config;
+    each_counts(config, global, texts, samples, events, requests, boards);
 }
 
 template <class Id>
@@ -373,9 +408,18 @@ void handles() {
     CHECK(c.service == 1 && c.role == IOX2SD_READER && c.slot == 3 && c.ticket == 4);
 }
 
+/// What an array has no room for is cut off.
+void fronts() {
+    std::uint8_t bytes[80];
+    for (std::uint8_t& byte : bytes) byte = 'x';
+    for (std::size_t length : {0, 1, 79, 80, 81, 300}) {
+        CHECK(detail::front<80>(bytes, length) == string(length < 80 ? length : 80, 'x'));
+    }
+}
+
 }  // namespace
 
-// ---- Settings, which the library answers and takes ----
+// ---- Settings and services, which the library answers and takes ----
 
 extern "C" {
 
@@ -423,6 +467,18 @@ iox2sd_field_answer __wrap_iox2sd_request_response_settings_check_at(
     return {IOX2SD_DONE, 0};
 }
 
+/// With what a service was to be made last. None is made.
+static iox2sd_capacities given_capacities;
+static std::uint64_t given_pattern, given_number, given_tickets;
+
+uint32_t __wrap_iox2sd_service_create_at(iox2sd_service*, size_t, uint32_t pattern,
+                                         uint64_t number, iox2sd_capacities capacities,
+                                         uint64_t tickets) {
+    given_pattern = pattern, given_number = number;
+    given_capacities = capacities, given_tickets = tickets;
+    return IOX2SD_DONE;
+}
+
 /// How a script's calls end: the first, which asks for room, and the second.
 static iox2sd_script_answer first_run, second_run;
 
@@ -455,6 +511,23 @@ void scripts() {
     ended(run(room, {IOX2SD_DONE, 0, 3}), Status::Done, 0, "abc");
     ended(run(room, {IOX2SD_BAD_LINE, 7, 3}), Status::BadLine, 7, "abc");
     ended(run(room, {IOX2SD_NO_MEMORY, 0, 2}), Status::NoMemory, 0, "ab");
+}
+
+/// A service has all tickets where the caller names none.
+void crossing_services() {
+    const auto given = [](PatternKind pattern, std::uint64_t number, std::uint64_t tickets) {
+        return given_pattern == static_cast<std::uint64_t>(pattern) && given_number == number &&
+               given_tickets == tickets && given_capacities.nodes == 1 &&
+               given_capacities.first == 2 && given_capacities.second == 3;
+    };
+    CHECK(Service::create(PatternKind::Blackboard, 7, {1, 2, 3}).has_value());
+    CHECK(given(PatternKind::Blackboard, 7, UINT64_MAX));
+    CHECK(Service::create(PatternKind::RequestResponse, 8, {1, 2, 3}, 9).has_value());
+    CHECK(given(PatternKind::RequestResponse, 8, 9));
+    EventStaticConfig events = EventSettings::defaults();
+    events.max_nodes = 1, events.max_listeners = 2, events.max_notifiers = 3;
+    CHECK(Service::create(events, 10).has_value() && given(PatternKind::Event, 10, UINT64_MAX));
+    CHECK(Service::create(events, 11, 12).has_value() && given(PatternKind::Event, 11, 12));
 }
 
 void crossing_settings() {
@@ -548,12 +621,15 @@ void crossing_requests() {
 int main() {
     plain_values();
     settings();
+    config_files();
     checked_values();
     sets();
     descriptions();
     ports();
     handles();
+    fronts();
     scripts();
+    crossing_services();
     crossing_settings();
     crossing_samples();
     crossing_requests();

@@ -316,6 +316,10 @@ void moved_lists() {
     assigned = std::move(list);
     CHECK(list.empty() && list.size() == 0 && list.begin() == list.end() && list != assigned);
     CHECK(assigned == moved);
+    List<UniqueNodeId> full = service.nodes().value();
+    full = std::move(assigned);
+    CHECK(assigned.empty() && assigned.begin() == assigned.end() && full == moved);
+    assigned = std::move(full);
     List<UniqueNodeId>& itself = assigned;
     assigned = std::move(itself);
     CHECK(assigned == moved);

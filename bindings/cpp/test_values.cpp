@@ -187,6 +187,7 @@ void copies_and_moves() {
     CHECK(taken == Status::TooLarge && taken != listed());
     taken = listed();
     CHECK(taken == listed() && taken->back() == 2);
+    CHECK(taken != List<int>::of(items, 2, [](int n) { return 2 * n; }));
     auto& same = taken;
     taken = std::move(same);
     CHECK(taken == listed());
@@ -727,13 +728,15 @@ iox2sd_description described(const Settings& settings, Describe describe) {
 /// The description with this part, which is to show the part as it was given.
 template <class Part>
 StaticConfig shown(const Part& part) {
-    const StaticConfig made =
-        StaticConfig::create(ServiceName::create("a").value(), UniqueServiceId(1, 2, 3, 4),
-                             AttributeSet(), part)
-            .value();
-    CHECK(made.messaging_pattern() == MessagingPattern(part));
-    CHECK(made.service_hash() == ServiceHash::create(made.name(), made.kind()).value());
-    return made;
+    const auto named = [&part](const ServiceName& name) {
+        const StaticConfig made =
+            StaticConfig::create(name, UniqueServiceId(1, 2, 3, 4), AttributeSet(), part).value();
+        CHECK(made.messaging_pattern() == MessagingPattern(part) && made.name() == name);
+        CHECK(made.service_hash() == ServiceHash::create(name, made.kind()).value());
+        return made;
+    };
+    named(ServiceName::internal_new("iox2://a").value());
+    return named(ServiceName::create("a").value());
 }
 
 /// A description has the fields that the library fills in for C from the same settings.

@@ -101,6 +101,14 @@ class Verifiers(unittest.TestCase):
         self.assertEqual(list(verifier.required_attributes), [pair("colour", "red")])
         self.assertEqual(verifier.required_keys, (SIZE,))
 
+    def test_required_keys_are_kept_as_a_plain_tuple(self):
+        class Keys(tuple):
+            """A tuple that may change, as it has attributes of its own."""
+
+        verifier = AttributeVerifier(AttributeSet(), Keys([SIZE, COLOUR]))
+        self.assertIs(type(verifier.required_keys), tuple)
+        self.assertEqual(verifier.required_keys, (SIZE, COLOUR))
+
     def test_what_a_set_lacks(self):
         verifier = AttributeVerifier().require(COLOUR, AttributeValue("red"))
         verifier = verifier.require(COLOUR, AttributeValue("green")).require_key(SIZE)

@@ -1,4 +1,5 @@
 import copy
+import ctypes
 import pickle
 import tempfile
 import unittest
@@ -6,7 +7,7 @@ from dataclasses import replace
 from pathlib import Path as SystemPath
 
 import iox2sd
-from iox2sd import BadConfig, Config, ConfigFault, FileName, Path, UnknownKey
+from iox2sd import BadConfig, Config, ConfigFault, FileName, Path, UnknownKey, config
 
 ALL = Config(
     global_cfg=iox2sd.GlobalConfig(
@@ -103,6 +104,11 @@ class ConfigFiles(unittest.TestCase):
         self.assertEqual(str(refused), lines)
         for made in (copy.copy(refused), pickle.loads(pickle.dumps(refused))):
             self.assertEqual((made.faults, str(made)), (refused.faults, lines))
+
+    def test_what_an_array_has_no_room_for_is_cut_off(self):
+        array = (ctypes.c_uint8 * 80)(*b"x" * 80)
+        for length in (0, 1, 79, 80, 81, 300):
+            self.assertEqual(config._front(array, length), "x" * min(length, 80))
 
     def test_no_toml(self):
         refused = self.refused("[global]\nprefix\n")

@@ -325,8 +325,8 @@ class Nodes(unittest.TestCase):
     def test_an_exception_leaves_a_with_statement(self):
         """What was registered and attached is given back, and the exception is the body's own."""
 
-        class Own(Exception):
-            pass
+        class Own(BaseException):
+            """As `KeyboardInterrupt` is one."""
 
         made = service()
         with self.assertRaises(Own), made:

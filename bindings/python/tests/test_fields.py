@@ -159,6 +159,19 @@ class Fields(unittest.TestCase):
                     self.assertIs(type(other), type(value))
                     self.differ(value, other)
 
+    def test_values_that_have_an_order(self):
+        """They are ordered by the first field that differs."""
+        rising: "list[list[Any]]" = [
+            [pair("a", "v"), pair("a", "w"), pair("b", "u")],
+            [iox2sd.Duration(1, 5), iox2sd.Duration(1, 6), iox2sd.Duration(2, 0)],
+            [iox2sd.EventId(9), iox2sd.EventId(10)],
+        ]
+        for values in rising:
+            self.assertEqual(sorted(reversed(values)), values)
+            for less, greater in zip(values, values[1:]):
+                self.assertTrue(less < greater and less <= greater and not less > greater)
+                self.assertTrue(greater > less and greater >= less and not greater < less)
+
     def test_texts_that_evaluate(self):
         enums = [
             member

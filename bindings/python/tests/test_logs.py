@@ -38,6 +38,7 @@ class Logs(unittest.TestCase):
             SERVICE + "\nleave\n": UnexpectedLine(3, Expected.COMMAND),
             SERVICE + "nodes\n": UnexpectedLine(3, Expected.REPLY),
             SERVICE + "nodes\n= list": UnexpectedLine(3, Expected.REPLY),
+            SERVICE + "nodes\n= list\n\0": UnexpectedLine(4, Expected.COMMAND),
         }
         for log, verdict in cases.items():
             with self.subTest(log=log):

@@ -29,6 +29,9 @@ class Types(unittest.TestCase):
         with self.assertRaises(iox2sd.NotUtf8):
             TypeDetail("\ud800", 0, 1)
 
+    def test_a_type_is_of_one_value_where_nothing_else_is_said(self):
+        self.assertIs(TypeDetail("T", 8, 8).variant, TypeVariant.FIXED_SIZE)
+
     def test_alignments(self):
         for alignment in (1, 2, 2**63):
             self.assertEqual(TypeDetail("T", 2**64 - 1, alignment).alignment, alignment)

@@ -29,6 +29,8 @@ class Scripts(unittest.TestCase):
             (b"\xff\xfe\n", 1, ""),
             ("service event 7 1 2 2\nregister 1.0.0.1", 2, ""),
             ("service event 7 1 2 2\nnodes\0\n", 2, ""),
+            (b"service event 7 1 2 2\nnodes\n\0", 3, "list\n"),
+            ("service event 7 1 2 2\nnodes\n\0", 3, "list\n"),
         ]
         for script, line, replies in cases:
             with self.subTest(script=script):

@@ -2,8 +2,9 @@
 #![forbid(unsafe_code)]
 
 use iox2sd::config::{
-    AllocationStrategy, BackpressureStrategy, Config, ConfigError, ConfigFault, ConfigFileError,
-    ConfigWriteError, Fault, SettingKind, TomlType,
+    AllocationStrategy, BackpressureStrategy, Blackboard, Config, ConfigError, ConfigFault,
+    ConfigFileError, ConfigWriteError, Defaults, Event, Fault, PublishSubscribe, RequestResonse,
+    SettingKind, TomlType,
 };
 use iox2sd::paths::{FileName, Path};
 use iox2sd::semantic_string::SemanticStringError::{ExceedsMaximumLength, InvalidContent};
@@ -29,6 +30,75 @@ fn an_empty_text_has_the_defaults() {
     assert_eq!(file.config, Config::default());
     assert!(file.unknown.is_empty());
 }
+
+/// Every setting, each number with a value of its own.
+const EACH_SETTING: &str = "\
+[global]
+root-path = '/r'
+prefix = 'p_'
+creation-timeout = {secs = 3, nanos = 4}
+[global.service]
+directory = 's'
+data-segment-suffix = '.a'
+static-config-storage-suffix = '.b'
+dynamic-config-storage-suffix = '.c'
+connection-suffix = '.d'
+event-connection-suffix = '.e'
+blackboard-mgmt-suffix = '.f'
+blackboard-data-suffix = '.g'
+cleanup-dead-nodes-on-open = false
+[global.node]
+directory = 'n'
+monitor-suffix = '.h'
+static-config-suffix = '.i'
+service-tag-suffix = '.j'
+port-tag-suffix = '.k'
+global-mgmt-suffix = '.l'
+cleanup-dead-nodes-on-creation = false
+cleanup-dead-nodes-on-destruction = true
+[defaults.publish-subscribe]
+max-subscribers = 101
+max-publishers = 102
+max-nodes = 103
+subscriber-max-buffer-size = 104
+subscriber-max-borrowed-samples = 105
+publisher-max-loaned-samples = 106
+publisher-history-size = 107
+enable-safe-overflow = false
+backpressure-strategy = 'DiscardData'
+subscriber-expired-connection-buffer = 108
+publisher-allocation-strategy = 'BestFit'
+[defaults.event]
+max-listeners = 201
+max-notifiers = 202
+max-nodes = 203
+event-id-max-value = 204
+deadline = {secs = 205, nanos = 206}
+notifier-created-event = 207
+notifier-dropped-event = 208
+notifier-dead-event = 209
+[defaults.request-response]
+enable-safe-overflow-for-requests = false
+enable-safe-overflow-for-responses = true
+max-active-requests-per-client = 301
+max-response-buffer-size = 302
+max-servers = 303
+max-clients = 304
+max-nodes = 305
+max-borrowed-responses-per-pending-response = 306
+max-loaned-requests = 307
+server-max-loaned-responses-per-request = 308
+client-backpressure-strategy = 'DiscardData'
+server-backpressure-strategy = 'RetryUntilDelivered'
+client-expired-connection-buffer = 309
+server-expired-connection-buffer = 310
+enable-fire-and-forget-requests = false
+client-allocation-strategy = 'Static'
+server-allocation-strategy = 'PowerOfTwo'
+[defaults.blackboard]
+max-readers = 401
+max-nodes = 402
+";
 
 #[test]
 fn each_setting_is_read_and_written() {
@@ -57,39 +127,59 @@ fn each_setting_is_read_and_written() {
     node.port_tag_suffix = name(".k");
     node.global_mgmt_suffix = name(".l");
     node.cleanup_dead_nodes_on_creation = false;
-    let samples = &mut wanted.defaults.publish_subscribe;
-    samples.max_subscribers = 101;
-    samples.subscriber_expired_connection_buffer = 102;
-    samples.backpressure_strategy = BackpressureStrategy::DiscardData;
-    samples.publisher_allocation_strategy = AllocationStrategy::BestFit;
-    let event = &mut wanted.defaults.event;
-    event.deadline = Some(Duration::new(205, 206));
-    event.notifier_created_event = Some(207);
-    event.notifier_dropped_event = Some(208);
-    event.notifier_dead_event = Some(209);
-    let requests = &mut wanted.defaults.request_response;
-    requests.max_borrowed_responses_per_pending_response = 301;
-    requests.server_allocation_strategy = AllocationStrategy::PowerOfTwo;
-    requests.enable_fire_and_forget_requests = false;
-    wanted.defaults.blackboard.max_readers = 401;
-    let text = wanted.to_toml().unwrap();
-    let lines = [
-        "root-path = \"/r\"",
-        "creation-timeout = { nanos = 4, secs = 3 }",
-        "static-config-suffix = \".i\"",
-        "cleanup-dead-nodes-on-creation = false",
-        "subscriber-expired-connection-buffer = 102",
-        "deadline = { nanos = 206, secs = 205 }",
-        "notifier-dead-event = 209",
-        "server-allocation-strategy = \"PowerOfTwo\"",
-        "max-readers = 401",
-    ];
-    for line in lines {
-        assert!(text.contains(&format!("\n{line}\n")), "{line}");
+    wanted.defaults = Defaults {
+        publish_subscribe: PublishSubscribe {
+            max_subscribers: 101,
+            max_publishers: 102,
+            max_nodes: 103,
+            subscriber_max_buffer_size: 104,
+            subscriber_max_borrowed_samples: 105,
+            publisher_max_loaned_samples: 106,
+            publisher_history_size: 107,
+            enable_safe_overflow: false,
+            backpressure_strategy: BackpressureStrategy::DiscardData,
+            subscriber_expired_connection_buffer: 108,
+            publisher_allocation_strategy: AllocationStrategy::BestFit,
+        },
+        event: Event {
+            max_listeners: 201,
+            max_notifiers: 202,
+            max_nodes: 203,
+            event_id_max_value: 204,
+            deadline: Some(Duration::new(205, 206)),
+            notifier_created_event: Some(207),
+            notifier_dropped_event: Some(208),
+            notifier_dead_event: Some(209),
+        },
+        request_response: RequestResonse {
+            enable_safe_overflow_for_requests: false,
+            enable_safe_overflow_for_responses: true,
+            max_active_requests_per_client: 301,
+            max_response_buffer_size: 302,
+            max_servers: 303,
+            max_clients: 304,
+            max_nodes: 305,
+            max_borrowed_responses_per_pending_response: 306,
+            max_loaned_requests: 307,
+            server_max_loaned_responses_per_request: 308,
+            client_backpressure_strategy: BackpressureStrategy::DiscardData,
+            server_backpressure_strategy: BackpressureStrategy::RetryUntilDelivered,
+            client_expired_connection_buffer: 309,
+            server_expired_connection_buffer: 310,
+            enable_fire_and_forget_requests: false,
+            client_allocation_strategy: AllocationStrategy::Static,
+            server_allocation_strategy: AllocationStrategy::PowerOfTwo,
+        },
+        blackboard: Blackboard {
+            max_readers: 401,
+            max_nodes: 402,
+        },
+    };
+    for text in [EACH_SETTING, &wanted.to_toml().unwrap()] {
+        let file = Config::from_toml(text).unwrap();
+        assert_eq!(file.config, wanted);
+        assert!(file.unknown.is_empty());
     }
-    let file = Config::from_toml(&text).unwrap();
-    assert_eq!(file.config, wanted);
-    assert!(file.unknown.is_empty());
 }
 
 #[test]
@@ -142,6 +232,57 @@ fn each_fault_is_told_with_its_key() {
         Fault::NoFileName(ExceedsMaximumLength),
     ];
     assert_eq!(found, expected);
+}
+
+#[test]
+fn types_are_told_that_are_found_and_wanted() {
+    let flag = "global.node.cleanup-dead-nodes-on-creation";
+    let backpressure = "defaults.publish-subscribe.backpressure-strategy";
+    let allocation = "defaults.publish-subscribe.publisher-allocation-strategy";
+    let cases = [
+        (flag, "''", TomlType::String, SettingKind::Flag),
+        (flag, "1", TomlType::Integer, SettingKind::Flag),
+        (flag, "1.5", TomlType::Float, SettingKind::Flag),
+        (flag, "1979-05-27", TomlType::Datetime, SettingKind::Flag),
+        (flag, "[]", TomlType::Array, SettingKind::Flag),
+        (flag, "{}", TomlType::Table, SettingKind::Flag),
+        (
+            "defaults.event.max-nodes",
+            "true",
+            TomlType::Boolean,
+            SettingKind::Number,
+        ),
+        ("global", "1", TomlType::Integer, SettingKind::Table),
+        (
+            "global.root-path",
+            "1",
+            TomlType::Integer,
+            SettingKind::Path,
+        ),
+        (
+            "global.prefix",
+            "1",
+            TomlType::Integer,
+            SettingKind::FileName,
+        ),
+        (
+            "global.creation-timeout",
+            "1",
+            TomlType::Integer,
+            SettingKind::Duration,
+        ),
+        (
+            backpressure,
+            "1",
+            TomlType::Integer,
+            SettingKind::Backpressure,
+        ),
+        (allocation, "1", TomlType::Integer, SettingKind::Allocation),
+    ];
+    for (key, value, found, wanted) in cases {
+        let told = faults(&format!("{key} = {value}"));
+        assert_eq!(told[0].fault, Fault::WrongType { found, wanted }, "{key}");
+    }
 }
 
 #[test]

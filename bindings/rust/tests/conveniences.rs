@@ -67,6 +67,12 @@ fn limits_are_constants_and_those_of_the_library() {
 }
 
 #[test]
+fn versions_are_those_of_the_crate_and_of_the_layer() {
+    assert_eq!(iox2sd::version(), env!("CARGO_PKG_VERSION"));
+    assert_eq!(iox2sd::layer_version(), "0.9.3");
+}
+
+#[test]
 fn the_prefix_is_that_of_the_library() {
     assert!(ServiceName::has_iox2_prefix(INTERNAL_SERVICE_PREFIX));
     let shorter = &INTERNAL_SERVICE_PREFIX[..INTERNAL_SERVICE_PREFIX.len() - 1];

@@ -207,13 +207,21 @@ fn patterns_are_the_same_whatever_is_fixed_by_them() {
 #[test]
 fn what_is_fixed_comes_from_the_defaults() {
     let mut config = Config::default();
-    config.defaults.event.deadline = Some(Duration::new(3, 4));
-    config.defaults.event.notifier_dead_event = Some(9);
-    config.defaults.publish_subscribe.publisher_history_size = 5;
-    config
-        .defaults
-        .request_response
-        .enable_fire_and_forget_requests = false;
+    let events = &mut config.defaults.event;
+    events.deadline = Some(Duration::new(3, 4));
+    events.notifier_created_event = Some(8);
+    events.notifier_dead_event = Some(9);
+    events.max_listeners = 15;
+    let samples = &mut config.defaults.publish_subscribe;
+    samples.publisher_history_size = 5;
+    samples.subscriber_max_buffer_size = 6;
+    samples.subscriber_max_borrowed_samples = 7;
+    let requests = &mut config.defaults.request_response;
+    requests.enable_fire_and_forget_requests = false;
+    requests.enable_safe_overflow_for_responses = false;
+    requests.max_loaned_requests = 9;
+    requests.max_response_buffer_size = 10;
+    requests.max_borrowed_responses_per_pending_response = 11;
     config.defaults.blackboard.max_readers = 3;
     let [publish_subscribe, event, request_response, blackboard] = descriptions(&config);
 
@@ -224,8 +232,8 @@ fn what_is_fixed_comes_from_the_defaults() {
         (2, 8)
     );
     assert_eq!(service.max_nodes(), 20);
-    assert_eq!(service.subscriber_max_buffer_size(), 2);
-    assert_eq!(service.subscriber_max_borrowed_samples(), 2);
+    assert_eq!(service.subscriber_max_buffer_size(), 6);
+    assert_eq!(service.subscriber_max_borrowed_samples(), 7);
     assert!(service.has_safe_overflow());
     assert!(!service.message_type_details().has_alignments());
 
@@ -233,9 +241,9 @@ fn what_is_fixed_comes_from_the_defaults() {
     assert_eq!(service.deadline(), Some(Duration::new(3, 4)));
     assert_eq!(service.notifier_dead_event(), Some(EventId::new(9)));
     assert_eq!(service.notifier_dead_event().unwrap().to_string(), "9");
-    assert_eq!(service.notifier_created_event(), None);
+    assert_eq!(service.notifier_created_event(), Some(EventId::new(8)));
     assert_eq!(service.notifier_dropped_event(), None);
-    assert_eq!((service.max_listeners(), service.max_notifiers()), (16, 16));
+    assert_eq!((service.max_listeners(), service.max_notifiers()), (15, 16));
     assert_eq!(
         (service.max_nodes(), service.event_id_max_value()),
         (36, 255)
@@ -244,15 +252,15 @@ fn what_is_fixed_comes_from_the_defaults() {
     let service = request_response.request_response();
     assert!(!service.does_support_fire_and_forget_requests());
     assert!(service.has_safe_overflow_for_requests());
-    assert!(service.has_safe_overflow_for_responses());
+    assert!(!service.has_safe_overflow_for_responses());
     assert_eq!((service.max_servers(), service.max_clients()), (2, 8));
     assert_eq!(
         (service.max_nodes(), service.max_loaned_requests()),
-        (20, 2)
+        (20, 9)
     );
     assert_eq!(service.max_active_requests_per_client(), 4);
-    assert_eq!(service.max_response_buffer_size(), 2);
-    assert_eq!(service.max_borrowed_responses_per_pending_response(), 2);
+    assert_eq!(service.max_response_buffer_size(), 10);
+    assert_eq!(service.max_borrowed_responses_per_pending_response(), 11);
 
     let service = blackboard.blackboard();
     assert_eq!((service.max_readers(), service.max_writers), (3, 1));

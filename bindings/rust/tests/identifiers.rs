@@ -78,6 +78,7 @@ fn an_id_of_a_port_has_its_kind() {
     ];
     for id in ids {
         assert_eq!((id.value(), id.to_string().as_str()), (5, "5"));
+        assert_eq!(format!("[{id:>3}]"), "[  5]");
     }
     assert_eq!(HashSet::from(ids).len(), ids.len());
 }

@@ -131,6 +131,16 @@ fn the_ids_to_keep_alone_are_sorted() {
     );
 }
 
+/// No call answers how many tickets are left, and none can use up all of them.
+#[test]
+fn a_service_has_all_tickets_where_none_are_named() {
+    let made = "Self::with_tickets(settings, max_nodes, service_number, u64::MAX)";
+    assert_eq!(
+        places("u64::MAX"),
+        [format!("dynamic_config/service.rs: {made}")]
+    );
+}
+
 #[test]
 fn no_rule_stands_in_the_code() {
     for rule in [

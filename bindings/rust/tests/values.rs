@@ -207,9 +207,11 @@ fn texts_and_attributes_differ() -> Result<(), Box<dyn std::error::Error>> {
     let names = ["a", "aa", "b"].map(|name| name.parse::<ServiceName>().unwrap());
     differ_ordered(&names);
     let name = names[0];
-    let owned = String::from("a");
+    let (owned, other) = (String::from("a"), String::from("b"));
     assert!(name == *"a" && name == "a" && name == owned);
-    assert!(*"a" == name && "a" == name && owned == name && "b" != name);
+    assert!(*"a" == name && "a" == name && owned == name);
+    assert!(name != *"b" && name != "b" && name != other);
+    assert!(*"b" != name && "b" != name && other != name);
     assert_eq!(ServiceName::try_from(owned), Ok(name));
     assert_eq!("a".parse::<Path>()?, Path::new(b"a")?);
     let attribute =
