@@ -59,8 +59,8 @@
 #define IOX2SD_VERSION_PATCH 0
 #define IOX2SD_VERSION "0.1.0"
 
-/* How much of the stack a call of this header or of iox2sd_values.h takes at most, in bytes. Calls
- * of the other headers take more, as they say. It is measured, not proved. */
+/* How much of the stack a call of this header, of iox2sd_values.h or of iox2sd_script.h takes at
+ * most, in bytes. Calls of the other headers take more, as they say. It is measured, not proved. */
 #define IOX2SD_STACK_BYTES 8192
 
 #ifdef __cplusplus

@@ -3,15 +3,12 @@
  * docs/SCRIPT.md has all lines and replies.
  *
  * A run takes memory by malloc and realloc, and frees all of it before it returns. It takes at most
- * IOX2SD_SCRIPT_STACK_BYTES of the stack.
+ * IOX2SD_STACK_BYTES of the stack.
  */
 #ifndef IOX2SD_SCRIPT_H
 #define IOX2SD_SCRIPT_H
 
 #include "iox2sd.h"
-
-/* How much of the stack a run takes at most, in bytes. It is measured, not proved. */
-#define IOX2SD_SCRIPT_STACK_BYTES 40960
 
 #ifdef __cplusplus
 extern "C" {

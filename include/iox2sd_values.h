@@ -18,6 +18,7 @@
  *   are listed.
  * - No call writes past the length that is passed, keeps a pointer, takes memory, or calls back.
  *   There is no global state: calls may run on several threads at once, where they share no buffer.
+ *   A call takes at most IOX2SD_STACK_BYTES of the stack.
  * - Results have padding: compare them by their fields.
  */
 #ifndef IOX2SD_VALUES_H

@@ -68,6 +68,11 @@ static const char *const script =
     "service publish-subscribe 9 4 4 4\nregister 1.1.0.5\nregister 1.2.0.5\n"
     "add publisher 1.1.0.10 1.1.0.5\nadd subscriber 1.1.0.11 1.1.0.5\nnodes\ncount publisher\n"
     "list subscriber\nrelease 3\nderegister 2\ndead 1.1.0.5 skip 1.1.0.10\ndead 1.1.0.5\n";
+/* Each refusal of a script, and then a line that is not valid. */
+static const char *const refusals =
+    "service event 7 1 1 0\nadd listener 1.0.0.2 1.0.0.1\nregister 1.0.0.1\nregister 1.0.0.1\n"
+    "add notifier 1.0.0.3 1.0.0.1\nadd reader 1.0.0.4 1.0.0.1\nadd listener 1.0.0.2 1.0.0.1\n"
+    "list reader\nrelease 0\nrelease 1\nderegister 1\ndead 1.0.0.1\nregister 1.0.0.1\nlist node\n";
 static const char *const log_of_calls =
     "service event 7 2 2 2\nregister 1.0.0.1\n= handle 0 0\nadd listener 1.0.0.2 1.0.0.1\n"
     "= handle 1 0\nservice blackboard 8 2 2 2\n7: dead 1.0.0.1 skip 1.0.0.2\n= has-owners\n"
@@ -166,10 +171,10 @@ static char nested[3][1024];
     CALL(publish_subscribe_defaults, iox2sd_publish_subscribe_defaults()) \
     CALL(event_defaults, iox2sd_event_defaults()) \
     CALL(request_response_defaults, iox2sd_request_response_defaults()) \
-    CALL(blackboard_defaults, iox2sd_blackboard_defaults())
-
-#define SCRIPT_CALLS(CALL) \
-    CALL(script_run, iox2sd_script_run_at(TEXT(script), ALL(out)))
+    CALL(blackboard_defaults, iox2sd_blackboard_defaults()) \
+    CALL(script_run, iox2sd_script_run_at(TEXT(script), ALL(out))) \
+    CALL(script_run_short, iox2sd_script_run_at(TEXT(script), out, 1)) \
+    CALL(script_run_refused, iox2sd_script_run_at(TEXT(refusals), ALL(out)))
 
 #define CONFORM_CALLS(CALL) \
     CALL(conform_run, iox2sd_conform_run_at(TEXT(log_of_calls), ALL(out))) \
@@ -188,7 +193,6 @@ static char nested[3][1024];
 #define MAKE(label, expression) \
     static void call_##label(void) { (void)(expression); }
 CALLS(MAKE)
-SCRIPT_CALLS(MAKE)
 CONFORM_CALLS(MAKE)
 CONFIG_CALLS(MAKE)
 
@@ -199,11 +203,9 @@ typedef struct row {
 } row;
 
 #define PLAIN(label, expression) {#label, call_##label, IOX2SD_STACK_BYTES},
-#define OF_SCRIPT(label, expression) {#label, call_##label, IOX2SD_SCRIPT_STACK_BYTES},
 #define OF_CONFORM(label, expression) {#label, call_##label, IOX2SD_CONFORM_STACK_BYTES},
 #define OF_CONFIG(label, expression) {#label, call_##label, IOX2SD_CONFIG_STACK_BYTES},
-static const row rows[] = {CALLS(PLAIN) SCRIPT_CALLS(OF_SCRIPT) CONFORM_CALLS(OF_CONFORM)
-                               CONFIG_CALLS(OF_CONFIG)};
+static const row rows[] = {CALLS(PLAIN) CONFORM_CALLS(OF_CONFORM) CONFIG_CALLS(OF_CONFIG)};
 
 /* An array in an array, so often, or a table in a table. */
 static void nest(char *text, size_t depth, const char *open, const char *close) {
@@ -256,6 +258,8 @@ int main(int count, char **words) {
             printf("%s: %zu bytes, at most %zu\n", rows[i].name, depth, rows[i].bound);
         }
     }
+    CHECK(iox2sd_script_run_str(script, ALL(out)).status == IOX2SD_DONE);
+    CHECK(iox2sd_script_run_str(refusals, ALL(out)).line == 14);
     CHECK(iox2sd_service_free(&service) == IOX2SD_DONE);
     return end_of_checks();
 }
