@@ -14,5 +14,7 @@ pub mod Following
 pub mod Words
 pub mod Conforming
 pub mod Stepping
+pub mod Grouping
+pub mod CallsAlone
 pub mod Dying
 pub mod DeadSteps

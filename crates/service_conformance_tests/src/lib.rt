@@ -3,6 +3,8 @@
 #![tactic(auto)]
 
 #[cfg(test)]
+mod groups;
+#[cfg(test)]
 mod rows;
 #[cfg(test)]
 mod runs;

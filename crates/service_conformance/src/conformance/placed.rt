@@ -7,6 +7,7 @@ ghost use Rattle.iox2_dynamic.specs.Details.{node_of};
 ghost use Rattle.service_conformance.specs.Dead.{goes, is_kept, stays};
 ghost use Rattle.service_conformance.specs.Entries.{HasAt, IsAt, IsFreePosition, entry_at};
 
+use super::same::Same;
 use iox2_container::container::ContainerHandle;
 use iox2_dynamic::dynamic_config::PortDetails;
 use iox2_ids::identifiers::UniqueNodeId;
@@ -51,6 +52,12 @@ impl<T: Copy> Placed<T> {
         ensures { IsTrue result ↔ IsAt slot ticket self.now }
     {
         self.slot == slot && self.ticket == ticket
+    }
+}
+
+impl<T: Copy + Same> Same for Placed<T> {
+    fn same(&self, other: &Self) -> bool {
+        self.slot == other.slot && self.ticket == other.ticket && self.details.same(&other.details)
     }
 }
 
@@ -135,6 +142,24 @@ pub(super) fn details_of<T: Copy>(
         list.push(entry.details())?;
     }
     Ok(list)
+}
+
+/// A copy of the entries.
+pub(super) fn copied<T: Copy>(
+    alloc: Global,
+    entries: &[Placed<T>],
+) -> Result<Vec<Placed<T>>, AllocError>
+    ensures { IfOk result (λ copy. copy.items ≡ entries.now) }
+{
+    let mut copy = Vec::new(alloc);
+    for entry in entries {
+        copy.push(Placed {
+            slot: entry.slot(),
+            ticket: entry.ticket,
+            details: entry.details(),
+        })?;
+    }
+    Ok(copy)
 }
 
 /// The slots of the entries.

@@ -13,8 +13,9 @@ ghost use Rattle.service_conformance.specs.Dead.{stays, without_node, without_po
 ghost use Rattle.service_conformance.specs.Entries.{MayGive, Refuses, StandsAt};
 ghost use Rattle.service_conformance.specs.Words.{IsNextHandle, TellsHandle};
 
-use super::placed::{Placed, details_of, free_position, position_with, put, slots_of};
+use super::placed::{Placed, copied, details_of, free_position, position_with, put, slots_of};
 use super::possible::NextHandle;
+use super::same::{Same, are_same};
 use super::words::slot_and_ticket;
 use iox2_container::container::{ContainerAddFailure, ContainerHandle, ReleaseMode, Role};
 use iox2_dynamic::dynamic_config::PortDetails;
@@ -75,6 +76,22 @@ impl<T: Copy> RegistryCheck<T> {
             locked: false,
             entries: Vec::new(alloc),
         }
+    }
+
+    /// A copy.
+    pub(super) fn copied(&self, alloc: Global) -> Result<Self, AllocError>
+        ensures copy { IfOk result (λ copy. copy ≡ self.now) }
+        ensures kept { IsRegistry self.now }
+    {
+        Ok(RegistryCheck {
+            service: self.service,
+            role: self.role,
+            capacity: self.capacity,
+            tickets: self.tickets,
+            used: self.used,
+            locked: self.locked,
+            entries: copied(alloc, &self.entries)?,
+        })
     }
 
     /// Whether it is locked.
@@ -231,6 +248,21 @@ impl<T: Copy> RegistryCheck<T> {
         ensures kept { IsRegistry self.now }
     {
         details_of(alloc, &self.entries)
+    }
+}
+
+impl<T: Copy + Same> RegistryCheck<T> {
+    /// Whether two registries hold the same.
+    pub(super) fn same(&self, other: &Self) -> bool
+        ensures { IsTrue result ↔ (self.now ≡ other.now) }
+    {
+        self.service == other.service
+            && self.role == other.role
+            && self.capacity == other.capacity
+            && self.tickets == other.tickets
+            && self.used == other.used
+            && self.locked == other.locked
+            && are_same(&self.entries, &other.entries)
     }
 }
 

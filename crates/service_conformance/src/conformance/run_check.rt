@@ -1,7 +1,10 @@
 //! Checks of whole runs.
-ghost use Rattle.std.specs.Prelude.{◌≡◌, ◌++◌, IfOk, OnErr, All, length};
+ghost use Rattle.std.specs.Prelude.{◌≡◌, ◌↔◌, ◌++◌, ◌∷◌, [], IfOk, IsTrue, None, OnErr, OnOk, All, length};
+ghost use Rattle.std.specs.List.{slice_set};
+ghost use Rattle.iox2_container.specs.Handle.{Handle};
 ghost use Rattle.iox2_container.specs.Steps.{listed};
 ghost use Rattle.iox2_dynamic.specs.Service.{capacities_in};
+ghost use Rattle.service_conformance.specs.Groups.{FollowsAt, with_index};
 ghost use Rattle.service_conformance.specs.Possible.{IsCovered};
 ghost use Rattle.service_conformance.specs.Quiet.{quiet_state};
 ghost use Rattle.service_conformance.specs.Runs.{Follows, Conforms};
@@ -11,6 +14,7 @@ ghost use Rattle.service_descriptions.specs.Steps.{new_state};
 
 use super::possible::PossibleReplies;
 use super::replies::given;
+use super::same::are_same;
 use super::service_check::ServiceCheck;
 use iox2_container::container::ContainerHandle;
 use iox2_dynamic::dynamic_config::{MessagingPatternSettings, PortDetails};
@@ -42,6 +46,15 @@ impl Model for RunCheck {
     ghost view = { state_of };
 
     ghost invariant = { IsSound };
+}
+
+/// Keeps a handle at an index, if there is such an index.
+fn keep(earlier: &mut Vec<Option<ContainerHandle>>, index: usize, handle: Option<ContainerHandle>)
+    ensures { earlier.new.items ≡ slice_set earlier.old.items index handle }
+{
+    if index < earlier.len() {
+        earlier[index] = handle;
+    }
 }
 
 impl RunCheck {
@@ -106,6 +119,54 @@ impl RunCheck {
             return Ok(false);
         };
         self.earlier.push_reserved(given(&reply));
+        Ok(true)
+    }
+
+    /// A copy.
+    pub fn copied(&self, alloc: Global) -> Result<Self, AllocError>
+        ensures { IfOk result (λ copy. copy ≡ self.now) }
+    {
+        let service = self.service.copied(alloc)?;
+        let earlier = Vec::from_slice(alloc, &self.earlier)?;
+        Ok(RunCheck { service, earlier })
+    }
+
+    /// Whether two checks are in the same state.
+    pub fn same(&self, other: &Self) -> bool
+        ensures { IsTrue result ↔ (self.now ≡ other.now) }
+    {
+        self.service.same(&other.service) && are_same(&self.earlier, &other.earlier)
+    }
+
+    /// Holds an index for the handle of a command that takes effect later.
+    pub fn hold_index(&mut self) -> Result<(), AllocError>
+        ensures ok { OnOk result (self.new ≡ with_index self.old) }
+        ensures err { OnErr result (self.new ≡ self.old) }
+    {
+        self.earlier.push(None)?;
+        Ok(())
+    }
+
+    /// As `check_words`, for a command that has an index already, where its handle is kept.
+    pub fn check_words_at(
+        &mut self,
+        alloc: Global,
+        command: &LineCommand,
+        words: &[u8],
+        index: usize,
+    ) -> Result<bool, AllocError>
+        requires { IsCovered (command_of command.now) }
+        ensures ok { IfOk result (λ yes.
+            FollowsAt self.old index (command_of command.now) words.now yes self.new) }
+        ensures err { OnErr result (self.new ≡ self.old) }
+    {
+        let found = self
+            .service
+            .check_words(alloc, &self.earlier, command, words)?;
+        let Some(reply) = found else {
+            return Ok(false);
+        };
+        keep(&mut self.earlier, index, given(&reply));
         Ok(true)
     }
 

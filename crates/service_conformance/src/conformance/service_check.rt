@@ -1,5 +1,5 @@
 //! What a service must hold, by the commands and replies that were seen.
-ghost use Rattle.std.specs.Prelude.{◌≡◌, ◌-◌, ◌^◌, ◌||◌, IfOk, None, OnErr};
+ghost use Rattle.std.specs.Prelude.{◌≡◌, ◌↔◌, ◌-◌, ◌^◌, ◌||◌, IfOk, IsTrue, None, OnErr};
 ghost use Rattle.std.specs.List.{list_any};
 ghost use Rattle.iox2_dynamic.specs.Ports.{has_ports_of};
 ghost use Rattle.iox2_dynamic.specs.Service.{IsService, capacities_in, fresh_service};
@@ -146,6 +146,30 @@ impl ServiceCheck {
             first: RegistryCheck::new(alloc, number, roles.0, first, u64::MAX),
             second: RegistryCheck::new(alloc, number, roles.1, second, u64::MAX),
         }
+    }
+
+    /// A copy.
+    pub(super) fn copied(&self, alloc: Global) -> Result<Self, AllocError>
+        ensures { IfOk result (λ copy. copy ≡ self.now) }
+    {
+        // For the proof: what is true of every check.
+        let pattern = self.kind();
+        Ok(ServiceCheck {
+            pattern,
+            nodes: self.nodes.copied(alloc)?,
+            first: self.first.copied(alloc)?,
+            second: self.second.copied(alloc)?,
+        })
+    }
+
+    /// Whether two services hold the same.
+    pub(super) fn same(&self, other: &Self) -> bool
+        ensures { IsTrue result ↔ (self.now ≡ other.now) }
+    {
+        self.pattern == other.pattern
+            && self.nodes.same(&other.nodes)
+            && self.first.same(&other.first)
+            && self.second.same(&other.second)
     }
 
     /// The ports of one kind.
