@@ -3,6 +3,7 @@ ghost use Rattle.std.specs.Prelude.{◌≡◌, ◌≤◌, ◌↔◌, length, IsS
 ghost use Rattle.iox2_texts.specs.Name.{MakesLegal};
 ghost use Rattle.iox2_texts.specs.Path.{IsRestrictedName};
 
+use super::service_hash::SERVICE_HASH_CAPACITY;
 use arrayvec::ArrayVec;
 use iox2_texts::bounded::SemanticStringError;
 use iox2_texts::paths::RestrictedFileName;
@@ -68,7 +69,9 @@ impl HashValue {
     }
 
     /// The name of a file that the text is, as `RestrictedFileName::new` makes it.
-    pub(super) fn file_name(&self) -> Result<RestrictedFileName<64>, SemanticStringError>
+    pub(super) fn file_name(
+        &self,
+    ) -> Result<RestrictedFileName<SERVICE_HASH_CAPACITY>, SemanticStringError>
         ensures { MakesLegal (IsRestrictedName 64) 64 self.now result }
     {
         let bytes = self.bytes.as_slice();
