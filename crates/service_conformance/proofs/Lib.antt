@@ -16,5 +16,6 @@ pub mod Conforming
 pub mod Stepping
 pub mod Grouping
 pub mod CallsAlone
+pub mod QuietGroups
 pub mod Dying
 pub mod DeadSteps

@@ -67,3 +67,13 @@ IsEarlier calls first second =
 -- a call of the group leads from one state to another
 abbrev pub GroupStep : List SeenCall → State → ℕ → State → Type 0
 GroupStep calls old call new = MaybeStep (slice_get calls call) old new
+
+-- the call at an index, if there is one, leads from one state to another, with touches as counted
+abbrev pub MaybeWordsStep : Option SeenCall → State → State → Type 0
+MaybeWordsStep (Some call) old new =
+    WordsStepAt old call.number call.command call.words new
+MaybeWordsStep None old new = ⊥
+
+-- the same of a call of the group
+abbrev pub CountedStep : List SeenCall → State → ℕ → State → Type 0
+CountedStep calls old call new = MaybeWordsStep (slice_get calls call) old new
