@@ -1,7 +1,7 @@
 -- How many entries a test holds of.
 use Rattle.std.proofs.Common.{◌≡◌, ℕ, suc, ◌+◌, ◌≤◌, ◌<◌, Bool, true, false, Option, Some, None, List, [], ◌∷◌, ◌++◌, length, map, take, refl, sym, ◌∙◌, ap, arith, add-one, inl, inr}
 use Rattle.std.specs.Bool.{MatchBool}
-use Rattle.std.specs.Prelude.{All, MatchOption, if◌then◌else◌, nat_lt, not, slice_get, ◌&&◌}
+use Rattle.std.specs.Prelude.{All, IsSome, MatchOption, if◌then◌else◌, nat_lt, not, slice_get, ◌&&◌}
 use Rattle.std.proofs.lemmas.List.{append-nil}
 use Rattle.std.proofs.lemmas.List.Elements.{All-nil, All-cons}
 use Rattle.iox2_container.specs.declared.container.slots.cell.Occupant.{Occupant}
@@ -219,6 +219,18 @@ found_after node id from at to a b None l others b_is after =
     others_after node id from at to a b others b_is after
 found_after node id from at to a b (Some found) l others b_is next =
     next_after node id from at to to a b found l (omega arith) others b_is next
+
+-- the same of what was found before an end on the way
+pub found_within : {T N : Type 0} (node : T → ℕ) (id from at end to : ℕ) (a b : List (Cell T N))
+    (o : Option (Found T)) → IsSome o → from ≤ at → end ≤ to
+    → AreOthers node id (map shown a) from at → b ≡ a
+    → MatchOption o (AreOthers node id (map shown b) at end) (IsNextOf node id (map shown b) at end)
+    → MatchOption o (AreOthers node id (map shown a) from to)
+    (IsNextOf node id (map shown a) from to)
+found_within {T} node id from at end to a b None some l m others b_is next =
+    absurd (let none : IsSome {T = Found T} None = some in cc)
+found_within node id from at end to a b (Some found) some l m others b_is next =
+    next_after node id from at end to a b found l m others b_is next
 
 -- where no place has an entry of the node, it has none
 pub nowhere_counted : {T : Type 0} (node : T → ℕ) (id end : ℕ) (cells : List (Option (Occupant T)))

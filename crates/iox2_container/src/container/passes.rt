@@ -1,5 +1,5 @@
 //! Passes of a container over all its slots, one after another.
-ghost use Rattle.std.specs.Prelude.{◌≡◌, ◌+◌, ◌≤◌, ◌<◌, IsTrue, false, nat_lt};
+ghost use Rattle.std.specs.Prelude.{◌≡◌, ◌+◌, ◌≤◌, ◌<◌, IsSome, IsTrue, None, false, nat_lt};
 ghost use Rattle.std.specs.Prelude.{MatchOption, length, map, slice_set, if◌then◌else◌};
 ghost use Rattle.std.specs.Bool.{MatchBool};
 ghost use Rattle.std.specs.Fn.{CalledAt, TakesAt};
@@ -100,44 +100,54 @@ fn next_by_one<T: Attached + Copy, N: Copy>(
     None
 }
 
-/// The same as [`next_of`], for four slots.
+/// The same as [`next_of`], for four slots, and whether one of them has an entry of the node. What
+/// is found is written where the caller says, so that nothing is written where nothing is found.
 #[inline(always)]
 fn next_of_four<T: Attached + Copy, N: Copy>(
     places: &mut Places<T, N>,
     slot: usize,
     node: &UniqueNodeId,
-) -> Option<Found<T>>
-    requires { slot + 4 ≤ length places.old.cells }
+    found: &mut Option<Found<T>>,
+) -> bool
+    requires within { slot + 4 ≤ length places.old.cells }
+    requires nothing { found.old ≡ None }
     ensures cells { places.new.cells ≡ places.old.cells }
-    ensures touches { places.new.touches ≡ places.old.touches + looked_at slot (slot + 4) result }
-    ensures found { MatchOption result
+    ensures touches { places.new.touches
+        ≡ places.old.touches + looked_at slot (slot + 4) found.new }
+    ensures some { IsTrue result → IsSome found.new }
+    ensures none { result ≡ false → found.new ≡ None }
+    ensures found { MatchOption found.new
         (AreOthers T.node node.now (map shown places.old.cells) slot (slot + 4))
         (IsNextOf T.node node.now (map shown places.old.cells) slot (slot + 4)) }
 {
     // For the proof: the number of slots fits a `usize`.
     let _fits = places.len();
     if let Some(details) = places.look_for(slot, node) {
-        return Some(Found { slot, details });
+        *found = Some(Found { slot, details });
+        return true;
     }
     if let Some(details) = places.look_for(slot + 1, node) {
-        return Some(Found {
+        *found = Some(Found {
             slot: slot + 1,
             details,
         });
+        return true;
     }
     if let Some(details) = places.look_for(slot + 2, node) {
-        return Some(Found {
+        *found = Some(Found {
             slot: slot + 2,
             details,
         });
+        return true;
     }
     if let Some(details) = places.look_for(slot + 3, node) {
-        return Some(Found {
+        *found = Some(Found {
             slot: slot + 3,
             details,
         });
+        return true;
     }
-    None
+    false
 }
 
 /// The first entry of the node from one slot on and before the end. It reads each slot up to that
@@ -156,13 +166,14 @@ fn next_of<T: Attached + Copy, N: Copy>(
         (AreOthers T.node node.now (map shown places.old.cells) start end)
         (IsNextOf T.node node.now (map shown places.old.cells) start end) }
 {
+    let mut found = None;
     let mut slot = start;
     while end - slot >= 8 {
-        if let Some(found) = next_of_four(places, slot, node) {
-            return Some(found);
+        if next_of_four(places, slot, node, &mut found) {
+            return found;
         }
-        if let Some(found) = next_of_four(places, slot + 4, node) {
-            return Some(found);
+        if next_of_four(places, slot + 4, node, &mut found) {
+            return found;
         }
         slot += 8;
     }

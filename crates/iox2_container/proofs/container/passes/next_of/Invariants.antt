@@ -1,4 +1,4 @@
-use Rattle.std.proofs.Common.{◌≡◌, ◌+◌, ◌-◌, ◌≤◌, map}
+use Rattle.std.proofs.Common.{◌≡◌, ◌+◌, ◌-◌, ◌≤◌, None, map}
 use Rattle.iox2_container.specs.Cells.{shown}
 use Rattle.iox2_container.specs.Passes.{AreOthers}
 use Rattle.iox2_container.proofs.container.passes.next_of.Given as goal
@@ -7,6 +7,7 @@ abbrev pub invariant-loop-slot : goal.invariant-loop-slot
 invariant-loop-slot g l = record {
   order : l.start ≤ l.slot;
   within : l.slot ≤ l.end;
+  nothing : l.found ≡ None;
   cells : l.places.cells ≡ l.fn.places.cells;
   touches : l.places.touches + l.start ≡ l.fn.places.touches + l.slot;
   others : AreOthers g.T.Attached.node l.node (map shown l.fn.places.cells) l.start l.slot;

@@ -19,9 +19,10 @@ returns-in-Some-look_for-3-clause-found g c =
 
 pub returns-clause-found : goal.returns-clause-found
 returns-clause-found g c =
-    none_of_four g.T.Attached.node c.args.node.now c.args.slot c.args.places.now.cells
+    rw c.requires.nothing
+    (none_of_four g.T.Attached.node c.args.node.now c.args.slot c.args.places.now.cells
     c.look_for.new.self.cells c.in_default.ensures.found c.look_for.ensures.cells
     c.look_for-2.new.self.cells c.look_for-3.new.self.cells
     c.in_default-look_for.ensures.found c.look_for-2.ensures.cells
     c.in_default-look_for-2.ensures.found c.look_for-3.ensures.cells
-    c.in_default-look_for-3.ensures.found
+    c.in_default-look_for-3.ensures.found)
