@@ -1,5 +1,6 @@
 use iox2_config_file::{Section, read_config};
 use std::process::Abort;
+use std::test::Fail;
 
 /// A file, with the first of its unknown keys and what is proposed for it.
 const UNKNOWN: [(&str, &str, Option<&'static str>); 9] = [
@@ -71,4 +72,22 @@ fn unknown_keys_come_by_tables_and_keys(rt: HostRuntime) {
             ]
         )
     );
+}
+
+/// A key of each length up to 64 bytes is reported: no length wants more memory than there is.
+#[test]
+fn unknown_keys_have_any_length(rt: HostRuntime) -> Result<(), Fail> {
+    let mut key = String::new(rt.alloc());
+    let mut text = String::new(rt.alloc());
+    for _ in 0..64 {
+        key.push('z')?;
+        text.push_str(key.as_str())?;
+        text.push_str(" = 1\n")?;
+    }
+    let read = read_config(rt.alloc(), text.as_str()).expect(&rt, "a file without faults");
+    assert_eq!(rt; read.unknown.len(), 64);
+    for (length, unknown) in (1..65).zip(read.unknown.iter()) {
+        assert_eq!(rt; unknown.key.len(), length);
+    }
+    Ok(())
 }
