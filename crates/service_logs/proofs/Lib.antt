@@ -7,3 +7,4 @@ pub mod NextLines
 pub mod Parts
 pub mod Reports
 pub mod ServiceChecks
+pub mod Alone

@@ -4,6 +4,7 @@ pub mod Items
 pub mod Runs
 pub mod Logs
 pub mod Reports
+pub mod Laws
 -- Inner facts: what begins the lines of a log, and the checks of its services.
 pub mod Fronts
 pub mod Services

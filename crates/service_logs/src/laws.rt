@@ -1,5 +1,6 @@
-//! How what a line should have been is compared and copied.
+//! What holds of all logs, and how what a line should have been is compared and copied.
 ghost use Rattle.std.specs.Prelude.{◌≡◌, ◌↔◌, IsTrue, IsOkAnd};
+ghost use Rattle.service_logs.specs.Laws.{CallsAloneAreRuns};
 
 use crate::logs::Expected;
 use std::alloc::AllocError;
@@ -15,3 +16,10 @@ pub fn expected_goes_by_variant(
 {
     (one == other, one.clone())
 }
+
+/// Where no calls overlapped, what explains them is a run of their commands with replies that have
+/// the words that were seen.
+#[tactic(auto, using(crate::proofs::Alone::calls_alone))]
+pub fn calls_alone_are_runs()
+    ensures { CallsAloneAreRuns }
+{}
