@@ -99,6 +99,30 @@ fn verdicts(rt: HostRuntime) {
             "service event 7 2 0 1\nnodes\n",
             (2, "", "line 3: the line of a reply is expected\n"),
         ),
+        (
+            "service event 7 2 0 1\noverlap\nA: nodes\n= full\nend\n",
+            (
+                1,
+                "line 5: no order of the group gives these replies\nnodes:\nports:\n",
+                "",
+            ),
+        ),
+        (
+            "service event 7 2 0 1\nregister 1.0.0.1\n= handle 0 0\nregister 1.0.0.2\n= handle 1 1\noverlap\nA: deregister 0\n= no-owners\nB: dead 1.0.0.1\n= has-owners\nend\n",
+            (
+                1,
+                "line 11: no order of the group gives these replies\nnodes: 1000000000000000000000001 1000000000000000000000002\nports:\n",
+                "",
+            ),
+        ),
+        (
+            "service event 7 2 0 1\noverlap\nnodes\n",
+            (
+                2,
+                "",
+                "line 3: the line of a call of the group, or its end, is expected\n",
+            ),
+        ),
     ];
     for (log, wanted) in rows {
         ends(&rt, log, [None; 3], wanted);
