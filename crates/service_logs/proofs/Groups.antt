@@ -93,7 +93,8 @@ calls_none states lines rest n notes = record {
 }
 
 pub calls_more : (olds news held : List State) (lines rest after : List ℕ) (calls : List SeenCall)
-    (call : SeenCall) (n k number : ℕ) (has : HasCalls olds (codes "overlap" ++ 10 ∷ lines) calls n rest news)
+    (call : SeenCall) (n k number : ℕ)
+    (has : HasCalls olds (codes "overlap" ++ 10 ∷ lines) calls n rest news)
     → length calls < 8 → HasMember rest number call k after → held ≡ map with_index news
     → ((m : ℕ) → AreAlike m news → news ≢ [] → number ≡ m)
     → HasCalls olds (codes "overlap" ++ 10 ∷ lines) (calls ++ call ∷ []) (n + k) after held

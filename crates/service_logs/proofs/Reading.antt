@@ -104,5 +104,6 @@ no_caller_line lines after caller e lacks line rest whole f (other, letter, comm
     sym e ∙ (f ∙ ap (λ (l : List ℕ). l ++ 10 ∷ rest) g) in
     lacks command rest
     (All-tail (λ b. b ≢ 10) 32 command
-    (All-tail (λ b. b ≢ 10) 58 (32 ∷ command) (All-tail (λ b. b ≢ 10) other (58 ∷ 32 ∷ command) text)))
+    (All-tail (λ b. b ≢ 10) 58 (32 ∷ command)
+    (All-tail (λ b. b ≢ 10) other (58 ∷ 32 ∷ command) text)))
     (cons_same (cons_same (cons_same spelled).1).1).1 is

@@ -208,7 +208,8 @@ fn check_part<'a>(
     }
 }
 
-/// Checks the services, the calls and the groups of a log, whose notes at the front are above the lines.
+/// Checks the services, the calls and the groups of a log, whose notes at the front are above the
+/// lines.
 fn check_parts(
     alloc: Global,
     checks: &mut Vec<NamedCheck>,

@@ -1,4 +1,4 @@
-//! What is told where no run goes on.
+//! The reports where no run goes on.
 ghost use Rattle.std.specs.Prelude.{◌≡◌, IfOk};
 ghost use Rattle.std.specs.List.{AllZip};
 ghost use Rattle.service_conformance.specs.Possible.{IsCovered};
@@ -21,7 +21,7 @@ fn attached(alloc: Global, state: &RunCheck) -> Result<Attached, AllocError>
     })
 }
 
-/// What is told of a state in which the reply to the command is refused.
+/// The report on a state in which the reply to the command is refused.
 fn possible_state(
     alloc: Global,
     state: &RunCheck,

@@ -9,7 +9,8 @@ loop-state-preserved c =
     let s = c.state-item.result in
     let now = c.loop-state.states in
     let olds = c.args.states.now in
-    let same : get_or now i s ≡ get_or olds i s = same_at olds now i s c.loop-state.invariant.left in
+    let same : get_or now i s ≡ get_or olds i s =
+    same_at olds now i s c.loop-state.invariant.left in
     record {
       held = held_more olds now i s c.hold_index.new.self
           (omega (arith, c.loop-state-test.true, c.loop-state.auto.states))

@@ -10,7 +10,8 @@ pub returns-then-len-eq1 : goal.returns-then-len-eq1
 returns-then-len-eq1 c =
     let one : length c.args.states.now.items ≡ 1 = search rules in
     follow_one c.args.states.now.items c.index_mut.result.now c.check_words.new.self
-    (command_of c.args.command.now) c.args.words.now c.in_ok-follows.follows one (sym c.index_mut.ensures.value)
+    (command_of c.args.command.now) c.args.words.now c.in_ok-follows.follows one
+    (sym c.index_mut.ensures.value)
     c.in_ok-follows.ensures.ok c.in_ok-follows.ensures.rests
 
 pub returns-then-is_empty : goal.returns-then-is_empty
