@@ -41,10 +41,14 @@ NO_CLASS = {
     "BELOW_ZERO": "",
     "NO_DURATION": "",
     "NO_FILE": "the system's own errors are raised",
-    "NO_RUN": "it is a verdict on a log; so are the next three",
+    "NO_RUN": "it is a verdict on a log; so are the next seven",
     "NO_SERVICE_LINE": "",
     "NO_COMMAND_LINE": "",
     "NO_REPLY_LINE": "",
+    "NO_ORDER": "",
+    "TOO_MANY_STATES": "",
+    "NO_GROUP_LINE": "",
+    "NO_GROUP_END": "",
 }
 """The statuses that no call of the package meets."""
 
