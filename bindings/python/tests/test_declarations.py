@@ -164,15 +164,20 @@ class Declarations(unittest.TestCase):
             (iox2sd.BackpressureStrategy, "", ""),
             (iox2sd.AllocationStrategy, "ALLOCATION_", ""),
             (iox2sd.DefaultText, "", ""),
-            (iox2sd.Expected, "NO_", "_LINE"),
         ]
         for kind, front, end in kinds:
             for member in kind:
                 with self.subTest(member=member):
                     name = front + member.name + end
                     self.assertEqual(headers.CONSTANTS[name], member.value)
+        expected = {
+            f"NO_{member.name}" + "_LINE" * (not member.name.startswith("GROUP")): member.value
+            for member in iox2sd.Expected
+        }
+        self.assertLessEqual(expected.items(), headers.CONSTANTS.items())
         statuses = ("DONE", "DONE_LOCKED", "BUFFER_TOO_SHORT", "OUT_OF_SPACE", "NO_SUCH_VALUE")
-        for name in (*statuses, "UNMET", "NO_RUN", "DEADLINE", "MAX_SUBSCRIBERS"):
+        verdicts = ("NO_RUN", "NO_ORDER", "TOO_MANY_STATES")
+        for name in (*statuses, *verdicts, "UNMET", "DEADLINE", "MAX_SUBSCRIBERS"):
             self.assertEqual(headers.CONSTANTS[name], getattr(_native, name))
 
     def test_each_refusal_has_a_class(self):
