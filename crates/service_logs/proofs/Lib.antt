@@ -1,4 +1,8 @@
-pub mod Judging
+pub mod Lists
+pub mod Reading
+pub mod Runs
+pub mod Groups
+pub mod Following
 pub mod NextLines
 pub mod Parts
 pub mod Reports

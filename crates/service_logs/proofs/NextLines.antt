@@ -13,7 +13,7 @@ use Rattle.service_descriptions.specs.declared.replay.machine.command.Command.Th
 use Rattle.service_descriptions.specs.Lines.{HasLine, line_of}
 use Rattle.service_descriptions.specs.Script.{IsServiceLine, service_line}
 use Rattle.service_logs.specs.declared.logs.services.NamedCheck.{NamedCheck}
-use Rattle.service_logs.specs.Logs.{FirstIsNot, IsCommandLine, IsNamed, IsNew, IsNext, LogService, name_text, number_text}
+use Rattle.service_logs.specs.Logs.{BeginsItem, FirstIsNot, IsNamed, IsNew, IsNext, LogService, name_text, number_text}
 use Rattle.service_logs.specs.Services.{LacksName, LacksNumber, NamesCheck}
 use Rattle.service_logs.proofs.ServiceChecks.{AreChecksOf, all_back, all_fit, all_new, same_length}
 
@@ -32,6 +32,15 @@ command_first (command.Count r) x p = (lit< tt, lit< tt)
 command_first (command.Dead id (ByPort kept)) x p = (lit< tt, lit< tt)
 command_first _ x p = absurd p
 
+begin_first : (begin x : List ℕ) → BeginsItem begin
+    → (96 < first_byte (begin ++ x)) × (first_byte (begin ++ x) < 115)
+begin_first begin x (inl (command, has, e)) =
+    subst (λ (l : List ℕ). (96 < first_byte (l ++ x)) × (first_byte (l ++ x) < 115)) (sym e)
+    (command_first command x has)
+begin_first begin x (inr e) =
+    subst (λ (l : List ℕ). (96 < first_byte (l ++ x)) × (first_byte (l ++ x) < 115)) (sym e)
+    (lit< tt, lit< tt)
+
 number_first : (n : ℕ) (x : List ℕ) → n < 2 ^ 64 → first_byte (number_text n ++ x) < 58
 number_first n x fits =
     let digit = decimal_first n fits in
@@ -48,24 +57,24 @@ one_number m n x y p q e =
     (sym (append_assoc (decimal m) (codes ": ") x) ∙ e ∙ append_assoc (decimal n) (codes ": ") y) in
     (same.0, append_cancel_left (codes ": ") x y same.1)
 
--- what a next line of a call would be, where it is none
-abbrev pub NoCall : List LogService → List ℕ → Type 0
-NoCall ss bytes =
-    (name : Option ℕ) (named : LogService) (command : Command) (rest : List ℕ)
-    → IsNamed name ss named → HasLine command → HasNo 10 (line_of command)
-    → bytes ≢ name_text name ++ (line_of command ++ 10 ∷ rest)
+-- what the next line of a call or a group would be, where it is none
+abbrev pub NoItem : List LogService → List ℕ → Type 0
+NoItem ss bytes =
+    (name : Option ℕ) (named : LogService) (begin rest : List ℕ)
+    → IsNamed name ss named → BeginsItem begin → HasNo 10 begin
+    → bytes ≢ name_text name ++ (begin ++ 10 ∷ rest)
 
 pub not_next : (ss : List LogService) (bytes : List ℕ)
     → ((line : ServiceLine) (rest : List ℕ) → IsServiceLine line → IsNew line.number ss
     → bytes ≢ service_line line ++ 10 ∷ rest)
-    → NoCall ss bytes → FirstIsNot (IsNext ss) bytes
-not_next ss bytes no_service no_call line rest whole e (inl (service, is, new, f)) =
+    → NoItem ss bytes → FirstIsNot (IsNext ss) bytes
+not_next ss bytes no_service no_item line rest whole e (inl (service, is, new, f)) =
     no_service service rest is new (e ∙ ap (λ (l : List ℕ). l ++ 10 ∷ rest) f)
-not_next ss bytes no_service no_call line rest whole e (inr (name, named, is, command, has, f)) =
-    no_call name named command rest is has
-    (all_back (λ b. b ≢ 10) (name_text name) (line_of command) (subst (HasNo 10) f whole))
+not_next ss bytes no_service no_item line rest whole e (inr (name, named, is, begin, begins, f)) =
+    no_item name named begin rest is begins
+    (all_back (λ b. b ≢ 10) (name_text name) begin (subst (HasNo 10) f whole))
     (e ∙ (ap (λ (l : List ℕ). l ++ 10 ∷ rest) f
-    ∙ append_assoc (name_text name) (line_of command) (10 ∷ rest)))
+    ∙ append_assoc (name_text name) begin (10 ∷ rest)))
 
 pub nothing : {A : Type 0} (l : List A) → length l ≡ 0 → l ≡ []
 nothing [] e = refl
@@ -86,63 +95,61 @@ module _ (ss : List LogService) (cs : List NamedCheck) (p : AreChecksOf ss cs) w
   fits_of n named is = subst (λ m. m < 2 ^ 64) is.1
       (All-contains (λ (s : LogService). s.line.number < 2 ^ 64) ss named (all_fit ss cs p) is.0)
 
-  -- a service's line is no call's
-  pub service_no_call : (service : ServiceLine) (bytes rest : List ℕ)
-      → bytes ≡ service_line service ++ 10 ∷ rest → NoCall ss bytes
-  service_no_call service bytes rest e None named command tail is has whole f =
+  -- a service's line begins no call and no group
+  pub service_no_item : (service : ServiceLine) (bytes rest : List ℕ)
+      → bytes ≡ service_line service ++ 10 ∷ rest → NoItem ss bytes
+  service_no_item service bytes rest e None named begin tail is begins whole f =
       let first : first_byte bytes ≡ 115 = ap first_byte e in
-      let letter = command_first command (10 ∷ tail) has in
+      let letter = begin_first begin (10 ∷ tail) begins in
       let same = ap first_byte f in omega (arith, first, letter.0, letter.1, same)
-  service_no_call service bytes rest e (Some n) named command tail is has whole f =
+  service_no_item service bytes rest e (Some n) named begin tail is begins whole f =
       let first : first_byte bytes ≡ 115 = ap first_byte e in
-      let digit = number_first n (line_of command ++ 10 ∷ tail) (fits_of n named is) in
+      let digit = number_first n (begin ++ 10 ∷ tail) (fits_of n named is) in
       let same = ap first_byte f in omega (arith, first, digit, same)
 
-  -- a line with a number is the call of that number alone
-  number_no_call : (number : ℕ) (bytes after : List ℕ) → number < 2 ^ 64
+  -- a line with a number begins what is on the service with that number alone
+  number_no_item : (number : ℕ) (bytes after : List ℕ) → number < 2 ^ 64
       → bytes ≡ number_text number ++ after
-      → ((named : LogService) (command : Command) (rest : List ℕ) → IsNamed (Some number) ss named
-      → HasLine command → HasNo 10 (line_of command) → after ≢ line_of command ++ 10 ∷ rest)
-      → NoCall ss bytes
-  number_no_call number bytes after fits e lacks None named command tail is has whole f =
-      let letter = command_first command (10 ∷ tail) has in
+      → ((named : LogService) (begin rest : List ℕ) → IsNamed (Some number) ss named
+      → BeginsItem begin → HasNo 10 begin → after ≢ begin ++ 10 ∷ rest)
+      → NoItem ss bytes
+  number_no_item number bytes after fits e lacks None named begin tail is begins whole f =
+      let letter = begin_first begin (10 ∷ tail) begins in
       let digit = number_first number after fits in
       let same = ap first_byte e in
       let other = ap first_byte f in omega (arith, letter.0, digit, same, other)
-  number_no_call number bytes after fits e lacks (Some n) named command tail is has whole f =
-      let same = one_number number n after (line_of command ++ 10 ∷ tail) fits
+  number_no_item number bytes after fits e lacks (Some n) named begin tail is begins whole f =
+      let same = one_number number n after (begin ++ 10 ∷ tail) fits
       (fits_of n named is) (sym e ∙ f) in
-      lacks named command tail (subst (λ m. IsNamed (Some m) ss named) (sym same.0) is) has whole
+      lacks named begin tail (subst (λ m. IsNamed (Some m) ss named) (sym same.0) is) begins whole
       same.1
 
-  -- a line without a number is a call where there is one service
-  bare_no_call : (bytes : List ℕ) → LacksNumber bytes
-      → ((named : LogService) (command : Command) (rest : List ℕ) → ss ≡ named ∷ []
-      → HasLine command → HasNo 10 (line_of command) → bytes ≢ line_of command ++ 10 ∷ rest)
-      → NoCall ss bytes
-  bare_no_call bytes lacks none None named command tail is has whole f =
-      none named command tail is has whole f
-  bare_no_call bytes lacks none (Some n) named command tail is has whole f =
-      lacks n (line_of command ++ 10 ∷ tail) (fits_of n named is) f
+  -- a line without a number begins a call or a group where there is one service
+  bare_no_item : (bytes : List ℕ) → LacksNumber bytes
+      → ((named : LogService) (begin rest : List ℕ) → ss ≡ named ∷ []
+      → BeginsItem begin → HasNo 10 begin → bytes ≢ begin ++ 10 ∷ rest)
+      → NoItem ss bytes
+  bare_no_item bytes lacks none None named begin tail is begins whole f =
+      none named begin tail is begins whole f
+  bare_no_item bytes lacks none (Some n) named begin tail is begins whole f =
+      lacks n (begin ++ 10 ∷ tail) (fits_of n named is) f
 
   -- a line that names no service
-  pub lacks_name : (bytes : List ℕ) → LacksName cs bytes → NoCall ss bytes
+  pub lacks_name : (bytes : List ℕ) → LacksName cs bytes → NoItem ss bytes
   lacks_name bytes (inl (number, after, fits, new, e)) =
-      number_no_call number bytes after fits e
-      (λ named command rest is has whole f. All-contains
+      number_no_item number bytes after fits e
+      (λ named begin rest is begins whole f. All-contains
       (λ (s : LogService). s.line.number ≢ number) ss named (all_new number ss cs p new) is.0 is.1)
   lacks_name bytes (inr (lacks, other)) =
-      bare_no_call bytes lacks
-      (λ named command rest is has whole f. other (sym (same_length ss cs p) ∙ ap length is))
+      bare_no_item bytes lacks
+      (λ named begin rest is begins whole f. other (sym (same_length ss cs p) ∙ ap length is))
 
-  -- a line that names one, after which no command stands
-  pub lacks_command : (at : ℕ) (bytes after : List ℕ) → NamesCheck cs bytes at after
-      → FirstIsNot IsCommandLine after → NoCall ss bytes
-  lacks_command at bytes after (inl (number, fits, there, e)) lacks =
-      number_no_call number bytes after fits e
-      (λ named command rest is has whole f.
-      lacks (line_of command) rest whole f (command, has, refl))
-  lacks_command at bytes after (inr (none, one, first, e)) lacks =
-      bare_no_call bytes none
-      (λ named command rest is has whole f.
-      lacks (line_of command) rest whole (e ∙ f) (command, has, refl))
+  -- a line that names one, after which nothing begins
+  pub lacks_begin : (at : ℕ) (bytes after : List ℕ) → NamesCheck cs bytes at after
+      → FirstIsNot BeginsItem after → NoItem ss bytes
+  lacks_begin at bytes after (inl (number, fits, there, e)) lacks =
+      number_no_item number bytes after fits e
+      (λ named begin rest is begins whole f. lacks begin rest whole f begins)
+  lacks_begin at bytes after (inr (none, one, first, e)) lacks =
+      bare_no_item bytes none
+      (λ named begin rest is begins whole f. lacks begin rest whole (e ∙ f) begins)

@@ -7,13 +7,13 @@ use Rattle.service_descriptions.specs.Script.{first_state}
 use Rattle.service_logs.specs.declared.logs.services.NamedCheck.{NamedCheck}
 use Rattle.service_logs.specs.Logs.{AreRuns, IsNamed, IsNew, LogService, name_text}
 use Rattle.service_logs.specs.Services.{HasNumber, NamesCheck}
-use Rattle.service_logs.proofs.Judging.{Stands}
+use Rattle.service_logs.proofs.Runs.{Stands, some_run}
 
 -- the check is that of the service and its calls
 pub record IsCheckOf (s : LogService) (c : NamedCheck) : Type 0 where
   pub number : c.number ≡ s.line.number
   pub fits : s.line.number < 2 ^ 64
-  pub stands : Stands (first_state s.line) s.calls c.check
+  pub stands : Stands (first_state s.line) s.items c.states.items
 
 abbrev pub AreChecksOf : List LogService → List NamedCheck → Type 0
 AreChecksOf [] [] = Unit {0}
@@ -48,7 +48,8 @@ pub are_runs : (ss : List LogService) (cs : List NamedCheck) → AreChecksOf ss 
 are_runs [] [] p = tt
 are_runs [] (d ∷ cs) p = absurd p
 are_runs (r ∷ ss) [] p = absurd p
-are_runs (r ∷ ss) (d ∷ cs) p = ((d.check, p.0.stands.run), are_runs ss cs p.1)
+are_runs (r ∷ ss) (d ∷ cs) p =
+    (some_run (first_state r.line) r.items d.states.items p.0.stands, are_runs ss cs p.1)
 
 some_is : (d c : NamedCheck) → Some d ≡ Some c → d ≡ c
 some_is d c e = cc

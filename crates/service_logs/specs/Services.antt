@@ -3,13 +3,13 @@ use Rattle.std.specs.Prelude.{◌≡◌, ◌≢◌, ℕ, ◌+◌, ◌<◌, ◌^�
 use Rattle.std.specs.List.{AllByRecursion, slice_get, slice_set}
 use Rattle.service_descriptions.specs.declared.replay.lines.service_line.ServiceLine.{ServiceLine}
 use Rattle.service_descriptions.specs.Script.{IsServiceLine, first_state, service_line}
-use Rattle.service_descriptions.specs.Steps.{State}
 use Rattle.service_logs.specs.declared.logs.services.NamedCheck.{NamedCheck}
 use Rattle.service_logs.specs.declared.logs.verdict.Expected.TheVariants as expected
 use Rattle.service_logs.specs.declared.logs.verdict.Verdict.{Verdict}
 use Rattle.service_logs.specs.declared.logs.verdict.Verdict.TheVariants as verdict
-use Rattle.service_logs.specs.Fronts.{HasCall, LacksCall}
-use Rattle.service_logs.specs.Logs.{FirstIsNot, IsNote, number_text, text_of_lines}
+use Rattle.service_logs.specs.Fronts.{HasItem, LacksItem}
+use Rattle.service_logs.specs.Items.{IsNote, text_of_lines}
+use Rattle.service_logs.specs.Logs.{FirstIsNot, number_text}
 
 -- no number stands before the command
 abbrev pub LacksNumber : List ℕ → Type 0
@@ -52,30 +52,33 @@ pub record Begins (old : List NamedCheck) (line : ServiceLine) (lines : List ℕ
   pub counted : count ≡ length below + 1
   pub no_call : calls ≡ 0
   pub ends : FirstIsNot IsNote rest
-  pub now : new ≡ old ++ record { number = line.number; check = first_state line } ∷ []
+  pub c : NamedCheck
+  pub number : c.number ≡ line.number
+  pub states : c.states.items ≡ first_state line ∷ []
+  pub now : new ≡ old ++ c ∷ []
 
--- a call of so many lines begins the lines, and the check at the index goes on with it
-pub record CallsAt (old : List NamedCheck) (at : ℕ) (lines : List ℕ) (count calls : ℕ)
+-- an item of so many lines and calls begins the lines, and the check at the index goes on with it
+pub record GoesOnAt (old : List NamedCheck) (at : ℕ) (lines : List ℕ) (count calls : ℕ)
     (rest : List ℕ) (new : List NamedCheck) : Type 0 where
   pub c : NamedCheck
   pub there : slice_get old at ≡ Some c
-  pub state : State
-  pub has : HasCall c.check lines count rest state
-  pub one : calls ≡ 1
-  pub now : new ≡ slice_set old at (record { number = c.number; check = state })
+  pub d : NamedCheck
+  pub number : d.number ≡ c.number
+  pub has : HasItem c.states.items lines count calls rest d.states.items
+  pub now : new ≡ slice_set old at d
 
 -- the check at the index does not go on
 abbrev pub StopsAt : List NamedCheck → ℕ → ℕ → List ℕ → Verdict → Type 0
 StopsAt checks at above lines v =
-    (c : NamedCheck) × (slice_get checks at ≡ Some c) × LacksCall c.check above lines v
+    (c : NamedCheck) × (slice_get checks at ≡ Some c) × LacksItem c.states.items above lines v
 
--- a part of so many lines begins the lines: a service with a number of its own, or a call
+-- a part of so many lines begins the lines: a service with a number of its own, a call or a group
 abbrev pub HasPart : List NamedCheck → List ℕ → ℕ → ℕ → List ℕ → List NamedCheck → Type 0
 HasPart old lines count calls rest new =
     ((line : ServiceLine) × (after : List ℕ) × IsServiceLine line
     × (lines ≡ service_line line ++ 10 ∷ after) × Begins old line after count calls rest new)
     ⊎ ((at : ℕ) × (after : List ℕ) × NamesCheck old lines at after
-    × CallsAt old at after count calls rest new)
+    × GoesOnAt old at after count calls rest new)
 
 -- no part begins the lines, where so many are above them: a service has the number already, there
 -- is no service, or the line names none, or the check does not go on

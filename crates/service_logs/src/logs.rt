@@ -1,84 +1,127 @@
 //! Checks of logs.
-ghost use Rattle.std.specs.Prelude.{◌≡◌, ◌+◌, ◌<◌, ◌≤◌, ◌^◌, ℕ, List, [], IfErr, IfNone, IfOk, IfSome, length};
-ghost use Rattle.service_logs.specs.Fronts.{HasCall, HasNotes, IsTold, LacksCall};
-ghost use Rattle.service_logs.specs.Logs.{FirstIsNot, IsNote, Judged};
-ghost use Rattle.service_logs.specs.Services.{Begins, CallsAt, HasNumber, HasPart, LacksPart, StopsAt};
+ghost use Rattle.std.specs.Prelude.{◌≡◌, ◌+◌, ◌<◌, ◌≤◌, ◌^◌, ◌∷◌, ◌++◌, ℕ, List, [], IfErr, IfNone, IfOk, IfSome};
+ghost use Rattle.std.specs.Prelude.{codes, length};
+ghost use Rattle.service_logs.specs.Fronts.{HasItem, HasNotes, LacksItem};
+ghost use Rattle.service_logs.specs.Items.{IsNote};
+ghost use Rattle.service_logs.specs.Logs.{FirstIsNot, Judged};
+ghost use Rattle.service_logs.specs.Services.{Begins, GoesOnAt, HasNumber, HasPart, LacksPart, StopsAt};
 ghost use Rattle.service_logs.specs.Reports.{report_text};
-ghost use Rattle.service_conformance.specs.Possible.{IsCovered};
-ghost use Rattle.service_descriptions.specs.Lines.{command_of};
 
 mod front;
+mod group;
+mod refusal;
 mod report;
 mod services;
+mod states;
 mod streams;
 mod verdict;
 
-use front::{after_notes, words_before};
+use call_orders::Outcome;
+use front::{Missing, after_notes, head_before};
+use group::calls_before;
 use iox2_dynamic::dynamic_config::MessagingPatternSettings;
-use line_streams::LineEnd;
+use line_streams::after_word;
+use refusal::{group_refusal, refusal};
 use report::append_report;
-use service_conformance::conformance::RunCheck;
-use service_descriptions::replay::{LineCommand, ServiceLine, command_before, service_before};
+use service_conformance::conformance::{RunCheck, judge_group};
+use service_descriptions::replay::{ServiceLine, service_before};
 use services::{NamedCheck, position_of, service_of};
+use states::follow;
 use std::alloc::{AllocError, Global};
 pub use streams::check_streams;
-pub use verdict::{Expected, Refusal, Verdict};
-
-/// The report on a reply in this line, with which the check does not go on.
-fn refusal(
-    alloc: Global,
-    check: &RunCheck,
-    command: &LineCommand,
-    words: &[u8],
-    line: usize,
-) -> Result<Refusal, AllocError>
-    requires { IsCovered (command_of command.now) }
-    ensures line { IfOk result (λ told. told.line ≡ line) }
-    ensures told { IfOk result (IsTold check.now (command_of command.now) words.now) }
-{
-    Ok(Refusal {
-        line,
-        words: Vec::from_slice(alloc, words)?,
-        possible: check.possible(alloc, command)?,
-        nodes: check.nodes(alloc)?,
-        ports: check.ports(alloc)?,
-    })
-}
-
-/// Checks the call that begins the lines, where so many are above them: how many lines it has and
-/// what follows them, or the verdict.
-#[tactic(auto, using(service_conformance::proofs::Words::covered))]
-fn check_call<'a>(
-    alloc: Global,
-    check: &mut RunCheck,
-    lines: &'a [u8],
-    above: usize,
-) -> Result<Result<(usize, &'a [u8]), Verdict>, AllocError>
-    requires { above + length lines.now + 1 < 2 ^ 64 }
-    ensures call { IfOk result (λ end. IfOk end
-        (λ found. HasCall check.old lines.now found.0 found.1.now check.new)) }
-    ensures fits { IfOk result (λ end. IfOk end
-        (λ found. found.0 + length found.1.now ≤ length lines.now)) }
-    ensures none { IfOk result (λ end. IfErr end (LacksCall check.old above lines.now)) }
-{
-    let Some((command, rest)) = command_before(alloc, lines, LineEnd::Newline)? else {
-        return Ok(Err(Verdict::BadLine(above + 1, Expected::Command)));
-    };
-    let (between, rest) = after_notes(rest);
-    let Some((words, rest)) = words_before(rest) else {
-        return Ok(Err(Verdict::BadLine(above + between + 2, Expected::Reply)));
-    };
-    if !check.check_words(alloc, &command, words)? {
-        let line = above + between + 2;
-        let told = refusal(alloc, check, &command, words, line)?;
-        return Ok(Err(Verdict::NoRun(told)));
-    }
-    let (below, rest) = after_notes(rest);
-    Ok(Ok((between + below + 2, rest)))
-}
+pub use verdict::{Attached, Expected, GroupRefusal, PossibleState, Refusal, Verdict};
 
 /// How many lines and how many calls a part of a log has, and what follows it.
 type Part<'a> = (usize, usize, &'a [u8]);
+
+/// Checks the call that begins the lines, where so many are above them.
+fn check_call<'a>(
+    alloc: Global,
+    states: &mut Vec<RunCheck>,
+    lines: &'a [u8],
+    above: usize,
+) -> Result<Result<Part<'a>, Verdict>, AllocError>
+    requires { above + length lines.now + 1 < 2 ^ 64 }
+    ensures call { IfOk result (λ end. IfOk end (λ part. HasItem states.old.items lines.now
+        part.0 part.1 part.2.now states.new.items)) }
+    ensures fits { IfOk result (λ end. IfOk end
+        (λ part. part.0 + length part.2.now ≤ length lines.now)) }
+    ensures counts { IfOk result (λ end. IfOk end (λ part. part.1 ≤ part.0)) }
+    ensures none { IfOk result (λ end. IfErr end (λ verdict.
+        FirstIsNot (λ line. line ≡ codes "overlap") lines.now
+        → LacksItem states.old.items above lines.now verdict)) }
+{
+    let (command, words, between, rest) = match head_before(alloc, lines)? {
+        Ok(head) => head,
+        Err(Missing::Command) => {
+            return Ok(Err(Verdict::BadLine(above + 1, Expected::Command)));
+        }
+        Err(Missing::Reply(between)) => {
+            return Ok(Err(Verdict::BadLine(above + between + 2, Expected::Reply)));
+        }
+    };
+    if !follow(alloc, states, &command, words)? {
+        let line = above + between + 2;
+        let told = refusal(alloc, states, &command, words, line)?;
+        return Ok(Err(Verdict::NoRun(told)));
+    }
+    let (below, rest) = after_notes(rest);
+    Ok(Ok((between + below + 2, 1, rest)))
+}
+
+/// Checks the group that begins the lines, whose first line is above them beside so many others.
+fn check_group<'a>(
+    alloc: Global,
+    states: &mut Vec<RunCheck>,
+    lines: &'a [u8],
+    above: usize,
+) -> Result<Result<Part<'a>, Verdict>, AllocError>
+    requires { above + length lines.now + 9 < 2 ^ 64 }
+    ensures group { IfOk result (λ end. IfOk end (λ part. HasItem states.old.items
+        (codes "overlap" ++ 10 ∷ lines.now) part.0 part.1 part.2.now states.new.items)) }
+    ensures fits { IfOk result (λ end. IfOk end
+        (λ part. part.0 + length part.2.now ≤ length lines.now + 8)) }
+    ensures counts { IfOk result (λ end. IfOk end (λ part. part.1 ≤ part.0)) }
+    ensures none { IfOk result (λ end. IfErr end (LacksItem states.old.items above
+        (codes "overlap" ++ 10 ∷ lines.now))) }
+{
+    let (calls, count, rest) = match calls_before(alloc, states, lines, above)? {
+        Ok(found) => found,
+        Err(verdict) => return Ok(Err(verdict)),
+    };
+    let line = above + count + 1;
+    match judge_group(alloc, states, &calls)? {
+        Outcome::States(found) => *states = found,
+        Outcome::NoOrder => {
+            let told = group_refusal(alloc, states, line)?;
+            return Ok(Err(Verdict::NoOrder(told)));
+        }
+        Outcome::TooManyStates => return Ok(Err(Verdict::TooManyStates(line))),
+    }
+    let (below, rest) = after_notes(rest);
+    Ok(Ok((count + below + 1, calls.len(), rest)))
+}
+
+/// Checks the call or the group that begins the lines, where so many are above them.
+fn check_item<'a>(
+    alloc: Global,
+    states: &mut Vec<RunCheck>,
+    lines: &'a [u8],
+    above: usize,
+) -> Result<Result<Part<'a>, Verdict>, AllocError>
+    requires { above + length lines.now + 1 < 2 ^ 64 }
+    ensures item { IfOk result (λ end. IfOk end (λ part. HasItem states.old.items lines.now
+        part.0 part.1 part.2.now states.new.items)) }
+    ensures fits { IfOk result (λ end. IfOk end
+        (λ part. part.0 + length part.2.now ≤ length lines.now)) }
+    ensures counts { IfOk result (λ end. IfOk end (λ part. part.1 ≤ part.0)) }
+    ensures none { IfOk result (λ end. IfErr end (LacksItem states.old.items above lines.now)) }
+{
+    if let Some(rest) = after_word(lines, b"overlap\n") {
+        return check_group(alloc, states, rest, above);
+    }
+    check_call(alloc, states, lines, above)
+}
 
 /// Begins the check of a service, whose line is above the lines. Returns what follows its notes, or
 /// `None` where a service has its number already.
@@ -101,14 +144,15 @@ fn begin_service<'a>(
     };
     let settings = MessagingPatternSettings::new(service.pattern, service.first, service.second);
     let number = service.number;
-    let check = RunCheck::new(alloc, &settings, service.max_nodes, number);
-    checks.push(NamedCheck { number, check })?;
+    let mut states = Vec::new(alloc);
+    states.push(RunCheck::new(alloc, &settings, service.max_nodes, number))?;
+    checks.push(NamedCheck { number, states })?;
     let (below, rest) = after_notes(lines);
     Ok(Some((below + 1, 0, rest)))
 }
 
-/// Checks the call that begins the lines, on the service at an index, where so many are above them.
-fn check_call_at<'a>(
+/// Checks what begins the lines, on the service at an index, where so many are above them.
+fn check_item_at<'a>(
     alloc: Global,
     checks: &mut Vec<NamedCheck>,
     at: usize,
@@ -117,20 +161,21 @@ fn check_call_at<'a>(
 ) -> Result<Result<Part<'a>, Verdict>, AllocError>
     requires there { at < length checks.old.items }
     requires fits { above + length lines.now + 1 < 2 ^ 64 }
-    ensures call { IfOk result (λ end. IfOk end (λ part. CallsAt checks.old.items at lines.now
+    ensures item { IfOk result (λ end. IfOk end (λ part. GoesOnAt checks.old.items at lines.now
         part.0 part.1 part.2.now checks.new.items)) }
     ensures fits { IfOk result (λ end. IfOk end
         (λ part. part.0 + length part.2.now ≤ length lines.now)) }
+    ensures counts { IfOk result (λ end. IfOk end (λ part. part.1 ≤ part.0)) }
     ensures none { IfOk result (λ end. IfErr end (StopsAt checks.old.items at above lines.now)) }
 {
     let named = &mut checks[at];
-    match check_call(alloc, &mut named.check, lines, above)? {
-        Ok((count, rest)) => Ok(Ok((count, 1, rest))),
+    match check_item(alloc, &mut named.states, lines, above)? {
+        Ok(part) => Ok(Ok(part)),
         Err(verdict) => Ok(Err(verdict)),
     }
 }
 
-/// Checks the service or the call that begins the lines, where so many are above them.
+/// Checks the service, the call or the group that begins the lines, where so many are above them.
 fn check_part<'a>(
     alloc: Global,
     checks: &mut Vec<NamedCheck>,
@@ -154,16 +199,16 @@ fn check_part<'a>(
     if checks.len() == 0 {
         return Ok(Err(Verdict::BadLine(above + 1, Expected::Service)));
     }
-    let Some((at, call)) = service_of(checks, lines) else {
+    let Some((at, item)) = service_of(checks, lines) else {
         return Ok(Err(Verdict::BadLine(above + 1, Expected::Command)));
     };
-    match check_call_at(alloc, checks, at, call, above)? {
+    match check_item_at(alloc, checks, at, item, above)? {
         Ok(part) => Ok(Ok(part)),
         Err(verdict) => Ok(Err(verdict)),
     }
 }
 
-/// Checks the services and the calls of a log, whose notes at the front are above the lines.
+/// Checks the services, the calls and the groups of a log, whose notes at the front are above the lines.
 fn check_parts(
     alloc: Global,
     checks: &mut Vec<NamedCheck>,
@@ -199,8 +244,10 @@ fn check_parts(
 /// A log has lines of services, as `service_before` reads them, each with a number of its own, and
 /// calls: the line of a command, as `read_line` reads it, and below it `= ` and the words of the
 /// reply that was seen, as `write_reply` writes them. `7: ` before a command says that it is one on
-/// the service with that number; it may be left out where no other service is above. Lines that are
-/// empty or begin with `#` may stand anywhere. Every line ends with a newline.
+/// the service with that number; it may be left out where no other service is above. At most eight
+/// calls on one service that overlapped in time stand between `overlap` and `end`: then the number
+/// stands before `overlap`, and before each command the capital letter of its caller, as `A: `.
+/// Lines that are empty or begin with `#` may stand anywhere. Every line ends with a newline.
 pub fn check_log(alloc: Global, log: &[u8]) -> Result<Verdict, AllocError>
     ensures { IfOk result (Judged log.now) }
 {

@@ -138,13 +138,15 @@ impl RunCheck {
         self.service.same(&other.service) && are_same(&self.earlier, &other.earlier)
     }
 
-    /// Holds an index for the handle of a command that takes effect later.
-    pub fn hold_index(&mut self) -> Result<(), AllocError>
+    /// Holds an index for the handle of a command that takes effect later, and returns it.
+    pub fn hold_index(&mut self) -> Result<usize, AllocError>
         ensures ok { OnOk result (self.new ≡ with_index self.old) }
         ensures err { OnErr result (self.new ≡ self.old) }
+        ensures index { IfOk result (λ index. index ≡ length self.old.handles) }
     {
+        let index = self.earlier.len();
         self.earlier.push(None)?;
-        Ok(())
+        Ok(index)
     }
 
     /// As `check_words`, for a command that has an index already, where its handle is kept.

@@ -1,11 +1,12 @@
 //! The texts of verdicts.
 ghost use Rattle.std.specs.Prelude.{◌≡◌, ◌++◌, OnOk, decimal};
 ghost use Rattle.std.specs.List.{flat_map};
-ghost use Rattle.service_logs.specs.Reports.{conforms_text, expected_text, next_text, possible_text, report_text};
-ghost use Rattle.service_logs.specs.Reports.{seen_text, services_text, slot_word, there_text};
+ghost use Rattle.service_logs.specs.Reports.{attached_text, conforms_text, expected_text, group_text, next_text};
+ghost use Rattle.service_logs.specs.Reports.{possible_text, refusal_text, report_text, services_text, slot_word};
+ghost use Rattle.service_logs.specs.Reports.{state_text, too_many_text};
 ghost use Rattle.service_descriptions.specs.Replies.{id_word, port_word, text_of};
 
-use super::verdict::{Expected, Refusal, Verdict};
+use super::verdict::{Attached, Expected, GroupRefusal, PossibleState, Refusal, Verdict};
 use iox2_dynamic::dynamic_config::PortDetails;
 use iox2_ids::identifiers::{Hexadecimal, UniqueNodeId};
 use itoa::Buffer;
@@ -100,23 +101,11 @@ fn append_possible(possible: &PossibleReplies, out: &mut Vec<u8>) -> Result<(), 
     }
 }
 
-/// Appends the lines of a reply that no run gives, and of those that one gives.
-fn append_seen(told: &Refusal, out: &mut Vec<u8>) -> Result<(), AllocError>
-    ensures { OnOk result (out.new.items ≡ out.old.items ++ seen_text told.now) }
-{
-    append_number(b"line ", told.line as u64, out)?;
-    out.extend_from_slice(b": no run gives this reply\nseen: ")?;
-    out.extend_from_slice(&told.words)?;
-    out.extend_from_slice(b"\npossible: ")?;
-    append_possible(&told.possible, out)?;
-    Ok(())
-}
-
 /// Appends the lines of who is there.
-fn append_there(told: &Refusal, out: &mut Vec<u8>) -> Result<(), AllocError>
-    ensures { OnOk result (out.new.items ≡ out.old.items ++ there_text told.now) }
+fn append_attached(told: &Attached, out: &mut Vec<u8>) -> Result<(), AllocError>
+    ensures { OnOk result (out.new.items ≡ out.old.items ++ attached_text told.now) }
 {
-    out.extend_from_slice(b"\nnodes:")?;
+    out.extend_from_slice(b"nodes:")?;
     append_nodes(&told.nodes, out)?;
     out.extend_from_slice(b"\nports:")?;
     append_ports(&told.ports, out)?;
@@ -124,13 +113,65 @@ fn append_there(told: &Refusal, out: &mut Vec<u8>) -> Result<(), AllocError>
     Ok(())
 }
 
+/// Appends the lines of a state that a service may be in.
+fn append_state(state: &PossibleState, out: &mut Vec<u8>) -> Result<(), AllocError>
+    ensures { OnOk result (out.new.items ≡ out.old.items ++ state_text state.now) }
+{
+    out.extend_from_slice(b"possible: ")?;
+    append_possible(&state.possible, out)?;
+    out.push(b'\n')?;
+    append_attached(&state.attached, out)?;
+    Ok(())
+}
+
+/// Appends the lines of states that a service may be in.
+fn append_states(states: &[PossibleState], out: &mut Vec<u8>) -> Result<(), AllocError>
+    ensures { OnOk result (out.new.items ≡ out.old.items ++ flat_map state_text states.now) }
+{
+    for state in states {
+        append_state(state, out)?;
+    }
+    Ok(())
+}
+
 /// Appends the report on a reply that no run gives.
 fn append_refusal(told: &Refusal, out: &mut Vec<u8>) -> Result<(), AllocError>
-    ensures { OnOk result (out.new.items ≡ out.old.items ++ (seen_text told.now
-        ++ there_text told.now)) }
+    ensures { OnOk result (out.new.items ≡ out.old.items ++ refusal_text told.now) }
 {
-    append_seen(told, out)?;
-    append_there(told, out)?;
+    append_number(b"line ", told.line as u64, out)?;
+    out.extend_from_slice(b": no run gives this reply\nseen: ")?;
+    out.extend_from_slice(&told.words)?;
+    out.push(b'\n')?;
+    append_states(&told.states, out)?;
+    Ok(())
+}
+
+/// Appends who is there in states that a service may be in.
+fn append_all_attached(states: &[Attached], out: &mut Vec<u8>) -> Result<(), AllocError>
+    ensures { OnOk result (out.new.items ≡ out.old.items ++ flat_map attached_text states.now) }
+{
+    for state in states {
+        append_attached(state, out)?;
+    }
+    Ok(())
+}
+
+/// Appends the report on a group of which no order has the replies.
+fn append_group(told: &GroupRefusal, out: &mut Vec<u8>) -> Result<(), AllocError>
+    ensures { OnOk result (out.new.items ≡ out.old.items ++ group_text told.now) }
+{
+    append_number(b"line ", told.line as u64, out)?;
+    out.extend_from_slice(b": no order of the group gives these replies\n")?;
+    append_all_attached(&told.states, out)?;
+    Ok(())
+}
+
+/// Appends the report on a group, whose end is in this line, that leads to too many states.
+fn append_too_many(line: usize, out: &mut Vec<u8>) -> Result<(), AllocError>
+    ensures { OnOk result (out.new.items ≡ out.old.items ++ too_many_text line) }
+{
+    append_number(b"line ", line as u64, out)?;
+    out.extend_from_slice(b": orders of the group lead to more than 64 states\n")?;
     Ok(())
 }
 
@@ -142,6 +183,8 @@ fn expected_text(expected: Expected) -> &'static [u8]
         Expected::Service => b": the line of a service is expected\n",
         Expected::Command => b": the line of a command is expected\n",
         Expected::Reply => b": the line of a reply is expected\n",
+        Expected::GroupLine => b": the line of a call of the group, or its end, is expected\n",
+        Expected::GroupEnd => b": the end of the group is expected, which has 8 calls\n",
     }
 }
 
@@ -174,6 +217,8 @@ pub(super) fn append_report(verdict: &Verdict, out: &mut Vec<u8>) -> Result<(), 
     match verdict {
         Verdict::Conforms(calls, services) => append_conforms(*calls, *services, out),
         Verdict::NoRun(told) => append_refusal(told, out),
+        Verdict::NoOrder(told) => append_group(told, out),
+        Verdict::TooManyStates(line) => append_too_many(*line, out),
         Verdict::BadLine(line, expected) => {
             append_number(b"line ", *line as u64, out)?;
             out.extend_from_slice(expected_text(*expected))

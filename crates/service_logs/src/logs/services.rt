@@ -6,11 +6,11 @@ ghost use Rattle.service_logs.specs.Services.{HasNumber, LacksName, NamesCheck};
 use line_streams::{after_word, number_before};
 use service_conformance::conformance::RunCheck;
 
-/// A service of a log: its number, and the check of the calls on it.
+/// A service of a log: its number, and a check for each state that it may be in.
 #[derive(Drop)]
 pub(super) struct NamedCheck {
     pub(super) number: u64,
-    pub(super) check: RunCheck,
+    pub(super) states: Vec<RunCheck>,
 }
 
 /// The number that stands before a command, and what follows it.
@@ -34,7 +34,12 @@ pub(super) fn position_of(checks: &[NamedCheck], number: u64) -> Option<usize>
     ensures some { IfSome result (HasNumber checks.now number) }
     ensures none { IfNone result (All (λ c. c.number ≢ number) checks.now) }
 {
-    checks.iter().position(|named| named.number == number)
+    for (at, named) in checks.iter().enumerate() {
+        if named.number == number {
+            return Some(at);
+        }
+    }
+    None
 }
 
 /// The index of the service that the next command is on, and the lines from the command on.

@@ -16,8 +16,8 @@ fn status(verdict: &Verdict) -> u8
 {
     match verdict {
         Verdict::Conforms(_, _) => 0,
-        Verdict::NoRun(_) => 1,
-        Verdict::BadLine(_, _) => 2,
+        Verdict::NoRun(_) | Verdict::NoOrder(_) => 1,
+        Verdict::TooManyStates(_) | Verdict::BadLine(_, _) => 2,
     }
 }
 
@@ -37,9 +37,10 @@ fn report<W: Sink, E: Sink>(
         (IsFlushed W.Flushes output.new × IsFlushed E.Flushes errors.new) }
 {
     match verdict {
-        Verdict::BadLine(_, _) => write_whole(errors, text)?,
-        Verdict::Conforms(_, _) => write_whole(output, text)?,
-        Verdict::NoRun(_) => write_whole(output, text)?,
+        Verdict::TooManyStates(_) | Verdict::BadLine(_, _) => write_whole(errors, text)?,
+        Verdict::Conforms(_, _) | Verdict::NoRun(_) | Verdict::NoOrder(_) => {
+            write_whole(output, text)?;
+        }
     }
     output.flush_pieces()?;
     errors.flush_pieces()
@@ -81,8 +82,11 @@ fn run<R: Source, W: Sink, E: Sink>(
 ///
 /// - 0: the replies are those of runs. `conforms, N calls on M services` was written to `output`.
 /// - 1: they are none. The first that no run gives was written to `output`: its line, its words,
-///   every reply that a run gives instead, and the nodes and ports that are there then.
-/// - 2: a line is not what it should be. Which one, and what is expected, was written to `errors`.
+///   and for each state that the service may be in every reply that a run gives instead, and the
+///   nodes and ports that are there; or the line of the end of a group no order of which has the
+///   replies, and the nodes and ports that are there before.
+/// - 2: a line is not what it should be. Which one, and what is expected, was written to `errors`;
+///   or the line of the end of a group whose orders lead to more than 64 states.
 /// - 3: memory was refused, and `no memory` was written to `errors`; or a read, a write or a flush
 ///   failed, for any cause, and it was tried to write `a stream failed` to `errors`.
 pub fn check_streams<R: Source, W: Sink, E: Sink>(

@@ -25,30 +25,30 @@ returns-in_default-service_of-clause-none c =
       refl,
     )))
 
-pub check_call_at-requires-clause-there : goal.check_call_at-requires-clause-there
-check_call_at-requires-clause-there c =
-    (names_fit c.args.checks.now.items c.args.lines.now c.in-Some-service_of.call.now
+pub check_item_at-requires-clause-there : goal.check_item_at-requires-clause-there
+check_item_at-requires-clause-there c =
+    (names_fit c.args.checks.now.items c.args.lines.now c.in-Some-service_of.item.now
     c.in-Some-service_of.at (subst (λ cs. NamesCheck cs c.args.lines.now c.in-Some-service_of.at
-    c.in-Some-service_of.call.now) c.deref.ensures.value c.in-Some-service_of.ensures.some)).0
+    c.in-Some-service_of.item.now) c.deref.ensures.value c.in-Some-service_of.ensures.some)).0
 
-pub check_call_at-requires-clause-fits : goal.check_call_at-requires-clause-fits
-check_call_at-requires-clause-fits c =
-    let less = names_fit c.deref.result.now c.args.lines.now c.in-Some-service_of.call.now
+pub check_item_at-requires-clause-fits : goal.check_item_at-requires-clause-fits
+check_item_at-requires-clause-fits c =
+    let less = names_fit c.deref.result.now c.args.lines.now c.in-Some-service_of.item.now
     c.in-Some-service_of.at c.in-Some-service_of.ensures.some in
     omega (arith, less.1, c.requires)
 
 pub returns-in-Ok-clause-part : goal.returns-in-Ok-clause-part
 returns-in-Ok-clause-part c = inr (
   c.in-Some-service_of.at,
-  c.in-Some-service_of.call.now,
+  c.in-Some-service_of.item.now,
   subst (λ cs. NamesCheck cs c.args.lines.now c.in-Some-service_of.at
-      c.in-Some-service_of.call.now) c.deref.ensures.value c.in-Some-service_of.ensures.some,
-  rw c.in-Ok.is at c.in_ok-part-2.ensures.call,
+      c.in-Some-service_of.item.now) c.deref.ensures.value c.in-Some-service_of.ensures.some,
+  rw c.in-Ok.is at c.in_ok-part-2.ensures.item,
 )
 
 pub returns-in-Ok-clause-fits : goal.returns-in-Ok-clause-fits
 returns-in-Ok-clause-fits c =
-    let less = names_fit c.deref.result.now c.args.lines.now c.in-Some-service_of.call.now
+    let less = names_fit c.deref.result.now c.args.lines.now c.in-Some-service_of.item.now
     c.in-Some-service_of.at c.in-Some-service_of.ensures.some in
     let fits = rw c.in-Ok.is at c.in_ok-part-2.ensures.fits in
     omega (arith, less.1, fits)
@@ -58,9 +58,9 @@ returns-in-Err-clause-none c = inr (inr (inr (
   λ line rest fits e. c.in_default.ensures (line, rest) fits e,
   (
     c.in-Some-service_of.at,
-    c.in-Some-service_of.call.now,
+    c.in-Some-service_of.item.now,
     subst (λ cs. NamesCheck cs c.args.lines.now c.in-Some-service_of.at
-        c.in-Some-service_of.call.now) c.deref.ensures.value c.in-Some-service_of.ensures.some,
+        c.in-Some-service_of.item.now) c.deref.ensures.value c.in-Some-service_of.ensures.some,
     rw c.in-Err.is at c.in_ok-part-2.ensures.none,
   ),
 )))

@@ -1,5 +1,5 @@
-use Rattle.service_logs.specs.Logs.{IsNote}
-use Rattle.service_logs.proofs.Judging.{no_first}
+use Rattle.service_logs.specs.Items.{IsNote}
+use Rattle.service_logs.proofs.Reading.{no_first}
 use Rattle.service_logs.proofs.logs.front.after_note.Goals as goal
 
 pub returns-in_default-clause-none : goal.returns-in_default-clause-none

@@ -1,5 +1,5 @@
 use Rattle.std.proofs.Common.{arith}
-use Rattle.service_logs.proofs.Judging.{notes_more, notes_none, notes_shorter}
+use Rattle.service_logs.proofs.Reading.{notes_more, notes_none, notes_shorter}
 use Rattle.service_logs.proofs.logs.front.after_notes.Goals as goal
 
 pub notes-init : goal.notes-init

@@ -1,8 +1,8 @@
 use Rattle.std.proofs.Common.{◌≢◌, ◌∷◌, ◌++◌, codes, subst}
 use Rattle.std.proofs.lemmas.List.Elements.{All-tail}
 use Rattle.line_streams.specs.Spelling.{HasNo}
-use Rattle.service_logs.specs.Logs.{IsReplyLine}
-use Rattle.service_logs.proofs.Judging.{no_first, not_first}
+use Rattle.service_logs.specs.Items.{IsReplyLine}
+use Rattle.service_logs.proofs.Reading.{no_first, not_first}
 use Rattle.service_logs.proofs.logs.front.words_before.Goals as goal
 
 pub returns-in_default-clause-none : goal.returns-in_default-clause-none
