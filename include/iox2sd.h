@@ -135,7 +135,11 @@ enum iox2sd_status {
     /* A line of a log is not what is expected, or the log ends before it. */
     IOX2SD_NO_SERVICE_LINE = 91,
     IOX2SD_NO_COMMAND_LINE = 92,
-    IOX2SD_NO_REPLY_LINE = 93
+    IOX2SD_NO_REPLY_LINE = 93,
+    IOX2SD_NO_ORDER = 94,        /* No order of the calls of a group gives their replies. */
+    IOX2SD_TOO_MANY_STATES = 95, /* The orders of a group lead to more than 64 states. */
+    IOX2SD_NO_GROUP_LINE = 96,   /* A call of a group, or the end of the group, is expected. */
+    IOX2SD_NO_GROUP_END = 97     /* The end of a group of eight calls is expected. */
 };
 
 /* Whether a call succeeded: with IOX2SD_DONE or IOX2SD_DONE_LOCKED. */
@@ -420,6 +424,11 @@ static inline const char *iox2sd_status_str(uint32_t status) {
         case IOX2SD_NO_SERVICE_LINE: return "the line of a service is expected";
         case IOX2SD_NO_COMMAND_LINE: return "the line of a command is expected";
         case IOX2SD_NO_REPLY_LINE: return "the line of a reply is expected";
+        case IOX2SD_NO_ORDER: return "no order of the group gives the replies";
+        case IOX2SD_TOO_MANY_STATES: return "orders of the group lead to more than 64 states";
+        case IOX2SD_NO_GROUP_LINE:
+            return "the line of a call of the group, or its end, is expected";
+        case IOX2SD_NO_GROUP_END: return "the end of the group is expected, which has 8 calls";
         default: return "unknown status";
     }
 }

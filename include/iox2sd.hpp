@@ -116,6 +116,10 @@ enum class Status : std::uint32_t {
     NoServiceLine = IOX2SD_NO_SERVICE_LINE,
     NoCommandLine = IOX2SD_NO_COMMAND_LINE,
     NoReplyLine = IOX2SD_NO_REPLY_LINE,
+    NoOrder = IOX2SD_NO_ORDER,
+    TooManyStates = IOX2SD_TOO_MANY_STATES,
+    NoGroupLine = IOX2SD_NO_GROUP_LINE,
+    NoGroupEnd = IOX2SD_NO_GROUP_END,
 };
 
 namespace detail {

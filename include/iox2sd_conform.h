@@ -34,9 +34,11 @@ typedef struct iox2sd_conform_answer {
  * Errors: IOX2SD_NULL. IOX2SD_NO_MEMORY. IOX2SD_BUFFER_TOO_SHORT, with `line`, `calls` and `length`
  * as they would be with a longer buffer; then `out` is as it was, and a call with a longer buffer
  * judges the log again from its start. Then of the first line that does not conform: IOX2SD_NO_RUN
- * where no run of the machine gives its reply; IOX2SD_NO_SERVICE_LINE, IOX2SD_NO_COMMAND_LINE and
- * IOX2SD_NO_REPLY_LINE where it is not what is expected, or has no newline, or the log ends before
- * it. */
+ * where no run of the machine gives its reply; at the end of a group of calls that overlapped,
+ * IOX2SD_NO_ORDER where no order of them gives their replies, and IOX2SD_TOO_MANY_STATES where
+ * their orders lead to more than 64 states; IOX2SD_NO_SERVICE_LINE, IOX2SD_NO_COMMAND_LINE,
+ * IOX2SD_NO_REPLY_LINE, IOX2SD_NO_GROUP_LINE and IOX2SD_NO_GROUP_END where it is not what is
+ * expected, or has no newline, or the log ends before it. */
 static inline iox2sd_conform_answer iox2sd_conform_run(const uint8_t *log, size_t length,
                                                        uint8_t *out, size_t capacity) {
     iox2sd_conform_answer refused = {IOX2SD_NULL, 0, 0, 0};

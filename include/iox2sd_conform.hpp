@@ -7,6 +7,7 @@
 #ifndef IOX2SD_CONFORM_HPP
 #define IOX2SD_CONFORM_HPP
 
+#include <iterator>
 #include <string>
 #include <unordered_map>
 #include <vector>
@@ -16,10 +17,119 @@
 
 namespace iox2sd {
 
+namespace detail {
+
+/// Takes the first line off the lines, and returns what stands in it behind these words.
+inline std::string_view take_line(std::string_view& lines, std::string_view front) noexcept {
+    const std::string_view line = lines.substr(0, lines.find('\n'));
+    lines.remove_prefix(line.size() + 1);
+    return line.substr(front.size());
+}
+
+/// The same, of a line of ids.
+inline std::string_view take_ids(std::string_view& lines, std::string_view front) noexcept {
+    const std::string_view ids = take_line(lines, front);
+    return ids.empty() ? ids : ids.substr(1);
+}
+
+}  // namespace detail
+
+/// Who is there in a state of a service.
+struct Attached {
+    /// The ids of the nodes that are registered, by rising slot, one for each handle, with a space
+    /// between.
+    std::string_view nodes;
+    /// Those of the ports that are attached: of the pattern's first role by rising slot, then the
+    /// others.
+    std::string_view ports;
+
+    template <class F>
+    auto fields(F f) const noexcept { return f(nodes, ports); }
+};
+
+/// A state that a service may be in. Its texts last as long as their `LogVerdict`.
+struct PossibleState {
+    std::string_view possible;  ///< With `NoRun`, every reply that a run gives from it.
+    Attached attached;          ///< Who is there.
+
+    template <class F>
+    auto fields(F f) const noexcept { return f(possible, attached); }
+};
+
+/// The states of a verdict, one after the other. They are read from its report, and last as long
+/// as their `LogVerdict`.
+class PossibleStates {
+public:
+    class const_iterator {
+    public:
+        using iterator_category = std::input_iterator_tag;
+        using value_type = PossibleState;
+        using difference_type = std::ptrdiff_t;
+        using pointer = const PossibleState*;
+        using reference = PossibleState;
+
+        explicit const_iterator(std::string_view lines) noexcept : lines_(lines) {}
+
+        PossibleState operator*() const noexcept {
+            std::string_view rest = lines_;
+            return take(rest);
+        }
+        const_iterator& operator++() noexcept {
+            take(lines_);
+            return *this;
+        }
+        const_iterator operator++(int) noexcept {
+            const const_iterator before = *this;
+            ++*this;
+            return before;
+        }
+
+        /// Iterators of one verdict are equal where equally many states are left.
+        friend bool operator==(const const_iterator& a, const const_iterator& b) noexcept {
+            return a.lines_.size() == b.lines_.size();
+        }
+        friend bool operator!=(const const_iterator& a, const const_iterator& b) noexcept {
+            return !(a == b);
+        }
+
+    private:
+        /// Takes the lines of one state off the others.
+        static PossibleState take(std::string_view& lines) noexcept {
+            constexpr std::string_view front = "possible: ";
+            PossibleState state{};
+            if (lines.substr(0, front.size()) == front) {
+                state.possible = detail::take_line(lines, front);
+            }
+            state.attached.nodes = detail::take_ids(lines, "nodes:");
+            state.attached.ports = detail::take_ids(lines, "ports:");
+            return state;
+        }
+
+        std::string_view lines_;
+    };
+    using value_type = PossibleState;
+
+    explicit PossibleStates(std::string_view lines) noexcept : lines_(lines) {}
+
+    const_iterator begin() const noexcept { return const_iterator(lines_); }
+    const_iterator end() const noexcept { return const_iterator({}); }
+    bool empty() const noexcept { return lines_.empty(); }
+    std::size_t size() const noexcept {
+        return static_cast<std::size_t>(std::distance(begin(), end()));
+    }
+    /// The first of the states, where there is one.
+    PossibleState front() const noexcept { return *begin(); }
+
+private:
+    std::string_view lines_;
+};
+
 /// What a log was judged to be.
 struct [[nodiscard]] LogVerdict {
     /// `Done` where the log conforms; `NoMemory`; or what the first line that does not conform is:
-    /// `NoRun` where no run gives its reply, else `NoServiceLine`, `NoCommandLine` or `NoReplyLine`
+    /// `NoRun` where no run gives its reply; at the end of a group `NoOrder` where no order of its
+    /// calls gives their replies, and `TooManyStates` where their orders lead to more than 64
+    /// states; else `NoServiceLine`, `NoCommandLine`, `NoReplyLine`, `NoGroupLine` or `NoGroupEnd`
     /// by what is expected.
     Status status;
     std::size_t line;   ///< The number of that line, from 1 on; else 0.
@@ -30,32 +140,26 @@ struct [[nodiscard]] LogVerdict {
     std::string_view report() const& noexcept { return {text.data(), text.size()}; }
     std::string_view report() const&& = delete;
 
-    /// With `NoRun`: the words of the reply that was seen; every reply that a run gives instead;
-    /// the ids of the nodes and of the ports that are there then, with a space between. Else
-    /// nothing.
-    std::string_view seen() const& noexcept { return after("\nseen: "); }
+    /// With `NoRun`: the words of the reply that was seen. Else nothing.
+    std::string_view seen() const& noexcept {
+        if (status != Status::NoRun) return {};
+        std::string_view lines = report();
+        detail::take_line(lines, {});
+        return detail::take_line(lines, "seen: ");
+    }
     std::string_view seen() const&& = delete;
-    std::string_view possible() const& noexcept { return after("\npossible: "); }
-    std::string_view possible() const&& = delete;
-    std::string_view nodes() const& noexcept { return ids("\nnodes:"); }
-    std::string_view nodes() const&& = delete;
-    std::string_view ports() const& noexcept { return ids("\nports:"); }
-    std::string_view ports() const&& = delete;
 
-private:
-    /// The rest of the report's line that begins so. No line of it is in another one.
-    std::string_view after(std::string_view front) const noexcept {
-        const std::string_view all(text.data(), text.size());
-        const std::size_t found = all.find(front);
-        if (found == all.npos) return {};
-        const std::string_view rest = all.substr(found + front.size());
-        return rest.substr(0, rest.find('\n'));
+    /// With `NoRun`: each state that the service may be in then, at least one, and several where
+    /// groups above have several orders. With `NoOrder`: the same before the group, without
+    /// replies. Else none.
+    PossibleStates states() const& noexcept {
+        if (status != Status::NoRun && status != Status::NoOrder) return PossibleStates({});
+        std::string_view lines = report();
+        detail::take_line(lines, {});
+        if (status == Status::NoRun) detail::take_line(lines, {});
+        return PossibleStates(lines);
     }
-
-    std::string_view ids(std::string_view front) const noexcept {
-        const std::string_view found = after(front);
-        return found.empty() ? found : found.substr(1);
-    }
+    PossibleStates states() const&& = delete;
 };
 
 /// Judges a log of services.

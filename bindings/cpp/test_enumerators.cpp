@@ -78,6 +78,10 @@ constexpr StatusText texts[] = {
     {Status::NoServiceLine, "the line of a service is expected"},
     {Status::NoCommandLine, "the line of a command is expected"},
     {Status::NoReplyLine, "the line of a reply is expected"},
+    {Status::NoOrder, "no order of the group gives the replies"},
+    {Status::TooManyStates, "orders of the group lead to more than 64 states"},
+    {Status::NoGroupLine, "the line of a call of the group, or its end, is expected"},
+    {Status::NoGroupEnd, "the end of the group is expected, which has 8 calls"},
 };
 
 // The number of the C headers that each enumerator has. A switch that leaves one out does not
@@ -330,6 +334,10 @@ std::uint64_t of_header(Status status) {
         case Status::NoServiceLine: return IOX2SD_NO_SERVICE_LINE;
         case Status::NoCommandLine: return IOX2SD_NO_COMMAND_LINE;
         case Status::NoReplyLine: return IOX2SD_NO_REPLY_LINE;
+        case Status::NoOrder: return IOX2SD_NO_ORDER;
+        case Status::TooManyStates: return IOX2SD_TOO_MANY_STATES;
+        case Status::NoGroupLine: return IOX2SD_NO_GROUP_LINE;
+        case Status::NoGroupEnd: return IOX2SD_NO_GROUP_END;
     }
     return none;
 }

@@ -102,7 +102,18 @@ from .ids import (
     UniqueSubscriberId,
     UniqueWriterId,
 )
-from .logs import Conforms, Expected, NoRun, UnexpectedLine, Verdict, check_log
+from .logs import (
+    Attached,
+    Conforms,
+    Expected,
+    NoOrder,
+    NoRun,
+    PossibleState,
+    TooManyStates,
+    UnexpectedLine,
+    Verdict,
+    check_log,
+)
 from .messages import Layout, MessageTypeDetails, Places, TypeDetail, TypeVariant
 from .recorder import Recorder
 from .scripts import run_script
@@ -155,6 +166,7 @@ LAYER_VERSION: str = _native.written(_native.layer_version_at)[1]
 
 __all__ = [
     "AllocationStrategy",
+    "Attached",
     "Attribute",
     "AttributeKey",
     "AttributeSet",
@@ -216,6 +228,7 @@ __all__ = [
     "NoIdText",
     "NoMemory",
     "NoNode",
+    "NoOrder",
     "NoRun",
     "NoService",
     "NotifierDetails",
@@ -233,6 +246,7 @@ __all__ = [
     "Places",
     "PortDetails",
     "PortsStillAttached",
+    "PossibleState",
     "PublisherDetails",
     "PublishSubscribeSettings",
     "PublishSubscribeStaticConfig",
@@ -258,6 +272,7 @@ __all__ = [
     "TooLong",
     "TooMany",
     "TooManyRequired",
+    "TooManyStates",
     "TypeDetail",
     "TypeVariant",
     "UnexpectedLine",

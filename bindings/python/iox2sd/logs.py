@@ -1,6 +1,7 @@
 """Logs of services, as the program `iox2-conform` judges them."""
 
 import ctypes
+from dataclasses import dataclass
 from typing import NamedTuple, Union
 
 from . import _native
@@ -18,6 +19,29 @@ class Expected(Choice):
     """The line of a command."""
     REPLY = 93
     """The line of a reply."""
+    GROUP_LINE = 96
+    """The line of a call of a group, or the group's end."""
+    GROUP_END = 97
+    """The end of a group that has eight calls."""
+
+
+class Attached(NamedTuple):
+    """Who is there in a state of a service."""
+
+    nodes: "tuple[UniqueNodeId, ...]"
+    """The nodes that are registered, by rising slot, one for each handle."""
+    ports: "tuple[int, ...]"
+    """The values of the ids of the ports that are attached: those of the pattern's first role by
+    rising slot, then the others."""
+
+
+class PossibleState(NamedTuple):
+    """A state that a service may be in where a reply was seen."""
+
+    possible: str
+    """Every reply that a run gives from it."""
+    attached: Attached
+    """Who is there."""
 
 
 class Conforms(NamedTuple):
@@ -37,13 +61,37 @@ class NoRun(NamedTuple):
     """The number of its line, from 1 on."""
     seen: str
     """Its words. Bytes that are no UTF-8 are printed as `\\xff`."""
-    possible: str
-    """Every reply that a run gives instead."""
-    nodes: "tuple[UniqueNodeId, ...]"
-    """The nodes that are registered then, by rising slot, one for each handle."""
-    ports: "tuple[int, ...]"
-    """The values of the ids of the ports that are attached then: those of the pattern's first role
-    by rising slot, then the others."""
+    states: "tuple[PossibleState, ...]"
+    """Each state that the service may be in then: at least one, and several where groups above have
+    several orders."""
+
+    def __bool__(self) -> bool:
+        return False
+
+
+class NoOrder(NamedTuple):
+    """The replies before a group of calls that overlapped are those of a run, and no order of the
+    group's calls gives theirs. It counts as False.
+    """
+
+    line: int
+    """The number of the line that ends the group, from 1 on."""
+    states: "tuple[Attached, ...]"
+    """Each state that the service may be in before the group: at least one."""
+
+    def __bool__(self) -> bool:
+        return False
+
+
+@dataclass(frozen=True, slots=True)
+class TooManyStates:
+    """The replies before a group are those of a run, and the orders of its calls lead to more than
+    64 states. It counts as False.
+    """
+
+    # No tuple, which would be equal to a `Conforms` of the same number.
+    line: int
+    """The number of the line that ends the group, from 1 on."""
 
     def __bool__(self) -> bool:
         return False
@@ -63,7 +111,7 @@ class UnexpectedLine(NamedTuple):
         return False
 
 
-Verdict = Union[Conforms, NoRun, UnexpectedLine]
+Verdict = Union[Conforms, NoRun, NoOrder, TooManyStates, UnexpectedLine]
 """What a log was judged to be."""
 
 
@@ -82,22 +130,37 @@ def check_log(log: Union[str, bytes]) -> Verdict:
         if answer.status != _native.BUFFER_TOO_SHORT:
             break
         capacity = answer.length
-    if answer.status == _native.NO_RUN:
+    if answer.status in (_native.NO_RUN, _native.NO_ORDER):
         report = ctypes.string_at(out, answer.length).decode(errors="backslashreplace")
-        return _refusal(answer.line, report)
+        if answer.status == _native.NO_RUN:
+            return _no_run(answer.line, report)
+        return _no_order(answer.line, report)
+    if answer.status == _native.TOO_MANY_STATES:
+        return TooManyStates(answer.line)
     if answer.status in (expected.value for expected in Expected):
         return UnexpectedLine(answer.line, Expected(answer.status))
     check(answer.status, "check_log")
     return Conforms(answer.calls)
 
 
-def _refusal(line: int, report: str) -> NoRun:
+def _no_run(line: int, report: str) -> NoRun:
     """What the lines of a report say, which stand below its first one."""
-    _, seen, possible, nodes, ports, _ = report.split("\n")
-    return NoRun(
-        line,
-        seen.removeprefix("seen: "),
-        possible.removeprefix("possible: "),
+    _, seen, *lines, _ = report.split("\n")
+    states = (
+        PossibleState(possible.removeprefix("possible: "), _attached(nodes, ports))
+        for possible, nodes, ports in zip(lines[::3], lines[1::3], lines[2::3])
+    )
+    return NoRun(line, seen.removeprefix("seen: "), tuple(states))
+
+
+def _no_order(line: int, report: str) -> NoOrder:
+    """The same of a group."""
+    _, *lines, _ = report.split("\n")
+    return NoOrder(line, tuple(map(_attached, lines[::2], lines[1::2])))
+
+
+def _attached(nodes: str, ports: str) -> Attached:
+    return Attached(
         tuple(map(UniqueNodeId.from_text, nodes.split(" ")[1:])),
         tuple(int(port, 16) for port in ports.split(" ")[1:]),
     )

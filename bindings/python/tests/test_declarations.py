@@ -41,10 +41,14 @@ NO_CLASS = {
     "BELOW_ZERO": "",
     "NO_DURATION": "",
     "NO_FILE": "the system's own errors are raised",
-    "NO_RUN": "it is a verdict on a log; so are the next three",
+    "NO_RUN": "it is a verdict on a log; so are the next seven",
     "NO_SERVICE_LINE": "",
     "NO_COMMAND_LINE": "",
     "NO_REPLY_LINE": "",
+    "NO_ORDER": "",
+    "TOO_MANY_STATES": "",
+    "NO_GROUP_LINE": "",
+    "NO_GROUP_END": "",
 }
 """The statuses that no call of the package meets."""
 
@@ -160,15 +164,20 @@ class Declarations(unittest.TestCase):
             (iox2sd.BackpressureStrategy, "", ""),
             (iox2sd.AllocationStrategy, "ALLOCATION_", ""),
             (iox2sd.DefaultText, "", ""),
-            (iox2sd.Expected, "NO_", "_LINE"),
         ]
         for kind, front, end in kinds:
             for member in kind:
                 with self.subTest(member=member):
                     name = front + member.name + end
                     self.assertEqual(headers.CONSTANTS[name], member.value)
+        expected = {
+            f"NO_{member.name}" + "_LINE" * (not member.name.startswith("GROUP")): member.value
+            for member in iox2sd.Expected
+        }
+        self.assertLessEqual(expected.items(), headers.CONSTANTS.items())
         statuses = ("DONE", "DONE_LOCKED", "BUFFER_TOO_SHORT", "OUT_OF_SPACE", "NO_SUCH_VALUE")
-        for name in (*statuses, "UNMET", "NO_RUN", "DEADLINE", "MAX_SUBSCRIBERS"):
+        verdicts = ("NO_RUN", "NO_ORDER", "TOO_MANY_STATES")
+        for name in (*statuses, *verdicts, "UNMET", "DEADLINE", "MAX_SUBSCRIBERS"):
             self.assertEqual(headers.CONSTANTS[name], getattr(_native, name))
 
     def test_each_refusal_has_a_class(self):

@@ -38,6 +38,7 @@ VALUES: "list[Any]" = [
     iox2sd.ContainerHandle(7, iox2sd.Role.NODE, 1, 2),
     iox2sd.Capacities(1, 2, 3),
     iox2sd.DeadNodeRemoval(iox2sd.DeregisterNodeState.HAS_OWNERS, 1, 2),
+    iox2sd.TooManyStates(9),
     *PORTS,
     iox2sd.Layout(8, 4),
     iox2sd.Places(8, 16),

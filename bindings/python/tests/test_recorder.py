@@ -49,9 +49,20 @@ def step(dice: random.Random, service: Recorder, handles: "list[Any]") -> None:
         dice.choice((service.deregister_node_id, service.release_port))(dice.choice(handles))
 
 
+def overlapped(dice: random.Random, log: str) -> str:
+    """The log with its calls in groups of two callers, as if they had overlapped."""
+    service, *lines = (line for line in log.splitlines(keepends=True) if not line.startswith("#"))
+    calls = [f"{dice.choice('AB')}: {one}{reply}" for one, reply in zip(lines[::2], lines[1::2])]
+    while calls:
+        size = dice.randint(1, 8)
+        service += "".join(["overlap\n", *calls[:size], "end\n"])
+        del calls[:size]
+    return service
+
+
 class Recording(unittest.TestCase):
     def test_random_logs_conform(self):
-        dice = random.Random(1)
+        dice, callers = random.Random(1), random.Random(2)
         seen: "set[str]" = set()
         for pattern in [*MessagingPattern] * 50:
             capacities = Capacities(*(dice.randrange(5) for _ in range(3)))
@@ -62,6 +73,8 @@ class Recording(unittest.TestCase):
                         step(dice, service, handles)
             replies = [line for line in service.log.splitlines() if line.startswith("= ")]
             self.assertEqual(check_log(service.log), Conforms(len(replies)))
+            grouped = overlapped(callers, service.log)
+            self.assertEqual(check_log(grouped), Conforms(len(replies)))
             seen.update(reply.split()[1] for reply in replies)
             commands = [line for line in service.log.splitlines() if not line.startswith("= ")]
             script = "".join(f"{command}\n" for command in commands)

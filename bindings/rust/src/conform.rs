@@ -38,6 +38,15 @@ pub enum Verdict {
     },
     /// The replies before this one are those of a run, and no run goes on with it.
     NoRun(Refusal),
+    /// The replies before a group of calls that overlapped are those of a run, and no order of the
+    /// group's calls gives theirs.
+    NoOrder(GroupRefusal),
+    /// The replies before a group are those of a run, and the orders of its calls lead to more than
+    /// 64 states.
+    TooManyStates {
+        /// The number of the line that ends the group, from 1 on.
+        line: usize,
+    },
     /// The replies before this line are those of a run. The line is not what is expected, or has no
     /// newline, or the log ends before it.
     BadLine {
@@ -55,8 +64,8 @@ pub enum Verdict {
 ///
 /// let log = "service event 7 1 0 0\nregister 1.0.0.1\n= handle 0 0\nregister 1.0.0.1\n= locked\n";
 /// let Verdict::NoRun(refusal) = check_log(log)? else { panic!("a run gives it") };
-/// assert_eq!((refusal.line, refusal.nodes.len()), (5, 1));
-/// assert_eq!((refusal.seen.as_str(), refusal.possible.as_str()), ("locked", "full"));
+/// assert_eq!((refusal.line, refusal.seen.as_str()), (5, "locked"));
+/// assert_eq!(refusal.states[0].possible, "full");
 /// # Ok::<(), iox2sd::dynamic_config::AllocError>(())
 /// ```
 #[derive(Clone, Debug, PartialEq, Eq, Hash)]
@@ -65,12 +74,74 @@ pub struct Refusal {
     pub line: usize,
     /// Its words.
     pub seen: String,
-    /// Every reply that a run gives instead.
+    /// Each state that the service may be in then: at least one, and several where groups above
+    /// have several orders.
+    pub states: Vec<PossibleState>,
+}
+
+/// A state that a service may be in where a reply was seen.
+///
+/// ```
+/// use iox2sd::conform::{check_log, Verdict};
+///
+/// // The first node was registered again before it was removed, or after that.
+/// let log = "service event 7 3 0 0\n\
+///            register 1.0.0.1\n= handle 0 0\n\
+///            register 1.0.0.2\n= handle 1 1\n\
+///            overlap\n\
+///            A: dead 1.0.0.1\n= has-owners\n\
+///            B: register 1.0.0.1\n= handle 2 2\n\
+///            end\n\
+///            nodes\n= list\n";
+/// let Verdict::NoRun(refusal) = check_log(log)? else { panic!("a run gives it") };
+/// let possible = "list 1000000000000000000000002";
+/// assert_eq!(refusal.states.len(), 2);
+/// assert!(refusal.states.iter().any(|state| state.possible == possible));
+/// # Ok::<(), iox2sd::dynamic_config::AllocError>(())
+/// ```
+#[derive(Clone, Debug, PartialEq, Eq, Hash)]
+pub struct PossibleState {
+    /// Every reply that a run gives from it.
     pub possible: String,
-    /// The nodes that are registered then, by rising slot, one for each handle.
+    /// Who is there.
+    pub attached: Attached,
+}
+
+/// A group of calls that overlapped, of which no order gives the replies.
+///
+/// ```
+/// use iox2sd::conform::{check_log, Verdict};
+///
+/// let log = "service event 7 1 0 0\noverlap\nA: register 1.0.0.1\n= full\nend\n";
+/// let Verdict::NoOrder(refusal) = check_log(log)? else { panic!("an order gives it") };
+/// assert_eq!((refusal.line, refusal.states.len()), (5, 1));
+/// # Ok::<(), iox2sd::dynamic_config::AllocError>(())
+/// ```
+#[derive(Clone, Debug, PartialEq, Eq, Hash)]
+pub struct GroupRefusal {
+    /// The number of the line that ends it, from 1 on.
+    pub line: usize,
+    /// Each state that the service may be in before it: at least one.
+    pub states: Vec<Attached>,
+}
+
+/// Who is there in a state of a service.
+///
+/// ```
+/// use iox2sd::conform::{check_log, Verdict};
+///
+/// let log = "service event 7 1 0 0\nregister 1.0.0.1\n= handle 0 0\nnodes\n= list\n";
+/// let Verdict::NoRun(refusal) = check_log(log)? else { panic!("a run gives it") };
+/// let attached = &refusal.states[0].attached;
+/// assert_eq!((attached.nodes.len(), attached.ports.len()), (1, 0));
+/// # Ok::<(), iox2sd::dynamic_config::AllocError>(())
+/// ```
+#[derive(Clone, Debug, PartialEq, Eq, Hash)]
+pub struct Attached {
+    /// The nodes that are registered, by rising slot, one for each handle.
     pub nodes: Vec<UniqueNodeId>,
-    /// The ids of the ports that are attached then, as numbers: those of the pattern's first role
-    /// by rising slot, then the others.
+    /// The ids of the ports that are attached, as numbers: those of the pattern's first role by
+    /// rising slot, then the others.
     pub ports: Vec<u128>,
 }
 
@@ -82,6 +153,7 @@ pub struct Refusal {
 /// let bad = |line, expected| Verdict::BadLine { line, expected };
 /// assert_eq!(check_log("")?, bad(1, Expected::Service));
 /// assert_eq!(check_log("service event 7 2 0 0\nleave\n")?, bad(2, Expected::Command));
+/// assert_eq!(check_log("service event 7 2 0 0\noverlap\n")?, bad(3, Expected::GroupLine));
 /// # Ok::<(), iox2sd::dynamic_config::AllocError>(())
 /// ```
 #[derive(Clone, Copy, Debug, PartialEq, Eq, Hash)]
@@ -92,6 +164,10 @@ pub enum Expected {
     Command,
     /// The line of a reply.
     Reply,
+    /// The line of a call of a group, or the group's end.
+    GroupLine,
+    /// The end of a group that has eight calls.
+    GroupEnd,
 }
 
 /// Judges a log of services.
@@ -116,6 +192,8 @@ pub fn check_log(log: &str) -> Result<Verdict, AllocError> {
             calls: judged.calls,
         },
         sys::IOX2SD_NO_RUN => Verdict::NoRun(Refusal::of(line, &judged.report)),
+        sys::IOX2SD_NO_ORDER => Verdict::NoOrder(GroupRefusal::of(line, &judged.report)),
+        sys::IOX2SD_TOO_MANY_STATES => Verdict::TooManyStates { line },
         sys::IOX2SD_NO_SERVICE_LINE => Verdict::BadLine {
             line,
             expected: Expected::Service,
@@ -128,6 +206,14 @@ pub fn check_log(log: &str) -> Result<Verdict, AllocError> {
             line,
             expected: Expected::Reply,
         },
+        sys::IOX2SD_NO_GROUP_LINE => Verdict::BadLine {
+            line,
+            expected: Expected::GroupLine,
+        },
+        sys::IOX2SD_NO_GROUP_END => Verdict::BadLine {
+            line,
+            expected: Expected::GroupEnd,
+        },
         sys::IOX2SD_NO_MEMORY => return Err(AllocError),
         other => library::unexpected(other),
     })
@@ -136,19 +222,54 @@ pub fn check_log(log: &str) -> Result<Verdict, AllocError> {
 impl Refusal {
     /// What the lines of a report say, which stand below its first one.
     fn of(line: usize, report: &str) -> Self {
-        let mut lines = report.split('\n').skip(1);
-        let mut after = |front: &str| {
-            let rest = lines.next().and_then(|line| line.strip_prefix(front));
-            rest.expect("the library writes this line")
-        };
+        let lines = below_first(report);
         Refusal {
             line,
-            seen: after("seen: ").to_string(),
-            possible: after("possible: ").to_string(),
-            nodes: ids(after("nodes:"), |id| id.parse().ok()),
-            ports: ids(after("ports:"), |id| u128::from_str_radix(id, 16).ok()),
+            seen: after("seen: ", lines[0]).to_string(),
+            states: lines[1..].chunks(3).map(PossibleState::of).collect(),
         }
     }
+}
+
+impl GroupRefusal {
+    /// What the lines of a report say, which stand below its first one.
+    fn of(line: usize, report: &str) -> Self {
+        GroupRefusal {
+            line,
+            states: below_first(report).chunks(2).map(Attached::of).collect(),
+        }
+    }
+}
+
+impl PossibleState {
+    fn of(lines: &[&str]) -> Self {
+        PossibleState {
+            possible: after("possible: ", lines[0]).to_string(),
+            attached: Attached::of(&lines[1..]),
+        }
+    }
+}
+
+impl Attached {
+    fn of(lines: &[&str]) -> Self {
+        Attached {
+            nodes: ids(after("nodes:", lines[0]), |id| id.parse().ok()),
+            ports: ids(after("ports:", lines[1]), |id| {
+                u128::from_str_radix(id, 16).ok()
+            }),
+        }
+    }
+}
+
+/// The lines of a report but the first one.
+fn below_first(report: &str) -> Vec<&str> {
+    report.split_terminator('\n').skip(1).collect()
+}
+
+/// What stands in a line behind these words.
+fn after<'a>(front: &str, line: &'a str) -> &'a str {
+    let rest = line.strip_prefix(front);
+    rest.expect("the library writes this line")
 }
 
 /// Ids that each have a space before them.

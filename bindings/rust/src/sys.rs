@@ -46,6 +46,10 @@ pub const IOX2SD_NO_RUN: u32 = 90;
 pub const IOX2SD_NO_SERVICE_LINE: u32 = 91;
 pub const IOX2SD_NO_COMMAND_LINE: u32 = 92;
 pub const IOX2SD_NO_REPLY_LINE: u32 = 93;
+pub const IOX2SD_NO_ORDER: u32 = 94;
+pub const IOX2SD_TOO_MANY_STATES: u32 = 95;
+pub const IOX2SD_NO_GROUP_LINE: u32 = 96;
+pub const IOX2SD_NO_GROUP_END: u32 = 97;
 
 pub const IOX2SD_DEADLINE: u32 = 2;
 pub const IOX2SD_MAX_SUBSCRIBERS: u32 = 8;

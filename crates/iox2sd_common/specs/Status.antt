@@ -66,6 +66,10 @@ code status.NoRun = 90
 code status.NoServiceLine = 91
 code status.NoCommandLine = 92
 code status.NoReplyLine = 93
+code status.NoOrder = 94
+code status.TooManyStates = 95
+code status.NoGroupLine = 96
+code status.NoGroupEnd = 97
 
 -- the status of a number
 abbrev pub ReadsStatus : ℕ → Option Status → Type 0
@@ -136,6 +140,10 @@ status_text status.NoRun = codes "no run gives the reply"
 status_text status.NoServiceLine = codes "the line of a service is expected"
 status_text status.NoCommandLine = codes "the line of a command is expected"
 status_text status.NoReplyLine = codes "the line of a reply is expected"
+status_text status.NoOrder = codes "no order of the group gives the replies"
+status_text status.TooManyStates = codes "orders of the group lead to more than 64 states"
+status_text status.NoGroupLine = codes "the line of a call of the group, or its end, is expected"
+status_text status.NoGroupEnd = codes "the end of the group is expected, which has 8 calls"
 
 -- the number at the end of a call that makes something or is refused
 abbrev pub end_code : {A : Type 0} → Result A Status → ℕ

@@ -127,6 +127,14 @@ pub enum Status {
     NoCommandLine = 92,
     /// A line of a log is not that of a reply, where one is expected, or the log ends there.
     NoReplyLine = 93,
+    /// No order of the calls of a group gives their replies.
+    NoOrder = 94,
+    /// The orders of a group lead to more states than a check keeps.
+    TooManyStates = 95,
+    /// A line of a log is neither that of a call of its group nor the group's end.
+    NoGroupLine = 96,
+    /// A line of a log is not the end of its group, which has as many calls as one may have.
+    NoGroupEnd = 97,
 }
 
 impl Status {
@@ -204,6 +212,10 @@ impl Status {
             Status::NoServiceLine => "the line of a service is expected",
             Status::NoCommandLine => "the line of a command is expected",
             Status::NoReplyLine => "the line of a reply is expected",
+            Status::NoOrder => "no order of the group gives the replies",
+            Status::TooManyStates => "orders of the group lead to more than 64 states",
+            Status::NoGroupLine => "the line of a call of the group, or its end, is expected",
+            Status::NoGroupEnd => "the end of the group is expected, which has 8 calls",
         }
     }
 }
@@ -274,6 +286,10 @@ pub fn status_of(number: u32) -> Option<Status>
         91 => Some(Status::NoServiceLine),
         92 => Some(Status::NoCommandLine),
         93 => Some(Status::NoReplyLine),
+        94 => Some(Status::NoOrder),
+        95 => Some(Status::TooManyStates),
+        96 => Some(Status::NoGroupLine),
+        97 => Some(Status::NoGroupEnd),
         _ => None,
     }
 }

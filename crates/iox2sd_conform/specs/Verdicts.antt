@@ -17,23 +17,31 @@ abbrev pub expected_status : Expected → Status
 expected_status expected.Service = status.NoServiceLine
 expected_status expected.Command = status.NoCommandLine
 expected_status expected.Reply = status.NoReplyLine
+expected_status expected.GroupLine = status.NoGroupLine
+expected_status expected.GroupEnd = status.NoGroupEnd
 
 -- the status of a verdict
 abbrev pub verdict_status : Verdict → Status
 verdict_status (verdict.Conforms n m) = status.Done
 verdict_status (verdict.NoRun told) = status.NoRun
+verdict_status (verdict.NoOrder told) = status.NoOrder
+verdict_status (verdict.TooManyStates k) = status.TooManyStates
 verdict_status (verdict.BadLine k e) = expected_status e
 
 -- the number of the reported line, or 0
 abbrev pub reported_line : Verdict → ℕ
 reported_line (verdict.Conforms n m) = 0
 reported_line (verdict.NoRun told) = told.line
+reported_line (verdict.NoOrder told) = told.line
+reported_line (verdict.TooManyStates k) = k
 reported_line (verdict.BadLine k e) = k
 
 -- how many calls conform, or 0 where the log does not
 abbrev pub conforming_calls : Verdict → ℕ
 conforming_calls (verdict.Conforms n m) = n
 conforming_calls (verdict.NoRun told) = 0
+conforming_calls (verdict.NoOrder told) = 0
+conforming_calls (verdict.TooManyStates k) = 0
 conforming_calls (verdict.BadLine k e) = 0
 
 -- the answer of a verdict whose report fits the buffer or does not

@@ -16,8 +16,9 @@ use std::alloc::Global;
 pub struct ConformAnswer {
     /// The number of a [`Status`]; that of `Done` where the log conforms.
     pub status: u32,
-    /// The number of the first line that does not conform or is not what is expected, from 1 on;
-    /// 0 where the log conforms or memory was refused.
+    /// The number of the first line that does not conform or is not what is expected, or of the end
+    /// of the first group that has no order or leads to too many states, from 1 on; 0 where the log
+    /// conforms or memory was refused.
     pub line: usize,
     /// How many calls the log has, where it conforms; else 0.
     pub calls: usize,
@@ -32,9 +33,13 @@ fn verdict_status(verdict: &Verdict) -> Status
     match verdict {
         Verdict::Conforms(_, _) => Status::Done,
         Verdict::NoRun(_) => Status::NoRun,
+        Verdict::NoOrder(_) => Status::NoOrder,
+        Verdict::TooManyStates(_) => Status::TooManyStates,
         Verdict::BadLine(_, Expected::Service) => Status::NoServiceLine,
         Verdict::BadLine(_, Expected::Command) => Status::NoCommandLine,
         Verdict::BadLine(_, Expected::Reply) => Status::NoReplyLine,
+        Verdict::BadLine(_, Expected::GroupLine) => Status::NoGroupLine,
+        Verdict::BadLine(_, Expected::GroupEnd) => Status::NoGroupEnd,
     }
 }
 
@@ -45,6 +50,8 @@ fn reported_line(verdict: &Verdict) -> usize
     match verdict {
         Verdict::Conforms(_, _) => 0,
         Verdict::NoRun(told) => told.line,
+        Verdict::NoOrder(told) => told.line,
+        Verdict::TooManyStates(line) => *line,
         Verdict::BadLine(line, _) => *line,
     }
 }
@@ -64,7 +71,8 @@ fn conforming_calls(verdict: &Verdict) -> usize
 ///
 /// Refused are, in this order, want of memory (`NoMemory`); too short a buffer (`BufferTooShort`),
 /// and a call with a longer one judges the log again from its start; and the first line of a log
-/// that does not conform (`NoRun`, `NoServiceLine`, `NoCommandLine`, `NoReplyLine`).
+/// that does not conform (`NoRun`, `NoServiceLine`, `NoCommandLine`, `NoReplyLine`, `NoGroupLine`,
+/// `NoGroupEnd`, and at the end of a group `NoOrder`, `TooManyStates`).
 #[unsafe(no_mangle)]
 pub extern "C" fn iox2sd_conform_run_at(alloc: Global, log: &[u8], out: &mut [u8]) -> ConformAnswer
     ensures { Answers log.now out.old result out.new }
