@@ -1,13 +1,15 @@
 //! What `Debug` prints of settings and of what is wrong with them: each variant by name, each field
 //! by name and value.
+use config_report::{FileConfig, Report, ReportError};
 use iox2_config::config::{AllocationStrategy, BackpressureStrategy, Config};
 use iox2_config_file::{
     ConfigFileError, ConfigWriteError, Fault, FileSettings, Kind, Misfit, Row, Section,
     SettingFault, SettingValue, TomlType, UnknownKey,
 };
 use iox2_texts::bounded::SemanticStringError;
-use std::alloc::AllocError;
+use std::alloc::{AllocError, Global};
 use std::process::Abort;
+use std::test::Fail;
 use std::time::Duration;
 use test_support::printing::{are_shown_as, is_shown_as};
 
@@ -166,4 +168,34 @@ fn rows_and_settings_are_shown_by_field(rt: HostRuntime) {
         "FileSettings {{ config: {config:?}, unknown: [{key}] }}"
     ).expect(&rt, "memory for a text");
     assert!(rt; is_shown_as(&settings, shown.as_str()));
+}
+
+/// A text of one letter.
+fn letter(alloc: Global, text: &str) -> Result<String, Fail> {
+    Ok(String::from_str(alloc, text)?)
+}
+
+#[test]
+fn reports_are_shown_by_field(rt: HostRuntime) -> Result<(), Fail> {
+    let report = Report {
+        text: letter(rt.alloc(), "a")?,
+        warnings: letter(rt.alloc(), "b")?,
+    };
+    let file = FileConfig {
+        config: Config::default(),
+        warnings: letter(rt.alloc(), "c")?,
+    };
+    let config = Config::default();
+    let shown = format!(in rt.alloc(); "FileConfig {{ config: {config:?}, warnings: \"c\" }}")?;
+    let refused = ReportError::Refused(letter(rt.alloc(), "d")?);
+    assert_eq!(rt;
+        [
+            is_shown_as(&report, "Report { text: \"a\", warnings: \"b\" }"),
+            is_shown_as(&file, shown.as_str()),
+            is_shown_as(&refused, "Refused(\"d\")"),
+            is_shown_as(&ReportError::NoMemory, "NoMemory"),
+        ],
+        [true; 4]
+    );
+    Ok(())
 }
