@@ -226,7 +226,10 @@ impl Refusal {
         Refusal {
             line,
             seen: after("seen: ", lines[0]).to_string(),
-            states: lines[1..].chunks(3).map(PossibleState::of).collect(),
+            states: lines[1..]
+                .chunks(1 + LINES_OF_ATTACHED)
+                .map(PossibleState::of)
+                .collect(),
         }
     }
 }
@@ -236,7 +239,10 @@ impl GroupRefusal {
     fn of(line: usize, report: &str) -> Self {
         GroupRefusal {
             line,
-            states: below_first(report).chunks(2).map(Attached::of).collect(),
+            states: below_first(report)
+                .chunks(LINES_OF_ATTACHED)
+                .map(Attached::of)
+                .collect(),
         }
     }
 }
@@ -260,6 +266,9 @@ impl Attached {
         }
     }
 }
+
+/// How many lines of a report say who is there in a state.
+const LINES_OF_ATTACHED: usize = 2;
 
 /// The lines of a report but the first one.
 fn below_first(report: &str) -> Vec<&str> {
