@@ -5,7 +5,6 @@ pub mod attributes;
 pub mod capacities;
 pub mod chunks;
 pub mod compatible;
-pub mod describe;
 pub mod descriptions;
 pub mod details;
 pub mod files;
