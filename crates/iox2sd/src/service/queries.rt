@@ -16,13 +16,6 @@ use iox2_dynamic::dynamic_config::{DynamicConfig, PortRoles};
 use iox2sd_common::answers::{CountAnswer, FlagAnswer};
 use iox2sd_common::status::Status;
 
-/// The number of the pattern.
-fn pattern(service: &DynamicConfig) -> u64
-    ensures { result ≡ pattern_number service.now.pattern }
-{
-    service.kind() as u64
-}
-
 /// The roles of the pattern's ports.
 fn roles_of(service: &DynamicConfig) -> Roles
     ensures { result ≡ roles_in service.now }
@@ -58,7 +51,7 @@ pub extern "C" fn iox2sd_messaging_pattern_at(places: &mut [Service]) -> NumberA
     let Some(service) = place.lend() else {
         return NumberAnswer::of(Err(Status::NoService));
     };
-    NumberAnswer::of(Ok(pattern(service)))
+    NumberAnswer::of(Ok(service.kind() as u64))
 }
 
 /// The roles of the pattern's two kinds of ports. Errors, in this order: NULL, an object without a

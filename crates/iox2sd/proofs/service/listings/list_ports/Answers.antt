@@ -1,6 +1,6 @@
 use Rattle.std.proofs.Common.{refl, subst, ◌<◌, ◌≤◌, length}
 use Rattle.iox2sd.proofs.Listings.{counted, at_front}
-use Rattle.iox2sd.proofs.service.ports.list_ports.Goals as goal
+use Rattle.iox2sd.proofs.service.listings.list_ports.Goals as goal
 
 pub returns-then-number-out : goal.returns-then-number-out
 returns-then-number-out c =

@@ -1,5 +1,5 @@
 use Rattle.iox2sd.proofs.Listings.{nodes_at_front, nodes_too_many}
-use Rattle.iox2sd.proofs.service.nodes.list_nodes.Goals as goal
+use Rattle.iox2sd.proofs.service.listings.list_nodes.Goals as goal
 
 pub returns-then-number-out : goal.returns-then-number-out
 returns-then-number-out c =

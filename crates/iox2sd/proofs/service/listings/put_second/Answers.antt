@@ -1,6 +1,6 @@
 use Rattle.std.proofs.Common.{◌≡◌, refl, sym, rules}
 use Rattle.iox2sd.proofs.Listings.{kind_put}
-use Rattle.iox2sd.proofs.service.ports.put_second.Goals as goal
+use Rattle.iox2sd.proofs.service.listings.put_second.Goals as goal
 
 pub returns : goal.returns
 returns g c =

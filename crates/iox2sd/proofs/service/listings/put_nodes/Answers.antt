@@ -2,7 +2,7 @@ use Rattle.std.proofs.Common.{◌≡◌, refl, sym, rules}
 use Rattle.iox2_container.specs.Steps.{listed}
 use Rattle.iox2sd_common.specs.Ids.{id_of}
 use Rattle.iox2sd.proofs.Listings.{all_put}
-use Rattle.iox2sd.proofs.service.nodes.put_nodes.Goals as goal
+use Rattle.iox2sd.proofs.service.listings.put_nodes.Goals as goal
 
 pub returns : goal.returns
 returns c =
