@@ -13,10 +13,10 @@ ghost use Rattle.iox2sd_settings.specs.ReadSettings.{ReadsRequestResponse, Reads
 ghost use Rattle.iox2sd_values.specs.Descriptions.{told_description, ComparesPatterns};
 ghost use Rattle.iox2sd_values.specs.Descriptions.{publish_subscribe_config, event_config};
 ghost use Rattle.iox2sd_values.specs.Descriptions.{request_response_config, blackboard_config};
-ghost use Rattle.iox2sd_values.specs.Describe.{DescribesAs, Fills, FillsNamed};
-ghost use Rattle.iox2sd_values.specs.Describe.{MakesNamed, MakesOf, ReadsAs};
-ghost use Rattle.iox2sd_values.specs.Describe.{MakesPublishSubscribe, MakesEvent};
-ghost use Rattle.iox2sd_values.specs.Describe.{MakesRequestResponse, MakesBlackboard};
+ghost use Rattle.iox2sd_values.specs.Descriptions.{DescribesAs, Fills, FillsNamed};
+ghost use Rattle.iox2sd_values.specs.Descriptions.{MakesNamed, MakesOf, ReadsAs};
+ghost use Rattle.iox2sd_values.specs.Descriptions.{MakesPublishSubscribe, MakesEvent};
+ghost use Rattle.iox2sd_values.specs.Descriptions.{MakesRequestResponse, MakesBlackboard};
 
 use super::names::any_service_name;
 use iox2_config::hash::{PatternKind, ServiceHash, ServiceHashError, Sha1Hasher};

@@ -11,7 +11,6 @@ pub mod files;
 pub mod layout;
 pub mod names;
 pub mod paths;
-pub mod read_settings;
 pub mod satisfies;
 pub mod settings;
 pub mod texts;
