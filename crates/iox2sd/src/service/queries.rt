@@ -1,5 +1,5 @@
-//! Questions to a service: its pattern, its number, its lock, what its ports are, how many nodes and
-//! ports there are and may be, and whether one more may join.
+//! Questions to a service: its pattern, its number, its lock, its roles, how many nodes and ports
+//! there are and may be, and whether one more may join.
 #![tactic(auto, using(crate::proofs::Lending::same_places))]
 
 ghost use Rattle.std.specs.Prelude.{◌≡◌, All, Err, length};
