@@ -180,7 +180,7 @@ class AttributeVerifier:
     def _verified(self, attributes: AttributeSet) -> _native.PlaceAnswer:
         keys = (_native.Key * len(self.required_keys))()
         for place, key in enumerate(self.required_keys):
-            keys[place] = _native.Key(*_key(key, "AttributeVerifier"))
+            keys[place] = _native.Key(*lent(key))
         answer: _native.PlaceAnswer = _native.attributes_verify_at(
             *_pairs(attributes._attributes),
             *_pairs(self.required_attributes._attributes),

@@ -34,43 +34,25 @@ recovered_fewer calls dead old f new h r =
       count_by-le-length stays old.registry.entries,
     )
 
-first_fewer : (kept : List Id) (old : Service) (dead : ℕ) (answer : DeregisterNodeState)
-    (new : Service)
-    → DeadStep (Keeps kept) old tt dead answer new tt
-    → length new.ports.first.registry.entries ≤ length old.ports.first.registry.entries
-first_fewer kept old dead answer new s =
-    recovered_fewer (Keeps kept) dead old.ports.first tt new.ports.first s.ports.0 s.ports.1
-
-second_fewer : (kept : List Id) (old : Service) (dead : ℕ) (answer : DeregisterNodeState)
-    (new : Service)
-    → DeadStep (Keeps kept) old tt dead answer new tt
-    → length new.ports.second.registry.entries ≤ length old.ports.second.registry.entries
-second_fewer kept old dead answer new s =
-    recovered_fewer (Keeps kept) dead old.ports.second s.ports.0 new.ports.second tt
-    s.ports.2
-
--- the same, by numbers that were counted before and after
-pub fewer_first : (kept : List Id) (old new : Service) (dead : ℕ) (answer : DeregisterNodeState)
+-- no port comes, by numbers that were counted before and after
+pub fewer : (kept : List Id) (old new : Service) (dead : ℕ) (answer : DeregisterNodeState)
     (before after : Counts) → before ≡ counted old → after ≡ counted new
-    → DeadStep (Keeps kept) old tt dead answer new tt → after.first ≤ before.first
-fewer_first kept old new dead answer before after b a s =
-    omega (
-      arith,
-      ap (λ (k : Counts). k.first) b,
-      ap (λ (k : Counts). k.first) a,
-      first_fewer kept old dead answer new s,
-    )
-
-pub fewer_second : (kept : List Id) (old new : Service) (dead : ℕ) (answer : DeregisterNodeState)
-    (before after : Counts) → before ≡ counted old → after ≡ counted new
-    → DeadStep (Keeps kept) old tt dead answer new tt → after.second ≤ before.second
-fewer_second kept old new dead answer before after b a s =
-    omega (
-      arith,
-      ap (λ (k : Counts). k.second) b,
-      ap (λ (k : Counts). k.second) a,
-      second_fewer kept old dead answer new s,
-    )
+    → DeadStep (Keeps kept) old tt dead answer new tt
+    → (after.first ≤ before.first) × (after.second ≤ before.second)
+fewer kept old new dead answer before after b a s = (
+  omega (
+    arith,
+    ap (λ (k : Counts). k.first) b,
+    ap (λ (k : Counts). k.first) a,
+    recovered_fewer (Keeps kept) dead old.ports.first tt new.ports.first s.ports.0 s.ports.1,
+  ),
+  omega (
+    arith,
+    ap (λ (k : Counts). k.second) b,
+    ap (λ (k : Counts). k.second) a,
+    recovered_fewer (Keeps kept) dead old.ports.second s.ports.0 new.ports.second tt s.ports.2,
+  ),
+)
 
 pub so_many_went : (kept : List Id) (old new : Service) (dead : ℕ) (answer : DeregisterNodeState)
     (before after : Counts) → before ≡ counted old → after ≡ counted new
@@ -78,17 +60,18 @@ pub so_many_went : (kept : List Id) (old new : Service) (dead : ℕ) (answer : D
     → Went (counted old)
     (record { first = before.first - after.first; second = before.second - after.second })
     (counted new)
-so_many_went kept old new dead answer before after b a s = record {
-  first = omega (
-    arith,
-    ap (λ (k : Counts). k.first) b,
-    ap (λ (k : Counts). k.first) a,
-    fewer_first kept old new dead answer before after b a s,
-  );
-  second = omega (
-    arith,
-    ap (λ (k : Counts). k.second) b,
-    ap (λ (k : Counts). k.second) a,
-    fewer_second kept old new dead answer before after b a s,
-  );
-}
+so_many_went kept old new dead answer before after b a s =
+    let less = fewer kept old new dead answer before after b a s in record {
+      first = omega (
+        arith,
+        ap (λ (k : Counts). k.first) b,
+        ap (λ (k : Counts). k.first) a,
+        less.0,
+      );
+      second = omega (
+        arith,
+        ap (λ (k : Counts). k.second) b,
+        ap (λ (k : Counts). k.second) a,
+        less.1,
+      );
+    }

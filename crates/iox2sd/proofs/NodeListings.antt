@@ -17,7 +17,7 @@ use Rattle.iox2_dynamic.specs.Service.{Service, first_role, second_role}
 use Rattle.iox2_dynamic.specs.declared.dynamic_config.port_details.PortDetails.{PortDetails}
 use Rattle.iox2_dynamic.proofs.Rooms.{roles_differ}
 use Rattle.iox2sd.specs.Listings.{ListsAll}
-use Rattle.iox2sd.specs.NodeListings.{Counts, PutsAt, Stand, Notes, NotesAll, ports_of_in}
+use Rattle.iox2sd.specs.NodeListings.{Counts, PutsAt, Stand, Notes, NotesAll, NotesOfRole}
 use Rattle.iox2sd.specs.Ports.{told_port}
 use Rattle.iox2sd.specs.declared.port.Port.{Port}
 
@@ -108,11 +108,9 @@ pub ports_noted : {F N M : Type 0} (calls : F → PortDetails → CallbackProgre
     × Notes (is_of node_of node x) (k f) (told_port x) (k h))
     → (s : Service) (role : Role) (f : F) (found : Bool) (h : F) → I f
     → ListsIn calls (first_role s.pattern) (second_role s.pattern) s.ports role f found h
-    → (array h ≡ array f) × (counter h ≡ counter f)
-    × (role ≡ first_role s.pattern → NotesAll (ports_of_in node s.ports.first) (k f) (k h))
-    × (role ≡ second_role s.pattern → NotesAll (ports_of_in node s.ports.second) (k f) (k h))
+    → (array h ≡ array f) × (counter h ≡ counter f) × NotesOfRole s role node (k f) (k h)
 ports_noted calls array counter k node I step s role f false h i shown =
-    (ap array shown.1, ap counter shown.1, λ e. absurd (shown.0.0 e), λ e. absurd (shown.0.1 e))
+    (ap array shown.1, ap counter shown.1, (λ e. absurd (shown.0.0 e), λ e. absurd (shown.0.1 e)))
 ports_noted calls array counter k node I step s role f true h i (inl shown) =
     let all =
     visits_note calls array counter k (is_of node_of node) told_port I step f
@@ -120,7 +118,7 @@ ports_noted calls array counter k node I step s role f true h i (inl shown) =
     let its =
     subst (λ (l : List PortDetails). NotesAll (map told_port l) (k f) (k h))
     (filter-map (is_of node_of node) (λ e. e.details) s.ports.first.registry.entries) all.2 in
-    (all.0, all.1, λ e. its, λ e. absurd (roles_differ s.pattern (sym shown.0 ∙ e)))
+    (all.0, all.1, (λ e. its, λ e. absurd (roles_differ s.pattern (sym shown.0 ∙ e))))
 ports_noted calls array counter k node I step s role f true h i (inr shown) =
     let all =
     visits_note calls array counter k (is_of node_of node) told_port I step f
@@ -128,7 +126,7 @@ ports_noted calls array counter k node I step s role f true h i (inr shown) =
     let its =
     subst (λ (l : List PortDetails). NotesAll (map told_port l) (k f) (k h))
     (filter-map (is_of node_of node) (λ e. e.details) s.ports.second.registry.entries) all.2 in
-    (all.0, all.1, λ e. absurd (roles_differ s.pattern (sym e ∙ shown.0)), λ e. its)
+    (all.0, all.1, (λ e. absurd (roles_differ s.pattern (sym e ∙ shown.0)), λ e. its))
 
 -- the ports of both kinds
 pub both_noted : (xs ys : List PortDetails) (before : List Port)

@@ -7,23 +7,18 @@ use Rattle.iox2_dynamic.specs.declared.dynamic_config.answers.DeregisterNodeStat
 use Rattle.iox2_dynamic.specs.declared.dynamic_config.answers.RegisterNodeResult.TheVariants as enter
 use Rattle.iox2_dynamic.specs.Service.{Service as Held}
 use Rattle.iox2_dynamic.specs.Steps.{RegisterStep, DeregisterStep, ReleaseStep}
-use Rattle.iox2sd.specs.Handles.{told, no_handle, ReadsHandle}
+use Rattle.iox2sd.specs.Answers.{handle_answer}
+use Rattle.iox2sd.specs.Handles.{told, ReadsHandle}
 use Rattle.iox2sd_common.specs.Ids.{ReadsNode}
 use Rattle.iox2sd.specs.Places.{At, Nothing}
 use Rattle.iox2sd.specs.Ports.{AttachesPort}
-use Rattle.iox2sd_common.specs.Status.{code}
 use Rattle.iox2sd.specs.declared.handle.Handle.{Handle}
 use Rattle.iox2sd_common.specs.declared.id.Id.{Id}
 use Rattle.iox2sd.specs.declared.port.Port.{Port}
 use Rattle.iox2sd.specs.declared.service.Service.{Service}
-use Rattle.iox2sd.specs.declared.service.changes.HandleAnswer.{HandleAnswer}
+use Rattle.iox2sd.specs.declared.answers.HandleAnswer.{HandleAnswer}
 use Rattle.iox2sd_common.specs.declared.status.Status.{Status}
 use Rattle.iox2sd_common.specs.declared.status.Status.TheVariants as status
-
--- a handle, or the status of a refusal with the handle that stands for nothing
-abbrev pub handle_answer : Result Handle Status → HandleAnswer
-handle_answer (Ok handle) = record { status = code status.Done; handle = handle }
-handle_answer (Err s) = record { status = code s; handle = no_handle }
 
 -- registering a node: the handle that C sees, or the refusal
 abbrev pub Registers : Id → Held → Result Handle Status → Held → Type 0

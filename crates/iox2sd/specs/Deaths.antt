@@ -11,24 +11,12 @@ use Rattle.iox2_dynamic.specs.Service.{Service as Held}
 use Rattle.iox2_dynamic.specs.Steps.{DeadStep}
 use Rattle.iox2sd.specs.Counts.{counted}
 use Rattle.iox2sd_common.specs.Ids.{number_of, ReadsNode}
-use Rattle.iox2sd_common.specs.Status.{code}
 use Rattle.iox2sd_common.specs.declared.id.Id.{Id}
 use Rattle.iox2sd.specs.declared.service.roles.Counts.{Counts}
-use Rattle.iox2sd.specs.declared.service.death.Death.{Death}
-use Rattle.iox2sd.specs.declared.service.death.Death.TheVariants.{Open, Locked, Refused}
-use Rattle.iox2sd.specs.declared.service.death.DeathAnswer.{DeathAnswer}
+use Rattle.iox2sd.specs.declared.answers.Death.{Death}
+use Rattle.iox2sd.specs.declared.answers.Death.TheVariants.{Open, Locked, Refused}
 use Rattle.iox2sd_common.specs.declared.status.Status.{Status}
 use Rattle.iox2sd_common.specs.declared.status.Status.TheVariants as status
-
--- a status, and how many ports of each kind went
-abbrev pub told_death : Status → Counts → DeathAnswer
-told_death s gone = record { status = code s; first = gone.first; second = gone.second }
-
--- what became of a dead node, as C sees it
-abbrev pub death_answer : Death → DeathAnswer
-death_answer (Open gone) = told_death status.Done gone
-death_answer (Locked gone) = told_death status.DoneLocked gone
-death_answer (Refused s) = told_death s (record { first = 0; second = 0 })
 
 -- whether a number is that of one of these ids
 abbrev pub is_kept : List Id → ℕ → Bool

@@ -5,31 +5,20 @@ use Rattle.iox2_container.specs.Steps.{IsUnknownHandle, HasEntry}
 use Rattle.iox2_dynamic.specs.declared.dynamic_config.port_details.PortDetails.{PortDetails}
 use Rattle.iox2_dynamic.specs.Ports.{IsNoPort, StandsAmong}
 use Rattle.iox2_dynamic.specs.Service.{Service as Held}
+use Rattle.iox2sd.specs.Answers.{id_answer}
 use Rattle.iox2sd.specs.Handles.{ReadsHandle}
 use Rattle.iox2sd_common.specs.Ids.{id_of, ReadsText}
-use Rattle.iox2sd.specs.Ports.{no_port, told_port}
-use Rattle.iox2sd_common.specs.Status.{code}
+use Rattle.iox2sd.specs.Ports.{told_port}
 use Rattle.iox2sd.specs.declared.handle.Handle.{Handle}
 use Rattle.iox2sd_common.specs.declared.id.Id.{Id}
 use Rattle.iox2sd.specs.declared.port.Port.{Port}
-use Rattle.iox2sd.specs.declared.service.finding.IdAnswer.{IdAnswer}
-use Rattle.iox2sd.specs.declared.service.finding.PortAnswer.{PortAnswer}
+use Rattle.iox2sd.specs.declared.answers.IdAnswer.{IdAnswer}
 use Rattle.iox2sd_common.specs.declared.status.Status.{Status}
 use Rattle.iox2sd_common.specs.declared.status.Status.TheVariants as status
-
--- a node, or the status of a refusal
-abbrev pub id_answer : Result Id Status → IdAnswer
-id_answer (Ok id) = record { status = code status.Done; id = id }
-id_answer (Err s) = record { status = code s; id = id_of 0 }
 
 -- the id whose text this is
 abbrev pub TellsId : List ℕ → IdAnswer → Type 0
 TellsId text answer = (made : Result Id Status) × ReadsText text made × (answer ≡ id_answer made)
-
--- a port, or the status of a refusal
-abbrev pub port_answer : Result Port Status → PortAnswer
-port_answer (Ok port) = record { status = code status.Done; port = port }
-port_answer (Err s) = record { status = code s; port = no_port }
 
 -- the node of a handle
 abbrev pub FindsNode : Handle → Held → Result Id Status → Type 0

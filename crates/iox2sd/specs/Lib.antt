@@ -3,13 +3,13 @@ pub mod About
 pub mod Ids
 pub mod Handles
 pub mod Ports
+pub mod Answers
 pub mod Places
 pub mod Services
 pub mod Changes
 pub mod Counts
 pub mod Deaths
 pub mod Queries
-pub mod Numbers
 pub mod Finding
 pub mod Listings
 pub mod NodeListings

@@ -15,8 +15,8 @@ use Rattle.iox2sd.specs.Ports.{told_port}
 use Rattle.iox2sd_common.specs.declared.answers.CountAnswer.{CountAnswer}
 use Rattle.iox2sd_common.specs.declared.id.Id.{Id}
 use Rattle.iox2sd.specs.declared.port.Port.{Port}
-use Rattle.iox2sd.specs.declared.service.ports.Listed.{Listed}
-use Rattle.iox2sd.specs.declared.service.ports.Listed.TheVariants.{All, TooShort, Refused}
+use Rattle.iox2sd.specs.declared.service.listings.Listed.{Listed}
+use Rattle.iox2sd.specs.declared.service.listings.Listed.TheVariants.{All, TooShort, Refused}
 use Rattle.iox2sd_common.specs.declared.status.Status.TheVariants as status
 
 -- what became of a listing, as C sees it

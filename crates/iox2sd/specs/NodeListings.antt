@@ -2,17 +2,18 @@
 use Rattle.std.specs.Prelude.{◌≡◌, ℕ, ◌+◌, ◌^◌, ◌<◌, ◌≤◌, Bool, true, false, Option, List, [], ◌∷◌, ◌++◌, Some, None, map, drop, length, slice_set, ◌⊎◌}
 use Rattle.iox2_container.specs.ContainerState.{ContainerState}
 use Rattle.iox2_container.specs.Steps.{asked_about, is_of}
+use Rattle.iox2_container.specs.declared.container.role.Role.{Role}
 use Rattle.iox2_dynamic.specs.Details.{node_of}
 use Rattle.iox2_dynamic.specs.declared.dynamic_config.port_details.PortDetails.{PortDetails}
 use Rattle.iox2_dynamic.specs.Ports.{ports_of_node}
-use Rattle.iox2_dynamic.specs.Service.{Service as Held}
+use Rattle.iox2_dynamic.specs.Service.{Service as Held, first_role, second_role}
 use Rattle.iox2sd_common.specs.Ids.{ReadsNode}
 use Rattle.iox2sd.specs.Listings.{ListsAll, NeedsMore}
 use Rattle.iox2sd.specs.Ports.{told_port}
 use Rattle.iox2sd_common.specs.declared.id.Id.{Id}
 use Rattle.iox2sd.specs.declared.port.Port.{Port}
-use Rattle.iox2sd.specs.declared.service.ports.Listed.{Listed}
-use Rattle.iox2sd.specs.declared.service.ports.Listed.TheVariants.{All, TooShort, Refused}
+use Rattle.iox2sd.specs.declared.service.listings.Listed.{Listed}
+use Rattle.iox2sd.specs.declared.service.listings.Listed.TheVariants.{All, TooShort, Refused}
 use Rattle.iox2sd_common.specs.declared.status.Status.TheVariants as status
 
 -- so many were counted, or too many
@@ -55,6 +56,13 @@ AllFit service room =
 -- the ports of a registry that have the node, by rising slot
 abbrev pub ports_of_in : ℕ → ContainerState PortDetails → List Port
 ports_of_in node ports = map told_port (asked_about (is_of node_of node) ports.registry)
+
+-- the ports of the role that have the node came behind those that stood in the array
+abbrev pub NotesOfRole : Held → Role → ℕ → List Port × Option ℕ → List Port × Option ℕ → Type 0
+NotesOfRole service role node old new =
+    (role ≡ first_role service.pattern → NotesAll (ports_of_in node service.ports.first) old new)
+    × (role ≡ second_role service.pattern
+    → NotesAll (ports_of_in node service.ports.second) old new)
 
 -- a listing of the ports of a node: the array before and after
 abbrev pub ListsPortsOf : Id → List Port → Held → Listed → List Port → Type 0

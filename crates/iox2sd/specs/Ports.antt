@@ -29,46 +29,32 @@ abbrev pub ReadsSegment : ℕ → Option DataSegmentType → Type 0
 ReadsSegment number (Some s) = segment_number s ≡ number
 ReadsSegment number None = (s : DataSegmentType) → ¬ (segment_number s ≡ number)
 
--- the port's kind and each field of its kind are those that the caller told
-abbrev pub ShowsDetails : Port → PortDetails → Type 0
-ShowsDetails p (of.Publisher d) =
-    ReadsRole p.role (Some role.Publisher) × (d.publisher_id ≡ number_of p.port)
-    × ReadsNode p.node (Some d.node_id)
-    × (d.number_of_samples ≡ p.number_of_samples) × (d.max_slice_len ≡ p.max_slice_len)
+-- each field that its kind alone has is the one that the caller told
+abbrev pub ShowsFields : Port → PortDetails → Type 0
+ShowsFields p (of.Publisher d) =
+    (d.number_of_samples ≡ p.number_of_samples) × (d.max_slice_len ≡ p.max_slice_len)
     × ReadsSegment p.data_segment (Some d.data_segment_type)
     × (d.max_number_of_segments ≡ p.max_number_of_segments)
-ShowsDetails p (of.Subscriber d) =
-    ReadsRole p.role (Some role.Subscriber) × (d.subscriber_id ≡ number_of p.port)
-    × ReadsNode p.node (Some d.node_id)
-    × (d.buffer_size ≡ p.buffer_size)
-ShowsDetails p (of.Listener d) =
-    ReadsRole p.role (Some role.Listener) × (d.listener_id ≡ number_of p.port)
-    × ReadsNode p.node (Some d.node_id)
-ShowsDetails p (of.Notifier d) =
-    ReadsRole p.role (Some role.Notifier) × (d.notifier_id ≡ number_of p.port)
-    × ReadsNode p.node (Some d.node_id)
-ShowsDetails p (of.Server d) =
-    ReadsRole p.role (Some role.Server) × (d.server_id ≡ number_of p.port)
-    × ReadsNode p.node (Some d.node_id)
-    × (d.request_buffer_size ≡ p.request_buffer_size)
+ShowsFields p (of.Subscriber d) = d.buffer_size ≡ p.buffer_size
+ShowsFields p (of.Server d) =
+    (d.request_buffer_size ≡ p.request_buffer_size)
     × (d.number_of_responses ≡ p.number_of_responses)
     × (d.max_slice_len ≡ p.max_slice_len)
     × ReadsSegment p.data_segment (Some d.data_segment_type)
     × (d.max_number_of_segments ≡ p.max_number_of_segments)
-ShowsDetails p (of.Client d) =
-    ReadsRole p.role (Some role.Client) × (d.client_id ≡ number_of p.port)
-    × ReadsNode p.node (Some d.node_id)
-    × (d.number_of_requests ≡ p.number_of_requests)
+ShowsFields p (of.Client d) =
+    (d.number_of_requests ≡ p.number_of_requests)
     × (d.response_buffer_size ≡ p.response_buffer_size)
     × (d.max_slice_len ≡ p.max_slice_len)
     × ReadsSegment p.data_segment (Some d.data_segment_type)
     × (d.max_number_of_segments ≡ p.max_number_of_segments)
-ShowsDetails p (of.Reader d) =
-    ReadsRole p.role (Some role.Reader) × (d.reader_id ≡ number_of p.port)
-    × ReadsNode p.node (Some d.node_id)
-ShowsDetails p (of.Writer d) =
-    ReadsRole p.role (Some role.Writer) × (d.writer_id ≡ number_of p.port)
-    × ReadsNode p.node (Some d.node_id)
+ShowsFields p _ = Unit {0}
+
+-- the port's kind, its ids and each field of its kind are those that the caller told
+abbrev pub ShowsDetails : Port → PortDetails → Type 0
+ShowsDetails p d =
+    ReadsRole p.role (Some (role_of d)) × (port_value (port_of d) ≡ number_of p.port)
+    × ReadsNode p.node (Some (node_of d)) × ShowsFields p d
 
 -- the role is that of no port
 abbrev pub IsNoPortRole : ℕ → Type 0

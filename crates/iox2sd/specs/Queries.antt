@@ -1,25 +1,15 @@
 -- Questions to a service, and what they answer.
 use Rattle.std.specs.Prelude.{◌≡◌, ◌↔◌, ℕ, Bool, IsTrue, Some, None, Result, Ok, Err}
+use Rattle.iox2_container.specs.State.{RegistryState}
+use Rattle.iox2_container.specs.Steps.{TakesEntry}
 use Rattle.iox2_container.specs.declared.container.role.Role.{Role}
-use Rattle.iox2_dynamic.specs.Service.{Service as Held, HasRole, first_role, second_role}
+use Rattle.iox2_dynamic.specs.declared.dynamic_config.port_details.PortDetails.{PortDetails}
+use Rattle.iox2_dynamic.specs.Ports.{OfRole}
+use Rattle.iox2_dynamic.specs.Service.{Service as Held, HasRole, TakesPort, first_role, second_role}
 use Rattle.iox2sd.specs.Handles.{role_number, ReadsRole}
-use Rattle.iox2sd_common.specs.Status.{code}
-use Rattle.iox2sd.specs.declared.service.queries.NumberAnswer.{NumberAnswer}
-use Rattle.iox2sd.specs.declared.service.queries.Roles.{Roles}
-use Rattle.iox2sd.specs.declared.service.queries.RolesAnswer.{RolesAnswer}
+use Rattle.iox2sd.specs.declared.answers.Roles.{Roles}
 use Rattle.iox2sd_common.specs.declared.status.Status.{Status}
 use Rattle.iox2sd_common.specs.declared.status.Status.TheVariants as status
-
--- a number, or the status of a refusal
-abbrev pub number_answer : Result ℕ Status → NumberAnswer
-number_answer (Ok n) = record { status = code status.Done; number = n }
-number_answer (Err s) = record { status = code s; number = 0 }
-
--- two roles, or the status of a refusal
-abbrev pub roles_answer : Result Roles Status → RolesAnswer
-roles_answer (Ok roles) =
-    record { status = code status.Done; first = roles.first; second = roles.second }
-roles_answer (Err s) = record { status = code s; first = 0; second = 0 }
 
 -- a question that is never refused: the answer is this of the service
 abbrev pub Gives : {A : Type 0} → (Held → A) → Held → Result A Status → Type 0
@@ -39,3 +29,30 @@ AsksRole number s (Ok has_it) = (role : Role) × ReadsRole number (Some role)
     × (IsTrue has_it ↔ HasRole s.pattern role)
 AsksRole number s (Err status.UnknownRole) = ReadsRole number None
 AsksRole number s (Err _) = ⊥
+
+-- whether there is room for a node
+abbrev pub AsksNodeRoom : Held → Result Bool Status → Type 0
+AsksNodeRoom s (Ok is_so) = IsTrue is_so ↔ TakesEntry s.nodes.registry
+AsksNodeRoom s (Err _) = ⊥
+
+-- what is said of the ports of a role: a number, or why none is told
+abbrev pub AsksPorts : (RegistryState PortDetails → ℕ → Type 0) → ℕ → Held → Result ℕ Status
+    → Type 0
+AsksPorts says number s (Ok n) =
+    (role : Role) × ReadsRole number (Some role)
+    × OfRole says (first_role s.pattern) (second_role s.pattern) s.ports role (Some n)
+AsksPorts says number s (Err status.UnknownRole) = ReadsRole number None
+AsksPorts says number s (Err status.RoleNotInPattern) =
+    (role : Role) × ReadsRole number (Some role)
+    × OfRole says (first_role s.pattern) (second_role s.pattern) s.ports role None
+AsksPorts says number s (Err _) = ⊥
+
+-- whether there is room for a port of a role
+abbrev pub AsksRoom : ℕ → Held → Result Bool Status → Type 0
+AsksRoom number s (Ok is_so) =
+    (role : Role) × ReadsRole number (Some role) × HasRole s.pattern role
+    × (IsTrue is_so ↔ TakesPort s role)
+AsksRoom number s (Err status.UnknownRole) = ReadsRole number None
+AsksRoom number s (Err status.RoleNotInPattern) =
+    (role : Role) × ReadsRole number (Some role) × (¬ (HasRole s.pattern role))
+AsksRoom number s (Err _) = ⊥

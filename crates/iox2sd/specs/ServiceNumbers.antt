@@ -1,8 +1,8 @@
 -- Numbers for services.
 use Rattle.std.specs.Prelude.{◌≡◌, ℕ, List, [], ◌∷◌, Some, None, Result, Ok, Err}
 use Rattle.iox2_container.specs.ServiceNumbers.{ReturnsNumber}
-use Rattle.iox2sd.specs.Queries.{number_answer}
-use Rattle.iox2sd.specs.declared.service.queries.NumberAnswer.{NumberAnswer}
+use Rattle.iox2sd.specs.Answers.{number_answer}
+use Rattle.iox2sd.specs.declared.answers.NumberAnswer.{NumberAnswer}
 use Rattle.iox2sd.specs.declared.service_numbers.ServiceNumbers.{ServiceNumbers}
 use Rattle.iox2sd_common.specs.declared.status.Status.{Status}
 use Rattle.iox2sd_common.specs.declared.status.Status.TheVariants as status

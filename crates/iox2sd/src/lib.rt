@@ -5,6 +5,7 @@
 #![tactic(auto, using(iox2_dynamic::proofs::Callbacks::callbacks))]
 
 pub mod about;
+pub mod answers;
 pub mod handle;
 pub mod id;
 pub mod port;

@@ -8,16 +8,13 @@ pub mod changes;
 pub mod death;
 pub mod finding;
 mod kept;
+pub mod listings;
 pub mod making;
-pub mod nodes;
-pub mod numbers;
-pub mod ports;
 pub mod ports_of_node;
 pub mod queries;
 mod raw_box;
-mod roles;
+pub(crate) mod roles;
 mod slot;
-mod steps;
 
 use iox2_dynamic::dynamic_config::DynamicConfig;
 use raw_box::RawBox;

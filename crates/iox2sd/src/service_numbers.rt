@@ -1,7 +1,7 @@
 //! Numbers for services, for callers who have none.
 ghost use Rattle.iox2sd.specs.ServiceNumbers.{NotesNumber, GivesNumber};
 
-use crate::service::queries::NumberAnswer;
+use crate::answers::NumberAnswer;
 use iox2_container::container::ServiceNumbers as Numbers;
 use iox2sd_common::status::Status;
 

@@ -16,6 +16,11 @@ place_answer s at = record { status = code s; at = at }
 abbrev pub count_answer : Status → ℕ → CountAnswer
 count_answer s count = record { status = code s; count = count }
 
+-- how many, or the status of a refusal
+abbrev pub told_count : Result ℕ Status → CountAnswer
+told_count (Ok n) = count_answer status.Done n
+told_count (Err s) = count_answer s 0
+
 -- yes or no, or the status of a refusal
 abbrev pub flag_answer : Result Bool Status → FlagAnswer
 flag_answer (Ok is_so) = record { status = code status.Done; yes = is_so }

@@ -1,7 +1,7 @@
 //! What exports return beside a status: an index, a count, or a text for a buffer.
 ghost use Rattle.std.specs.Prelude.{◌≡◌, ◌≤◌, ◌++◌, length, drop};
 ghost use Rattle.iox2sd_common.specs.Answers.{place_answer, count_answer, text_answer, Writes};
-ghost use Rattle.iox2sd_common.specs.Answers.{Written, flag_answer, zero_padded};
+ghost use Rattle.iox2sd_common.specs.Answers.{Written, told_count, flag_answer, zero_padded};
 
 use super::status::Status;
 
@@ -62,6 +62,18 @@ pub fn count(status: Status, count: usize) -> CountAnswer
     CountAnswer {
         status: status.code(),
         count,
+    }
+}
+
+impl CountAnswer {
+    /// The answer that says how many, or why it does not.
+    pub fn of(asked: Result<usize, Status>) -> CountAnswer
+        ensures { result ≡ told_count asked }
+    {
+        match asked {
+            Ok(number) => count(Status::Done, number),
+            Err(status) => count(status, 0),
+        }
     }
 }
 

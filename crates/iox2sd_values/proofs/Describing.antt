@@ -4,7 +4,7 @@ use Rattle.iox2_static.specs.declared.static_config.messaging_pattern.MessagingP
 use Rattle.iox2sd_common.specs.Ids.{number_of}
 use Rattle.iox2sd_common.specs.declared.id.Id.{Id}
 use Rattle.iox2sd_common.specs.declared.status.Status.{Status}
-use Rattle.iox2sd_values.specs.Describe.{DescribesAs, Fills, FillsNamed, MakesBy, MakesNamed, MakesOf, ReadsAs}
+use Rattle.iox2sd_values.specs.Descriptions.{DescribesAs, Fills, FillsNamed, MakesBy, MakesNamed, MakesOf, ReadsAs}
 use Rattle.iox2sd_values.specs.Names.{ReadsAnyName}
 use Rattle.iox2sd_settings.specs.declared.read_settings.Refusal.{Refusal}
 use Rattle.iox2sd_values.specs.declared.descriptions.ServiceDescription.{ServiceDescription}

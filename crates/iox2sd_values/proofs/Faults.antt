@@ -12,8 +12,8 @@ use Rattle.iox2sd_values.specs.Faults.{ChecksPairs, set_fault, required_fault}
 use Rattle.iox2sd_values.specs.Requirements.{RequiresPairs, KeyFailsAt, HasText}
 use Rattle.iox2sd_values.specs.declared.attributes.Attribute.{Attribute}
 use Rattle.iox2sd_values.specs.declared.attributes.Key.{Key}
-use Rattle.iox2sd_values.specs.declared.attributes.faults.Fault.{Fault}
-use Rattle.iox2sd_values.specs.declared.attributes.faults.Fault.TheVariants as fault
+use Rattle.iox2sd_values.specs.declared.attributes.Fault.{Fault}
+use Rattle.iox2sd_values.specs.declared.attributes.Fault.TheVariants as fault
 use Rattle.iox2sd_values.proofs.Legal.{made, refused}
 
 -- the pair at the place has the fault

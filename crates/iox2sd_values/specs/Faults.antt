@@ -2,8 +2,8 @@
 use Rattle.std.specs.Prelude.{◌≡◌, ℕ, ◌≤◌, List, Result, Ok, Err, length, All}
 use Rattle.iox2sd_values.specs.Attributes.{BadKey, BadValue, FailsAt, IsLegal}
 use Rattle.iox2sd_values.specs.declared.attributes.Attribute.{Attribute}
-use Rattle.iox2sd_values.specs.declared.attributes.faults.Fault.{Fault}
-use Rattle.iox2sd_values.specs.declared.attributes.faults.Fault.TheVariants as fault
+use Rattle.iox2sd_values.specs.declared.attributes.Fault.{Fault}
+use Rattle.iox2sd_values.specs.declared.attributes.Fault.TheVariants as fault
 use Rattle.iox2sd_common.specs.declared.status.Status.{Status}
 use Rattle.iox2sd_common.specs.declared.status.Status.TheVariants as status
 

@@ -3,14 +3,12 @@ pub mod Attributes
 pub mod Capacities
 pub mod Chunks
 pub mod Compatible
-pub mod Describe
 pub mod Descriptions
 pub mod Details
 pub mod Files
 pub mod Layouts
 pub mod Names
 pub mod Paths
-pub mod ReadSettings
 pub mod Requirements
 pub mod Satisfies
 pub mod Settings

@@ -1,5 +1,7 @@
 -- What a set lacks of the pairs and the keys in a caller's arrays.
-use Rattle.std.specs.Prelude.{◌≡◌, ◌≢◌, ℕ, List, Option, Some, None, take, slice_get, All, Contains}
+use Rattle.std.specs.Prelude.{◌≡◌, ◌≢◌, ◌&&◌, ℕ, Bool, List, Some, nat_eq, take, slice_get, All, Contains}
+use Rattle.std.specs.Cmp.Lexicographic.{pointwise}
+use Rattle.std.specs.List.{list_any}
 use Rattle.std.specs.declared.cmp.Ordering.TheVariants.{Less}
 use Rattle.iox2_texts.specs.Attribute.{ContainsKey}
 use Rattle.iox2_texts.specs.Pair.{Pair, pair_cmp}
@@ -7,6 +9,16 @@ use Rattle.iox2sd_values.specs.Attributes.{pair_of}
 use Rattle.iox2sd_values.specs.Requirements.{text_of}
 use Rattle.iox2sd_values.specs.declared.attributes.Attribute.{Attribute}
 use Rattle.iox2sd_values.specs.declared.attributes.Key.{Key}
+
+-- whether the set has the pair
+abbrev pub has_pair : List Attribute → Attribute → Bool
+has_pair set wanted =
+    list_any (λ a. pointwise nat_eq a.value.now wanted.value.now
+    && pointwise nat_eq a.key.now wanted.key.now) set
+
+-- whether some pair of the set has the key
+abbrev pub has_key : List Attribute → Key → Bool
+has_key set key = list_any (λ a. pointwise nat_eq a.key.now key.text.now) set
 
 -- the set has the pair
 abbrev pub Has : List Pair → Attribute → Type 0
@@ -19,11 +31,6 @@ HasKeyOf set k = ContainsKey set (text_of k)
 -- the set lacks the element at the place, and none before it
 abbrev pub IsFirstLack : {X : Type 0} → (X → Type 0) → List X → ℕ → Type 0
 IsFirstLack {X} Had xs i = (x : X) × (slice_get xs i ≡ Some x) × (¬ (Had x)) × All Had (take i xs)
-
--- the first place of an element that the set lacks, if it lacks one
-abbrev pub FindsLack : {X : Type 0} → (X → Type 0) → List X → Option ℕ → Type 0
-FindsLack Had xs (Some i) = IsFirstLack Had xs i
-FindsLack Had xs None = All Had xs
 
 -- the set has the pair, or it is not less than the other
 abbrev pub IsNoLess : List Pair → Attribute → Attribute → Type 0

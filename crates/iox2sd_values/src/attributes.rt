@@ -1,17 +1,25 @@
 //! Attributes without handles: a caller's arrays of keys and values.
+ghost use Rattle.std.specs.Prelude.{◌≡◌, ◌↔◌, ◌≤◌, List, [], map, not, length, slice_get, IsTrue};
+ghost use Rattle.std.specs.List.{position};
+ghost use Rattle.std.specs.Option.{option_copied};
+ghost use Rattle.std.specs.Result.{result_map_both};
+ghost use Rattle.std.specs.declared.cmp.Ordering.TheVariants.{Less};
+ghost use Rattle.iox2_texts.specs.Attribute.{IsListing, values_of};
+ghost use Rattle.iox2_texts.specs.Pair.{Pair, pair_cmp};
+ghost use Rattle.iox2_texts.specs.Verify.{Requirements};
 ghost use Rattle.iox2sd_values.specs.Attributes.{TellsSet, SortsSet, CountsValues, TellsValue};
-ghost use Rattle.iox2sd_values.specs.Requirements.{VerifiesSet};
+ghost use Rattle.iox2sd_values.specs.Attributes.{pair_of, ReadsSet, WritesValue};
+ghost use Rattle.iox2sd_values.specs.Faults.{ChecksPairs, set_fault, required_fault};
+ghost use Rattle.iox2sd_values.specs.Missing.{Has, has_pair, has_key, IsFirstLack, IsLeastAt};
+ghost use Rattle.iox2sd_values.specs.Requirements.{ComesFrom, Judges, RequiresKeys};
+ghost use Rattle.iox2sd_values.specs.Requirements.{VerifiesSet, text_of};
 
-mod faults;
-mod missing;
-mod values;
-
-use faults::{check_keys, check_required, check_set};
-use iox2_texts::attribute::AttributeKey;
-use iox2sd_common::answers::{CountAnswer, PlaceAnswer, TextAnswer, count, no_text, place};
+use super::texts::is_name;
+use iox2_texts::attribute::{
+    AttributeKey, MAX_ATTRIBUTE_KEY_LENGTH, MAX_ATTRIBUTE_VALUE_LENGTH, MAX_ATTRIBUTES,
+};
+use iox2sd_common::answers::{CountAnswer, PlaceAnswer, TextAnswer, count, no_text, place, write};
 use iox2sd_common::status::Status;
-use missing::verify;
-use values::{count_values, write_value};
 
 /// A key and its value, each in the caller's memory.
 #[repr(C)]
@@ -29,6 +37,73 @@ pub struct Attribute<'a> {
 pub struct Key<'a> {
     /// 1 to 64 bytes, each from 1 to 127.
     pub text: &'a [u8],
+}
+
+/// What is wrong with a pair.
+#[derive(Clone, Copy)]
+enum Fault {
+    /// Its key is none.
+    Key,
+    /// Its value is none.
+    Value,
+    /// It is the seventeenth.
+    Number,
+}
+
+impl Fault {
+    /// The status for it of a pair of a set.
+    fn of_set(self) -> Status
+        ensures { result ≡ set_fault self }
+    {
+        match self {
+            Fault::Key => Status::BadKey,
+            Fault::Value => Status::BadValue,
+            Fault::Number => Status::TooMany,
+        }
+    }
+
+    /// The status for it of a required pair.
+    fn of_required(self) -> Status
+        ensures { result ≡ required_fault self }
+    {
+        match self {
+            Fault::Key => Status::BadRequiredKey,
+            Fault::Value => Status::BadRequiredValue,
+            Fault::Number => Status::TooManyRequired,
+        }
+    }
+}
+
+/// Whether the pairs are legal and sixteen at most; the index of the first that is not is written.
+fn check_pairs(pairs: &[Attribute<'_>], at: &mut usize) -> Result<(), Fault>
+    ensures { ChecksPairs pairs.now at.old result at.new }
+{
+    for (i, pair) in pairs.iter().enumerate() {
+        if !is_name(pair.key, MAX_ATTRIBUTE_KEY_LENGTH) {
+            *at = i;
+            return Err(Fault::Key);
+        }
+        if !is_name(pair.value, MAX_ATTRIBUTE_VALUE_LENGTH) {
+            *at = i;
+            return Err(Fault::Value);
+        }
+        if i == MAX_ATTRIBUTES {
+            *at = i;
+            return Err(Fault::Number);
+        }
+    }
+    Ok(())
+}
+
+/// Whether the pairs are a set, or why not; the index of the pair that is wrong is written.
+fn check_set(pairs: &[Attribute<'_>], at: &mut usize) -> Result<(), Status>
+    ensures { (set : List Pair) → IsListing (map pair_of pairs.now) set
+        → ReadsSet pairs.now at.old (result_map_both (λ _. set) (λ e. e) result) at.new }
+{
+    match check_pairs(pairs, at) {
+        Ok(()) => Ok(()),
+        Err(fault) => Err(fault.of_set()),
+    }
 }
 
 /// Whether these pairs are a set: at most sixteen, each of legal texts, in any order and with
@@ -61,6 +136,50 @@ pub extern "C" fn iox2sd_attributes_sort_at(pairs: &mut [Attribute<'_>]) -> Plac
             place(Status::Done, at)
         }
         Err(status) => place(status, at),
+    }
+}
+
+/// How many pairs have the key.
+fn count_values(pairs: &[Attribute<'_>], key: &[u8]) -> usize
+    ensures { result ≡ length (values_of (map pair_of pairs.now) key.now) }
+{
+    pairs.iter().filter(|pair| pair.key == key).count()
+}
+
+/// The value at `index`, counted from 0, of those that the key has, in the order of the pairs.
+fn value_at<'a>(pairs: &[Attribute<'a>], key: &[u8], index: usize) -> Option<&'a [u8]>
+    ensures { option_copied result ≡ slice_get (values_of (map pair_of pairs.now) key.now) index }
+{
+    let mut left = index;
+    for pair in pairs {
+        if pair.key == key {
+            if left == 0 {
+                return Some(pair.value);
+            }
+            left -= 1;
+        }
+    }
+    None
+}
+
+/// Writes the value at `index`, counted from 0, of those that the key has, by their bytes from the
+/// least.
+fn write_value(pairs: &[Attribute<'_>], key: &[u8], index: usize, out: &mut [u8]) -> TextAnswer
+    requires { length pairs.now ≤ 16 }
+    ensures { (set : List Pair) × IsListing (map pair_of pairs.now) set
+        × WritesValue (slice_get (values_of set key.now) index) out.old result out.new }
+{
+    let nothing = Attribute {
+        key: &[],
+        value: &[],
+    };
+    let mut copies = [nothing; MAX_ATTRIBUTES];
+    let (sorted, _) = copies.split_at_mut(pairs.len());
+    sorted.copy_from_slice(pairs);
+    sorted.sort_unstable();
+    match value_at(sorted, key, index) {
+        Some(value) => write(value, out),
+        None => no_text(Status::NoSuchValue),
     }
 }
 
@@ -109,6 +228,95 @@ pub extern "C" fn iox2sd_attributes_key_value_at(
     }
 }
 
+/// Whether the keys may be required beside so many pairs, or why not; the index of the key that is
+/// wrong is written.
+fn check_keys(keys: &[Key<'_>], pairs: usize, at: &mut usize) -> Result<(), Status>
+    requires { pairs ≤ 16 }
+    ensures { (listing : List Pair) → length listing ≡ pairs
+        → RequiresKeys listing keys.now at.old
+        (result_map_both (λ _. record { pairs = listing; keys = map text_of keys.now })
+        (λ e. e) result) at.new }
+{
+    for (i, key) in keys.iter().enumerate() {
+        if !is_name(key.text, MAX_ATTRIBUTE_KEY_LENGTH) {
+            *at = i;
+            return Err(Status::BadAskedKey);
+        }
+        if pairs + i == MAX_ATTRIBUTES {
+            *at = i;
+            return Err(Status::TooManyRequired);
+        }
+    }
+    Ok(())
+}
+
+/// Whether the set has the pair. Values are compared first: keys often begin alike.
+fn has_pair(set: &[Attribute<'_>], wanted: &Attribute<'_>) -> bool
+    ensures { result ≡ has_pair set.now wanted.now }
+{
+    set.iter().any(|pair| pair.value == wanted.value && pair.key == wanted.key)
+}
+
+/// Whether some pair of the set has the key.
+fn has_key(set: &[Attribute<'_>], key: &Key<'_>) -> bool
+    ensures { result ≡ has_key set.now key.now }
+{
+    set.iter().any(|pair| pair.key == key.text)
+}
+
+/// The first index of a required pair that the set lacks.
+fn first_missing(set: &[Attribute<'_>], required: &[Attribute<'_>]) -> Option<usize>
+    ensures { result ≡ position (λ pair. not (has_pair set.now pair)) required.now }
+{
+    required.iter().position(|pair| !has_pair(set, pair))
+}
+
+/// Whether the set lacks the pair, and it is less than the other.
+fn is_lesser(set: &[Attribute<'_>], pair: &Attribute<'_>, other: &Attribute<'_>) -> bool
+    ensures { IsTrue result ↔ ((¬ (Has (map pair_of set.now) pair.now))
+        × (pair_cmp (pair_of pair.now) (pair_of other.now) ≡ Less)) }
+{
+    pair.cmp(other).is_lt() && !has_pair(set, pair)
+}
+
+/// The first index of the least required pair that the set lacks, where the first that it lacks has
+/// the index `first`.
+fn least_missing(set: &[Attribute<'_>], required: &[Attribute<'_>], first: usize) -> usize
+    requires { IsFirstLack (Has (map pair_of set.now)) required.now first }
+    ensures { IsLeastAt (map pair_of set.now) required.now result }
+{
+    let mut least = first;
+    for (i, pair) in required.iter().enumerate() {
+        if is_lesser(set, pair, &required[least]) {
+            least = i;
+        }
+    }
+    least
+}
+
+/// The first index of a required key that no pair of the set has.
+fn missing_key(set: &[Attribute<'_>], keys: &[Key<'_>]) -> Option<usize>
+    ensures { result ≡ position (λ key. not (has_key set.now key)) keys.now }
+{
+    keys.iter().position(|key| !has_key(set, key))
+}
+
+/// Whether the set has the required pairs and keys.
+fn verify(set: &[Attribute<'_>], required: &[Attribute<'_>], keys: &[Key<'_>]) -> PlaceAnswer
+    ensures { (listing : List Pair) (wanted : Requirements)
+        → IsListing (map pair_of set.now) listing
+        → ComesFrom wanted required.now keys.now
+        → Judges wanted listing required.now keys.now result }
+{
+    if let Some(first) = first_missing(set, required) {
+        return place(Status::MissingPair, least_missing(set, required, first));
+    }
+    match missing_key(set, keys) {
+        Some(i) => place(Status::MissingKey, i),
+        None => place(Status::Done, 0),
+    }
+}
+
 /// Whether a set has each required pair, and for each required key some pair with it.
 ///
 /// Refused are, in this order, pairs that `iox2sd_attributes_check` refuses, with its answer; the
@@ -129,8 +337,8 @@ pub extern "C" fn iox2sd_attributes_verify_at(
     if let Err(status) = check_set(pairs, &mut at) {
         return place(status, at);
     }
-    if let Err(status) = check_required(required, &mut at) {
-        return place(status, at);
+    if let Err(fault) = check_pairs(required, &mut at) {
+        return place(fault.of_required(), at);
     }
     if let Err(status) = check_keys(keys, required.len(), &mut at) {
         return place(status, at);

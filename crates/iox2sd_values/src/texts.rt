@@ -1,20 +1,17 @@
 //! Whether texts are names, keys, values and paths; where they are not, which byte is wrong and
 //! why.
 ghost use Rattle.std.specs.Prelude.{◌≡◌, ◌↔◌, IsTrue};
-ghost use Rattle.iox2_texts.specs.Name.{MakesName};
+ghost use Rattle.iox2_texts.specs.Name.{IsName, MakesName};
+ghost use Rattle.iox2_texts.specs.Text.{IsText};
 ghost use Rattle.iox2sd_values.specs.Texts.{IsLegal, FindsIllegal, Explains, Refused, ChecksText};
 ghost use Rattle.iox2sd_values.specs.Texts.{ChecksName};
 ghost use Rattle.iox2sd_values.specs.Texts.{MakesPath, MakesFileName, MakesFilePath, MakesRestricted};
 
-use iox2_texts::attribute::{AttributeContent, AttributeKey, AttributeValue};
-use iox2_texts::bounded::{SemanticString, SemanticStringError};
+use iox2_texts::bounded::SemanticStringError;
 use iox2_texts::paths::{FileName, FilePath, Path, RestrictedFileName};
 use iox2_texts::service_name::INTERNAL_SERVICE_PREFIX;
 use iox2sd_common::answers::{PlaceAnswer, place};
 use iox2sd_common::status::Status;
-
-/// A text of 1 to 255 bytes, as the name of a service is one.
-type Name = SemanticString<AttributeContent, 255>;
 
 /// The bytes that a kind of texts may hold.
 #[derive(Clone, Copy)]
@@ -92,6 +89,47 @@ fn refusal(error: SemanticStringError, text: &[u8], alphabet: Alphabet, most: us
     place(status, at)
 }
 
+/// Whether every byte is from 1 to 127. No byte ends the loop early, so many are looked at at once.
+fn is_text(bytes: &[u8]) -> bool
+    ensures { IsTrue result ↔ IsText bytes.now }
+{
+    let mut legal = true;
+    for byte in bytes {
+        legal &= (1 <= *byte) & (*byte <= 127);
+    }
+    legal
+}
+
+/// Whether the bytes are a key, a value or a name of 1 to `most` bytes.
+pub(super) fn is_name(bytes: &[u8], most: usize) -> bool
+    ensures { IsTrue result ↔ IsName most bytes.now }
+{
+    1 <= bytes.len() && bytes.len() <= most && is_text(bytes)
+}
+
+/// Whether a text is a key, a value or a name of 1 to `most` bytes, and if not, why.
+fn check_name(text: &[u8], most: usize) -> PlaceAnswer
+    ensures { ChecksText (MakesName most text.now) Alphabet.Text most text.now result }
+{
+    if is_name(text, most) {
+        return place(Status::Done, 0);
+    }
+    if text.len() > most {
+        return refusal(
+            SemanticStringError::ExceedsMaximumLength,
+            text,
+            Alphabet::Text,
+            most,
+        );
+    }
+    refusal(
+        SemanticStringError::InvalidContent,
+        text,
+        Alphabet::Text,
+        most,
+    )
+}
+
 /// Whether a text is the name of a service, which may be one of the system's own: 1 to 255 bytes,
 /// each from 1 to 127.
 ///
@@ -101,10 +139,7 @@ fn refusal(error: SemanticStringError, text: &[u8], alphabet: Alphabet, most: us
 pub extern "C" fn iox2sd_internal_service_name_check_at(text: &[u8]) -> PlaceAnswer
     ensures { ChecksText (MakesName 255 text.now) Alphabet.Text 255 text.now result }
 {
-    match Name::new(text) {
-        Ok(_) => place(Status::Done, 0),
-        Err(error) => refusal(error, text, Alphabet::Text, 255),
-    }
+    check_name(text, 255)
 }
 
 /// Whether a text is the name that a user gives to a service.
@@ -129,10 +164,7 @@ pub extern "C" fn iox2sd_service_name_check_at(text: &[u8]) -> PlaceAnswer
 pub extern "C" fn iox2sd_attribute_key_check_at(text: &[u8]) -> PlaceAnswer
     ensures { ChecksText (MakesName 64 text.now) Alphabet.Text 64 text.now result }
 {
-    match AttributeKey::new(text) {
-        Ok(_) => place(Status::Done, 0),
-        Err(error) => refusal(error, text, Alphabet::Text, 64),
-    }
+    check_name(text, 64)
 }
 
 /// Whether a text is the value of an attribute: 1 to 256 bytes, each from 1 to 127. Refused as a
@@ -141,10 +173,7 @@ pub extern "C" fn iox2sd_attribute_key_check_at(text: &[u8]) -> PlaceAnswer
 pub extern "C" fn iox2sd_attribute_value_check_at(text: &[u8]) -> PlaceAnswer
     ensures { ChecksText (MakesName 256 text.now) Alphabet.Text 256 text.now result }
 {
-    match AttributeValue::new(text) {
-        Ok(_) => place(Status::Done, 0),
-        Err(error) => refusal(error, text, Alphabet::Text, 256),
-    }
+    check_name(text, 256)
 }
 
 /// Whether a text is a path: at most 255 bytes, each from 1 to 127. It may be empty.

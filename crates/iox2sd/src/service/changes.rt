@@ -1,43 +1,32 @@
 //! Calls that change a service: nodes register and deregister, ports are attached and released.
-ghost use Rattle.std.specs.Prelude.{◌≡◌, All, Err};
-ghost use Rattle.iox2sd.specs.Changes.{handle_answer, Registers, Deregisters, Releases, AttachesAt};
+ghost use Rattle.std.specs.Prelude.{All, Err};
+ghost use Rattle.iox2sd.specs.Answers.{handle_answer};
+ghost use Rattle.iox2sd.specs.Changes.{Registers, Deregisters, Releases, AttachesAt};
 ghost use Rattle.iox2sd.specs.Places.{IsSoundPlace, At, Nothing};
 ghost use Rattle.iox2sd.specs.Ports.{AttachesPort};
 ghost use Rattle.iox2sd_common.specs.Status.{code};
 
 use super::Service;
-use super::steps::{attach, deregister, register, release};
+use crate::answers::HandleAnswer;
 use crate::handle::Handle;
 use crate::port::Port;
+use iox2_dynamic::dynamic_config::{
+    AttachError, DeregisterError, DeregisterNodeState, DynamicConfig, RegisterNodeResult,
+};
 use iox2sd_common::id::Id;
 use iox2sd_common::status::Status;
 
-/// The handle of what was registered or attached.
-#[repr(C)]
-#[derive(Clone, Copy)]
-pub struct HandleAnswer {
-    /// The number of a [`Status`].
-    pub status: u32,
-    /// The handle; where the status is not that of `Done`, one that stands for nothing.
-    pub handle: Handle,
-}
-
-impl HandleAnswer {
-    /// The answer with what was made, or why nothing was.
-    #[inline(always)]
-    fn of(made: Result<Handle, Status>) -> HandleAnswer
-        ensures { result ≡ handle_answer made }
-    {
-        match made {
-            Ok(handle) => HandleAnswer {
-                status: Status::Done.code(),
-                handle,
-            },
-            Err(status) => HandleAnswer {
-                status: status.code(),
-                handle: Handle::none(),
-            },
-        }
+/// Registers a node.
+fn register(service: &mut DynamicConfig, node: Id) -> Result<Handle, Status>
+    ensures { Registers node service.old result service.new }
+{
+    let Some(node) = node.of_node() else {
+        return Err(Status::NoNode);
+    };
+    match service.register_node_id(node) {
+        Ok(made) => Ok(Handle::of(made)),
+        Err(RegisterNodeResult::MarkedForDestruction) => Err(Status::IsLocked),
+        Err(RegisterNodeResult::ExceedsMaxNumberOfNodes) => Err(Status::OutOfSpace),
     }
 }
 
@@ -59,6 +48,21 @@ pub extern "C" fn iox2sd_register_node_id_at(places: &mut [Service], node: Id) -
     HandleAnswer::of(register(service, node))
 }
 
+/// Deregisters a node.
+fn deregister(service: &mut DynamicConfig, handle: Handle) -> Status
+    ensures { Deregisters handle service.old result service.new }
+{
+    let Some(handle) = handle.read() else {
+        return Status::UnknownRole;
+    };
+    match service.deregister_node_id(handle) {
+        Ok(DeregisterNodeState::HasOwners) => Status::Done,
+        Ok(DeregisterNodeState::NoMoreOwners) => Status::DoneLocked,
+        Err(DeregisterError::ContainerHandleNotOwnedByContainer) => Status::ForeignHandle,
+        Err(DeregisterError::PortsStillAttached) => Status::PortsStillAttached,
+    }
+}
+
 /// Deregisters the node with this handle. Returns whether the service is locked for good, which it
 /// is after the last one.
 ///
@@ -78,18 +82,23 @@ pub extern "C" fn iox2sd_deregister_node_id_at(places: &mut [Service], handle: H
     deregister(service, handle).code()
 }
 
-/// Attaches a port to the service of an object that may be NULL.
-fn attach_in(places: &mut [Service], port: &Port) -> HandleAnswer
-    requires { All IsSoundPlace places.old }
-    ensures { At handle_answer Err Nothing (AttachesPort port.now) places.old result places.new }
+/// Attaches a port.
+fn attach(service: &mut DynamicConfig, port: &Port) -> Result<Handle, Status>
+    ensures { AttachesPort port.now service.old result service.new }
 {
-    let [place, ..] = places else {
-        return HandleAnswer::of(Err(Status::Null));
+    let details = match port.read() {
+        Ok(details) => details,
+        Err(status) => return Err(status),
     };
-    let Some(service) = place.lend() else {
-        return HandleAnswer::of(Err(Status::NoService));
-    };
-    HandleAnswer::of(attach(service, port))
+    if !service.has_role(details.role()) {
+        return Err(Status::RoleNotInPattern);
+    }
+    match service.attach(details) {
+        Ok(made) => Ok(Handle::of(made)),
+        Err(AttachError::ServiceIsLocked) => Err(Status::IsLocked),
+        Err(AttachError::NodeNotRegistered) => Err(Status::NodeNotRegistered),
+        Err(AttachError::OutOfSpace) => Err(Status::OutOfSpace),
+    }
 }
 
 /// Attaches a port of one of the pattern's roles.
@@ -103,9 +112,28 @@ pub extern "C" fn iox2sd_attach_at(places: &mut [Service], ports: &[Port]) -> Ha
     requires { All IsSoundPlace places.old }
     ensures { AttachesAt ports.now places.old result places.new }
 {
-    match ports {
-        [] => HandleAnswer::of(Err(Status::Null)),
-        [port, ..] => attach_in(places, port),
+    let [port, ..] = ports else {
+        return HandleAnswer::of(Err(Status::Null));
+    };
+    let [place, ..] = places else {
+        return HandleAnswer::of(Err(Status::Null));
+    };
+    let Some(service) = place.lend() else {
+        return HandleAnswer::of(Err(Status::NoService));
+    };
+    HandleAnswer::of(attach(service, port))
+}
+
+/// Releases a port.
+fn release(service: &mut DynamicConfig, handle: Handle) -> Status
+    ensures { Releases handle service.old result service.new }
+{
+    let Some(handle) = handle.read() else {
+        return Status::UnknownRole;
+    };
+    match service.release_port(handle) {
+        Ok(()) => Status::Done,
+        Err(_) => Status::ForeignHandle,
     }
 }
 

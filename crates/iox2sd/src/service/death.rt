@@ -1,65 +1,20 @@
 //! The removal of dead nodes.
 ghost use Rattle.std.specs.Prelude.{◌≡◌, ◌≤◌, All};
 ghost use Rattle.iox2_dynamic.specs.Steps.{DeadStep};
+ghost use Rattle.iox2sd.specs.Answers.{death_answer};
 ghost use Rattle.iox2sd.specs.Counts.{counted};
 ghost use Rattle.iox2sd.specs.Deaths.{action_for, Keeps, Dies, Went};
-ghost use Rattle.iox2sd.specs.Deaths.{told_death, death_answer};
 ghost use Rattle.iox2sd.specs.Places.{IsSoundPlace, At, Nothing};
-ghost use Rattle.iox2sd.specs.declared.service.death.Death.TheVariants as death;
+ghost use Rattle.iox2sd.specs.declared.answers.Death.TheVariants as death;
 
 use super::Service;
 use super::kept::Kept;
 use super::roles::Counts;
+use crate::answers::{Death, DeathAnswer};
 use iox2_dynamic::dynamic_config::{DeregisterNodeState, DynamicConfig, PortCleanupAction};
 use iox2_ids::identifiers::{UniqueNodeId, UniquePortId};
 use iox2sd_common::id::Id;
 use iox2sd_common::status::Status;
-
-/// How many ports went with a dead node.
-#[repr(C)]
-#[derive(Clone, Copy)]
-pub struct DeathAnswer {
-    /// The number of a [`Status`].
-    pub status: u32,
-    /// How many publishers, listeners, servers or readers went.
-    pub first: usize,
-    /// How many subscribers, notifiers, clients or writers went.
-    pub second: usize,
-}
-
-/// What became of a dead node.
-enum Death {
-    /// The service stays open; so many ports went.
-    Open(Counts),
-    /// The service is locked for good; so many ports went.
-    Locked(Counts),
-    /// The call was refused.
-    Refused(Status),
-}
-
-impl DeathAnswer {
-    /// The answer of this status with these numbers.
-    fn new(status: Status, gone: Counts) -> DeathAnswer
-        ensures { result ≡ told_death status gone }
-    {
-        DeathAnswer {
-            status: status.code(),
-            first: gone.first,
-            second: gone.second,
-        }
-    }
-
-    /// The answer with it.
-    fn of(death: Death) -> DeathAnswer
-        ensures { result ≡ death_answer death }
-    {
-        match death {
-            Death::Open(gone) => DeathAnswer::new(Status::Done, gone),
-            Death::Locked(gone) => DeathAnswer::new(Status::DoneLocked, gone),
-            Death::Refused(status) => DeathAnswer::new(status, Counts::none()),
-        }
-    }
-}
 
 /// The answer on a port, where ports of these ids stay.
 fn answer(kept: &Kept<'_>, port: &UniquePortId) -> PortCleanupAction

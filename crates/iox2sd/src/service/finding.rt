@@ -2,73 +2,17 @@
 #![tactic(auto, using(crate::proofs::Lending::same_places))]
 
 ghost use Rattle.std.specs.Prelude.{◌≡◌, All, Err};
-ghost use Rattle.iox2sd.specs.Finding.{id_answer, port_answer, FindsNode, FindsPort};
+ghost use Rattle.iox2sd.specs.Answers.{id_answer, port_answer};
+ghost use Rattle.iox2sd.specs.Finding.{FindsNode, FindsPort};
 ghost use Rattle.iox2sd.specs.Places.{IsSoundPlace, Asked, Nothing};
 
 use super::Service;
+use crate::answers::{IdAnswer, PortAnswer};
 use crate::handle::Handle;
 use crate::port::Port;
 use iox2_dynamic::dynamic_config::DynamicConfig;
 use iox2sd_common::id::Id;
 use iox2sd_common::status::Status;
-
-/// An id.
-#[repr(C)]
-#[derive(Clone, Copy)]
-pub struct IdAnswer {
-    /// The number of a [`Status`].
-    pub status: u32,
-    /// Its id; all 0 where the status is not that of `Done`.
-    pub id: Id,
-}
-
-/// A port.
-#[repr(C)]
-#[derive(Clone, Copy)]
-pub struct PortAnswer {
-    /// The number of a [`Status`].
-    pub status: u32,
-    /// The port; all 0 where the status is not that of `Done`.
-    pub port: Port,
-}
-
-impl IdAnswer {
-    /// The answer with an id, or why there is none.
-    #[inline(always)]
-    pub(crate) fn of(found: Result<Id, Status>) -> IdAnswer
-        ensures { result ≡ id_answer found }
-    {
-        match found {
-            Ok(id) => IdAnswer {
-                status: Status::Done.code(),
-                id,
-            },
-            Err(status) => IdAnswer {
-                status: status.code(),
-                id: Id::default(),
-            },
-        }
-    }
-}
-
-impl PortAnswer {
-    /// The answer with a port, or why there is none.
-    #[inline(always)]
-    fn of(found: Result<Port, Status>) -> PortAnswer
-        ensures { result ≡ port_answer found }
-    {
-        match found {
-            Ok(port) => PortAnswer {
-                status: Status::Done.code(),
-                port,
-            },
-            Err(status) => PortAnswer {
-                status: status.code(),
-                port: Port::default(),
-            },
-        }
-    }
-}
 
 /// The node of the handle.
 fn find_node(service: &DynamicConfig, handle: Handle) -> Result<Id, Status>

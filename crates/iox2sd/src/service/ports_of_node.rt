@@ -3,16 +3,15 @@ ghost use Rattle.std.specs.Prelude.{◌≡◌, ℕ, ◌+◌, All, IsTrue, length
 ghost use Rattle.iox2_container.specs.Steps.{is_of};
 ghost use Rattle.iox2_dynamic.specs.Details.{node_of};
 ghost use Rattle.iox2_dynamic.specs.Ports.{ports_of_node};
-ghost use Rattle.iox2_dynamic.specs.Service.{first_role, second_role};
 ghost use Rattle.iox2sd.specs.Listings.{ListsAll, listed_answer};
-ghost use Rattle.iox2sd.specs.NodeListings.{Counts as CountsTo, PutsAt, Notes, NotesAll};
-ghost use Rattle.iox2sd.specs.NodeListings.{AllFit, Stand, ports_of_in, ListsPortsOf};
+ghost use Rattle.iox2sd.specs.NodeListings.{Counts as CountsTo, PutsAt, Notes, NotesOfRole};
+ghost use Rattle.iox2sd.specs.NodeListings.{AllFit, Stand, ListsPortsOf};
 ghost use Rattle.iox2sd.specs.Places.{IsSoundPlace, Asked};
 ghost use Rattle.iox2sd.specs.Ports.{told_port};
-ghost use Rattle.iox2sd.specs.declared.service.ports.Listed.TheVariants as listed;
+ghost use Rattle.iox2sd.specs.declared.service.listings.Listed.TheVariants as listed;
 
 use super::Service;
-use super::ports::Listed;
+use super::listings::Listed;
 use super::roles::Counts;
 use crate::port::Port;
 use iox2_container::container::Role;
@@ -67,10 +66,7 @@ fn note_ports(
     out: &mut [Port],
     count: &mut Option<usize>,
 )
-    ensures first { role ≡ first_role service.now.pattern → NotesAll
-        (ports_of_in node.now service.now.ports.first) (out.old, count.old) (out.new, count.new) }
-    ensures second { role ≡ second_role service.now.pattern → NotesAll
-        (ports_of_in node.now service.now.ports.second) (out.old, count.old) (out.new, count.new) }
+    ensures { NotesOfRole service.now role node.now (out.old, count.old) (out.new, count.new) }
 {
     let mut show = |details: &PortDetails| -> CallbackProgression
         ensures noted { Notes (is_of node_of node.entry.now details.now)

@@ -1,92 +1,20 @@
-//! Questions to a service: its pattern, its number, its lock, and what its ports are.
+//! Questions to a service: its pattern, its number, its lock, its roles, how many nodes and ports
+//! there are and may be, and whether one more may join.
 #![tactic(auto, using(crate::proofs::Lending::same_places))]
 
-ghost use Rattle.std.specs.Prelude.{◌≡◌, All, Ok, Err};
+ghost use Rattle.std.specs.Prelude.{◌≡◌, All, Err, length};
 ghost use Rattle.iox2_config.specs.Hashing.{pattern_number};
+ghost use Rattle.iox2sd.specs.Answers.{number_answer, roles_answer};
 ghost use Rattle.iox2sd.specs.Places.{IsSoundPlace, Asked, Nothing};
-ghost use Rattle.iox2sd.specs.Queries.{Gives, AsksRole, number_answer, roles_answer, roles_in};
-ghost use Rattle.iox2sd_common.specs.Answers.{flag_answer};
+ghost use Rattle.iox2sd.specs.Queries.{Gives, AsksRole, roles_in, AsksPorts, AsksRoom, AsksNodeRoom};
+ghost use Rattle.iox2sd_common.specs.Answers.{flag_answer, told_count};
 
 use super::Service;
+use crate::answers::{NumberAnswer, Roles, RolesAnswer};
 use crate::handle::{role_number, role_of};
 use iox2_dynamic::dynamic_config::{DynamicConfig, PortRoles};
-use iox2sd_common::answers::FlagAnswer;
+use iox2sd_common::answers::{CountAnswer, FlagAnswer};
 use iox2sd_common::status::Status;
-
-/// A number of the service.
-#[repr(C)]
-#[derive(Clone, Copy)]
-pub struct NumberAnswer {
-    /// The number of a [`Status`].
-    pub status: u32,
-    /// The number; 0 where the status is not that of `Done`.
-    pub number: u64,
-}
-
-/// The roles of the two kinds of ports of a pattern, that first which is recovered first.
-#[repr(C)]
-#[derive(Clone, Copy, Default)]
-pub struct RolesAnswer {
-    /// The number of a [`Status`].
-    pub status: u32,
-    /// The role of publishers, listeners, servers or readers; 0 where the status is not that of
-    /// `Done`.
-    pub first: u64,
-    /// The role of subscribers, notifiers, clients or writers; 0 where the status is not that of
-    /// `Done`.
-    pub second: u64,
-}
-
-/// The numbers of two roles.
-#[derive(Clone, Copy)]
-struct Roles {
-    first: u64,
-    second: u64,
-}
-
-impl NumberAnswer {
-    /// The answer with a number, or why there is none.
-    pub(crate) fn of(asked: Result<u64, Status>) -> NumberAnswer
-        ensures { result ≡ number_answer asked }
-    {
-        match asked {
-            Ok(number) => NumberAnswer {
-                status: Status::Done.code(),
-                number,
-            },
-            Err(status) => NumberAnswer {
-                status: status.code(),
-                number: 0,
-            },
-        }
-    }
-}
-
-impl RolesAnswer {
-    /// The answer with two roles, or why there are none.
-    fn of(asked: Result<Roles, Status>) -> RolesAnswer
-        ensures { result ≡ roles_answer asked }
-    {
-        match asked {
-            Ok(roles) => RolesAnswer {
-                status: Status::Done.code(),
-                first: roles.first,
-                second: roles.second,
-            },
-            Err(status) => RolesAnswer {
-                status: status.code(),
-                ..RolesAnswer::default()
-            },
-        }
-    }
-}
-
-/// The number of the pattern.
-fn pattern(service: &DynamicConfig) -> u64
-    ensures { result ≡ pattern_number service.now.pattern }
-{
-    service.kind() as u64
-}
 
 /// The roles of the pattern's ports.
 fn roles_of(service: &DynamicConfig) -> Roles
@@ -123,7 +51,7 @@ pub extern "C" fn iox2sd_messaging_pattern_at(places: &mut [Service]) -> NumberA
     let Some(service) = place.lend() else {
         return NumberAnswer::of(Err(Status::NoService));
     };
-    NumberAnswer::of(Ok(pattern(service)))
+    NumberAnswer::of(Ok(service.kind() as u64))
 }
 
 /// The roles of the pattern's two kinds of ports. Errors, in this order: NULL, an object without a
@@ -194,4 +122,154 @@ pub extern "C" fn iox2sd_has_role_at(places: &mut [Service], role: u64) -> FlagA
         return FlagAnswer::of(Err(Status::NoService));
     };
     FlagAnswer::of(has_role(service, role))
+}
+
+/// How many ports of the role of this number there are.
+fn count_ports(service: &DynamicConfig, role: u64) -> Result<usize, Status>
+    ensures { AsksPorts (λ r n. n ≡ length r.entries) role service.now result }
+{
+    let Some(role) = role_of(role) else {
+        return Err(Status::UnknownRole);
+    };
+    match service.count_ports(role) {
+        Some(number) => Ok(number),
+        None => Err(Status::RoleNotInPattern),
+    }
+}
+
+/// How many ports of the role of this number there may be.
+fn max_ports(service: &DynamicConfig, role: u64) -> Result<usize, Status>
+    ensures { AsksPorts (λ r n. n ≡ r.capacity) role service.now result }
+{
+    let Some(role) = role_of(role) else {
+        return Err(Status::UnknownRole);
+    };
+    match service.max_ports(role) {
+        Some(number) => Ok(number),
+        None => Err(Status::RoleNotInPattern),
+    }
+}
+
+/// Whether a port of the role of this number can be attached.
+fn has_room(service: &DynamicConfig, role: u64) -> Result<bool, Status>
+    ensures { AsksRoom role service.now result }
+{
+    let Some(role) = role_of(role) else {
+        return Err(Status::UnknownRole);
+    };
+    if !service.has_role(role) {
+        return Err(Status::RoleNotInPattern);
+    }
+    Ok(service.has_room(role))
+}
+
+/// Whether a node can be registered.
+fn has_room_for_node(service: &DynamicConfig) -> Result<bool, Status>
+    ensures { AsksNodeRoom service.now result }
+{
+    Ok(service.has_room_for_node())
+}
+
+/// How many handles of nodes there are. Errors, in this order: NULL, an object without a service.
+#[unsafe(no_mangle)]
+pub extern "C" fn iox2sd_number_of_nodes_at(places: &mut [Service]) -> CountAnswer
+    requires { All IsSoundPlace places.old }
+    ensures answer { Asked told_count Err Nothing (Gives (λ s. length s.nodes.registry.entries))
+        places.old result }
+    ensures unchanged { places.new ≡ places.old }
+{
+    let [place, ..] = places else {
+        return CountAnswer::of(Err(Status::Null));
+    };
+    let Some(service) = place.lend() else {
+        return CountAnswer::of(Err(Status::NoService));
+    };
+    CountAnswer::of(Ok(service.number_of_nodes()))
+}
+
+/// How many handles of nodes there may be at a time. Errors, in this order: NULL, an object without
+/// a service.
+#[unsafe(no_mangle)]
+pub extern "C" fn iox2sd_max_nodes_at(places: &mut [Service]) -> CountAnswer
+    requires { All IsSoundPlace places.old }
+    ensures answer { Asked told_count Err Nothing (Gives (λ s. s.nodes.registry.capacity))
+        places.old result }
+    ensures unchanged { places.new ≡ places.old }
+{
+    let [place, ..] = places else {
+        return CountAnswer::of(Err(Status::Null));
+    };
+    let Some(service) = place.lend() else {
+        return CountAnswer::of(Err(Status::NoService));
+    };
+    CountAnswer::of(Ok(service.max_nodes()))
+}
+
+/// Whether `iox2sd_register_node_id` would register a node. Errors, in this order: NULL, an object
+/// without a service.
+#[unsafe(no_mangle)]
+pub extern "C" fn iox2sd_has_room_for_node_at(places: &mut [Service]) -> FlagAnswer
+    requires { All IsSoundPlace places.old }
+    ensures answer { Asked flag_answer Err Nothing AsksNodeRoom places.old result }
+    ensures unchanged { places.new ≡ places.old }
+{
+    let [place, ..] = places else {
+        return FlagAnswer::of(Err(Status::Null));
+    };
+    let Some(service) = place.lend() else {
+        return FlagAnswer::of(Err(Status::NoService));
+    };
+    FlagAnswer::of(has_room_for_node(service))
+}
+
+/// How many ports of the role there are. Errors, in this order: NULL, an object without a service,
+/// a number of no role, and a role that the pattern does not have.
+#[unsafe(no_mangle)]
+pub extern "C" fn iox2sd_count_ports_at(places: &mut [Service], role: u64) -> CountAnswer
+    requires { All IsSoundPlace places.old }
+    ensures answer { Asked told_count Err Nothing (AsksPorts (λ r n. n ≡ length r.entries) role)
+        places.old result }
+    ensures unchanged { places.new ≡ places.old }
+{
+    let [place, ..] = places else {
+        return CountAnswer::of(Err(Status::Null));
+    };
+    let Some(service) = place.lend() else {
+        return CountAnswer::of(Err(Status::NoService));
+    };
+    CountAnswer::of(count_ports(service, role))
+}
+
+/// How many ports of the role there may be at a time. Refused as `iox2sd_count_ports` is.
+#[unsafe(no_mangle)]
+pub extern "C" fn iox2sd_max_ports_at(places: &mut [Service], role: u64) -> CountAnswer
+    requires { All IsSoundPlace places.old }
+    ensures answer { Asked told_count Err Nothing (AsksPorts (λ r n. n ≡ r.capacity) role)
+        places.old result }
+    ensures unchanged { places.new ≡ places.old }
+{
+    let [place, ..] = places else {
+        return CountAnswer::of(Err(Status::Null));
+    };
+    let Some(service) = place.lend() else {
+        return CountAnswer::of(Err(Status::NoService));
+    };
+    CountAnswer::of(max_ports(service, role))
+}
+
+/// Whether `iox2sd_attach` would attach a port of the role, if its node is registered. Refused as
+/// `iox2sd_count_ports` is.
+#[unsafe(no_mangle)]
+pub extern "C" fn iox2sd_has_room_at(places: &mut [Service], role: u64) -> FlagAnswer
+    requires { All IsSoundPlace places.old }
+    ensures answer { Asked flag_answer Err Nothing (AsksRoom role) places.old result }
+    ensures unchanged { places.new ≡ places.old }
+{
+    let [place, ..] = places else {
+        return FlagAnswer::of(Err(Status::Null));
+    };
+    let Some(service) = place.lend() else {
+        return FlagAnswer::of(Err(Status::NoService));
+    };
+    FlagAnswer::of(has_room(service, role))
 }

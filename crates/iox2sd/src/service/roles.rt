@@ -9,9 +9,9 @@ use iox2_dynamic::dynamic_config::{DynamicConfig, PortRoles};
 
 /// Numbers of ports of a pattern's first and second kind.
 #[derive(Clone, Copy)]
-pub(super) struct Counts {
-    pub(super) first: usize,
-    pub(super) second: usize,
+pub(crate) struct Counts {
+    pub(crate) first: usize,
+    pub(crate) second: usize,
 }
 
 /// How many ports of the role there are.
@@ -28,7 +28,7 @@ fn count(service: &DynamicConfig, role: Role) -> usize
 
 impl Counts {
     /// No port of either kind.
-    pub(super) fn none() -> Counts
+    pub(crate) fn none() -> Counts
         ensures { result ≡ record { first = 0; second = 0 } }
     {
         Counts {
@@ -39,7 +39,7 @@ impl Counts {
 
     /// How many ports of each kind there are.
     #[tactic(auto, using(crate::proofs::Roles::counts))]
-    pub(super) fn of(service: &DynamicConfig) -> Counts
+    pub(crate) fn of(service: &DynamicConfig) -> Counts
         ensures { result ≡ counted service.now }
     {
         let (first, second) = service.kind().port_roles();

@@ -1,17 +1,17 @@
-use Rattle.iox2sd.proofs.Dying.{fewer_first, fewer_second, so_many_went}
+use Rattle.iox2sd.proofs.Dying.{fewer, so_many_went}
 use Rattle.iox2sd.proofs.service.death.count_gone.Goals as goal
 
 pub overflow_sub-gone : goal.overflow_sub-gone
 overflow_sub-gone c =
-    fewer_first c.args.kept.now c.args.service.now c.clean_up-state.new.service c.args.dead.now
+    (fewer c.args.kept.now c.args.service.now c.clean_up-state.new.service c.args.dead.now
     c.clean_up-state.result c.of-before.result c.of-after.result c.of-before.ensures
-    c.of-after.ensures c.clean_up-state.ensures
+    c.of-after.ensures c.clean_up-state.ensures).0
 
 pub overflow_sub-gone-2 : goal.overflow_sub-gone-2
 overflow_sub-gone-2 c =
-    fewer_second c.args.kept.now c.args.service.now c.clean_up-state.new.service c.args.dead.now
+    (fewer c.args.kept.now c.args.service.now c.clean_up-state.new.service c.args.dead.now
     c.clean_up-state.result c.of-before.result c.of-after.result c.of-before.ensures
-    c.of-after.ensures c.clean_up-state.ensures
+    c.of-after.ensures c.clean_up-state.ensures).1
 
 pub returns-clause-went : goal.returns-clause-went
 returns-clause-went c =

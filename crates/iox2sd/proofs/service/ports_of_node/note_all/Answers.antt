@@ -12,5 +12,5 @@ returns c =
     (asked_about of ports.second.registry) c.args.out.now
     (c.note_ports.new.out, c.note_ports.new.count)
     (c.note_ports-2.new.out, c.note_ports-2.new.count)
-    (c.note_ports.ensures.first (search rules))
-    (c.note_ports-2.ensures.second (search rules))
+    (c.note_ports.ensures.0 (search rules))
+    (c.note_ports-2.ensures.1 (search rules))

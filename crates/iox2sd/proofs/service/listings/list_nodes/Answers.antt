@@ -1,0 +1,13 @@
+use Rattle.iox2sd.proofs.Listings.{nodes_at_front, nodes_too_many}
+use Rattle.iox2sd.proofs.service.listings.list_nodes.Goals as goal
+
+pub returns-then-number-out : goal.returns-then-number-out
+returns-then-number-out c =
+    nodes_too_many c.args.service.now.nodes c.args.out.now c.number_of_nodes-number.result
+    c.number_of_nodes-number.ensures.count c.if-number-out.true
+
+pub returns : goal.returns
+returns c =
+    nodes_at_front c.args.service.now.nodes c.args.out.now c.put_nodes.new.out c.put_nodes.new.used
+    c.number_of_nodes-number.result c.number_of_nodes-number.ensures.count
+    c.put_nodes.ensures c.if-number-out.false

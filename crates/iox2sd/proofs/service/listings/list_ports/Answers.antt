@@ -1,0 +1,35 @@
+use Rattle.std.proofs.Common.{refl, subst, ◌<◌, ◌≤◌, length}
+use Rattle.iox2sd.proofs.Listings.{counted, at_front}
+use Rattle.iox2sd.proofs.service.listings.list_ports.Goals as goal
+
+pub returns-then-number-out : goal.returns-then-number-out
+returns-then-number-out c =
+    let found =
+    counted c.args.service.now c.in-Some.role c.in-Some-count_ports.number
+    c.in-Some-count_ports.ensures.count in (
+      c.in-Some.role,
+      c.in-Some.ensures,
+      found.0,
+      found.1,
+      (subst (λ n. length c.args.out.now < n) found.2 c.if-number-out.true, refl, found.2),
+    )
+
+pub returns : goal.returns
+returns c =
+    let found =
+    counted c.args.service.now c.in-Some.role c.in-Some-count_ports.number
+    c.in-Some-count_ports.ensures.count in
+    let fits : length found.0 ≤ length c.args.out.now =
+    subst (λ n. n ≤ length c.args.out.now) found.2 c.if-number-out.false in (
+      c.in-Some.role,
+      c.in-Some.ensures,
+      found.0,
+      found.1,
+      (
+        fits,
+        at_front c.args.service.now c.in-Some.role c.is_first.result c.is_first.ensures
+            c.args.out.now c.put_ports.new.out c.put_ports.new.used c.put_ports.ensures found.0
+            found.1 fits,
+        found.2,
+      ),
+    )

@@ -1,0 +1,57 @@
+-- What exports return beside a status of their own.
+use Rattle.std.specs.Prelude.{ℕ, Result, Ok, Err}
+use Rattle.iox2sd.specs.Handles.{no_handle}
+use Rattle.iox2sd.specs.Ports.{no_port}
+use Rattle.iox2sd.specs.declared.answers.Death.{Death}
+use Rattle.iox2sd.specs.declared.answers.Death.TheVariants.{Open, Locked, Refused}
+use Rattle.iox2sd.specs.declared.answers.DeathAnswer.{DeathAnswer}
+use Rattle.iox2sd.specs.declared.answers.HandleAnswer.{HandleAnswer}
+use Rattle.iox2sd.specs.declared.answers.IdAnswer.{IdAnswer}
+use Rattle.iox2sd.specs.declared.answers.NumberAnswer.{NumberAnswer}
+use Rattle.iox2sd.specs.declared.answers.PortAnswer.{PortAnswer}
+use Rattle.iox2sd.specs.declared.answers.Roles.{Roles}
+use Rattle.iox2sd.specs.declared.answers.RolesAnswer.{RolesAnswer}
+use Rattle.iox2sd.specs.declared.handle.Handle.{Handle}
+use Rattle.iox2sd.specs.declared.port.Port.{Port}
+use Rattle.iox2sd.specs.declared.service.roles.Counts.{Counts}
+use Rattle.iox2sd_common.specs.Ids.{id_of}
+use Rattle.iox2sd_common.specs.Status.{code}
+use Rattle.iox2sd_common.specs.declared.id.Id.{Id}
+use Rattle.iox2sd_common.specs.declared.status.Status.{Status}
+use Rattle.iox2sd_common.specs.declared.status.Status.TheVariants as status
+
+-- a handle, or the status of a refusal with the handle that stands for nothing
+abbrev pub handle_answer : Result Handle Status → HandleAnswer
+handle_answer (Ok handle) = record { status = code status.Done; handle = handle }
+handle_answer (Err s) = record { status = code s; handle = no_handle }
+
+-- a number, or the status of a refusal
+abbrev pub number_answer : Result ℕ Status → NumberAnswer
+number_answer (Ok n) = record { status = code status.Done; number = n }
+number_answer (Err s) = record { status = code s; number = 0 }
+
+-- two roles, or the status of a refusal
+abbrev pub roles_answer : Result Roles Status → RolesAnswer
+roles_answer (Ok roles) =
+    record { status = code status.Done; first = roles.first; second = roles.second }
+roles_answer (Err s) = record { status = code s; first = 0; second = 0 }
+
+-- a node, or the status of a refusal
+abbrev pub id_answer : Result Id Status → IdAnswer
+id_answer (Ok id) = record { status = code status.Done; id = id }
+id_answer (Err s) = record { status = code s; id = id_of 0 }
+
+-- a port, or the status of a refusal
+abbrev pub port_answer : Result Port Status → PortAnswer
+port_answer (Ok port) = record { status = code status.Done; port = port }
+port_answer (Err s) = record { status = code s; port = no_port }
+
+-- a status, and how many ports of each kind went
+abbrev pub told_death : Status → Counts → DeathAnswer
+told_death s gone = record { status = code s; first = gone.first; second = gone.second }
+
+-- what became of a dead node, as C sees it
+abbrev pub death_answer : Death → DeathAnswer
+death_answer (Open gone) = told_death status.Done gone
+death_answer (Locked gone) = told_death status.DoneLocked gone
+death_answer (Refused s) = told_death s (record { first = 0; second = 0 })

@@ -1,0 +1,228 @@
+//! Listings into a caller's array.
+ghost use Rattle.std.specs.Prelude.{◌≡◌, ◌↔◌, All, IsTrue};
+ghost use Rattle.iox2_dynamic.specs.Ports.{ports_as};
+ghost use Rattle.iox2_dynamic.specs.Service.{first_role};
+ghost use Rattle.iox2sd.specs.Listings.{Puts, PutsAll, ports_in, ports_of_kind, ListsPorts};
+ghost use Rattle.iox2sd.specs.Listings.{nodes_in, ListsNodes, listed_answer};
+ghost use Rattle.iox2sd.specs.Places.{IsSoundPlace, Asked};
+ghost use Rattle.iox2sd.specs.Ports.{told_port};
+ghost use Rattle.iox2sd_common.specs.Ids.{id_of};
+ghost use Rattle.iox2sd.specs.declared.service.listings.Listed.TheVariants as listed;
+
+use super::Service;
+use crate::handle::role_of;
+use crate::port::Port;
+use iox2_config::hash::PatternKind;
+use iox2_container::container::Role;
+use iox2_dynamic::dynamic_config::{DynamicConfig, PortKind, PortRegistries, PortRoles};
+use iox2_ids::identifiers::UniqueNodeId;
+use iox2_texts::bounded::CallbackProgression;
+use iox2sd_common::answers::{CountAnswer, count};
+use iox2sd_common::id::Id;
+use iox2sd_common::status::Status;
+
+/// What became of a listing.
+pub(super) enum Listed {
+    /// All stand at the front of the array; so many are listed.
+    All(usize),
+    /// The array is too short; so many are needed.
+    TooShort(usize),
+    /// The call was refused.
+    Refused(Status),
+}
+
+impl Listed {
+    /// The answer with it.
+    pub(super) fn answer(self) -> CountAnswer
+        ensures { result ≡ listed_answer self }
+    {
+        match self {
+            Listed::All(number) => count(Status::Done, number),
+            Listed::TooShort(number) => count(Status::BufferTooShort, number),
+            Listed::Refused(status) => count(status, 0),
+        }
+    }
+}
+
+/// Puts an item at the next index, or stops where there is none.
+#[inline(always)]
+fn put<T: Copy>(out: &mut [T], used: &mut usize, item: T) -> CallbackProgression
+    ensures { Puts (out.old, used.old) item result (out.new, used.new) }
+{
+    if *used < out.len() {
+        out[*used] = item;
+        *used += 1;
+        CallbackProgression::Continue
+    } else {
+        CallbackProgression::Stop
+    }
+}
+
+/// Puts the ids of the nodes at the front of the array.
+fn put_nodes(service: &DynamicConfig, out: &mut [Id], used: &mut usize)
+    ensures { PutsAll (nodes_in service.now.nodes) (out.old, used.old) (out.new, used.new) }
+{
+    let mut note = |node: &UniqueNodeId| -> CallbackProgression
+        ensures noted { Puts (out.entry.now, used.entry.now)
+            (id_of node.now) result (out.exit.now, used.exit.now) }
+        ensures same { out.exit.ghost_name ≡ out.entry.ghost_name }
+    { put(out, used, Id::of_number(node.value())) };
+    service.list_node_ids(&mut note);
+}
+
+/// Lists the ids of the nodes.
+fn list_nodes(service: &DynamicConfig, out: &mut [Id]) -> Listed
+    ensures { ListsNodes out.old service.now result out.new }
+{
+    let number = service.number_of_nodes();
+    if number > out.len() {
+        return Listed::TooShort(number);
+    }
+    let mut used = 0;
+    put_nodes(service, out, &mut used);
+    Listed::All(number)
+}
+
+/// Lists the ids of the nodes by rising slot, one for each handle, at the front of an array, whose
+/// other elements stay as they were, and returns how many there are. Where the array is too short
+/// for all, it stays as it was, and the length that it needs is returned.
+///
+/// Errors, in this order: NULL, an object without a service, and too short an array.
+#[tactic(auto, using(crate::proofs::Lending::same_places))]
+#[unsafe(no_mangle)]
+pub extern "C" fn iox2sd_nodes_at(places: &mut [Service], out: &mut [Id]) -> CountAnswer
+    requires { All IsSoundPlace places.old }
+    ensures answer { Asked listed_answer listed.Refused (out.new ≡ out.old)
+        (λ service made. ListsNodes out.old service made out.new) places.old result }
+    ensures unchanged { places.new ≡ places.old }
+{
+    let [place, ..] = places else {
+        return Listed::Refused(Status::Null).answer();
+    };
+    let Some(service) = place.lend() else {
+        return Listed::Refused(Status::NoService).answer();
+    };
+    list_nodes(service, out).answer()
+}
+
+/// Puts the ports of the first kind behind those that were put before.
+fn put_first<A: PortKind, B: PortKind>(
+    ports: &PortRegistries<A, B>,
+    out: &mut [Port],
+    used: &mut usize,
+)
+    ensures { PutsAll (ports_in (ports_as A.details B.details ports.now).first)
+        (out.old, used.old) (out.new, used.new) }
+{
+    let mut note = |details: &A| -> CallbackProgression
+        ensures noted { Puts (out.entry.now, used.entry.now)
+            (told_port (A.details details.now)) result (out.exit.now, used.exit.now) }
+        ensures same { out.exit.ghost_name ≡ out.entry.ghost_name }
+    { put(out, used, Port::of(&(*details).into_details())) };
+    ports.list_first(&mut note);
+}
+
+/// Puts the ports of the second kind behind those that were put before.
+fn put_second<A: PortKind, B: PortKind>(
+    ports: &PortRegistries<A, B>,
+    out: &mut [Port],
+    used: &mut usize,
+)
+    ensures { PutsAll (ports_in (ports_as A.details B.details ports.now).second)
+        (out.old, used.old) (out.new, used.new) }
+{
+    let mut note = |details: &B| -> CallbackProgression
+        ensures noted { Puts (out.entry.now, used.entry.now)
+            (told_port (B.details details.now)) result (out.exit.now, used.exit.now) }
+        ensures same { out.exit.ghost_name ≡ out.entry.ghost_name }
+    { put(out, used, Port::of(&(*details).into_details())) };
+    ports.list_second(&mut note);
+}
+
+/// Puts the ports of one of the two kinds behind those that were put before.
+fn put_kind<A: PortKind, B: PortKind>(
+    ports: &PortRegistries<A, B>,
+    is_first: bool,
+    out: &mut [Port],
+    used: &mut usize,
+)
+    ensures { PutsAll (ports_of_kind is_first (ports_as A.details B.details ports.now))
+        (out.old, used.old) (out.new, used.new) }
+{
+    if is_first {
+        put_first(ports, out, used);
+    } else {
+        put_second(ports, out, used);
+    }
+}
+
+/// Puts the ports of one of the pattern's two kinds behind those that were put before. Each kind
+/// has a callback of its own, which takes a third of the time of one for details of any kind.
+fn put_ports(service: &DynamicConfig, is_first: bool, out: &mut [Port], used: &mut usize)
+    ensures { PutsAll (ports_of_kind is_first service.now.ports)
+        (out.old, used.old) (out.new, used.new) }
+{
+    match service.kind() {
+        PatternKind::PublishSubscribe => {
+            put_kind(service.publish_subscribe(), is_first, out, used);
+        }
+        PatternKind::Event => put_kind(service.event(), is_first, out, used),
+        PatternKind::RequestResponse => {
+            put_kind(service.request_response(), is_first, out, used);
+        }
+        PatternKind::Blackboard => put_kind(service.blackboard(), is_first, out, used),
+    }
+}
+
+/// Whether the role is that of the ports that are recovered first.
+fn is_first(service: &DynamicConfig, role: Role) -> bool
+    ensures { IsTrue result ↔ (role ≡ first_role service.now.pattern) }
+{
+    let (first, _) = service.kind().port_roles();
+    role == first
+}
+
+/// Lists the ports of the role of this number.
+fn list_ports(service: &DynamicConfig, role: u64, out: &mut [Port]) -> Listed
+    ensures { ListsPorts role out.old service.now result out.new }
+{
+    let Some(role) = role_of(role) else {
+        return Listed::Refused(Status::UnknownRole);
+    };
+    let Some(number) = service.count_ports(role) else {
+        return Listed::Refused(Status::RoleNotInPattern);
+    };
+    if number > out.len() {
+        return Listed::TooShort(number);
+    }
+    let mut used = 0;
+    put_ports(service, is_first(service, role), out, &mut used);
+    Listed::All(number)
+}
+
+/// Lists the ports of a role by rising slot at the front of an array, whose other elements stay as
+/// they were, and returns how many there are. Where the array is too short for all, it stays as it
+/// was, and the length that it needs is returned.
+///
+/// Errors, in this order: NULL, an object without a service, a number of no role, a role that the
+/// pattern does not have, and too short an array.
+#[tactic(auto, using(crate::proofs::Lending::same_places))]
+#[unsafe(no_mangle)]
+pub extern "C" fn iox2sd_ports_at(
+    places: &mut [Service],
+    role: u64,
+    out: &mut [Port],
+) -> CountAnswer
+    requires { All IsSoundPlace places.old }
+    ensures answer { Asked listed_answer listed.Refused (out.new ≡ out.old)
+        (λ service made. ListsPorts role out.old service made out.new) places.old result }
+    ensures unchanged { places.new ≡ places.old }
+{
+    let [place, ..] = places else {
+        return Listed::Refused(Status::Null).answer();
+    };
+    let Some(service) = place.lend() else {
+        return Listed::Refused(Status::NoService).answer();
+    };
+    list_ports(service, role, out).answer()
+}
