@@ -354,10 +354,11 @@ module _ {S : Type 0} (Step : S → ℕ → S → Type 0) (Before : ℕ → ℕ 
   no_stage s l = absurd (omega (arith, l.1.1))
 
   -- what is known once no call remains
-  module _ (olds : List S) (group : List ℕ) (layer : List (Stage S))
-      (g : Gathers Step Before (ReachedFrom Step Before olds group) 0 [] layer) where
+  module _ (olds : List S) (group : List ℕ) (layer : List (Stage S)) (left : ℕ)
+      (g : Gathers Step Before (ReachedFrom Step Before olds group) left [] layer)
+      (over : left ≡ 0) where
     ends : All (HasLeft 0) layer
-    ends = g.lengths (All-nil (HasLeft 0))
+    ends = subst (λ n. All (HasLeft n) layer) over (g.lengths (All-nil (HasLeft left)))
 
     differ : AllPairs (λ a b. a ≢ b) (map (λ s. s.state) layer)
     differ = states_differ layer ends (g.once (λ i j d less h. absurd (omega arith)))
