@@ -36,6 +36,10 @@ pub one_kept : (Step : Reply → Service → Type 0) (r : Reply) (new : Service)
     → LeadsTo Step r new → IsService new
 one_kept Step r new can one = subst IsService (one can.0 can.1) (service_quiet can.0 can.2)
 
+leaves : (Step : Reply → Service → Type 0) (r : Reply) (new : Service) → CanServe Step r
+    → LeadsTo Step r new → LeadsTo Step r new × IsService new
+leaves Step r new can one = (one, one_kept Step r new can one)
+
 -- what is seen of a service, by its registries
 seen_as : (s w : Service) (m : RegistryState ℕ) (first second : RegistryState PortDetails)
     → w.pattern ≡ s.pattern → w.nodes.registry ≡ m → w.ports.first.registry ≡ first
@@ -85,13 +89,16 @@ module _ (s : Service) (rest : quiet s ≡ s) where
   deregister_stays h reply.NotOwned e = λ w so. ap quiet so.1 ∙ rest
   deregister_stays h _ e = λ w so. absurd so
 
-pub register_enters : (s : Service) (id : ℕ) (h : Handle) (m : RegistryState ℕ)
+pub register_enters : (s : Service) (id : ℕ) (h : Handle)
+    → CanServe (ServesRegister s id) (reply.Handle h) → (m : RegistryState ℕ)
     → AddStep s.nodes.registry id (Ok h) m → IsRegistry m
     → LeadsTo (ServesRegister s id) (reply.Handle h)
     (at_rest s.pattern m s.ports.first.registry s.ports.second.registry)
-register_enters s id h m step k = λ w so.
+    × IsService (at_rest s.pattern m s.ports.first.registry s.ports.second.registry)
+register_enters s id h can m step k =
+    leaves (ServesRegister s id) (reply.Handle h) _ can (λ w so.
     by_nodes s w m so.1 (add_once s.nodes.registry w.nodes.registry m id
-    (Ok h) so.0.step step so.0.kept k)
+    (Ok h) so.0.step step so.0.kept k))
 
 pub register_may : (s : Service) (id : ℕ) (h : Handle)
     → CanServe (ServesRegister s id) (reply.Handle h)
@@ -171,17 +178,20 @@ module _ (s : Service) (d : PortDetails) where
   attach_nowhere h seen n = λ w so. absurd (lacks s.pattern (role_of d) n so.0)
 
   module _ (side : Side) (h : Handle) (role : role_of d ≡ role_at s.pattern side) where
-    pub attach_enters : (m : RegistryState PortDetails)
+    pub attach_enters : CanServe (ServesAdd s d) (reply.Handle h)
+        → (m : RegistryState PortDetails)
         → AddStep (ports_at s side).registry d (Ok h) m → IsRegistry m
         → LeadsTo (ServesAdd s d) (reply.Handle h) (at_side side s m)
-    attach_enters m step k = λ w so.
+        × IsService (at_side side s m)
+    attach_enters can m step k =
+        leaves (ServesAdd s d) (reply.Handle h) (at_side side s m) can (λ w so.
         let a = so.1.1.0 in
         let c = step_at s.pattern side s.ports w.ports (role_of d)
         (λ o n. Adds o d (Ok h) n) role a in
         by_ports side s w m (ap (λ (n : Service). n.pattern) so.1.1.2) so.1.1.1.0
         (add_once (ports_at s side).registry (ports_at w side).registry m d
         (Ok h) c.step step c.kept k)
-        (others_at s.pattern side s.ports w.ports (role_of d) (λ o n. Adds o d (Ok h) n) role a)
+        (others_at s.pattern side s.ports w.ports (role_of d) (λ o n. Adds o d (Ok h) n) role a))
 
     pub attach_may : CanServe (ServesAdd s d) (reply.Handle h)
         → TakesEntry (ports_at s side).registry × MayGive (ports_at s side).registry h
