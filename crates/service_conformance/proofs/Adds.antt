@@ -70,11 +70,7 @@ with_entry r position x =
 
 handle_is : {T : Type 0} (r : RegistryState T) (handle : Handle) (details : T) → MayGive r handle
     → handle ≡ handle_of r (record { slot = handle.slot; ticket = r.used; details = details })
-handle_is {T} r handle details m =
-    let f : ℕ → Role → ℕ → Handle =
-    λ s o t. record { service = s; role = o; slot = handle.slot; ticket = t } in
-    ap (λ s. f s handle.role handle.ticket) m.service
-    ∙ (ap (λ o. f r.service o handle.ticket) m.role ∙ ap (λ t. f r.service r.role t) m.ticket)
+handle_is r handle details m = rw (← m.service, ← m.role, ← m.ticket) refl
 
 -- what may be given can be, in a position that is free
 pub given : {T : Type 0} (r : RegistryState T) (details : T) (handle : Handle) (position : ℕ)
@@ -161,11 +157,7 @@ pub with_entry_is : {T : Type 0} (s r : RegistryState T) (position : ℕ) (handl
     → l ≡ insert s.entries position (entry_at handle details)
     → record s { entries = l; used = s.used + 1 }
     ≡ with_entry r position (record { slot = handle.slot; ticket = r.used; details = details })
-with_entry_is {T} s r position handle details l e m i =
-    ap (λ (es : List (Entry T)). record s { entries = es; used = s.used + 1 }) i
-    ∙ (ap (λ (q : RegistryState T). with_entry q position (entry_at handle details)) e
-    ∙ ap (λ t. with_entry r position (record { slot = handle.slot; ticket = t; details = details }))
-    m.ticket)
+with_entry_is s r position handle details l e m i = rw (i, e, m.ticket) refl
 
 pub not_free : {T : Type 0} (r : RegistryState T) (es : List (Entry T)) (slot : ℕ) → es ≡ r.entries
     → (All (λ e. e.slot ≢ slot) es → ⊥) → (h : Handle) → h.slot ≡ slot → MayGive r h → ⊥

@@ -9,7 +9,8 @@ use Rattle.service_descriptions.specs.declared.replay.machine.command.Command.{C
 use Rattle.service_descriptions.specs.declared.replay.machine.command.Command.TheVariants as command
 use Rattle.service_descriptions.specs.declared.replay.machine.reply.Reply.{Reply}
 use Rattle.service_descriptions.specs.Handles.{named}
-use Rattle.service_descriptions.specs.Steps.{State, Serves, ServesDeregister, ServesRelease, handle_in}
+use Rattle.service_descriptions.specs.Replies.{text_of}
+use Rattle.service_descriptions.specs.Steps.{IsState, State, Serves, ServesDeregister, ServesRelease, handle_in}
 use Rattle.service_conformance.specs.Groups.{GroupStep, IsEarlier, SeenCall, WordsStepAt, with_index}
 use Rattle.service_conformance.specs.Quiet.{quiet_state}
 use Rattle.service_conformance.specs.Words.{WordsStep}
@@ -56,29 +57,11 @@ module _ (old : State) (c : Command) (words : List ℕ) (n : ℕ) (at : n ≡ le
   abbrev left_with : Service → List (Option Handle) → State
   left_with s hs = record old { service = s; handles = hs }
 
-  step_of : WordsStepAt (with_index old) n c words mid → WordsStep old c words mid
-  step_of w = (
-    w.0,
-    w.1,
-    (
-      subst (λ (T : Type 0). T)
-          (served_same old.service old.description old.handles c w.0 mid.service) w.2.0,
-      w.2.1 ∙ ap (left_with mid.service) (after_is w.0),
-      w.2.2,
-    ),
-  )
-
-  index_of : WordsStep old c words mid → WordsStepAt (with_index old) n c words mid
-  index_of w = (
-    w.0,
-    w.1,
-    (
-      subst (λ (T : Type 0). T)
-          (sym (served_same old.service old.description old.handles c w.0 mid.service)) w.2.0,
-      w.2.1 ∙ ap (left_with mid.service) (sym (after_is w.0)),
-      w.2.2,
-    ),
-  )
+  same_step : WordsStepAt (with_index old) n c words mid ≡ WordsStep old c words mid
+  same_step i =
+      (r : Reply) × (text_of r ≡ words)
+      × (served_same old.service old.description old.handles c r mid.service i
+      × (mid ≡ left_with mid.service (after_is r i)) × IsState mid)
 
 some_not : (x : ℕ) (xs : List ℕ) → ¬ (x ∷ xs ≡ [])
 some_not x xs e = cc
@@ -147,12 +130,14 @@ call_alone old call at new =
       λ reached.
           let step = leads_one Step Before (with_index old) new reached in (
             step.0,
-            step_of old call.command call.words call.number at step.0 step.1,
+            subst (λ (T : Type 0). T)
+                (same_step old call.command call.words call.number at step.0) step.1,
             step.2,
           ),
       λ step. one_leads Step Before (with_index old) new (
         step.0,
-        index_of old call.command call.words call.number at step.0 step.1,
+        subst (λ (T : Type 0). T)
+            (sym (same_step old call.command call.words call.number at step.0)) step.1,
         step.2,
       ),
     )

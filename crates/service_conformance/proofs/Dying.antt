@@ -111,33 +111,25 @@ dies s w dead kept answer (rest, st) =
     let has : has_ports_of dead w.ports ≡ has_ports_of dead (ports_at_rest F G) =
     ap (λ r. has_ports_of dead (ports_at_rest r w.ports.second.registry)) first
     ∙ ap (λ r. has_ports_of dead (ports_at_rest F r)) second in
-    let N = nodes_if (has_ports_of dead (ports_at_rest F G)) dead s.nodes.registry in
-    let left : w.nodes.registry ≡ N =
+    let left : w.nodes.registry
+    ≡ nodes_if (has_ports_of dead (ports_at_rest F G)) dead s.nodes.registry =
     nodes_left dead (has_ports_of dead w.ports) s.nodes w.nodes (state_of answer) st.nodes
     ∙ ap (λ b. nodes_if b dead s.nodes.registry) has in
-    ap quiet st.others
-    ∙ (ap (λ r. at_rest s.pattern r w.ports.first.registry w.ports.second.registry) left
-    ∙ (ap (λ r. at_rest s.pattern N r w.ports.second.registry) first
-    ∙ ap (λ r. at_rest s.pattern N F r) second))
+    ap quiet st.others ∙ rw (left, first, second) refl
 
-pub dead_leads : (s : Service) (dead : ℕ) (kept : Vec ℕ) (r : Reply)
+dead_leads : (s : Service) (dead : ℕ) (kept : Vec ℕ) (r : Reply)
     → LeadsTo (ServesDead s dead (ByPort kept)) r (after_dead s dead kept.items)
 dead_leads s dead kept reply.HasOwners = λ w so. dies s w dead kept nodes.HasOwners so
 dead_leads s dead kept reply.NoMoreOwners = λ w so. dies s w dead kept nodes.NoMoreOwners so
 dead_leads s dead kept _ = λ w so. absurd so
 
--- what is left, by the fields
-pub after_left : (s : Service) (dead : ℕ) (kept : List ℕ) (F G : RegistryState PortDetails)
-    (b : Bool)
-    → F ≡ without_ports dead kept s.ports.first.registry
-    → G ≡ without_ports dead kept s.ports.second.registry
+-- the same, by what is left
+pub dead_left : (s : Service) (dead : ℕ) (kept : Vec ℕ) (r : Reply)
+    (F G : RegistryState PortDetails) (b : Bool)
+    → F ≡ without_ports dead kept.items s.ports.first.registry
+    → G ≡ without_ports dead kept.items s.ports.second.registry
     → has_ports_of dead (ports_at_rest F G) ≡ b
-    → at_rest s.pattern (nodes_if b dead s.nodes.registry) F G ≡ after_dead s dead kept
-after_left s dead kept F G b first second e =
-    let after : Bool → RegistryState PortDetails → RegistryState PortDetails → Service =
-    λ b f g. at_rest s.pattern (nodes_if b dead s.nodes.registry) f g in
-    ap (λ b. after b F G) (sym e)
-    ∙ (ap (λ f. after (has_ports_of dead (ports_at_rest f G)) f G) first
-    ∙ ap (λ g. after (has_ports_of dead
-    (ports_at_rest (without_ports dead kept s.ports.first.registry) g))
-    (without_ports dead kept s.ports.first.registry) g) second)
+    → LeadsTo (ServesDead s dead (ByPort kept)) r
+    (at_rest s.pattern (nodes_if b dead s.nodes.registry) F G)
+dead_left s dead kept r F G b first second e =
+    rw (← e, first, second) (dead_leads s dead kept r)

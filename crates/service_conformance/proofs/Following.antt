@@ -44,12 +44,7 @@ leaves Step r new can one = (one, one_kept Step r new can one)
 seen_as : (s w : Service) (m : RegistryState ℕ) (first second : RegistryState PortDetails)
     → w.pattern ≡ s.pattern → w.nodes.registry ≡ m → w.ports.first.registry ≡ first
     → w.ports.second.registry ≡ second → quiet w ≡ at_rest s.pattern m first second
-seen_as s w m first second p n f g =
-    let ports = w.ports in
-    ap (λ k. at_rest k w.nodes.registry ports.first.registry ports.second.registry) p
-    ∙ (ap (λ r. at_rest s.pattern r ports.first.registry ports.second.registry) n
-    ∙ (ap (λ r. at_rest s.pattern m r ports.second.registry) f
-    ∙ ap (λ r. at_rest s.pattern m first r) g))
+seen_as s w m first second p n f g = rw (p, n, f, g) refl
 
 -- the nodes have changed, and the ports were read
 by_search : (s w : Service) (m : RegistryState ℕ) → w.pattern ≡ s.pattern
@@ -113,12 +108,10 @@ pub deregister_goes : (s : Service) (h : Handle) (r : Reply) (m : RegistryState 
     → RemoveStep s.nodes.registry h LockIfLastIndex (Ok state) new → new ≡ m)
     → LeadsTo (ServesDeregister s (Some h)) r
     (at_rest s.pattern m s.ports.first.registry s.ports.second.registry)
-deregister_goes s h reply.HasOwners m e gone =
-    λ w so. by_search s w m (ap (λ (n : Service). n.pattern) so.5)
-    (gone _ w.nodes.registry so.3.step) so.4
-deregister_goes s h reply.NoMoreOwners m e gone =
-    λ w so. by_search s w m (ap (λ (n : Service). n.pattern) so.5)
-    (gone _ w.nodes.registry so.3.step) so.4
+deregister_goes s h reply.HasOwners m e gone = λ w so.
+    by_search s w m (ap (λ n. n.pattern) so.5) (gone _ _ so.3.step) so.4
+deregister_goes s h reply.NoMoreOwners m e gone = λ w so.
+    by_search s w m (ap (λ n. n.pattern) so.5) (gone _ _ so.3.step) so.4
 deregister_goes s h reply.PortsAttached m e gone = absurd (let z : false ≡ true = e in cc)
 deregister_goes s h reply.NotOwned m e gone = absurd (let z : false ≡ true = e in cc)
 deregister_goes s h _ m e gone = λ w so. absurd so
@@ -214,10 +207,7 @@ module _ (s : Service) (h : Handle) where
       by_ports a.side s w (ports_at s a.side).registry (ap (λ (n : Service). n.pattern) e)
       (ap (λ (n : Service). n.nodes.registry) e) a.step.step.1 a.others
       ∙ (same_side a.side s ∙ rest)
-  refused_removal rest w (inr a, e) =
-      ap quiet e
-      ∙ (ap (λ (p : Ports). at_rest s.pattern s.nodes.registry p.first.registry p.second.registry)
-      a.2 ∙ rest)
+  refused_removal rest w (inr a, e) = ap quiet e ∙ rw a.2 rest
 
   pub release_stays : quiet s ≡ s → (r : Reply) → is_removal r ≡ false
       → LeadsTo (ServesRelease s (Some h)) r s

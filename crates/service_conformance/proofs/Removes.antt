@@ -37,13 +37,7 @@ foreign_all {T} r handle n =
 pub has_handle : {T : Type 0} (r : RegistryState T) (handle : Handle) (x : Entry T)
     → handle.service ≡ r.service → handle.role ≡ r.role → IsAt handle.slot handle.ticket x
     → handle ≡ handle_of r x
-has_handle {T} r handle x s o a =
-    let f : ℕ → Role → ℕ → ℕ → Handle =
-    λ i j k l. record { service = i; role = j; slot = k; ticket = l } in
-    ap (λ i. f i handle.role handle.slot handle.ticket) s
-    ∙ (ap (λ j. f r.service j handle.slot handle.ticket) o
-    ∙ (ap (λ k. f r.service r.role k handle.ticket) (sym a.0)
-    ∙ ap (λ l. f r.service r.role x.slot l) (sym a.1)))
+has_handle r handle x s o a = rw (← s, ← o, a.0, a.1) refl
 
 -- what went stood in its position
 abbrev pub gone : {T : Type 0} (es : List (Entry T)) (position : ℕ) (x : Entry T)
@@ -111,30 +105,30 @@ pub can_remove : {T : Type 0} (r : RegistryState T) (handle : Handle) (mode : Re
 can_remove r handle mode details k has =
     (((has.0, has.1, has.3.1, refl), refl), kept_without r mode has.3.0 has.0 k has.3.1)
 
--- the entry in a position goes, and nothing else does
-pub only_gone : {T : Type 0} (r new : RegistryState T) (handle : Handle) (position : ℕ)
-    (mode : ReleaseMode)
-    (state : ReleaseState) → IsRegistry r → StandsAt r handle position
-    → RemoveStep r handle mode (Ok state) new
-    → new ≡ with_left r mode (remove r.entries position)
-only_gone {T} r new handle position mode state k s step =
-    let left = with_left r mode (remove r.entries position) in
-    remove_once r new left handle mode state (release_state left.locked) k step
-    ((s.0, s.2, gone r.entries position s.0 s.1, refl), refl)
+-- the registry after entries went, by the fields
+pub with_left_is : {T : Type 0} (s r : RegistryState T) (mode : ReleaseMode)
+    (f : List (Entry T) → List (Entry T)) (l : List (Entry T)) (before left : ℕ) (locked : Bool)
+    → s ≡ r → l ≡ f s.entries → before ≡ length s.entries → left ≡ length l
+    → locked ≡ lock_after mode before left s.locked
+    → record s { entries = l; locked = locked } ≡ with_left r mode (f r.entries)
+with_left_is s r mode f l before left locked e i b n k = rw (← e, k, b, n, i) refl
 
--- the registry after an entry went, by the fields
-pub with_left_is : {T : Type 0} (s r : RegistryState T) (position : ℕ) (mode : ReleaseMode)
-    (l : List (Entry T))
-    (before left : ℕ) (locked : Bool) → s ≡ r → l ≡ remove s.entries position
-    → before ≡ length s.entries
-    → left ≡ length l → locked ≡ lock_after mode before left s.locked
-    → record s { entries = l; locked = locked } ≡ with_left r mode (remove r.entries position)
-with_left_is {T} s r position mode l before left locked e i b n k =
-    ap (λ q. record s { entries = l; locked = q })
-    (k ∙ (ap (λ q. lock_after mode q left s.locked) b
-    ∙ ap (λ q. lock_after mode (length s.entries) q s.locked) n))
-    ∙ (ap (with_left s mode) i
-    ∙ ap (λ (q : RegistryState T). with_left q mode (remove q.entries position)) e)
+-- the entry in a position goes, and nothing else does
+pub only_gone : {T : Type 0} (s r : RegistryState T) (handle : Handle) (position : ℕ)
+    (mode : ReleaseMode) (l : List (Entry T)) (before left : ℕ) (locked : Bool)
+    → s ≡ r → IsRegistry s → StandsAt r handle position → l ≡ remove s.entries position
+    → before ≡ length s.entries → left ≡ length l → locked ≡ lock_after mode before left s.locked
+    → IsRegistry (record s { entries = l; locked = locked })
+    × ((state : ReleaseState) (new : RegistryState T)
+    → RemoveStep r handle mode (Ok state) new → new ≡ record s { entries = l; locked = locked })
+only_gone {T} s r handle position mode l before left locked e k at i b n j =
+    let there = gone r.entries position at.0 at.1 in
+    let registry : IsRegistry r = subst IsRegistry e k in
+    rw (with_left_is s r mode (λ es. remove es position) l before left locked e i b n j) (
+      kept_without r mode _ at.0 registry there,
+      λ state new step. remove_once r new _ handle mode state _ registry step
+          ((at.0, at.2, there, refl), refl),
+    )
 
 pub stands_at : {T : Type 0} (r : RegistryState T) (handle : Handle) (es : List (Entry T))
     (slot ticket position : ℕ) → handle.service ≡ r.service → handle.role ≡ r.role → es ≡ r.entries

@@ -45,25 +45,13 @@ spaced slot ticket =
     ap (λ (l : List ℕ). codes "handle " ++ l)
     (append_assoc (decimal slot) (32 ∷ []) (decimal ticket))
 
--- handles that may be given and have one text are the same
-pub same_handle : {T : Type 0} (r : RegistryState T) (h k : Handle) → MayGive r h → MayGive r k
-    → h.slot < 2 ^ 64 → k.slot < 2 ^ 64 → text_of (reply.Handle h) ≡ text_of (reply.Handle k)
-    → h ≡ k
-same_handle r h k m n p q e =
-    let ends : (t : ℕ) → EndsNumber (32 ∷ decimal t) = λ t digit. omega arith in
-    let most = h.slot + k.slot in
-    let slots =
-    (number_one most).same (h.slot, 32 ∷ decimal h.ticket) (k.slot, 32 ∷ decimal k.ticket)
-    (omega arith, p, ends h.ticket) (omega arith, q, ends k.ticket)
-    (append_cancel_left (codes "handle ") (decimal h.slot ++ 32 ∷ decimal h.ticket)
-    (decimal k.slot ++ 32 ∷ decimal k.ticket)
-    (sym (spaced h.slot h.ticket) ∙ (e ∙ spaced k.slot k.ticket))) in
-    let f : ℕ → Role → ℕ → ℕ → Handle =
-    λ s o t i. record { service = s; role = o; slot = t; ticket = i } in
-    ap (λ s. f s h.role h.slot h.ticket) (m.service ∙ sym n.service)
-    ∙ (ap (λ o. f k.service o h.slot h.ticket) (m.role ∙ sym n.role)
-    ∙ (ap (λ t. f k.service k.role t h.ticket) slots.0
-    ∙ ap (λ i. f k.service k.role k.slot i) (m.ticket ∙ sym n.ticket)))
+-- handles of one slot that may be given are the same
+same_handle : {T : Type 0} (r : RegistryState T) (h k : Handle) → MayGive r h → MayGive r k
+    → h.slot ≡ k.slot → h ≡ k
+same_handle r h k m n e =
+    let same : k ≡ record { service = r.service; role = r.role; slot = h.slot; ticket = r.used } =
+    rw (e, ← n.service, ← n.role, ← n.ticket) refl in
+    rw (same, ← m.service, ← m.role, ← m.ticket) refl
 
 same_reply : (r : Reply) → IsSameReply r r
 same_reply (reply.Nodes ids) = refl
@@ -152,8 +140,7 @@ module _ {T : Type 0} (r : RegistryState T) (words : List ℕ) (fits : r.capacit
         ap (λ k. handle_words k next.ticket) is ∙ ap (handle_words slot) same ∙ told in (
           may,
           text,
-          λ other so e. same_handle r next other may so (omega (arith, may.fits, fits))
-              (omega (arith, so.fits, fits)) (text ∙ sym e),
+          λ other so e. same_handle r next other may so (is ∙ sym (parts_told other so e).0),
         )
 
 same_text : (one r : Reply) → IsSameReply one r → text_of one ≡ text_of r
@@ -275,25 +262,11 @@ module _ (s : Service) (Step : Reply → Service → Type 0) where
   given_words part.Second next all is =
       by_registry part.Second next all s.ports.second.registry is (λ h m. m) (λ h m. m)
 
-no_deregister : (s new : Service) (h : Option Handle) (ids : Vec ℕ)
-    → ServesDeregister s h (reply.Nodes ids) new → ⊥
-no_deregister s new None ids so = so
-no_deregister s new (Some h) ids so = so
-
-no_release : (s new : Service) (h : Option Handle) (ids : Vec ℕ)
-    → ServesRelease s h (reply.Nodes ids) new → ⊥
-no_release s new None ids so = so
-no_release s new (Some h) ids so = so
-
-no_deregister_ports : (s new : Service) (h : Option Handle) (ports : Vec PortDetails)
-    → ServesDeregister s h (reply.Ports ports) new → ⊥
-no_deregister_ports s new None ports so = so
-no_deregister_ports s new (Some h) ports so = so
-
-no_release_ports : (s new : Service) (h : Option Handle) (ports : Vec PortDetails)
-    → ServesRelease s h (reply.Ports ports) new → ⊥
-no_release_ports s new None ports so = so
-no_release_ports s new (Some h) ports so = so
+-- what no handle has, given or not
+neither : (Has : Option Handle → Type 0) → ¬ (Has None) → ((h : Handle) → ¬ (Has (Some h)))
+    → (h : Option Handle) → ¬ (Has h)
+neither Has none some None = none
+neither Has none some (Some h) = some h
 
 module _ (s new : Service) (handles : List (Option Handle)) where
   nodes_step : (c : Command) → IsCovered c → (ids other : Vec ℕ) → ids.items ≡ other.items
@@ -302,10 +275,12 @@ module _ (s new : Service) (handles : List (Option Handle)) where
   nodes_step command.Nodes i ids other e so = (e ∙ so.0, so.1)
   nodes_step (command.Register id) i ids other e so = absurd so
   nodes_step (command.Deregister k) i ids other e so =
-      absurd (no_deregister s new (named handles k) other so)
+      absurd (neither (λ h. ServesDeregister s h (reply.Nodes other) new) (λ n. n) (λ h n. n)
+      (named handles k) so)
   nodes_step (command.Add d) i ids other e so = absurd so
   nodes_step (command.Release k) i ids other e so =
-      absurd (no_release s new (named handles k) other so)
+      absurd (neither (λ h. ServesRelease s h (reply.Nodes other) new) (λ n. n) (λ h n. n)
+      (named handles k) so)
   nodes_step (command.List role) i ids other e so = absurd so.0
   nodes_step (command.Count role) i ids other e so = absurd so.0
   nodes_step (command.Dead dead (ByPort kept)) i ids other e so = absurd so
@@ -317,10 +292,12 @@ module _ (s new : Service) (handles : List (Option Handle)) where
   ports_step command.Nodes i ports other e so = absurd so.0
   ports_step (command.Register id) i ports other e so = absurd so
   ports_step (command.Deregister k) i ports other e so =
-      absurd (no_deregister_ports s new (named handles k) other so)
+      absurd (neither (λ h. ServesDeregister s h (reply.Ports other) new) (λ n. n) (λ h n. n)
+      (named handles k) so)
   ports_step (command.Add d) i ports other e so = absurd so
   ports_step (command.Release k) i ports other e so =
-      absurd (no_release_ports s new (named handles k) other so)
+      absurd (neither (λ h. ServesRelease s h (reply.Ports other) new) (λ n. n) (λ h n. n)
+      (named handles k) so)
   ports_step (command.List role) i ports other e so = (
     subst (λ l. OfRole (λ r items. items ≡ listed r) (first_role s.pattern)
         (second_role s.pattern) s.ports role (Some l)) (sym e) so.0,
