@@ -241,9 +241,9 @@ module _ (s : Service) (dead : ℕ) (kept : Vec ℕ) where
       → ArePossible s (ServesDead s dead (ByPort kept)) (possible.One (reply_of_owners b))
   dead_possible true i e =
       let can = can_die s dead kept nodes.NoMoreOwners i (ap release_state e) in
-      alone s (ServesDead s dead (ByPort kept)) reply.NoMoreOwners can.0 (λ r e. e) (λ r e. e) can.1
+      alone s (ServesDead s dead (ByPort kept)) reply.NoMoreOwners can.0 (λ r. refl) can.1
       can.2 (dead_only true e)
   dead_possible false i e =
       let can = can_die s dead kept nodes.HasOwners i (ap release_state e) in
-      alone s (ServesDead s dead (ByPort kept)) reply.HasOwners can.0 (λ r e. e) (λ r e. e) can.1
+      alone s (ServesDead s dead (ByPort kept)) reply.HasOwners can.0 (λ r. refl) can.1
       can.2 (dead_only false e)

@@ -66,6 +66,10 @@ not_unknown {T} r handle rest x e g f =
     All-head P x g.after
     (All-back P g.before (x ∷ g.after) (subst (λ (l : List (Entry T)). All P l) g.new_is f)) e
 
+pub known : {T : Type 0} (r : RegistryState T) (handle : Handle) (details : T)
+    → HasEntry r handle details → IsUnknownHandle r handle → ⊥
+known r handle details has = not_unknown r handle has.3.0 has.0 has.1 has.3.1
+
 -- one removal leaves one registry, whatever it answers
 pub remove_once : {T : Type 0} (r n m : RegistryState T) (handle : Handle) (mode : ReleaseMode)
     (one two : ReleaseState) → IsRegistry r → RemoveStep r handle mode (Ok one) n

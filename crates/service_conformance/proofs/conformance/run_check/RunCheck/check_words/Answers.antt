@@ -1,4 +1,5 @@
 use Rattle.std.proofs.Common.{◌≡◌, ◌++◌, ◌∷◌, [], Some, None}
+use Rattle.service_descriptions.specs.Handles.{KeepsHandles}
 use Rattle.service_descriptions.specs.Lines.{command_of}
 use Rattle.service_descriptions.specs.Steps.{Serves, handle_in}
 use Rattle.service_conformance.specs.Words.{CheckedWords}
@@ -18,10 +19,16 @@ more : (c : After-push_reserved) → c.push_reserved.new.self.items
     ≡ c.self.inside.earlier.items ++ handle_in c.in-Some.reply ∷ []
 more c = cc
 
+kept : (c : After-push_reserved) → KeepsHandles c.check_words.new.self
+    (c.self.inside.earlier.items ++ handle_in c.in-Some.reply ∷ [])
+kept c =
+    handles_kept _ _ _ _ _ c.self.invariant.rest c.self.invariant.is_service
+    c.self.invariant.keeps (checked c).1
+
 pub returns-in_default-clause-ok : goal.returns-in_default-clause-ok
 returns-in_default-clause-ok c =
     rw (← c.self.view_is, c.reserve.ensures.items)
-    (words_not _ _ _ _ _ (rw c.in_default.is at (rw c.reserve.ensures.items at
+    (words_not _ _ _ (λ x. c.self.inside.earlier.items ++ x ∷ []) _ _ (rw c.in_default.is at (rw c.reserve.ensures.items at
     (rw c.deref.ensures.value at c.in_ok-found.ensures.ok))))
 
 pub invariant_of-self-2 : goal.invariant_of-self-2
@@ -29,8 +36,7 @@ invariant_of-self-2 c =
     let p = (goal.at.invariant_of-self-2 c).After-push_reserved in
     record {
       is_service = c.in_ok-found.ensures.kept;
-      keeps = rw (more p) (handles_kept _ _ _ _ _ c.self.invariant.rest
-          c.self.invariant.is_service c.self.invariant.keeps (checked p).1);
+      keeps = rw (more p) (kept p);
       rest = c.in_ok-found.ensures.rest;
     }
 
@@ -38,5 +44,5 @@ pub returns-clause-ok : goal.returns-clause-ok
 returns-clause-ok c =
     let p = (goal.at.returns-clause-ok c).After-push_reserved in
     rw (← c.self.view_is, more p)
-    (words_on _ _ _ _ _ c.self.invariant.rest c.self.invariant.is_service
-    c.in_ok-found.ensures.kept c.self.invariant.keeps c.requires _ (checked p))
+    (words_on _ _ _ _ _ c.self.invariant.rest (λ x. c.self.inside.earlier.items ++ x ∷ [])
+    c.in_ok-found.ensures.kept (kept p) c.requires _ (checked p))

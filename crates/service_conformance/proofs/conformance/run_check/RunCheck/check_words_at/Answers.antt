@@ -5,7 +5,7 @@ use Rattle.service_descriptions.specs.Lines.{command_of}
 use Rattle.service_descriptions.specs.Steps.{Serves, handle_in}
 use Rattle.service_conformance.specs.Words.{CheckedWords}
 use Rattle.service_conformance.proofs.Grouping.{set_kept}
-use Rattle.service_conformance.proofs.Stepping.{handles_kept, words_at, words_at_not}
+use Rattle.service_conformance.proofs.Stepping.{handles_kept, words_not, words_on}
 use Rattle.service_conformance.proofs.conformance.run_check.RunCheck.check_words_at.Goals.{After-keep}
 use Rattle.service_conformance.proofs.conformance.run_check.RunCheck.check_words_at.Goals as goal
 
@@ -28,7 +28,8 @@ kept c =
 
 pub returns-in_default-clause-ok : goal.returns-in_default-clause-ok
 returns-in_default-clause-ok c =
-    rw (← c.self.view_is) (words_at_not _ _ _ _ _ _
+    rw (← c.self.view_is)
+    (words_not _ _ _ (slice_set c.self.inside.earlier.items c.args.index) _ _
     (rw c.in_default.is at (rw c.deref.ensures.value at c.in_ok-found.ensures.ok)))
 
 pub invariant_of-self-2 : goal.invariant_of-self-2
@@ -44,5 +45,5 @@ pub returns-clause-ok : goal.returns-clause-ok
 returns-clause-ok c =
     let p = (goal.at.returns-clause-ok c).After-keep in
     rw (← c.self.view_is, set p)
-    (words_at _ _ _ _ _ c.self.invariant.rest _ c.in_ok-found.ensures.kept (kept p) c.requires _
-    (checked p))
+    (words_on _ _ _ _ _ c.self.invariant.rest (slice_set c.self.inside.earlier.items c.args.index)
+    c.in_ok-found.ensures.kept (kept p) c.requires _ (checked p))
