@@ -74,9 +74,7 @@ module _ (lines : List ℕ) (command : Command) (words : List ℕ) (between : �
   pub call_spelled : lines ≡ text_of_lines (call_lines call_read) ++ rest
   call_spelled =
       simp (flat_map-append, append_assoc)
-      (head.spelled
-      ∙ ap (λ (xs : List ℕ). line_of command ++ 10 ∷ (text_of_lines head.notes
-      ++ (reply_seen words ++ 10 ∷ xs))) notes.spelled)
+      (head.spelled ∙ rw notes.spelled refl)
 
   pub call_counted : length (call_lines call_read) ≡ between + below + 2
   call_counted =
@@ -88,7 +86,7 @@ module _ (lines : List ℕ) (command : Command) (words : List ℕ) (between : �
     member_read = record { caller = caller; call = call_read }
 
     pub member_spelled : whole ≡ text_of_lines (grouped_lines member_read) ++ rest
-    member_spelled = e ∙ ap (λ (xs : List ℕ). caller_text caller ++ xs) call_spelled
+    member_spelled = e ∙ rw call_spelled refl
 
     pub member_counted : length (grouped_lines member_read) ≡ between + below + 2
     member_counted =
