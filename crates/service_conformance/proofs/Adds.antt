@@ -9,7 +9,6 @@ use Rattle.iox2_container.proofs.Gaining.{All-back, AllPairs-head, AllPairs-tail
 use Rattle.iox2_container.proofs.Keeping.{kept_add, All-gain}
 use Rattle.iox2_container.specs.declared.container.refusal.ContainerAddFailure.{ContainerAddFailure}
 use Rattle.iox2_container.specs.declared.container.refusal.ContainerAddFailure.TheVariants.{IsLocked, OutOfSpace}
-use Rattle.iox2_container.specs.declared.container.role.Role.{Role}
 use Rattle.iox2_container.specs.Handle.{Handle}
 use Rattle.iox2_container.specs.State.{Entry, RegistryState, IsRegistry, handle_of}
 use Rattle.iox2_container.specs.Steps.{InsertsOne, HasRoom, IsFull, TakesEntry, AddStep}

@@ -5,6 +5,7 @@ use Rattle.iox2_container.specs.Handle.{Handle}
 use Rattle.iox2_dynamic.specs.Service.{Service}
 use Rattle.iox2_static.specs.Description.{Description}
 use Rattle.call_orders.specs.Orders.{IsNext, IsOrder, Leads, ReachedFrom}
+use Rattle.call_orders.proofs.Searching.{none_only}
 use Rattle.service_descriptions.specs.declared.replay.machine.command.Command.{Command}
 use Rattle.service_descriptions.specs.declared.replay.machine.command.Command.TheVariants as command
 use Rattle.service_descriptions.specs.declared.replay.machine.reply.Reply.{Reply}
@@ -78,20 +79,12 @@ first_is Before c rest next = by_before next.before next.after next.group_is nex
         absurd (omega (arith, length-append before (c ∷ after))))
 
 module _ {S : Type 0} (Step : S → ℕ → S → Type 0) (Before : ℕ → ℕ → Type 0) (old new : S) where
-  lead_none : (order : List ℕ) → IsOrder Before [] order → Leads Step old order new → new ≡ old
-  lead_none [] orders leads = leads
-  lead_none (c ∷ order) orders leads =
-      (let none : 0 ≡ length (orders.1.before ++ c ∷ orders.1.after) =
-      ap length orders.1.group_is in
-      absurd (omega (arith, length-append orders.1.before (c ∷ orders.1.after))))
-
-module _ {S : Type 0} (Step : S → ℕ → S → Type 0) (Before : ℕ → ℕ → Type 0) (old new : S) where
   lead_one : (order : List ℕ) → IsOrder Before (0 ∷ []) order → Leads Step old order new
       → Step old 0 new
   lead_one [] orders leads = absurd (some_not 0 [] orders)
   lead_one (c ∷ order) orders leads =
       let is = first_is Before c orders.0 orders.1 in
-      let same : new ≡ leads.0 = lead_none Step Before leads.0 new order
+      let same : new ≡ leads.0 = none_only Step Before leads.0 new order
       (subst (λ (l : List ℕ). IsOrder Before l order) is.1 orders.2) leads.2 in
       subst (Step old 0) (sym same) (subst (λ k. Step old k leads.0) is.0 leads.1)
 

@@ -37,7 +37,7 @@ nothing_only s _ new so = absurd so
 pub nothing : (s : Service) → IsService s
     → ArePossible s (ServesDeregister s None) (possible.One reply.NoHandle)
 nothing s i =
-    alone s (ServesDeregister s None) reply.NoHandle s (λ r. refl) refl i (nothing_only s)
+    alone _ _ reply.NoHandle s (λ r. refl) refl i (nothing_only s)
 
 -- the entry of a handle is one
 pub one_details : {T : Type 0} (r : RegistryState T) (h : Handle) (a b : T) → IsRegistry r
@@ -96,8 +96,7 @@ module _ (s : Service) (h : Handle) where
   pub unknown : IsService s → IsUnknownHandle s.nodes.registry h
       → ArePossible s (ServesDeregister s (Some h)) (possible.One reply.NotOwned)
   unknown i u =
-      alone s (ServesDeregister s (Some h)) reply.NotOwned s (λ r. refl) (u, refl) i
-      (unknown_only u)
+      alone _ _ reply.NotOwned s (λ r. refl) (u, refl) i (unknown_only u)
 
   module _ (i : IsService s) (id : ℕ) (has : HasEntry s.nodes.registry h id) where
     -- whether it is the last of its node's ports, for whom it is named
@@ -119,8 +118,8 @@ module _ (s : Service) (h : Handle) where
     pub attached : is_last_of_ports id s ≡ true
         → ArePossible s (ServesDeregister s (Some h)) (possible.One reply.PortsAttached)
     attached l =
-        alone s (ServesDeregister s (Some h)) reply.PortsAttached s (λ r. refl)
-        (id, has, l, unread_ports s.ports, refl) i (attached_only l)
+        alone _ _ reply.PortsAttached s (λ r. refl) (id, has, l, unread_ports s.ports, refl) i
+        (attached_only l)
 
     -- the answer is by the lock
     answered : (n : DeregisterNodeState) (new : RegistryState ℕ)
@@ -161,10 +160,10 @@ module _ (s : Service) (h : Handle) where
         (elim b as
         (λ b. left.locked ≡ b → b ≡ nat_eq (length s.nodes.registry.entries) 1
         → ArePossible s (ServesDeregister s (Some h)) (possible.One (reply_of_owners b))) [
-          | true ↦ λ k e. alone s (ServesDeregister s (Some h)) reply.NoMoreOwners new (λ r. refl)
+          | true ↦ λ k e. alone _ _ reply.NoMoreOwners new (λ r. refl)
               (id, has, l, leaves _ (sym (ap release_state k)), unread_ports s.ports, refl) kept
               (owners_only true e l)
-          | false ↦ λ k e. alone s (ServesDeregister s (Some h)) reply.HasOwners new (λ r. refl)
+          | false ↦ λ k e. alone _ _ reply.HasOwners new (λ r. refl)
               (id, has, l, leaves _ (sym (ap release_state k)), unread_ports s.ports, refl) kept
               (owners_only false e l)
         ]) locked e

@@ -1,5 +1,5 @@
 -- The one state that the recovery of a dead node leaves, where ports of some values stay.
-use Rattle.std.proofs.Common.{◌≡◌, ℕ, Bool, true, false, List, [], ◌∷◌, length, map, refl, sym, ◌∙◌, ap}
+use Rattle.std.proofs.Common.{◌≡◌, ℕ, Bool, true, false, List, [], ◌∷◌, length, map, refl, ◌∙◌, ap}
 use Rattle.std.specs.Prelude.{if◌then◌else◌, not, ◌&&◌, filter}
 use Rattle.std.specs.Global.{Vec}
 use Rattle.iox2_container.specs.declared.container.release.ReleaseMode.TheVariants.{Default, LockIfLastIndex}
@@ -43,10 +43,8 @@ answered kept f g [] [] s = refl
 answered kept f g [] (m ∷ ms) s = absurd s
 answered kept f g (d ∷ ds) [] s = absurd s
 answered kept f g (d ∷ ds) (m ∷ ms) s =
-    let one : m ≡ not (is_kept kept.items d) =
-    s.1.2 ∙ (ap removes s.1.1.0 ∙ removed (is_kept kept.items d)) in
-    ap (λ (b : Bool). b ∷ ms) one
-    ∙ ap (λ (l : List Bool). not (is_kept kept.items d) ∷ l) (answered kept s.0 g ds ms s.2)
+    rw (s.1.2 ∙ (ap removes s.1.1.0 ∙ removed (is_kept kept.items d)), answered kept s.0 g ds ms s.2)
+    refl
 
 ports_left : (kept : Vec ℕ) (dead : ℕ) (old new : RegistryState PortDetails)
     (f g : List PortCleanupAction) (state : ReleaseState)
@@ -54,10 +52,9 @@ ports_left : (kept : Vec ℕ) (dead : ℕ) (old new : RegistryState PortDetails)
     → new ≡ without_ports dead kept.items old
 ports_left kept dead old new f g state s =
     s.recovers.0
-    ∙ ap (λ (es : List (Entry PortDetails)). record old { entries = es })
-    (staying_by (is_of node_of dead) (λ d. not (is_kept kept.items d)) s.marked old.entries
+    ∙ rw (staying_by (is_of node_of dead) (λ d. not (is_kept kept.items d)) s.marked old.entries
     (answered kept f g (asked_about (is_of node_of dead) old)
-    (marks_of (is_of node_of dead) s.marked old.entries) s.asked))
+    (marks_of (is_of node_of dead) s.marked old.entries) s.asked)) refl
 
 all_go : (f g : Unit {0}) (items : List ℕ) (marks : List Bool)
     → Asked {F = Unit {0}} (λ _ _ goes _. goes ≡ true) f items marks g
@@ -65,8 +62,7 @@ all_go : (f g : Unit {0}) (items : List ℕ) (marks : List Bool)
 all_go f g [] [] s = refl
 all_go f g [] (m ∷ ms) s = absurd s
 all_go f g (d ∷ ds) [] s = absurd s
-all_go f g (d ∷ ds) (m ∷ ms) s =
-    ap (λ (b : Bool). b ∷ ms) s.1 ∙ ap (λ (l : List Bool). true ∷ l) (all_go s.0 g ds ms s.2)
+all_go f g (d ∷ ds) (m ∷ ms) s = rw (s.1, all_go s.0 g ds ms s.2) refl
 
 pub and_true : (b : Bool) → (b && true) ≡ b
 and_true true = refl

@@ -9,7 +9,7 @@ use Rattle.std.proofs.lemmas.List.Kept.{AllPairs-filter}
 use Rattle.iox2_container.proofs.Removing.{nothing_left, locks_empty}
 use Rattle.iox2_container.specs.declared.container.release.ReleaseMode.{ReleaseMode}
 use Rattle.iox2_container.specs.State.{Entry, RegistryState, IsRegistry}
-use Rattle.iox2_container.specs.Steps.{candidates, entries_of, is_of, lock_after}
+use Rattle.iox2_container.specs.Steps.{candidates, entries_of, is_of}
 use Rattle.iox2_dynamic.specs.declared.dynamic_config.port_details.PortDetails.{PortDetails}
 use Rattle.iox2_dynamic.specs.Details.{node_of}
 use Rattle.iox2_dynamic.specs.Ports.{has_ports_of}

@@ -69,9 +69,9 @@ registers s id None i takes = record {
   only = given_only s id takes;
 }
 registers s id (Some IsLocked) i l =
-    alone s (ServesRegister s id) reply.Locked s (λ r. refl)
+    alone _ _ reply.Locked s (λ r. refl)
     (untouching _ s.nodes s.nodes.registry (l, refl) i.nodes_are, refl) i (locked_only s id l)
 registers s id (Some OutOfSpace) i (l, full) =
-    alone s (ServesRegister s id) reply.Full s (λ r. refl)
+    alone _ _ reply.Full s (λ r. refl)
     (untouching _ s.nodes s.nodes.registry (l, full, refl) i.nodes_are, refl) i
     (full_only s id l full)

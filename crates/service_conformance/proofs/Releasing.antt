@@ -34,7 +34,7 @@ nothing_only s _ new so = absurd so
 pub nothing : (s : Service) → IsService s
     → ArePossible s (ServesRelease s None) (possible.One reply.NoHandle)
 nothing s i =
-    alone s (ServesRelease s None) reply.NoHandle s (λ r. refl) refl i (nothing_only s)
+    alone _ _ reply.NoHandle s (λ r. refl) refl i (nothing_only s)
 
 module _ (s : Service) (h : Handle) where
   never : (state : ReleaseState) (new : Ports)
@@ -54,8 +54,7 @@ module _ (s : Service) (h : Handle) where
   pub elsewhere : IsService s → IsNeither (first_role s.pattern) (second_role s.pattern) h.role
       → ArePossible s (ServesRelease s (Some h)) (possible.One reply.NotOwned)
   elsewhere i n =
-      alone s (ServesRelease s (Some h)) reply.NotOwned s (λ r. refl)
-      (inr (n, refl, refl), refl) i (elsewhere_only n)
+      alone _ _ reply.NotOwned s (λ r. refl) (inr (n, refl, refl), refl) i (elsewhere_only n)
 
   module _ (side : Side) (role : h.role ≡ role_at s.pattern side) where
     from_at : (answer : Result ReleaseState ContainerRemoveError) (new : Ports)
@@ -92,8 +91,8 @@ module _ (s : Service) (h : Handle) where
         (second_role s.pattern) s.ports h answer ports =
         inl (steps_at s.pattern side s.ports h.role (λ o n. Removes o h Default answer n) old role
         (untouching _ old old.registry (u, refl) (ports_are s side i).is_registry)) in
-        alone s (ServesRelease s (Some h)) reply.NotOwned (record s { ports = ports }) (λ r. refl) (removes, refl) (release_kept s s.pattern ports h answer refl removes i)
-        (unknown_only u)
+        alone _ _ reply.NotOwned (record s { ports = ports }) (λ r. refl) (removes, refl)
+        (release_kept s s.pattern ports h answer refl removes i) (unknown_only u)
 
     module _ (d : PortDetails) (has : HasEntry (ports_at s side).registry h d) where
       released_only : (r : Reply) (new : Service) → ServesRelease s (Some h) r new
@@ -116,5 +115,6 @@ module _ (s : Service) (h : Handle) where
           (second_role s.pattern) s.ports h answer ports =
           inl (steps_at s.pattern side s.ports h.role (λ o n. Removes o h Default answer n)
           (container left old.touches) role (untouching _ old left gone.0 gone.1)) in
-          alone s (ServesRelease s (Some h)) reply.Released (record s { ports = ports }) (λ r. refl) (release_state left.locked, (removes, refl))
+          alone _ _ reply.Released (record s { ports = ports }) (λ r. refl)
+          (release_state left.locked, (removes, refl))
           (release_kept s s.pattern ports h answer refl removes i) released_only

@@ -2,17 +2,13 @@
 use Rattle.std.proofs.Common.{◌≡◌, ◌≢◌, ℕ, ◌^◌, ◌<◌, ◌+◌, Option, Some, None, List, [], ◌∷◌, ◌++◌, All, codes, map, refl, sym, ◌∙◌, ap, subst, arith, append_assoc, length, length-append, take, ◌-◌}
 use Rattle.std.specs.Fmt.{decimal}
 use Rattle.std.specs.Global.{Vec}
-use Rattle.std.specs.List.{flat_map}
 use Rattle.std.proofs.lemmas.Fmt.{decimal_injective}
 use Rattle.std.proofs.lemmas.List.{append_cancel_left, append-nil, take_at}
 use Rattle.std.proofs.lemmas.List.Elements.{All-cons, All-head, All-map, All-nil, All-tail}
-use Rattle.iox2_container.specs.declared.container.role.Role.{Role}
 use Rattle.iox2_container.specs.Handle.{Handle}
 use Rattle.iox2_container.specs.State.{Entry, RegistryState}
-use Rattle.iox2_container.specs.Steps.{listed}
 use Rattle.iox2_dynamic.specs.declared.dynamic_config.port_details.PortDetails.{PortDetails}
-use Rattle.iox2_dynamic.specs.Ports.{OfRole}
-use Rattle.iox2_dynamic.specs.Service.{Service, first_role, second_role}
+use Rattle.iox2_dynamic.specs.Service.{Service}
 use Rattle.line_streams.specs.Numerals.{cons_same}
 use Rattle.line_streams.specs.OneWay.{number_one}
 use Rattle.line_streams.specs.declared.end.LineEnd.TheVariants.{Bytes}
@@ -24,7 +20,7 @@ use Rattle.service_descriptions.specs.declared.replay.machine.reply.Reply.{Reply
 use Rattle.service_descriptions.specs.declared.replay.machine.reply.Reply.TheVariants as reply
 use Rattle.service_descriptions.specs.Handles.{named}
 use Rattle.service_descriptions.specs.Lines.{HasLine}
-use Rattle.service_descriptions.specs.Replies.{IsSameReply, id_word, port_word, text_of}
+use Rattle.service_descriptions.specs.Replies.{IsSameReply, text_of}
 use Rattle.service_descriptions.specs.Steps.{Serves, ServesDeregister, ServesRelease, handle_in}
 use Rattle.service_descriptions.proofs.Lines.{any_fits, any_number}
 use Rattle.service_conformance.specs.declared.conformance.possible.NextHandle.{NextHandle}
@@ -145,13 +141,9 @@ module _ {T : Type 0} (r : RegistryState T) (words : List ℕ) (fits : r.capacit
 
 same_text : (one r : Reply) → IsSameReply one r → text_of one ≡ text_of r
 same_text (reply.Nodes ids) r e =
-    let a = is_nodes ids r e in
-    subst (λ r. text_of (reply.Nodes ids) ≡ text_of r) (sym a.1)
-    (ap (λ (l : List ℕ). codes "list" ++ flat_map id_word l) a.2)
+    let a = is_nodes ids r e in rw (a.1, ← a.2) refl
 same_text (reply.Ports ports) r e =
-    let a = is_ports ports r e in
-    subst (λ r. text_of (reply.Ports ports) ≡ text_of r) (sym a.1)
-    (ap (λ (l : List PortDetails). codes "list" ++ flat_map port_word l) a.2)
+    let a = is_ports ports r e in rw (a.1, ← a.2) refl
 same_text _ r e = ap text_of e
 
 pub same_given : (one r : Reply) → IsSameReply one r → handle_in one ≡ handle_in r
@@ -298,11 +290,7 @@ module _ (s new : Service) (handles : List (Option Handle)) where
   ports_step (command.Release k) i ports other e so =
       absurd (neither (λ h. ServesRelease s h (reply.Ports other) new) (λ n. n) (λ h n. n)
       (named handles k) so)
-  ports_step (command.List role) i ports other e so = (
-    subst (λ l. OfRole (λ r items. items ≡ listed r) (first_role s.pattern)
-        (second_role s.pattern) s.ports role (Some l)) (sym e) so.0,
-    so.1,
-  )
+  ports_step (command.List role) i ports other e so = (rw e so.0, so.1)
   ports_step (command.Count role) i ports other e so = absurd so.0
   ports_step (command.Dead dead (ByPort kept)) i ports other e so = absurd so
   ports_step _ i ports other e so = absurd i

@@ -6,7 +6,7 @@ use Rattle.std.proofs.lemmas.Bool.{cases_order}
 use Rattle.std.proofs.lemmas.Grind.{drop_more_same, flat_map-append}
 use Rattle.std.proofs.lemmas.List.{append-nil, drop-set-lt, drop_all, get_or-drop, length-map, map-append, take_all, take_more, take_more_set}
 use Rattle.std.proofs.lemmas.List.Elements.{All-contains, All-map, All-weaker}
-use Rattle.call_orders.specs.Orders.{IsOrder, Leads, ReachedFrom}
+use Rattle.call_orders.specs.Orders.{Leads, ReachedFrom}
 use Rattle.iox2_container.specs.Steps.{listed}
 use Rattle.iox2_dynamic.specs.Service.{Service}
 use Rattle.service_descriptions.specs.Steps.{State}
@@ -20,7 +20,7 @@ use Rattle.service_logs.specs.Items.Item.{overlap}
 use Rattle.service_logs.specs.Logs.{FirstIsNot, IsGroupLine}
 use Rattle.service_logs.specs.Logs.Place.{in_group}
 use Rattle.service_logs.specs.Runs.{IsAttached, OverlapStep, numbered, numbered_call, with_indices}
-use Rattle.service_conformance.specs.Groups.{CountedStep, GroupStep, IsEarlier, MaybeStep, SeenCall, with_index}
+use Rattle.service_conformance.specs.Groups.{GroupStep, IsEarlier, MaybeStep, SeenCall, with_index}
 use Rattle.service_conformance.specs.Quiet.{quiet_state}
 use Rattle.service_conformance.proofs.QuietGroups.{leads_counted, leads_quiet}
 use Rattle.service_logs.proofs.Lists.{from_map, some_of, to_map}

@@ -8,7 +8,6 @@ use Rattle.line_streams.specs.Numerals.{cons_same}
 use Rattle.line_streams.specs.OneWay.{before_one}
 use Rattle.line_streams.specs.Spelling.{HasNo}
 use Rattle.service_descriptions.specs.declared.replay.machine.command.Command.{Command}
-use Rattle.service_descriptions.specs.Lines.{line_of}
 use Rattle.service_descriptions.proofs.Scripts.{shorter}
 use Rattle.service_logs.specs.Fronts.{HasHead, HasNotes, IsAfterNote}
 use Rattle.service_logs.specs.Items.{Call, Grouped, IsCall, IsCommandLine, IsNote, call_lines, caller_text, grouped_lines, reply_seen, text_of_lines}

@@ -1,8 +1,5 @@
-use Rattle.std.proofs.Common.{◌≡◌, ◌≢◌, List, [], ◌∷◌, ◌++◌, All, refl, subst, ◌∙◌, ap, arith, rules}
+use Rattle.std.proofs.Common.{◌≡◌, refl, arith, rules}
 use Rattle.service_descriptions.specs.Script.{first_state}
-use Rattle.service_descriptions.specs.Steps.{State}
-use Rattle.service_logs.specs.declared.logs.services.NamedCheck.{NamedCheck}
-use Rattle.service_logs.specs.Services.{HasNumber}
 use Rattle.service_logs.proofs.logs.begin_service.Goals as goal
 
 pub returns-in_default-clause-none : goal.returns-in_default-clause-none

@@ -1,8 +1,6 @@
-use Rattle.std.proofs.Common.{◌≡◌, ◌≢◌, ◌+◌, ◌<◌, List, [], ◌∷◌, ◌++◌, codes, drop, length, map, take, sym, ◌∙◌, ap, subst, arith, rules, length-append}
+use Rattle.std.proofs.Common.{◌≡◌, ◌≢◌, ◌<◌, [], ◌∷◌, length, map, ◌∙◌, ap, arith, rules, length-append}
 use Rattle.std.proofs.lemmas.List.{length-map}
-use Rattle.service_descriptions.specs.Steps.{State}
-use Rattle.service_logs.specs.Fronts.{AreAlike, HasCalls}
-use Rattle.service_conformance.specs.Groups.{SeenCall, with_index}
+use Rattle.service_conformance.specs.Groups.{with_index}
 use Rattle.service_logs.proofs.Groups.{calls_more, calls_none, fewer, lacks_member, written}
 use Rattle.service_logs.proofs.logs.group.calls_before.Goals as goal
 

@@ -7,8 +7,11 @@ loop-state-init c = rw c.new-found.ensures.items (leads_nothing _)
 
 pub loop-state-preserved : goal.loop-state-preserved
 loop-state-preserved c =
-    rw (take_more c.args.states.now c.loop-state.state-index c.state-item.result
-    c.loop-state-test.true, ← c.state-item.is)
+    rw (
+      take_more c.args.states.now c.loop-state.state-index c.state-item.result
+          c.loop-state-test.true,
+      ← c.state-item.is,
+    )
     (c.in_ok-add_state_after.ensures _ c.loop-state.invariant)
 
 pub returns : goal.returns

@@ -1,8 +1,7 @@
-use Rattle.std.proofs.Common.{◌≡◌, ◌++◌, ◌∷◌, [], List, Option, true, None, sym, ◌∙◌, ap, subst}
-use Rattle.service_descriptions.specs.Handles.{KeepsHandles}
+use Rattle.std.proofs.Common.{◌≡◌, ◌++◌, ◌∷◌, [], true, None}
 use Rattle.service_descriptions.specs.Steps.{Serves, handle_in}
 use Rattle.service_conformance.specs.Quiet.{Checked}
-use Rattle.service_conformance.proofs.Stepping.{bare, handles_kept, follows_on}
+use Rattle.service_conformance.proofs.Stepping.{handles_kept, follows_on}
 use Rattle.service_conformance.proofs.conformance.run_check.RunCheck.check.Goals.{After-push_reserved}
 use Rattle.service_conformance.proofs.conformance.run_check.RunCheck.check.Goals as goal
 

@@ -1,4 +1,4 @@
-use Rattle.std.proofs.Common.{◌≡◌, Some, rules, refl, sym, ◌∙◌}
+use Rattle.std.proofs.Common.{◌≡◌, rules, refl, sym, ◌∙◌}
 use Rattle.iox2_dynamic.specs.PortsState.Side.{First, Second}
 use Rattle.service_descriptions.specs.Steps.{ServesRelease}
 use Rattle.service_conformance.specs.ServiceFields.{service_of}

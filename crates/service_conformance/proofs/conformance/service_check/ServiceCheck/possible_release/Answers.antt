@@ -1,4 +1,4 @@
-use Rattle.std.proofs.Common.{◌≡◌, sym, ◌∙◌, ap}
+use Rattle.std.proofs.Common.{◌≡◌, sym, ◌∙◌}
 use Rattle.service_conformance.specs.Sides.{role_at, side_of}
 use Rattle.service_conformance.proofs.Releasing.{released, unknown}
 use Rattle.service_conformance.proofs.conformance.service_check.ServiceCheck.possible_release.Goals.{In-Some-side}
