@@ -79,9 +79,9 @@ contains_state {S} layer stage has =
     )
 
 module _ {S : Type 0} (Step : S → ℕ → S → Type 0) (Before : ℕ → ℕ → Type 0) where
-  -- no order of no calls leads on
-  pub none_only : (old new : S) (order : List ℕ) → IsOrder Before [] order → Leads Step old order new
-      → new ≡ old
+  -- an order of no calls changes nothing
+  pub none_only : (old new : S) (order : List ℕ) → IsOrder Before [] order
+      → Leads Step old order new → new ≡ old
   none_only old new [] orders leads = leads
   none_only old new (call ∷ order) orders leads =
       (let z : 0 ≡ length (orders.1.before ++ call ∷ orders.1.after) =

@@ -30,13 +30,9 @@ add_once {T} r n m d (Ok handle) s t k l =
     let x : Entry T = record { slot = handle.slot; ticket = r.used; details = d } in
     let g : InsertsOne r.entries n.entries x = s.2.2 in
     let j : InsertsOne r.entries m.entries x = t.2.2 in
-    let one : Rise (g.before ++ x ∷ g.after) =
-    subst (λ (es : List (Entry T)). Rise es) g.new_is k.slots_rise in
-    let other : Rise (j.before ++ x ∷ j.after) =
-    subst (λ (es : List (Entry T)). Rise es) j.new_is l.slots_rise in
     let entries : n.entries ≡ m.entries = g.new_is
-    ∙ (one_position g.before g.after j.before j.after x (sym g.old_is ∙ j.old_is) one other
-    ∙ sym j.new_is) in
+    ∙ (one_position g.before g.after j.before j.after x (sym g.old_is ∙ j.old_is)
+    (rw g.new_is at k.slots_rise) (rw j.new_is at l.slots_rise) ∙ sym j.new_is) in
     s.2.3
     ∙ (ap (λ (es : List (Entry T)). record r { entries = es; used = r.used + 1 }) entries
     ∙ sym t.2.3)
@@ -48,11 +44,10 @@ was_given {T} r new details handle s k =
     let x : Entry T = record { slot = handle.slot; ticket = r.used; details = details } in
     let e : handle ≡ handle_of r x = s.2.0 in
     let g : InsertsOne r.entries new.entries x = s.2.2 in
-    let below : All (λ (y : Entry T). y.slot < new.capacity) (g.before ++ x ∷ g.after) =
-    subst (λ (l : List (Entry T)). All (λ y. y.slot < new.capacity) l) g.new_is k.slots_below in
     let one : x.slot < new.capacity =
     All-head (λ y. y.slot < new.capacity) x g.after
-    (All-back (λ y. y.slot < new.capacity) g.before (x ∷ g.after) below) in
+    (All-back (λ y. y.slot < new.capacity) g.before (x ∷ g.after)
+    (rw g.new_is at k.slots_below)) in
     let same : new.capacity ≡ r.capacity = ap (λ (s : RegistryState T). s.capacity) s.2.3 in
     record {
       service = ap (λ (k : Handle). k.service) e;

@@ -43,8 +43,9 @@ answered kept f g [] [] s = refl
 answered kept f g [] (m ∷ ms) s = absurd s
 answered kept f g (d ∷ ds) [] s = absurd s
 answered kept f g (d ∷ ds) (m ∷ ms) s =
-    rw (s.1.2 ∙ (ap removes s.1.1.0 ∙ removed (is_kept kept.items d)), answered kept s.0 g ds ms s.2)
-    refl
+    let one : m ≡ not (is_kept kept.items d) =
+    s.1.2 ∙ (ap removes s.1.1.0 ∙ removed (is_kept kept.items d)) in
+    rw (one, answered kept s.0 g ds ms s.2) refl
 
 ports_left : (kept : Vec ℕ) (dead : ℕ) (old new : RegistryState PortDetails)
     (f g : List PortCleanupAction) (state : ReleaseState)

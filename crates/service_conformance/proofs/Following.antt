@@ -1,11 +1,11 @@
 -- The one state that a reply leaves.
-use Rattle.std.proofs.Common.{◌≡◌, ℕ, true, false, Option, Some, None, Result, Ok, Err, refl, ◌∙◌, ap, subst, inl, inr}
+use Rattle.std.proofs.Common.{◌≡◌, ℕ, true, false, Option, Some, None, Ok, Err, refl, ◌∙◌, ap, subst, inl, inr}
 use Rattle.iox2_config.specs.declared.hash.input.PatternKind.{PatternKind}
 use Rattle.iox2_container.specs.declared.container.role.Role.{Role}
 use Rattle.iox2_container.specs.Changes.{Adds, Removes}
 use Rattle.iox2_container.specs.ContainerState.{ContainerState}
 use Rattle.iox2_dynamic.specs.Details.{role_of}
-use Rattle.iox2_dynamic.specs.Ports.{Ports, OnSide, IsNeither, ReadsPorts, RemovesFrom}
+use Rattle.iox2_dynamic.specs.Ports.{Ports, OnSide, IsNeither, ReadsPorts}
 use Rattle.iox2_dynamic.specs.PortsState.{Side, of_side, other_side}
 use Rattle.iox2_dynamic.specs.PortsState.Side.{First, Second}
 use Rattle.iox2_dynamic.specs.Steps.{AddsPort, RemovesPort}
@@ -13,7 +13,6 @@ use Rattle.service_conformance.specs.declared.conformance.possible.Possible.{Pos
 use Rattle.service_conformance.specs.Possible.{Allows, ArePossible}
 use Rattle.service_conformance.specs.Sides.{role_at, ports_at}
 use Rattle.service_conformance.proofs.Sides.{has_role, lacks, one_side, step_at}
-use Rattle.iox2_container.specs.declared.container.refusal.ContainerRemoveError.{ContainerRemoveError}
 use Rattle.iox2_container.specs.declared.container.refusal.ContainerRemoveError.TheVariants.{ContainerHandleNotOwnedByContainer}
 use Rattle.iox2_container.specs.declared.container.refusal.ContainerAddFailure.TheVariants.{OutOfSpace}
 use Rattle.iox2_container.specs.declared.container.release.ReleaseMode.TheVariants.{Default, LockIfLastIndex}
@@ -30,6 +29,7 @@ use Rattle.service_conformance.specs.Entries.{MayGive}
 use Rattle.service_conformance.specs.Quiet.{CanServe, LeadsTo, Reports, at_rest, quiet, is_removal}
 use Rattle.service_conformance.proofs.Adds.{add_once, was_given}
 use Rattle.service_conformance.proofs.Quiet.{service_quiet}
+use Rattle.service_conformance.proofs.Releasing.{never}
 
 -- the one state that can be led to is a service
 pub one_kept : (Step : Reply → Service → Type 0) (r : Reply) (new : Service) → CanServe Step r
@@ -215,19 +215,10 @@ module _ (s : Service) (h : Handle) where
   release_stays rest reply.NotOwned e = λ w so. refused_removal rest w so
   release_stays rest _ e = λ w so. absurd so
 
-  no_side : (state : ReleaseState) (new : Ports)
-      → IsNeither (first_role s.pattern) (second_role s.pattern) h.role
-      → RemovesFrom (first_role s.pattern) (second_role s.pattern) s.ports h (Ok state) new → ⊥
-  no_side state new n (inl a) =
-      lacks s.pattern h.role n (has_role s.pattern a.side h.role a.role_is)
-  no_side state new n (inr a) =
-      (let z : ◌≡◌ {A = Result ReleaseState ContainerRemoveError} (Ok state)
-      (Err ContainerHandleNotOwnedByContainer) = a.1 in cc)
-
   pub release_nowhere : (r : Reply) (seen : Service) → is_removal r ≡ true
       → IsNeither (first_role s.pattern) (second_role s.pattern) h.role
       → LeadsTo (ServesRelease s (Some h)) r seen
-  release_nowhere reply.Released seen e n = λ w so. absurd (no_side so.0 w.ports n so.1.0)
+  release_nowhere reply.Released seen e n = λ w so. absurd (never s h so.0 w.ports n so.1.0)
   release_nowhere reply.NotOwned seen e n = absurd (let z : false ≡ true = e in cc)
   release_nowhere _ seen e n = λ w so. absurd so
 

@@ -37,7 +37,7 @@ nothing s i =
     alone _ _ reply.NoHandle s (λ r. refl) refl i (nothing_only s)
 
 module _ (s : Service) (h : Handle) where
-  never : (state : ReleaseState) (new : Ports)
+  pub never : (state : ReleaseState) (new : Ports)
       → IsNeither (first_role s.pattern) (second_role s.pattern) h.role
       → RemovesFrom (first_role s.pattern) (second_role s.pattern) s.ports h (Ok state) new → ⊥
   never state new n (inl a) = lacks s.pattern h.role n (has_role s.pattern a.side h.role a.role_is)

@@ -14,7 +14,7 @@ use Rattle.iox2_container.specs.Handle.{Handle}
 use Rattle.iox2_container.specs.State.{Entry, RegistryState, IsRegistry, handle_of}
 use Rattle.iox2_container.specs.Steps.{InsertsOne, IsUnknownHandle, HasEntry, RemoveStep, lock_after, release_state}
 use Rattle.service_conformance.specs.Entries.{HasAt, IsAt, StandsAt, with_left}
-use Rattle.service_conformance.proofs.Rising.{Rise, one_gone}
+use Rattle.service_conformance.proofs.Rising.{one_gone}
 
 -- who has another service or role than the registry has no entry of it
 pub foreign_service : {T : Type 0} (r : RegistryState T) (handle : Handle)
@@ -79,11 +79,9 @@ remove_once {T} r n m handle mode one two k s t =
     let g : InsertsOne n.entries r.entries x = s.0.2 in
     let j : InsertsOne m.entries r.entries y = t.0.2 in
     let slots : x.slot ≡ y.slot = ap (λ (q : Handle). q.slot) (sym s.0.1 ∙ t.0.1) in
-    let rises : Rise (g.before ++ x ∷ g.after) =
-    subst (λ (es : List (Entry T)). Rise es) g.new_is k.slots_rise in
     let entries : n.entries ≡ m.entries = g.old_is
-    ∙ (one_gone g.before g.after j.before j.after x y (sym g.new_is ∙ j.new_is) slots rises
-    ∙ sym j.old_is) in
+    ∙ (one_gone g.before g.after j.before j.after x y (sym g.new_is ∙ j.new_is) slots
+    (rw g.new_is at k.slots_rise) ∙ sym j.old_is) in
     s.0.3 ∙ (ap (with_left r mode) entries ∙ sym t.0.3)
 
 -- without one entry it is a registry still

@@ -13,9 +13,8 @@ returns-clause-left c =
     let p = λ (e : Entry ℕ). not (is_of (λ i. i) c.args.dead.now e.details) in
     let left : c.retain.new.self.items ≡ filter p c.self.inside.entries.items =
     filter_same _ _ _ (λ x b f' k. search rules) _ _ c.retain.ensures.filtered in
-    with_left_is _ c.args.self.now LockIfLastIndex (filter p) _ _ _ _ c.self.view_is left (search rules)
-    (search rules)
-    c.lock_after-self-inside.ensures
+    with_left_is _ c.args.self.now LockIfLastIndex (filter p) _ _ _ _ c.self.view_is left
+    (search rules) (search rules) c.lock_after-self-inside.ensures
 
 pub invariant_of-self : goal.invariant_of-self
 invariant_of-self c =

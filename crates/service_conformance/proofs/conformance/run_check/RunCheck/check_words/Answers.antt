@@ -28,7 +28,8 @@ kept c =
 pub returns-in_default-clause-ok : goal.returns-in_default-clause-ok
 returns-in_default-clause-ok c =
     rw (← c.self.view_is, c.reserve.ensures.items)
-    (words_not _ _ _ (λ x. c.self.inside.earlier.items ++ x ∷ []) _ _ (rw c.in_default.is at (rw c.reserve.ensures.items at
+    (words_not _ _ _ (λ x. c.self.inside.earlier.items ++ x ∷ []) _ _
+    (rw c.in_default.is at (rw c.reserve.ensures.items at
     (rw c.deref.ensures.value at c.in_ok-found.ensures.ok))))
 
 pub invariant_of-self-2 : goal.invariant_of-self-2
