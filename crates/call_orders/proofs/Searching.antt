@@ -79,8 +79,9 @@ contains_state {S} layer stage has =
     )
 
 module _ {S : Type 0} (Step : S → ℕ → S → Type 0) (Before : ℕ → ℕ → Type 0) where
-  none_only : (old new : S) (order : List ℕ) → IsOrder Before [] order → Leads Step old order new
-      → new ≡ old
+  -- an order of no calls changes nothing
+  pub none_only : (old new : S) (order : List ℕ) → IsOrder Before [] order
+      → Leads Step old order new → new ≡ old
   none_only old new [] orders leads = leads
   none_only old new (call ∷ order) orders leads =
       (let z : 0 ≡ length (orders.1.before ++ call ∷ orders.1.after) =
@@ -354,10 +355,11 @@ module _ {S : Type 0} (Step : S → ℕ → S → Type 0) (Before : ℕ → ℕ 
   no_stage s l = absurd (omega (arith, l.1.1))
 
   -- what is known once no call remains
-  module _ (olds : List S) (group : List ℕ) (layer : List (Stage S))
-      (g : Gathers Step Before (ReachedFrom Step Before olds group) 0 [] layer) where
+  module _ (olds : List S) (group : List ℕ) (layer : List (Stage S)) (left : ℕ)
+      (g : Gathers Step Before (ReachedFrom Step Before olds group) left [] layer)
+      (over : left ≡ 0) where
     ends : All (HasLeft 0) layer
-    ends = g.lengths (All-nil (HasLeft 0))
+    ends = subst (λ n. All (HasLeft n) layer) over (g.lengths (All-nil (HasLeft left)))
 
     differ : AllPairs (λ a b. a ≢ b) (map (λ s. s.state) layer)
     differ = states_differ layer ends (g.once (λ i j d less h. absurd (omega arith)))

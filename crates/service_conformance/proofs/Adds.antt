@@ -9,7 +9,6 @@ use Rattle.iox2_container.proofs.Gaining.{All-back, AllPairs-head, AllPairs-tail
 use Rattle.iox2_container.proofs.Keeping.{kept_add, All-gain}
 use Rattle.iox2_container.specs.declared.container.refusal.ContainerAddFailure.{ContainerAddFailure}
 use Rattle.iox2_container.specs.declared.container.refusal.ContainerAddFailure.TheVariants.{IsLocked, OutOfSpace}
-use Rattle.iox2_container.specs.declared.container.role.Role.{Role}
 use Rattle.iox2_container.specs.Handle.{Handle}
 use Rattle.iox2_container.specs.State.{Entry, RegistryState, IsRegistry, handle_of}
 use Rattle.iox2_container.specs.Steps.{InsertsOne, HasRoom, IsFull, TakesEntry, AddStep}
@@ -31,13 +30,9 @@ add_once {T} r n m d (Ok handle) s t k l =
     let x : Entry T = record { slot = handle.slot; ticket = r.used; details = d } in
     let g : InsertsOne r.entries n.entries x = s.2.2 in
     let j : InsertsOne r.entries m.entries x = t.2.2 in
-    let one : Rise (g.before ++ x ∷ g.after) =
-    subst (λ (es : List (Entry T)). Rise es) g.new_is k.slots_rise in
-    let other : Rise (j.before ++ x ∷ j.after) =
-    subst (λ (es : List (Entry T)). Rise es) j.new_is l.slots_rise in
     let entries : n.entries ≡ m.entries = g.new_is
-    ∙ (one_position g.before g.after j.before j.after x (sym g.old_is ∙ j.old_is) one other
-    ∙ sym j.new_is) in
+    ∙ (one_position g.before g.after j.before j.after x (sym g.old_is ∙ j.old_is)
+    (rw g.new_is at k.slots_rise) (rw j.new_is at l.slots_rise) ∙ sym j.new_is) in
     s.2.3
     ∙ (ap (λ (es : List (Entry T)). record r { entries = es; used = r.used + 1 }) entries
     ∙ sym t.2.3)
@@ -49,11 +44,10 @@ was_given {T} r new details handle s k =
     let x : Entry T = record { slot = handle.slot; ticket = r.used; details = details } in
     let e : handle ≡ handle_of r x = s.2.0 in
     let g : InsertsOne r.entries new.entries x = s.2.2 in
-    let below : All (λ (y : Entry T). y.slot < new.capacity) (g.before ++ x ∷ g.after) =
-    subst (λ (l : List (Entry T)). All (λ y. y.slot < new.capacity) l) g.new_is k.slots_below in
     let one : x.slot < new.capacity =
     All-head (λ y. y.slot < new.capacity) x g.after
-    (All-back (λ y. y.slot < new.capacity) g.before (x ∷ g.after) below) in
+    (All-back (λ y. y.slot < new.capacity) g.before (x ∷ g.after)
+    (rw g.new_is at k.slots_below)) in
     let same : new.capacity ≡ r.capacity = ap (λ (s : RegistryState T). s.capacity) s.2.3 in
     record {
       service = ap (λ (k : Handle). k.service) e;
@@ -70,11 +64,7 @@ with_entry r position x =
 
 handle_is : {T : Type 0} (r : RegistryState T) (handle : Handle) (details : T) → MayGive r handle
     → handle ≡ handle_of r (record { slot = handle.slot; ticket = r.used; details = details })
-handle_is {T} r handle details m =
-    let f : ℕ → Role → ℕ → Handle =
-    λ s o t. record { service = s; role = o; slot = handle.slot; ticket = t } in
-    ap (λ s. f s handle.role handle.ticket) m.service
-    ∙ (ap (λ o. f r.service o handle.ticket) m.role ∙ ap (λ t. f r.service r.role t) m.ticket)
+handle_is r handle details m = rw (← m.service, ← m.role, ← m.ticket) refl
 
 -- what may be given can be, in a position that is free
 pub given : {T : Type 0} (r : RegistryState T) (details : T) (handle : Handle) (position : ℕ)
@@ -161,11 +151,7 @@ pub with_entry_is : {T : Type 0} (s r : RegistryState T) (position : ℕ) (handl
     → l ≡ insert s.entries position (entry_at handle details)
     → record s { entries = l; used = s.used + 1 }
     ≡ with_entry r position (record { slot = handle.slot; ticket = r.used; details = details })
-with_entry_is {T} s r position handle details l e m i =
-    ap (λ (es : List (Entry T)). record s { entries = es; used = s.used + 1 }) i
-    ∙ (ap (λ (q : RegistryState T). with_entry q position (entry_at handle details)) e
-    ∙ ap (λ t. with_entry r position (record { slot = handle.slot; ticket = t; details = details }))
-    m.ticket)
+with_entry_is s r position handle details l e m i = rw (i, e, m.ticket) refl
 
 pub not_free : {T : Type 0} (r : RegistryState T) (es : List (Entry T)) (slot : ℕ) → es ≡ r.entries
     → (All (λ e. e.slot ≢ slot) es → ⊥) → (h : Handle) → h.slot ≡ slot → MayGive r h → ⊥

@@ -38,8 +38,7 @@ module _ (s : Service) (d : PortDetails) where
   pub lacking : IsService s → LacksRole s (role_of d)
       → ArePossible s (ServesAdd s d) (possible.One reply.WrongPattern)
   lacking i n =
-      alone s (ServesAdd s d) reply.WrongPattern s (λ r e. e) (λ r e. e) (n, refl) i
-      (lacking_only n)
+      alone _ _ reply.WrongPattern s (λ r. refl) (n, refl) i (lacking_only n)
 
   locked_only : HasRole s.pattern (role_of d) → s.nodes.registry.locked ≡ true → (r : Reply)
       (new : Service) → ServesAdd s d r new → reply.Locked ≡ r
@@ -53,8 +52,7 @@ module _ (s : Service) (d : PortDetails) where
   pub locked : IsService s → HasRole s.pattern (role_of d) → s.nodes.registry.locked ≡ true
       → ArePossible s (ServesAdd s d) (possible.One reply.Locked)
   locked i has l =
-      alone s (ServesAdd s d) reply.Locked s (λ r e. e) (λ r e. e) (has, (l, refl)) i
-      (locked_only has l)
+      alone _ _ reply.Locked s (λ r. refl) (has, (l, refl)) i (locked_only has l)
 
   unregistered_only : HasRole s.pattern (role_of d) → s.nodes.registry.locked ≡ false
       → entries_of_node (node_of d) s.nodes.registry ≡ 0 → (r : Reply) (new : Service)
@@ -72,8 +70,8 @@ module _ (s : Service) (d : PortDetails) where
       → s.nodes.registry.locked ≡ false → entries_of_node (node_of d) s.nodes.registry ≡ 0
       → ArePossible s (ServesAdd s d) (possible.One reply.NotRegistered)
   unregistered i has l n =
-      alone s (ServesAdd s d) reply.NotRegistered s (λ r e. e) (λ r e. e)
-      (has, (l, n, unread s.nodes, refl)) i (unregistered_only has l n)
+      alone _ _ reply.NotRegistered s (λ r. refl) (has, (l, n, unread s.nodes, refl)) i
+      (unregistered_only has l n)
 
   module _ (side : Side) (role : role_of d ≡ role_at s.pattern side)
       (opens : IsOpenFor s (node_of d)) where
@@ -141,6 +139,6 @@ module _ (s : Service) (d : PortDetails) where
         let adds =
         steps_at s.pattern side s.ports (role_of d) (λ o n. Adds o d (Err OutOfSpace) n) old role
         (untouching _ old old.registry (l, full, refl) (ports_are s side i).is_registry) in
-        alone s (ServesAdd s d) reply.Full (record s { ports = ports }) (λ r e. e) (λ r e. e)
+        alone _ _ reply.Full (record s { ports = ports }) (λ r. refl)
         (has_role s.pattern side (role_of d) role, (opens, (adds, unread s.nodes, refl)))
         (attach_kept s s.pattern ports d (Err OutOfSpace) refl opens.1 adds i) (full_only full)

@@ -5,11 +5,13 @@ use Rattle.iox2_container.specs.Handle.{Handle}
 use Rattle.iox2_dynamic.specs.Service.{Service}
 use Rattle.iox2_static.specs.Description.{Description}
 use Rattle.call_orders.specs.Orders.{IsNext, IsOrder, Leads, ReachedFrom}
+use Rattle.call_orders.proofs.Searching.{none_only}
 use Rattle.service_descriptions.specs.declared.replay.machine.command.Command.{Command}
 use Rattle.service_descriptions.specs.declared.replay.machine.command.Command.TheVariants as command
 use Rattle.service_descriptions.specs.declared.replay.machine.reply.Reply.{Reply}
 use Rattle.service_descriptions.specs.Handles.{named}
-use Rattle.service_descriptions.specs.Steps.{State, Serves, ServesDeregister, ServesRelease, handle_in}
+use Rattle.service_descriptions.specs.Replies.{text_of}
+use Rattle.service_descriptions.specs.Steps.{IsState, State, Serves, ServesDeregister, ServesRelease, handle_in}
 use Rattle.service_conformance.specs.Groups.{GroupStep, IsEarlier, SeenCall, WordsStepAt, with_index}
 use Rattle.service_conformance.specs.Quiet.{quiet_state}
 use Rattle.service_conformance.specs.Words.{WordsStep}
@@ -56,29 +58,11 @@ module _ (old : State) (c : Command) (words : List ℕ) (n : ℕ) (at : n ≡ le
   abbrev left_with : Service → List (Option Handle) → State
   left_with s hs = record old { service = s; handles = hs }
 
-  step_of : WordsStepAt (with_index old) n c words mid → WordsStep old c words mid
-  step_of w = (
-    w.0,
-    w.1,
-    (
-      subst (λ (T : Type 0). T)
-          (served_same old.service old.description old.handles c w.0 mid.service) w.2.0,
-      w.2.1 ∙ ap (left_with mid.service) (after_is w.0),
-      w.2.2,
-    ),
-  )
-
-  index_of : WordsStep old c words mid → WordsStepAt (with_index old) n c words mid
-  index_of w = (
-    w.0,
-    w.1,
-    (
-      subst (λ (T : Type 0). T)
-          (sym (served_same old.service old.description old.handles c w.0 mid.service)) w.2.0,
-      w.2.1 ∙ ap (left_with mid.service) (sym (after_is w.0)),
-      w.2.2,
-    ),
-  )
+  same_step : WordsStepAt (with_index old) n c words mid ≡ WordsStep old c words mid
+  same_step i =
+      (r : Reply) × (text_of r ≡ words)
+      × (served_same old.service old.description old.handles c r mid.service i
+      × (mid ≡ left_with mid.service (after_is r i)) × IsState mid)
 
 some_not : (x : ℕ) (xs : List ℕ) → ¬ (x ∷ xs ≡ [])
 some_not x xs e = cc
@@ -95,20 +79,12 @@ first_is Before c rest next = by_before next.before next.after next.group_is nex
         absurd (omega (arith, length-append before (c ∷ after))))
 
 module _ {S : Type 0} (Step : S → ℕ → S → Type 0) (Before : ℕ → ℕ → Type 0) (old new : S) where
-  lead_none : (order : List ℕ) → IsOrder Before [] order → Leads Step old order new → new ≡ old
-  lead_none [] orders leads = leads
-  lead_none (c ∷ order) orders leads =
-      (let none : 0 ≡ length (orders.1.before ++ c ∷ orders.1.after) =
-      ap length orders.1.group_is in
-      absurd (omega (arith, length-append orders.1.before (c ∷ orders.1.after))))
-
-module _ {S : Type 0} (Step : S → ℕ → S → Type 0) (Before : ℕ → ℕ → Type 0) (old new : S) where
   lead_one : (order : List ℕ) → IsOrder Before (0 ∷ []) order → Leads Step old order new
       → Step old 0 new
   lead_one [] orders leads = absurd (some_not 0 [] orders)
   lead_one (c ∷ order) orders leads =
       let is = first_is Before c orders.0 orders.1 in
-      let same : new ≡ leads.0 = lead_none Step Before leads.0 new order
+      let same : new ≡ leads.0 = none_only Step Before leads.0 new order
       (subst (λ (l : List ℕ). IsOrder Before l order) is.1 orders.2) leads.2 in
       subst (Step old 0) (sym same) (subst (λ k. Step old k leads.0) is.0 leads.1)
 
@@ -147,12 +123,14 @@ call_alone old call at new =
       λ reached.
           let step = leads_one Step Before (with_index old) new reached in (
             step.0,
-            step_of old call.command call.words call.number at step.0 step.1,
+            subst (λ (T : Type 0). T)
+                (same_step old call.command call.words call.number at step.0) step.1,
             step.2,
           ),
       λ step. one_leads Step Before (with_index old) new (
         step.0,
-        index_of old call.command call.words call.number at step.0 step.1,
+        subst (λ (T : Type 0). T)
+            (sym (same_step old call.command call.words call.number at step.0)) step.1,
         step.2,
       ),
     )

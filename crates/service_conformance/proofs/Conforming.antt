@@ -34,8 +34,7 @@ last_pair old new cs rs n c r e h s =
     let one : length (take n cs) ≡ n = length-take-le n cs (omega arith) in
     let other : length (take n rs) ≡ n = length-take-le n rs (omega arith) in
     run_last old new (take n cs) (take n rs) (get_or cs n c) (get_or rs n r) (one ∙ sym other)
-    (subst (λ l. Run old l (take n rs ++ get_or rs n r ∷ []) new) (take_more cs n c h)
-    (subst (λ l. Run old (take (n + 1) cs) l new) (take_more rs n r there) s))
+    (rw (take_more cs n c h, take_more rs n r there) at s)
 
 -- the step from the state that each run leads to, seen so
 seen_step : (old s new : State) (cs : List Command) (rs : List Reply) (n : ℕ) (c : Command)
@@ -53,12 +52,8 @@ pub runs_more : (old s new : State) (cs : List Command) (rs : List Reply) (n : �
 runs_more old s new cs rs n c r e h q runs f =
     let there : n < length rs = omega arith in
     record {
-      run =
-          subst (λ l. Run old l (take (n + 1) rs) new) (sym (take_more cs n c h))
-          (subst (λ l. Run old (take n cs ++ get_or cs n c ∷ []) l new)
-          (sym (take_more rs n r there))
-          (run_more old s new (take n cs) (take n rs) (get_or cs n c)
-          (get_or rs n r) runs.run f.0));
+      run = rw (take_more cs n c h, take_more rs n r there)
+          (run_more old s new (take n cs) (take n rs) (get_or cs n c) (get_or rs n r) runs.run f.0);
       alone = λ other j. ap quiet_state
           (f.1 (quiet_state other) (seen_step old s other cs rs n c r e h q runs j));
     }
@@ -75,8 +70,5 @@ runs_stop old s new cs rs n c r e h q runs f = (
 pub runs_all : (old s : State) (cs : List Command) (rs : List Reply) (n : ℕ) → length cs ≡ length rs
     → length cs ≤ n → Runs old cs rs n s → Conforms old cs rs None
 runs_all old s cs rs n e h runs =
-    let more : length rs ≤ n = omega arith in (
-      s,
-      subst (λ l. Run old l rs s) (take_all n cs h)
-          (subst (λ l. Run old (take n cs) l s) (take_all n rs more) runs.run),
-    )
+    let more : length rs ≤ n = omega arith in
+    (s, rw (take_all n cs h, take_all n rs more) at runs.run)

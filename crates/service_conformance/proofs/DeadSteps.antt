@@ -1,6 +1,6 @@
 -- The recovery of a dead node can be a step, where ports of some values stay.
-use Rattle.std.proofs.Common.{◌≡◌, ℕ, ◌<◌, Bool, true, false, List, [], ◌∷◌, length, map, get_or, refl, sym, ◌∙◌, ap, subst, arith}
-use Rattle.std.specs.Prelude.{All, if◌then◌else◌, not, ◌&&◌, ◌==◌, filter}
+use Rattle.std.proofs.Common.{◌≡◌, ℕ, ◌<◌, Bool, true, false, List, [], ◌∷◌, map, get_or, refl, sym, ◌∙◌, ap, subst, arith}
+use Rattle.std.specs.Prelude.{All, if◌then◌else◌, not, ◌==◌, filter}
 use Rattle.std.specs.Global.{Vec}
 use Rattle.std.proofs.lemmas.Bool.{eq-eqb, ne_eqb}
 use Rattle.std.proofs.lemmas.List.Elements.{All-cons, All-head, All-nil, All-tail}
@@ -8,7 +8,7 @@ use Rattle.iox2_container.specs.declared.container.release.ReleaseMode.TheVarian
 use Rattle.iox2_container.specs.declared.container.release.ReleaseState.{ReleaseState}
 use Rattle.iox2_container.specs.ContainerState.{ContainerState, container}
 use Rattle.iox2_container.specs.State.{Entry, RegistryState, IsRegistry}
-use Rattle.iox2_container.specs.Steps.{Asked, RecoverStep, asked_about, candidates, is_of, lock_after, marks_of, release_state}
+use Rattle.iox2_container.specs.Steps.{Asked, RecoverStep, asked_about, candidates, is_of, marks_of, release_state}
 use Rattle.iox2_container.proofs.Gaining.{AllPairs-head, AllPairs-tail}
 use Rattle.iox2_container.proofs.Leaving.{staying_by}
 use Rattle.iox2_dynamic.specs.declared.dynamic_config.answers.DeregisterNodeState.{DeregisterNodeState}
@@ -101,11 +101,7 @@ ports_can kept left dead old k =
     record {
       marked = m.0;
       asked = asked;
-      recovers = (
-        ap (λ (es : List (Entry PortDetails)). record r { entries = es })
-            (sym those),
-        refl,
-      );
+      recovers = (rw those refl, refl);
     } in (
       release_state r.locked,
       untouching (λ r s. RecoverStep (Asks kept) is_dead r left Default
@@ -126,19 +122,15 @@ nodes_can dead old k =
     let r = old.registry in
     let is_dead : ℕ → Bool = is_of (λ i. i) dead in
     let new = without_node dead r in
-    let same : ◌≡◌ {A = Entry ℕ → Bool} (λ e. not (is_dead e.details))
-    (λ e. not (is_dead e.details && true)) =
-    λ i e. not (sym (and_true (is_dead e.details)) i) in
     let step : RecoverStep {F = Unit {0}} (λ _ _ goes _. goes ≡ true) is_dead r tt LockIfLastIndex
     (release_state new.locked) new tt =
     record {
       marked = λ n. true;
       asked = asked_all (candidates is_dead r.entries);
       recovers = (
-        ap (λ (p : Entry ℕ → Bool). record r {
-          entries = filter p r.entries;
-          locked = lock_after LockIfLastIndex (length r.entries) (length new.entries) r.locked;
-        }) same,
+        λ i. record new {
+          entries = filter (λ e. not (sym (and_true (is_dead e.details)) i)) r.entries;
+        },
         refl,
       );
     } in
@@ -241,9 +233,7 @@ module _ (s : Service) (dead : ℕ) (kept : Vec ℕ) where
       → ArePossible s (ServesDead s dead (ByPort kept)) (possible.One (reply_of_owners b))
   dead_possible true i e =
       let can = can_die s dead kept nodes.NoMoreOwners i (ap release_state e) in
-      alone s (ServesDead s dead (ByPort kept)) reply.NoMoreOwners can.0 (λ r e. e) (λ r e. e) can.1
-      can.2 (dead_only true e)
+      alone _ _ reply.NoMoreOwners can.0 (λ r. refl) can.1 can.2 (dead_only true e)
   dead_possible false i e =
       let can = can_die s dead kept nodes.HasOwners i (ap release_state e) in
-      alone s (ServesDead s dead (ByPort kept)) reply.HasOwners can.0 (λ r e. e) (λ r e. e) can.1
-      can.2 (dead_only false e)
+      alone _ _ reply.HasOwners can.0 (λ r. refl) can.1 can.2 (dead_only false e)

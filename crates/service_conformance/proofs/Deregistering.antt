@@ -5,6 +5,7 @@ use Rattle.std.proofs.lemmas.Bool.{eq-eqb, ne_eqb}
 use Rattle.iox2_container.specs.declared.container.release.ReleaseMode.TheVariants.{LockIfLastIndex}
 use Rattle.iox2_container.specs.declared.container.release.ReleaseState.{ReleaseState}
 use Rattle.iox2_container.specs.declared.container.release.ReleaseState.TheVariants as state
+use Rattle.iox2_container.specs.Changes.{Removes}
 use Rattle.iox2_container.specs.ContainerState.{container}
 use Rattle.iox2_container.specs.Handle.{Handle}
 use Rattle.iox2_container.specs.State.{Entry, RegistryState, IsRegistry}
@@ -25,7 +26,7 @@ use Rattle.service_conformance.specs.Entries.{with_left}
 use Rattle.service_conformance.specs.Possible.{ArePossible, reply_of_owners, reply_of_state}
 use Rattle.service_conformance.proofs.Possibles.{alone, not_both}
 use Rattle.service_conformance.proofs.Touching.{unread_ports, untouching}
-use Rattle.service_conformance.proofs.Removes.{can_remove, not_unknown}
+use Rattle.service_conformance.proofs.Removes.{can_remove, known}
 
 -- without a handle
 nothing_only : (s : Service) (r : Reply) (new : Service) → ServesDeregister s None r new
@@ -36,17 +37,15 @@ nothing_only s _ new so = absurd so
 pub nothing : (s : Service) → IsService s
     → ArePossible s (ServesDeregister s None) (possible.One reply.NoHandle)
 nothing s i =
-    alone s (ServesDeregister s None) reply.NoHandle s (λ r e. e) (λ r e. e) refl i (nothing_only s)
+    alone _ _ reply.NoHandle s (λ r. refl) refl i (nothing_only s)
 
 -- the entry of a handle is one
 pub one_details : {T : Type 0} (r : RegistryState T) (h : Handle) (a b : T) → IsRegistry r
     → HasEntry r h a → HasEntry r h b → a ≡ b
 one_details {T} r h a b k m n =
-    let x : Entry T = m.0 in
-    let y : Entry T = n.0 in
-    let tickets : x.ticket ≡ y.ticket = ap (λ (h : Handle). h.ticket) (sym m.1 ∙ n.1) in
-    let same : y ≡ x =
-    one_by_ticket r.entries m.3.0 n.3.0 x y k.tickets_differ m.3.1 n.3.1 tickets in
+    let same : n.0 ≡ m.0 =
+    one_by_ticket r.entries m.3.0 n.3.0 m.0 n.0 k.tickets_differ m.3.1 n.3.1
+    (ap (λ (h : Handle). h.ticket) (sym m.1 ∙ n.1)) in
     sym m.2 ∙ (ap (λ (e : Entry T). e.details) (sym same) ∙ n.2)
 
 -- what has an entry is not locked
@@ -88,20 +87,16 @@ owned false nodes.NoMoreOwners e =
 module _ (s : Service) (h : Handle) where
   unknown_only : IsUnknownHandle s.nodes.registry h → (r : Reply) (new : Service)
       → ServesDeregister s (Some h) r new → reply.NotOwned ≡ r
-  unknown_only u reply.HasOwners new so =
-      absurd (not_unknown s.nodes.registry h so.1.3.0 so.1.0 so.1.1 so.1.3.1 u)
-  unknown_only u reply.NoMoreOwners new so =
-      absurd (not_unknown s.nodes.registry h so.1.3.0 so.1.0 so.1.1 so.1.3.1 u)
-  unknown_only u reply.PortsAttached new so =
-      absurd (not_unknown s.nodes.registry h so.1.3.0 so.1.0 so.1.1 so.1.3.1 u)
+  unknown_only u reply.HasOwners new so = absurd (known s.nodes.registry h so.0 so.1 u)
+  unknown_only u reply.NoMoreOwners new so = absurd (known s.nodes.registry h so.0 so.1 u)
+  unknown_only u reply.PortsAttached new so = absurd (known s.nodes.registry h so.0 so.1 u)
   unknown_only u reply.NotOwned new so = refl
   unknown_only u _ new so = absurd so
 
   pub unknown : IsService s → IsUnknownHandle s.nodes.registry h
       → ArePossible s (ServesDeregister s (Some h)) (possible.One reply.NotOwned)
   unknown i u =
-      alone s (ServesDeregister s (Some h)) reply.NotOwned s (λ r e. e) (λ r e. e) (u, refl) i
-      (unknown_only u)
+      alone _ _ reply.NotOwned s (λ r. refl) (u, refl) i (unknown_only u)
 
   module _ (i : IsService s) (id : ℕ) (has : HasEntry s.nodes.registry h id) where
     -- whether it is the last of its node's ports, for whom it is named
@@ -117,15 +112,14 @@ module _ (s : Service) (h : Handle) where
     attached_only l reply.HasOwners new so = absurd (not_both _ l (last_is false so.0 so.1 so.2))
     attached_only l reply.NoMoreOwners new so = absurd (not_both _ l (last_is false so.0 so.1 so.2))
     attached_only l reply.PortsAttached new so = refl
-    attached_only l reply.NotOwned new so =
-        absurd (not_unknown s.nodes.registry h has.3.0 has.0 has.1 has.3.1 so.0)
+    attached_only l reply.NotOwned new so = absurd (known s.nodes.registry h id has so.0)
     attached_only l _ new so = absurd so
 
     pub attached : is_last_of_ports id s ≡ true
         → ArePossible s (ServesDeregister s (Some h)) (possible.One reply.PortsAttached)
     attached l =
-        alone s (ServesDeregister s (Some h)) reply.PortsAttached s (λ r e. e) (λ r e. e)
-        (id, has, l, unread_ports s.ports, refl) i (attached_only l)
+        alone _ _ reply.PortsAttached s (λ r. refl) (id, has, l, unread_ports s.ports, refl) i
+        (attached_only l)
 
     -- the answer is by the lock
     answered : (n : DeregisterNodeState) (new : RegistryState ℕ)
@@ -146,8 +140,7 @@ module _ (s : Service) (h : Handle) where
         (answered nodes.NoMoreOwners new.nodes.registry so.3.step ∙ ap release_state (sym e))
     owners_only b e l reply.PortsAttached new so =
         absurd (not_both _ (last_is true so.0 so.1 so.2) l)
-    owners_only b e l reply.NotOwned new so =
-        absurd (not_unknown s.nodes.registry h has.3.0 has.0 has.1 has.3.1 so.0)
+    owners_only b e l reply.NotOwned new so = absurd (known s.nodes.registry h id has so.0)
     owners_only b e l _ new so = absurd so
 
     pub leaves : (b : Bool) → b ≡ nat_eq (length s.nodes.registry.entries) 1
@@ -161,27 +154,16 @@ module _ (s : Service) (h : Handle) where
         locks old.registry has.3.0 has.0 i.nodes_are has.3.1 ∙ sym e in
         let new : Service = record s { nodes = container left old.touches } in
         let kept = leaving_kept s (container left old.touches) h id has l gone.0.0 gone.1 i in
+        let leaves : (state : ReleaseState) → state ≡ release_state left.locked
+        → Removes old h LockIfLastIndex (Ok state) (container left old.touches) =
+        λ state same. untouching _ old left (gone.0.0, same) gone.1 in
         (elim b as
         (λ b. left.locked ≡ b → b ≡ nat_eq (length s.nodes.registry.entries) 1
         → ArePossible s (ServesDeregister s (Some h)) (possible.One (reply_of_owners b))) [
-          | true ↦ λ k e. alone s (ServesDeregister s (Some h)) reply.NoMoreOwners new (λ r e. e)
-              (λ r e. e) (
-                id,
-                has,
-                l,
-                untouching _ old left (gone.0.0, sym (ap release_state k)) gone.1,
-                unread_ports s.ports,
-                refl,
-              )
-              kept (owners_only true e l)
-          | false ↦ λ k e. alone s (ServesDeregister s (Some h)) reply.HasOwners new (λ r e. e)
-              (λ r e. e) (
-                id,
-                has,
-                l,
-                untouching _ old left (gone.0.0, sym (ap release_state k)) gone.1,
-                unread_ports s.ports,
-                refl,
-              )
-              kept (owners_only false e l)
+          | true ↦ λ k e. alone _ _ reply.NoMoreOwners new (λ r. refl)
+              (id, has, l, leaves _ (sym (ap release_state k)), unread_ports s.ports, refl) kept
+              (owners_only true e l)
+          | false ↦ λ k e. alone _ _ reply.HasOwners new (λ r. refl)
+              (id, has, l, leaves _ (sym (ap release_state k)), unread_ports s.ports, refl) kept
+              (owners_only false e l)
         ]) locked e

@@ -1,5 +1,5 @@
 -- The one state that the recovery of a dead node leaves, where ports of some values stay.
-use Rattle.std.proofs.Common.{◌≡◌, ℕ, Bool, true, false, List, [], ◌∷◌, length, map, refl, sym, ◌∙◌, ap}
+use Rattle.std.proofs.Common.{◌≡◌, ℕ, Bool, true, false, List, [], ◌∷◌, length, map, refl, ◌∙◌, ap}
 use Rattle.std.specs.Prelude.{if◌then◌else◌, not, ◌&&◌, filter}
 use Rattle.std.specs.Global.{Vec}
 use Rattle.iox2_container.specs.declared.container.release.ReleaseMode.TheVariants.{Default, LockIfLastIndex}
@@ -45,8 +45,7 @@ answered kept f g (d ∷ ds) [] s = absurd s
 answered kept f g (d ∷ ds) (m ∷ ms) s =
     let one : m ≡ not (is_kept kept.items d) =
     s.1.2 ∙ (ap removes s.1.1.0 ∙ removed (is_kept kept.items d)) in
-    ap (λ (b : Bool). b ∷ ms) one
-    ∙ ap (λ (l : List Bool). not (is_kept kept.items d) ∷ l) (answered kept s.0 g ds ms s.2)
+    rw (one, answered kept s.0 g ds ms s.2) refl
 
 ports_left : (kept : Vec ℕ) (dead : ℕ) (old new : RegistryState PortDetails)
     (f g : List PortCleanupAction) (state : ReleaseState)
@@ -54,10 +53,9 @@ ports_left : (kept : Vec ℕ) (dead : ℕ) (old new : RegistryState PortDetails)
     → new ≡ without_ports dead kept.items old
 ports_left kept dead old new f g state s =
     s.recovers.0
-    ∙ ap (λ (es : List (Entry PortDetails)). record old { entries = es })
-    (staying_by (is_of node_of dead) (λ d. not (is_kept kept.items d)) s.marked old.entries
+    ∙ rw (staying_by (is_of node_of dead) (λ d. not (is_kept kept.items d)) s.marked old.entries
     (answered kept f g (asked_about (is_of node_of dead) old)
-    (marks_of (is_of node_of dead) s.marked old.entries) s.asked))
+    (marks_of (is_of node_of dead) s.marked old.entries) s.asked)) refl
 
 all_go : (f g : Unit {0}) (items : List ℕ) (marks : List Bool)
     → Asked {F = Unit {0}} (λ _ _ goes _. goes ≡ true) f items marks g
@@ -65,8 +63,7 @@ all_go : (f g : Unit {0}) (items : List ℕ) (marks : List Bool)
 all_go f g [] [] s = refl
 all_go f g [] (m ∷ ms) s = absurd s
 all_go f g (d ∷ ds) [] s = absurd s
-all_go f g (d ∷ ds) (m ∷ ms) s =
-    ap (λ (b : Bool). b ∷ ms) s.1 ∙ ap (λ (l : List Bool). true ∷ l) (all_go s.0 g ds ms s.2)
+all_go f g (d ∷ ds) (m ∷ ms) s = rw (s.1, all_go s.0 g ds ms s.2) refl
 
 pub and_true : (b : Bool) → (b && true) ≡ b
 and_true true = refl
@@ -111,33 +108,25 @@ dies s w dead kept answer (rest, st) =
     let has : has_ports_of dead w.ports ≡ has_ports_of dead (ports_at_rest F G) =
     ap (λ r. has_ports_of dead (ports_at_rest r w.ports.second.registry)) first
     ∙ ap (λ r. has_ports_of dead (ports_at_rest F r)) second in
-    let N = nodes_if (has_ports_of dead (ports_at_rest F G)) dead s.nodes.registry in
-    let left : w.nodes.registry ≡ N =
+    let left : w.nodes.registry
+    ≡ nodes_if (has_ports_of dead (ports_at_rest F G)) dead s.nodes.registry =
     nodes_left dead (has_ports_of dead w.ports) s.nodes w.nodes (state_of answer) st.nodes
     ∙ ap (λ b. nodes_if b dead s.nodes.registry) has in
-    ap quiet st.others
-    ∙ (ap (λ r. at_rest s.pattern r w.ports.first.registry w.ports.second.registry) left
-    ∙ (ap (λ r. at_rest s.pattern N r w.ports.second.registry) first
-    ∙ ap (λ r. at_rest s.pattern N F r) second))
+    ap quiet st.others ∙ rw (left, first, second) refl
 
-pub dead_leads : (s : Service) (dead : ℕ) (kept : Vec ℕ) (r : Reply)
+dead_leads : (s : Service) (dead : ℕ) (kept : Vec ℕ) (r : Reply)
     → LeadsTo (ServesDead s dead (ByPort kept)) r (after_dead s dead kept.items)
 dead_leads s dead kept reply.HasOwners = λ w so. dies s w dead kept nodes.HasOwners so
 dead_leads s dead kept reply.NoMoreOwners = λ w so. dies s w dead kept nodes.NoMoreOwners so
 dead_leads s dead kept _ = λ w so. absurd so
 
--- what is left, by the fields
-pub after_left : (s : Service) (dead : ℕ) (kept : List ℕ) (F G : RegistryState PortDetails)
-    (b : Bool)
-    → F ≡ without_ports dead kept s.ports.first.registry
-    → G ≡ without_ports dead kept s.ports.second.registry
+-- the same, by what is left
+pub dead_left : (s : Service) (dead : ℕ) (kept : Vec ℕ) (r : Reply)
+    (F G : RegistryState PortDetails) (b : Bool)
+    → F ≡ without_ports dead kept.items s.ports.first.registry
+    → G ≡ without_ports dead kept.items s.ports.second.registry
     → has_ports_of dead (ports_at_rest F G) ≡ b
-    → at_rest s.pattern (nodes_if b dead s.nodes.registry) F G ≡ after_dead s dead kept
-after_left s dead kept F G b first second e =
-    let after : Bool → RegistryState PortDetails → RegistryState PortDetails → Service =
-    λ b f g. at_rest s.pattern (nodes_if b dead s.nodes.registry) f g in
-    ap (λ b. after b F G) (sym e)
-    ∙ (ap (λ f. after (has_ports_of dead (ports_at_rest f G)) f G) first
-    ∙ ap (λ g. after (has_ports_of dead
-    (ports_at_rest (without_ports dead kept s.ports.first.registry) g))
-    (without_ports dead kept s.ports.first.registry) g) second)
+    → LeadsTo (ServesDead s dead (ByPort kept)) r
+    (at_rest s.pattern (nodes_if b dead s.nodes.registry) F G)
+dead_left s dead kept r F G b first second e =
+    rw (← e, first, second) (dead_leads s dead kept r)

@@ -9,7 +9,7 @@ use Rattle.std.proofs.lemmas.List.Kept.{AllPairs-filter}
 use Rattle.iox2_container.proofs.Removing.{nothing_left, locks_empty}
 use Rattle.iox2_container.specs.declared.container.release.ReleaseMode.{ReleaseMode}
 use Rattle.iox2_container.specs.State.{Entry, RegistryState, IsRegistry}
-use Rattle.iox2_container.specs.Steps.{candidates, entries_of, is_of, lock_after}
+use Rattle.iox2_container.specs.Steps.{candidates, entries_of, is_of}
 use Rattle.iox2_dynamic.specs.declared.dynamic_config.port_details.PortDetails.{PortDetails}
 use Rattle.iox2_dynamic.specs.Details.{node_of}
 use Rattle.iox2_dynamic.specs.Ports.{has_ports_of}
@@ -31,18 +31,6 @@ kept_filter {T} r mode p k = record {
       (λ l. ap length (k.locked_is_empty l))
       (omega (arith, length-filter_both p (λ e. not (p e)) (λ e. refl) r.entries)));
 }
-
--- the registry after some went, by the fields
-pub filtered_is : {T : Type 0} (s r : RegistryState T) (mode : ReleaseMode) (p : Entry T → Bool)
-    (l : List (Entry T)) (before left : ℕ) (locked : Bool) → s ≡ r → l ≡ filter p s.entries
-    → before ≡ length s.entries → left ≡ length l → locked ≡ lock_after mode before left s.locked
-    → record s { entries = l; locked = locked } ≡ with_left r mode (filter p r.entries)
-filtered_is {T} s r mode p l before left locked e i b n k =
-    ap (λ q. record s { entries = l; locked = q })
-    (k ∙ (ap (λ q. lock_after mode q left s.locked) b
-    ∙ ap (λ q. lock_after mode (length s.entries) q s.locked) n))
-    ∙ (ap (with_left s mode) i
-    ∙ ap (λ (q : RegistryState T). with_left q mode (filter p q.entries)) e)
 
 -- one port more, by whether it is one of the dead node and whether it is kept
 left_more : (b k : Bool) (e : Entry PortDetails) (left : List (Entry PortDetails)) (any : Bool)
@@ -81,8 +69,7 @@ some_left s dead kept first second e f =
     λ r. list_any (λ e. stays dead kept e.details) r.entries in
     let left : RegistryState PortDetails → Bool =
     λ r. nat_lt 0 (entries_of node_of dead (without_ports dead kept r)) in
-    let one : any first ≡ left s.ports.first.registry =
-    stays_left dead kept first.entries ∙ ap left e in
-    let other : any second ≡ left s.ports.second.registry =
-    stays_left dead kept second.entries ∙ ap left f in
-    ap (λ b. b || any second) one ∙ ap (λ b. left s.ports.first.registry || b) other
+    let same : (r : RegistryState PortDetails) → any r ≡ left r =
+    λ r. stays_left dead kept r.entries in
+    ap (λ b. b || any second) (same first ∙ ap left e)
+    ∙ ap (λ b. left s.ports.first.registry || b) (same second ∙ ap left f)

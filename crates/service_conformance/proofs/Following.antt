@@ -1,11 +1,11 @@
 -- The one state that a reply leaves.
-use Rattle.std.proofs.Common.{◌≡◌, ℕ, true, false, Option, Some, None, Result, Ok, Err, refl, ◌∙◌, ap, subst, inl, inr}
+use Rattle.std.proofs.Common.{◌≡◌, ℕ, true, false, Option, Some, None, Ok, Err, refl, ◌∙◌, ap, subst, inl, inr}
 use Rattle.iox2_config.specs.declared.hash.input.PatternKind.{PatternKind}
 use Rattle.iox2_container.specs.declared.container.role.Role.{Role}
 use Rattle.iox2_container.specs.Changes.{Adds, Removes}
 use Rattle.iox2_container.specs.ContainerState.{ContainerState}
 use Rattle.iox2_dynamic.specs.Details.{role_of}
-use Rattle.iox2_dynamic.specs.Ports.{Ports, OnSide, IsNeither, ReadsPorts, RemovesFrom}
+use Rattle.iox2_dynamic.specs.Ports.{Ports, OnSide, IsNeither, ReadsPorts}
 use Rattle.iox2_dynamic.specs.PortsState.{Side, of_side, other_side}
 use Rattle.iox2_dynamic.specs.PortsState.Side.{First, Second}
 use Rattle.iox2_dynamic.specs.Steps.{AddsPort, RemovesPort}
@@ -13,7 +13,6 @@ use Rattle.service_conformance.specs.declared.conformance.possible.Possible.{Pos
 use Rattle.service_conformance.specs.Possible.{Allows, ArePossible}
 use Rattle.service_conformance.specs.Sides.{role_at, ports_at}
 use Rattle.service_conformance.proofs.Sides.{has_role, lacks, one_side, step_at}
-use Rattle.iox2_container.specs.declared.container.refusal.ContainerRemoveError.{ContainerRemoveError}
 use Rattle.iox2_container.specs.declared.container.refusal.ContainerRemoveError.TheVariants.{ContainerHandleNotOwnedByContainer}
 use Rattle.iox2_container.specs.declared.container.refusal.ContainerAddFailure.TheVariants.{OutOfSpace}
 use Rattle.iox2_container.specs.declared.container.release.ReleaseMode.TheVariants.{Default, LockIfLastIndex}
@@ -30,22 +29,22 @@ use Rattle.service_conformance.specs.Entries.{MayGive}
 use Rattle.service_conformance.specs.Quiet.{CanServe, LeadsTo, Reports, at_rest, quiet, is_removal}
 use Rattle.service_conformance.proofs.Adds.{add_once, was_given}
 use Rattle.service_conformance.proofs.Quiet.{service_quiet}
+use Rattle.service_conformance.proofs.Releasing.{never}
 
 -- the one state that can be led to is a service
 pub one_kept : (Step : Reply → Service → Type 0) (r : Reply) (new : Service) → CanServe Step r
     → LeadsTo Step r new → IsService new
 one_kept Step r new can one = subst IsService (one can.0 can.1) (service_quiet can.0 can.2)
 
+leaves : (Step : Reply → Service → Type 0) (r : Reply) (new : Service) → CanServe Step r
+    → LeadsTo Step r new → LeadsTo Step r new × IsService new
+leaves Step r new can one = (one, one_kept Step r new can one)
+
 -- what is seen of a service, by its registries
 seen_as : (s w : Service) (m : RegistryState ℕ) (first second : RegistryState PortDetails)
     → w.pattern ≡ s.pattern → w.nodes.registry ≡ m → w.ports.first.registry ≡ first
     → w.ports.second.registry ≡ second → quiet w ≡ at_rest s.pattern m first second
-seen_as s w m first second p n f g =
-    let ports = w.ports in
-    ap (λ k. at_rest k w.nodes.registry ports.first.registry ports.second.registry) p
-    ∙ (ap (λ r. at_rest s.pattern r ports.first.registry ports.second.registry) n
-    ∙ (ap (λ r. at_rest s.pattern m r ports.second.registry) f
-    ∙ ap (λ r. at_rest s.pattern m first r) g))
+seen_as s w m first second p n f g = rw (p, n, f, g) refl
 
 -- the nodes have changed, and the ports were read
 by_search : (s w : Service) (m : RegistryState ℕ) → w.pattern ≡ s.pattern
@@ -85,13 +84,16 @@ module _ (s : Service) (rest : quiet s ≡ s) where
   deregister_stays h reply.NotOwned e = λ w so. ap quiet so.1 ∙ rest
   deregister_stays h _ e = λ w so. absurd so
 
-pub register_enters : (s : Service) (id : ℕ) (h : Handle) (m : RegistryState ℕ)
+pub register_enters : (s : Service) (id : ℕ) (h : Handle)
+    → CanServe (ServesRegister s id) (reply.Handle h) → (m : RegistryState ℕ)
     → AddStep s.nodes.registry id (Ok h) m → IsRegistry m
     → LeadsTo (ServesRegister s id) (reply.Handle h)
     (at_rest s.pattern m s.ports.first.registry s.ports.second.registry)
-register_enters s id h m step k = λ w so.
+    × IsService (at_rest s.pattern m s.ports.first.registry s.ports.second.registry)
+register_enters s id h can m step k =
+    leaves (ServesRegister s id) (reply.Handle h) _ can (λ w so.
     by_nodes s w m so.1 (add_once s.nodes.registry w.nodes.registry m id
-    (Ok h) so.0.step step so.0.kept k)
+    (Ok h) so.0.step step so.0.kept k))
 
 pub register_may : (s : Service) (id : ℕ) (h : Handle)
     → CanServe (ServesRegister s id) (reply.Handle h)
@@ -106,12 +108,10 @@ pub deregister_goes : (s : Service) (h : Handle) (r : Reply) (m : RegistryState 
     → RemoveStep s.nodes.registry h LockIfLastIndex (Ok state) new → new ≡ m)
     → LeadsTo (ServesDeregister s (Some h)) r
     (at_rest s.pattern m s.ports.first.registry s.ports.second.registry)
-deregister_goes s h reply.HasOwners m e gone =
-    λ w so. by_search s w m (ap (λ (n : Service). n.pattern) so.5)
-    (gone _ w.nodes.registry so.3.step) so.4
-deregister_goes s h reply.NoMoreOwners m e gone =
-    λ w so. by_search s w m (ap (λ (n : Service). n.pattern) so.5)
-    (gone _ w.nodes.registry so.3.step) so.4
+deregister_goes s h reply.HasOwners m e gone = λ w so.
+    by_search s w m (ap (λ n. n.pattern) so.5) (gone _ _ so.3.step) so.4
+deregister_goes s h reply.NoMoreOwners m e gone = λ w so.
+    by_search s w m (ap (λ n. n.pattern) so.5) (gone _ _ so.3.step) so.4
 deregister_goes s h reply.PortsAttached m e gone = absurd (let z : false ≡ true = e in cc)
 deregister_goes s h reply.NotOwned m e gone = absurd (let z : false ≡ true = e in cc)
 deregister_goes s h _ m e gone = λ w so. absurd so
@@ -171,17 +171,20 @@ module _ (s : Service) (d : PortDetails) where
   attach_nowhere h seen n = λ w so. absurd (lacks s.pattern (role_of d) n so.0)
 
   module _ (side : Side) (h : Handle) (role : role_of d ≡ role_at s.pattern side) where
-    pub attach_enters : (m : RegistryState PortDetails)
+    pub attach_enters : CanServe (ServesAdd s d) (reply.Handle h)
+        → (m : RegistryState PortDetails)
         → AddStep (ports_at s side).registry d (Ok h) m → IsRegistry m
         → LeadsTo (ServesAdd s d) (reply.Handle h) (at_side side s m)
-    attach_enters m step k = λ w so.
+        × IsService (at_side side s m)
+    attach_enters can m step k =
+        leaves (ServesAdd s d) (reply.Handle h) (at_side side s m) can (λ w so.
         let a = so.1.1.0 in
         let c = step_at s.pattern side s.ports w.ports (role_of d)
         (λ o n. Adds o d (Ok h) n) role a in
         by_ports side s w m (ap (λ (n : Service). n.pattern) so.1.1.2) so.1.1.1.0
         (add_once (ports_at s side).registry (ports_at w side).registry m d
         (Ok h) c.step step c.kept k)
-        (others_at s.pattern side s.ports w.ports (role_of d) (λ o n. Adds o d (Ok h) n) role a)
+        (others_at s.pattern side s.ports w.ports (role_of d) (λ o n. Adds o d (Ok h) n) role a))
 
     pub attach_may : CanServe (ServesAdd s d) (reply.Handle h)
         → TakesEntry (ports_at s side).registry × MayGive (ports_at s side).registry h
@@ -204,10 +207,7 @@ module _ (s : Service) (h : Handle) where
       by_ports a.side s w (ports_at s a.side).registry (ap (λ (n : Service). n.pattern) e)
       (ap (λ (n : Service). n.nodes.registry) e) a.step.step.1 a.others
       ∙ (same_side a.side s ∙ rest)
-  refused_removal rest w (inr a, e) =
-      ap quiet e
-      ∙ (ap (λ (p : Ports). at_rest s.pattern s.nodes.registry p.first.registry p.second.registry)
-      a.2 ∙ rest)
+  refused_removal rest w (inr a, e) = ap quiet e ∙ rw a.2 rest
 
   pub release_stays : quiet s ≡ s → (r : Reply) → is_removal r ≡ false
       → LeadsTo (ServesRelease s (Some h)) r s
@@ -215,19 +215,10 @@ module _ (s : Service) (h : Handle) where
   release_stays rest reply.NotOwned e = λ w so. refused_removal rest w so
   release_stays rest _ e = λ w so. absurd so
 
-  no_side : (state : ReleaseState) (new : Ports)
-      → IsNeither (first_role s.pattern) (second_role s.pattern) h.role
-      → RemovesFrom (first_role s.pattern) (second_role s.pattern) s.ports h (Ok state) new → ⊥
-  no_side state new n (inl a) =
-      lacks s.pattern h.role n (has_role s.pattern a.side h.role a.role_is)
-  no_side state new n (inr a) =
-      (let z : ◌≡◌ {A = Result ReleaseState ContainerRemoveError} (Ok state)
-      (Err ContainerHandleNotOwnedByContainer) = a.1 in cc)
-
   pub release_nowhere : (r : Reply) (seen : Service) → is_removal r ≡ true
       → IsNeither (first_role s.pattern) (second_role s.pattern) h.role
       → LeadsTo (ServesRelease s (Some h)) r seen
-  release_nowhere reply.Released seen e n = λ w so. absurd (no_side so.0 w.ports n so.1.0)
+  release_nowhere reply.Released seen e n = λ w so. absurd (never s h so.0 w.ports n so.1.0)
   release_nowhere reply.NotOwned seen e n = absurd (let z : false ≡ true = e in cc)
   release_nowhere _ seen e n = λ w so. absurd so
 

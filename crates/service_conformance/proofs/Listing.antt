@@ -76,9 +76,7 @@ module _ (s : Service) where
     pub lists_none : IsService s → LacksRole s role
         → ArePossible s (Reports s (ServesList s role)) (possible.One reply.WrongPattern)
     lists_none i n =
-        alone s (Reports s (ServesList s role)) reply.WrongPattern s (λ r e. e) (λ r e. e)
-        (n, refl) i
-        (list_lacks n)
+        alone _ _ reply.WrongPattern s (λ r. refl) (n, refl) i (list_lacks n)
 
     count_lacks : LacksRole s role → (r : Reply) (new : Service)
         → Reports s (ServesCount s role) r new → reply.WrongPattern ≡ r
@@ -90,9 +88,7 @@ module _ (s : Service) where
     pub counts_none : IsService s → LacksRole s role
         → ArePossible s (Reports s (ServesCount s role)) (possible.One reply.WrongPattern)
     counts_none i n =
-        alone s (Reports s (ServesCount s role)) reply.WrongPattern s (λ r e. e) (λ r e. e)
-        (n, refl) i
-        (count_lacks n)
+        alone _ _ reply.WrongPattern s (λ r. refl) (n, refl) i (count_lacks n)
 
     module _ (side : Side) (has : role ≡ role_at s.pattern side) where
       module _ (ports : Vec PortDetails)
@@ -130,6 +126,6 @@ module _ (s : Service) where
       pub counts : (n : ℕ) → IsService s → n ≡ length (ports_at s side).registry.entries
           → ArePossible s (Reports s (ServesCount s role)) (possible.One (reply.Count n))
       counts n i e =
-          alone s (Reports s (ServesCount s role)) (reply.Count n) s (λ r e. e) (λ r e. e)
+          alone _ _ (reply.Count n) s (λ r. refl)
           (of_role s.pattern side (λ r n. n ≡ length r.entries) s.ports role n has e, refl) i
           (counted n e)

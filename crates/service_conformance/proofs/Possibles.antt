@@ -22,12 +22,12 @@ not_both b t f = (let z : true ≡ false = sym t ∙ f in cc)
 
 -- one reply that is no list
 pub alone : (s : Service) (Step : Reply → Service → Type 0) (one : Reply) (new : Service)
-    → ((r : Reply) → IsSameReply one r → one ≡ r) → ((r : Reply) → one ≡ r → IsSameReply one r)
-    → Step one new → IsService new → ((r : Reply) (new : Service) → Step r new → one ≡ r)
+    → ((r : Reply) → IsSameReply one r ≡ (one ≡ r)) → Step one new → IsService new
+    → ((r : Reply) (new : Service) → Step r new → one ≡ r)
     → ArePossible s Step (possible.One one)
-alone s Step one new plain same step kept only = record {
-  can = λ r a. (new, subst (λ r. Step r new) (plain r a) step, kept);
-  only = λ r new so k. same r (only r new so);
+alone s Step one new plain step kept only = record {
+  can = λ r a. (new, subst (λ r. Step r new) (subst (λ (T : Type 0). T) (plain r) a) step, kept);
+  only = λ r new so k. subst (λ (T : Type 0). T) (sym (plain r)) (only r new so);
 }
 
 locked_only : (s : Service) (id : ℕ) → s.nodes.registry.locked ≡ true → (r : Reply) (new : Service)
@@ -69,9 +69,9 @@ registers s id None i takes = record {
   only = given_only s id takes;
 }
 registers s id (Some IsLocked) i l =
-    alone s (ServesRegister s id) reply.Locked s (λ r e. e) (λ r e. e)
+    alone _ _ reply.Locked s (λ r. refl)
     (untouching _ s.nodes s.nodes.registry (l, refl) i.nodes_are, refl) i (locked_only s id l)
 registers s id (Some OutOfSpace) i (l, full) =
-    alone s (ServesRegister s id) reply.Full s (λ r e. e) (λ r e. e)
+    alone _ _ reply.Full s (λ r. refl)
     (untouching _ s.nodes s.nodes.registry (l, full, refl) i.nodes_are, refl) i
     (full_only s id l full)

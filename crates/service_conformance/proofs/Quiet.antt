@@ -39,6 +39,9 @@ use Rattle.service_conformance.proofs.Touching.{changes, searches, searches_port
 abbrev quiet_ports : Ports → Ports
 quiet_ports p = ports_at_rest p.first.registry p.second.registry
 
+rest : {a b : ContainerState PortDetails} → a ≡ b → untouched a.registry ≡ untouched b.registry
+rest e = ap (λ (c : ContainerState PortDetails). untouched c.registry) e
+
 -- a change of one kind of ports
 module _ (Step : RegistryState PortDetails → RegistryState PortDetails → Type 0) (a b : Role) where
   at_side : (side : Side) (old new : Ports) (role : Role) → role ≡ of_side side a b
@@ -46,18 +49,10 @@ module _ (Step : RegistryState PortDetails → RegistryState PortDetails → Typ
       → of_side (other_side side) new.first new.second ≡ of_side
       (other_side side) old.first old.second
       → OnSide a b (quiet_ports old) role (λ o n. Changes Step o n) (quiet_ports new)
-  at_side First old new role e c o = record {
-    side = First;
-    role_is = e;
-    step = changes Step old.first new.first c;
-    others = ap (λ (c : ContainerState PortDetails). untouched c.registry) o;
-  }
-  at_side Second old new role e c o = record {
-    side = Second;
-    role_is = e;
-    step = changes Step old.second new.second c;
-    others = ap (λ (c : ContainerState PortDetails). untouched c.registry) o;
-  }
+  at_side First old new role e c o =
+      record { side = First; role_is = e; step = changes _ _ _ c; others = rest o }
+  at_side Second old new role e c o =
+      record { side = Second; role_is = e; step = changes _ _ _ c; others = rest o }
 
   on_side : (old new : Ports) (role : Role) → OnSide a b old role (λ o n. Changes Step o n) new
       → OnSide a b (quiet_ports old) role (λ o n. Changes Step o n) (quiet_ports new)
@@ -74,24 +69,12 @@ module _ (old new : Service) where
   deregisters : (handle : Option Handle) (r : Reply) → ServesDeregister old handle r new
       → ServesDeregister (quiet old) handle r (quiet new)
   deregisters None reply.NoHandle s = ap quiet s
-  deregisters (Some h) reply.HasOwners s = (
-    s.0,
-    s.1,
-    s.2,
-    changes _ old.nodes new.nodes s.3,
-    searches_ports old.ports new.ports s.4,
-    ap quiet s.5,
-  )
-  deregisters (Some h) reply.NoMoreOwners s = (
-    s.0,
-    s.1,
-    s.2,
-    changes _ old.nodes new.nodes s.3,
-    searches_ports old.ports new.ports s.4,
-    ap quiet s.5,
-  )
+  deregisters (Some h) reply.HasOwners s =
+      (s.0, s.1, s.2, changes _ _ _ s.3, searches_ports _ _ s.4, ap quiet s.5)
+  deregisters (Some h) reply.NoMoreOwners s =
+      (s.0, s.1, s.2, changes _ _ _ s.3, searches_ports _ _ s.4, ap quiet s.5)
   deregisters (Some h) reply.PortsAttached s =
-      (s.0, s.1, s.2, searches_ports old.ports new.ports s.3, ap quiet s.4)
+      (s.0, s.1, s.2, searches_ports _ _ s.3, ap quiet s.4)
   deregisters (Some h) reply.NotOwned s = (s.0, ap quiet s.1)
   deregisters _ _ s = absurd s
 

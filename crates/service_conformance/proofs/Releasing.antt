@@ -23,7 +23,7 @@ use Rattle.service_conformance.specs.Possible.{ArePossible}
 use Rattle.service_conformance.specs.Sides.{role_at, ports_at, with_ports_at}
 use Rattle.service_conformance.proofs.Possibles.{alone}
 use Rattle.service_conformance.proofs.Touching.{untouching}
-use Rattle.service_conformance.proofs.Removes.{can_remove, not_unknown}
+use Rattle.service_conformance.proofs.Removes.{can_remove, known, not_unknown}
 use Rattle.service_conformance.proofs.Sides.{has_role, lacks, ports_are, step_at, steps_at}
 
 nothing_only : (s : Service) (r : Reply) (new : Service) → ServesRelease s None r new
@@ -34,10 +34,10 @@ nothing_only s _ new so = absurd so
 pub nothing : (s : Service) → IsService s
     → ArePossible s (ServesRelease s None) (possible.One reply.NoHandle)
 nothing s i =
-    alone s (ServesRelease s None) reply.NoHandle s (λ r e. e) (λ r e. e) refl i (nothing_only s)
+    alone _ _ reply.NoHandle s (λ r. refl) refl i (nothing_only s)
 
 module _ (s : Service) (h : Handle) where
-  never : (state : ReleaseState) (new : Ports)
+  pub never : (state : ReleaseState) (new : Ports)
       → IsNeither (first_role s.pattern) (second_role s.pattern) h.role
       → RemovesFrom (first_role s.pattern) (second_role s.pattern) s.ports h (Ok state) new → ⊥
   never state new n (inl a) = lacks s.pattern h.role n (has_role s.pattern a.side h.role a.role_is)
@@ -54,8 +54,7 @@ module _ (s : Service) (h : Handle) where
   pub elsewhere : IsService s → IsNeither (first_role s.pattern) (second_role s.pattern) h.role
       → ArePossible s (ServesRelease s (Some h)) (possible.One reply.NotOwned)
   elsewhere i n =
-      alone s (ServesRelease s (Some h)) reply.NotOwned s (λ r e. e) (λ r e. e)
-      (inr (n, refl, refl), refl) i (elsewhere_only n)
+      alone _ _ reply.NotOwned s (λ r. refl) (inr (n, refl, refl), refl) i (elsewhere_only n)
 
   module _ (side : Side) (role : h.role ≡ role_at s.pattern side) where
     from_at : (answer : Result ReleaseState ContainerRemoveError) (new : Ports)
@@ -92,16 +91,15 @@ module _ (s : Service) (h : Handle) where
         (second_role s.pattern) s.ports h answer ports =
         inl (steps_at s.pattern side s.ports h.role (λ o n. Removes o h Default answer n) old role
         (untouching _ old old.registry (u, refl) (ports_are s side i).is_registry)) in
-        alone s (ServesRelease s (Some h)) reply.NotOwned (record s { ports = ports }) (λ r e. e)
-        (λ r e. e) (removes, refl) (release_kept s s.pattern ports h answer refl removes i)
-        (unknown_only u)
+        alone _ _ reply.NotOwned (record s { ports = ports }) (λ r. refl) (removes, refl)
+        (release_kept s s.pattern ports h answer refl removes i) (unknown_only u)
 
     module _ (d : PortDetails) (has : HasEntry (ports_at s side).registry h d) where
       released_only : (r : Reply) (new : Service) → ServesRelease s (Some h) r new
           → reply.Released ≡ r
       released_only reply.Released new so = refl
       released_only reply.NotOwned new so =
-          absurd (not_unknown (ports_at s side).registry h has.3.0 has.0 has.1 has.3.1
+          absurd (known (ports_at s side).registry h d has
           (removes_at (Err ContainerHandleNotOwnedByContainer) new so).step.0)
       released_only _ new so = absurd so
 
@@ -117,6 +115,6 @@ module _ (s : Service) (h : Handle) where
           (second_role s.pattern) s.ports h answer ports =
           inl (steps_at s.pattern side s.ports h.role (λ o n. Removes o h Default answer n)
           (container left old.touches) role (untouching _ old left gone.0 gone.1)) in
-          alone s (ServesRelease s (Some h)) reply.Released (record s { ports = ports }) (λ r e. e)
-          (λ r e. e) (release_state left.locked, (removes, refl))
+          alone _ _ reply.Released (record s { ports = ports }) (λ r. refl)
+          (release_state left.locked, (removes, refl))
           (release_kept s s.pattern ports h answer refl removes i) released_only

@@ -10,12 +10,11 @@ use Rattle.iox2_container.proofs.Keeping.{kept_remove, All-loss}
 use Rattle.iox2_container.proofs.Removing.{nothing_left, locks_empty}
 use Rattle.iox2_container.specs.declared.container.release.ReleaseMode.{ReleaseMode}
 use Rattle.iox2_container.specs.declared.container.release.ReleaseState.{ReleaseState}
-use Rattle.iox2_container.specs.declared.container.role.Role.{Role}
 use Rattle.iox2_container.specs.Handle.{Handle}
 use Rattle.iox2_container.specs.State.{Entry, RegistryState, IsRegistry, handle_of}
 use Rattle.iox2_container.specs.Steps.{InsertsOne, IsUnknownHandle, HasEntry, RemoveStep, lock_after, release_state}
 use Rattle.service_conformance.specs.Entries.{HasAt, IsAt, StandsAt, with_left}
-use Rattle.service_conformance.proofs.Rising.{Rise, one_gone}
+use Rattle.service_conformance.proofs.Rising.{one_gone}
 
 -- who has another service or role than the registry has no entry of it
 pub foreign_service : {T : Type 0} (r : RegistryState T) (handle : Handle)
@@ -37,13 +36,7 @@ foreign_all {T} r handle n =
 pub has_handle : {T : Type 0} (r : RegistryState T) (handle : Handle) (x : Entry T)
     → handle.service ≡ r.service → handle.role ≡ r.role → IsAt handle.slot handle.ticket x
     → handle ≡ handle_of r x
-has_handle {T} r handle x s o a =
-    let f : ℕ → Role → ℕ → ℕ → Handle =
-    λ i j k l. record { service = i; role = j; slot = k; ticket = l } in
-    ap (λ i. f i handle.role handle.slot handle.ticket) s
-    ∙ (ap (λ j. f r.service j handle.slot handle.ticket) o
-    ∙ (ap (λ k. f r.service r.role k handle.ticket) (sym a.0)
-    ∙ ap (λ l. f r.service r.role x.slot l) (sym a.1)))
+has_handle r handle x s o a = rw (← s, ← o, a.0, a.1) refl
 
 -- what went stood in its position
 abbrev pub gone : {T : Type 0} (es : List (Entry T)) (position : ℕ) (x : Entry T)
@@ -72,6 +65,10 @@ not_unknown {T} r handle rest x e g f =
     All-head P x g.after
     (All-back P g.before (x ∷ g.after) (subst (λ (l : List (Entry T)). All P l) g.new_is f)) e
 
+pub known : {T : Type 0} (r : RegistryState T) (handle : Handle) (details : T)
+    → HasEntry r handle details → IsUnknownHandle r handle → ⊥
+known r handle details has = not_unknown r handle has.3.0 has.0 has.1 has.3.1
+
 -- one removal leaves one registry, whatever it answers
 pub remove_once : {T : Type 0} (r n m : RegistryState T) (handle : Handle) (mode : ReleaseMode)
     (one two : ReleaseState) → IsRegistry r → RemoveStep r handle mode (Ok one) n
@@ -82,11 +79,9 @@ remove_once {T} r n m handle mode one two k s t =
     let g : InsertsOne n.entries r.entries x = s.0.2 in
     let j : InsertsOne m.entries r.entries y = t.0.2 in
     let slots : x.slot ≡ y.slot = ap (λ (q : Handle). q.slot) (sym s.0.1 ∙ t.0.1) in
-    let rises : Rise (g.before ++ x ∷ g.after) =
-    subst (λ (es : List (Entry T)). Rise es) g.new_is k.slots_rise in
     let entries : n.entries ≡ m.entries = g.old_is
-    ∙ (one_gone g.before g.after j.before j.after x y (sym g.new_is ∙ j.new_is) slots rises
-    ∙ sym j.old_is) in
+    ∙ (one_gone g.before g.after j.before j.after x y (sym g.new_is ∙ j.new_is) slots
+    (rw g.new_is at k.slots_rise) ∙ sym j.old_is) in
     s.0.3 ∙ (ap (with_left r mode) entries ∙ sym t.0.3)
 
 -- without one entry it is a registry still
@@ -111,30 +106,30 @@ pub can_remove : {T : Type 0} (r : RegistryState T) (handle : Handle) (mode : Re
 can_remove r handle mode details k has =
     (((has.0, has.1, has.3.1, refl), refl), kept_without r mode has.3.0 has.0 k has.3.1)
 
--- the entry in a position goes, and nothing else does
-pub only_gone : {T : Type 0} (r new : RegistryState T) (handle : Handle) (position : ℕ)
-    (mode : ReleaseMode)
-    (state : ReleaseState) → IsRegistry r → StandsAt r handle position
-    → RemoveStep r handle mode (Ok state) new
-    → new ≡ with_left r mode (remove r.entries position)
-only_gone {T} r new handle position mode state k s step =
-    let left = with_left r mode (remove r.entries position) in
-    remove_once r new left handle mode state (release_state left.locked) k step
-    ((s.0, s.2, gone r.entries position s.0 s.1, refl), refl)
+-- the registry after entries went, by the fields
+pub with_left_is : {T : Type 0} (s r : RegistryState T) (mode : ReleaseMode)
+    (f : List (Entry T) → List (Entry T)) (l : List (Entry T)) (before left : ℕ) (locked : Bool)
+    → s ≡ r → l ≡ f s.entries → before ≡ length s.entries → left ≡ length l
+    → locked ≡ lock_after mode before left s.locked
+    → record s { entries = l; locked = locked } ≡ with_left r mode (f r.entries)
+with_left_is s r mode f l before left locked e i b n k = rw (← e, k, b, n, i) refl
 
--- the registry after an entry went, by the fields
-pub with_left_is : {T : Type 0} (s r : RegistryState T) (position : ℕ) (mode : ReleaseMode)
-    (l : List (Entry T))
-    (before left : ℕ) (locked : Bool) → s ≡ r → l ≡ remove s.entries position
-    → before ≡ length s.entries
-    → left ≡ length l → locked ≡ lock_after mode before left s.locked
-    → record s { entries = l; locked = locked } ≡ with_left r mode (remove r.entries position)
-with_left_is {T} s r position mode l before left locked e i b n k =
-    ap (λ q. record s { entries = l; locked = q })
-    (k ∙ (ap (λ q. lock_after mode q left s.locked) b
-    ∙ ap (λ q. lock_after mode (length s.entries) q s.locked) n))
-    ∙ (ap (with_left s mode) i
-    ∙ ap (λ (q : RegistryState T). with_left q mode (remove q.entries position)) e)
+-- the entry in a position goes, and nothing else does
+pub only_gone : {T : Type 0} (s r : RegistryState T) (handle : Handle) (position : ℕ)
+    (mode : ReleaseMode) (l : List (Entry T)) (before left : ℕ) (locked : Bool)
+    → s ≡ r → IsRegistry s → StandsAt r handle position → l ≡ remove s.entries position
+    → before ≡ length s.entries → left ≡ length l → locked ≡ lock_after mode before left s.locked
+    → IsRegistry (record s { entries = l; locked = locked })
+    × ((state : ReleaseState) (new : RegistryState T)
+    → RemoveStep r handle mode (Ok state) new → new ≡ record s { entries = l; locked = locked })
+only_gone {T} s r handle position mode l before left locked e k at i b n j =
+    let there = gone r.entries position at.0 at.1 in
+    let registry : IsRegistry r = subst IsRegistry e k in
+    rw (with_left_is s r mode (λ es. remove es position) l before left locked e i b n j) (
+      kept_without r mode _ at.0 registry there,
+      λ state new step. remove_once r new _ handle mode state _ registry step
+          ((at.0, at.2, there, refl), refl),
+    )
 
 pub stands_at : {T : Type 0} (r : RegistryState T) (handle : Handle) (es : List (Entry T))
     (slot ticket position : ℕ) → handle.service ≡ r.service → handle.role ≡ r.role → es ≡ r.entries

@@ -2,17 +2,13 @@
 use Rattle.std.proofs.Common.{◌≡◌, ◌≢◌, ℕ, ◌^◌, ◌<◌, ◌+◌, Option, Some, None, List, [], ◌∷◌, ◌++◌, All, codes, map, refl, sym, ◌∙◌, ap, subst, arith, append_assoc, length, length-append, take, ◌-◌}
 use Rattle.std.specs.Fmt.{decimal}
 use Rattle.std.specs.Global.{Vec}
-use Rattle.std.specs.List.{flat_map}
 use Rattle.std.proofs.lemmas.Fmt.{decimal_injective}
 use Rattle.std.proofs.lemmas.List.{append_cancel_left, append-nil, take_at}
 use Rattle.std.proofs.lemmas.List.Elements.{All-cons, All-head, All-map, All-nil, All-tail}
-use Rattle.iox2_container.specs.declared.container.role.Role.{Role}
 use Rattle.iox2_container.specs.Handle.{Handle}
 use Rattle.iox2_container.specs.State.{Entry, RegistryState}
-use Rattle.iox2_container.specs.Steps.{listed}
 use Rattle.iox2_dynamic.specs.declared.dynamic_config.port_details.PortDetails.{PortDetails}
-use Rattle.iox2_dynamic.specs.Ports.{OfRole}
-use Rattle.iox2_dynamic.specs.Service.{Service, first_role, second_role}
+use Rattle.iox2_dynamic.specs.Service.{Service}
 use Rattle.line_streams.specs.Numerals.{cons_same}
 use Rattle.line_streams.specs.OneWay.{number_one}
 use Rattle.line_streams.specs.declared.end.LineEnd.TheVariants.{Bytes}
@@ -24,7 +20,7 @@ use Rattle.service_descriptions.specs.declared.replay.machine.reply.Reply.{Reply
 use Rattle.service_descriptions.specs.declared.replay.machine.reply.Reply.TheVariants as reply
 use Rattle.service_descriptions.specs.Handles.{named}
 use Rattle.service_descriptions.specs.Lines.{HasLine}
-use Rattle.service_descriptions.specs.Replies.{IsSameReply, id_word, port_word, text_of}
+use Rattle.service_descriptions.specs.Replies.{IsSameReply, text_of}
 use Rattle.service_descriptions.specs.Steps.{Serves, ServesDeregister, ServesRelease, handle_in}
 use Rattle.service_descriptions.proofs.Lines.{any_fits, any_number}
 use Rattle.service_conformance.specs.declared.conformance.possible.NextHandle.{NextHandle}
@@ -45,25 +41,13 @@ spaced slot ticket =
     ap (λ (l : List ℕ). codes "handle " ++ l)
     (append_assoc (decimal slot) (32 ∷ []) (decimal ticket))
 
--- handles that may be given and have one text are the same
-pub same_handle : {T : Type 0} (r : RegistryState T) (h k : Handle) → MayGive r h → MayGive r k
-    → h.slot < 2 ^ 64 → k.slot < 2 ^ 64 → text_of (reply.Handle h) ≡ text_of (reply.Handle k)
-    → h ≡ k
-same_handle r h k m n p q e =
-    let ends : (t : ℕ) → EndsNumber (32 ∷ decimal t) = λ t digit. omega arith in
-    let most = h.slot + k.slot in
-    let slots =
-    (number_one most).same (h.slot, 32 ∷ decimal h.ticket) (k.slot, 32 ∷ decimal k.ticket)
-    (omega arith, p, ends h.ticket) (omega arith, q, ends k.ticket)
-    (append_cancel_left (codes "handle ") (decimal h.slot ++ 32 ∷ decimal h.ticket)
-    (decimal k.slot ++ 32 ∷ decimal k.ticket)
-    (sym (spaced h.slot h.ticket) ∙ (e ∙ spaced k.slot k.ticket))) in
-    let f : ℕ → Role → ℕ → ℕ → Handle =
-    λ s o t i. record { service = s; role = o; slot = t; ticket = i } in
-    ap (λ s. f s h.role h.slot h.ticket) (m.service ∙ sym n.service)
-    ∙ (ap (λ o. f k.service o h.slot h.ticket) (m.role ∙ sym n.role)
-    ∙ (ap (λ t. f k.service k.role t h.ticket) slots.0
-    ∙ ap (λ i. f k.service k.role k.slot i) (m.ticket ∙ sym n.ticket)))
+-- handles of one slot that may be given are the same
+same_handle : {T : Type 0} (r : RegistryState T) (h k : Handle) → MayGive r h → MayGive r k
+    → h.slot ≡ k.slot → h ≡ k
+same_handle r h k m n e =
+    let same : k ≡ record { service = r.service; role = r.role; slot = h.slot; ticket = r.used } =
+    rw (e, ← n.service, ← n.role, ← n.ticket) refl in
+    rw (same, ← m.service, ← m.role, ← m.ticket) refl
 
 same_reply : (r : Reply) → IsSameReply r r
 same_reply (reply.Nodes ids) = refl
@@ -152,19 +136,14 @@ module _ {T : Type 0} (r : RegistryState T) (words : List ℕ) (fits : r.capacit
         ap (λ k. handle_words k next.ticket) is ∙ ap (handle_words slot) same ∙ told in (
           may,
           text,
-          λ other so e. same_handle r next other may so (omega (arith, may.fits, fits))
-              (omega (arith, so.fits, fits)) (text ∙ sym e),
+          λ other so e. same_handle r next other may so (is ∙ sym (parts_told other so e).0),
         )
 
 same_text : (one r : Reply) → IsSameReply one r → text_of one ≡ text_of r
 same_text (reply.Nodes ids) r e =
-    let a = is_nodes ids r e in
-    subst (λ r. text_of (reply.Nodes ids) ≡ text_of r) (sym a.1)
-    (ap (λ (l : List ℕ). codes "list" ++ flat_map id_word l) a.2)
+    let a = is_nodes ids r e in rw (a.1, ← a.2) refl
 same_text (reply.Ports ports) r e =
-    let a = is_ports ports r e in
-    subst (λ r. text_of (reply.Ports ports) ≡ text_of r) (sym a.1)
-    (ap (λ (l : List PortDetails). codes "list" ++ flat_map port_word l) a.2)
+    let a = is_ports ports r e in rw (a.1, ← a.2) refl
 same_text _ r e = ap text_of e
 
 pub same_given : (one r : Reply) → IsSameReply one r → handle_in one ≡ handle_in r
@@ -275,25 +254,11 @@ module _ (s : Service) (Step : Reply → Service → Type 0) where
   given_words part.Second next all is =
       by_registry part.Second next all s.ports.second.registry is (λ h m. m) (λ h m. m)
 
-no_deregister : (s new : Service) (h : Option Handle) (ids : Vec ℕ)
-    → ServesDeregister s h (reply.Nodes ids) new → ⊥
-no_deregister s new None ids so = so
-no_deregister s new (Some h) ids so = so
-
-no_release : (s new : Service) (h : Option Handle) (ids : Vec ℕ)
-    → ServesRelease s h (reply.Nodes ids) new → ⊥
-no_release s new None ids so = so
-no_release s new (Some h) ids so = so
-
-no_deregister_ports : (s new : Service) (h : Option Handle) (ports : Vec PortDetails)
-    → ServesDeregister s h (reply.Ports ports) new → ⊥
-no_deregister_ports s new None ports so = so
-no_deregister_ports s new (Some h) ports so = so
-
-no_release_ports : (s new : Service) (h : Option Handle) (ports : Vec PortDetails)
-    → ServesRelease s h (reply.Ports ports) new → ⊥
-no_release_ports s new None ports so = so
-no_release_ports s new (Some h) ports so = so
+-- what no handle has, given or not
+neither : (Has : Option Handle → Type 0) → ¬ (Has None) → ((h : Handle) → ¬ (Has (Some h)))
+    → (h : Option Handle) → ¬ (Has h)
+neither Has none some None = none
+neither Has none some (Some h) = some h
 
 module _ (s new : Service) (handles : List (Option Handle)) where
   nodes_step : (c : Command) → IsCovered c → (ids other : Vec ℕ) → ids.items ≡ other.items
@@ -302,10 +267,12 @@ module _ (s new : Service) (handles : List (Option Handle)) where
   nodes_step command.Nodes i ids other e so = (e ∙ so.0, so.1)
   nodes_step (command.Register id) i ids other e so = absurd so
   nodes_step (command.Deregister k) i ids other e so =
-      absurd (no_deregister s new (named handles k) other so)
+      absurd (neither (λ h. ServesDeregister s h (reply.Nodes other) new) (λ n. n) (λ h n. n)
+      (named handles k) so)
   nodes_step (command.Add d) i ids other e so = absurd so
   nodes_step (command.Release k) i ids other e so =
-      absurd (no_release s new (named handles k) other so)
+      absurd (neither (λ h. ServesRelease s h (reply.Nodes other) new) (λ n. n) (λ h n. n)
+      (named handles k) so)
   nodes_step (command.List role) i ids other e so = absurd so.0
   nodes_step (command.Count role) i ids other e so = absurd so.0
   nodes_step (command.Dead dead (ByPort kept)) i ids other e so = absurd so
@@ -317,15 +284,13 @@ module _ (s new : Service) (handles : List (Option Handle)) where
   ports_step command.Nodes i ports other e so = absurd so.0
   ports_step (command.Register id) i ports other e so = absurd so
   ports_step (command.Deregister k) i ports other e so =
-      absurd (no_deregister_ports s new (named handles k) other so)
+      absurd (neither (λ h. ServesDeregister s h (reply.Ports other) new) (λ n. n) (λ h n. n)
+      (named handles k) so)
   ports_step (command.Add d) i ports other e so = absurd so
   ports_step (command.Release k) i ports other e so =
-      absurd (no_release_ports s new (named handles k) other so)
-  ports_step (command.List role) i ports other e so = (
-    subst (λ l. OfRole (λ r items. items ≡ listed r) (first_role s.pattern)
-        (second_role s.pattern) s.ports role (Some l)) (sym e) so.0,
-    so.1,
-  )
+      absurd (neither (λ h. ServesRelease s h (reply.Ports other) new) (λ n. n) (λ h n. n)
+      (named handles k) so)
+  ports_step (command.List role) i ports other e so = (rw e so.0, so.1)
   ports_step (command.Count role) i ports other e so = absurd so.0
   ports_step (command.Dead dead (ByPort kept)) i ports other e so = absurd so
   ports_step _ i ports other e so = absurd i

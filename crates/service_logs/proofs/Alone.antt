@@ -9,9 +9,6 @@ use Rattle.service_logs.specs.Items.Item.{alone}
 use Rattle.service_logs.specs.Laws.{CallsAloneAreRuns, RepliesRun}
 use Rattle.service_logs.specs.Runs.{LogRun}
 
-cons_both : {A : Type 0} {x y : A} {xs ys : List A} → x ≡ y → xs ≡ ys → x ∷ xs ≡ y ∷ ys
-cons_both e f = cc
-
 replies_of : (first last : State) (calls : List Call) → LogRun first (map alone calls) last
     → RepliesRun first calls last
 replies_of first last [] e = record { replies = []; seen = refl; run = e }
@@ -19,7 +16,7 @@ replies_of first last (call ∷ calls) so =
     let more = replies_of so.0 last calls so.2 in
     record {
       replies = so.1.0 ∷ more.replies;
-      seen = cons_both so.1.1 more.seen;
+      seen = rw (so.1.1, more.seen) refl;
       run = (so.0, so.1.2, more.run);
     }
 

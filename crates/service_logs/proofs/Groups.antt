@@ -6,7 +6,7 @@ use Rattle.std.proofs.lemmas.Bool.{cases_order}
 use Rattle.std.proofs.lemmas.Grind.{drop_more_same, flat_map-append}
 use Rattle.std.proofs.lemmas.List.{append-nil, drop-set-lt, drop_all, get_or-drop, length-map, map-append, take_all, take_more, take_more_set}
 use Rattle.std.proofs.lemmas.List.Elements.{All-contains, All-map, All-weaker}
-use Rattle.call_orders.specs.Orders.{IsOrder, Leads, ReachedFrom}
+use Rattle.call_orders.specs.Orders.{Leads, ReachedFrom}
 use Rattle.iox2_container.specs.Steps.{listed}
 use Rattle.iox2_dynamic.specs.Service.{Service}
 use Rattle.service_descriptions.specs.Steps.{State}
@@ -20,7 +20,7 @@ use Rattle.service_logs.specs.Items.Item.{overlap}
 use Rattle.service_logs.specs.Logs.{FirstIsNot, IsGroupLine}
 use Rattle.service_logs.specs.Logs.Place.{in_group}
 use Rattle.service_logs.specs.Runs.{IsAttached, OverlapStep, numbered, numbered_call, with_indices}
-use Rattle.service_conformance.specs.Groups.{CountedStep, GroupStep, IsEarlier, MaybeStep, SeenCall, with_index}
+use Rattle.service_conformance.specs.Groups.{GroupStep, IsEarlier, MaybeStep, SeenCall, with_index}
 use Rattle.service_conformance.specs.Quiet.{quiet_state}
 use Rattle.service_conformance.proofs.QuietGroups.{leads_counted, leads_quiet}
 use Rattle.service_logs.proofs.Lists.{from_map, some_of, to_map}
@@ -51,11 +51,10 @@ begun_more notes gs g = simp (flat_map-append, append-nil, append_assoc) refl
 pub same_at : (olds now : List State) (i : ℕ) (d : State) → drop i now ≡ drop i olds
     → get_or now i d ≡ get_or olds i d
 same_at olds now i d e =
-    let left = get_or-drop i now 0 d in
-    let right = get_or-drop i olds 0 d in
-    let at : i + 0 ≡ i = omega arith in
-    subst (λ (k : ℕ). get_or now k d ≡ get_or olds k d) at
-    (sym left ∙ (ap (λ (l : List State). get_or l 0 d) e ∙ right))
+    let here : i + 0 ≡ i = omega arith in
+    rw (← here)
+    (sym (get_or-drop i now 0 d)
+    ∙ (ap (λ (l : List State). get_or l 0 d) e ∙ get_or-drop i olds 0 d))
 
 pub held_more : (olds now : List State) (i : ℕ) (d new : State) → i < length now
     → length now ≡ length olds → take i now ≡ map with_index (take i olds)
@@ -108,8 +107,8 @@ calls_more olds news held lines rest after calls call n k number has short one n
     are_grouped = All-push IsGrouped has.gs one.g has.begun.are_grouped one.is_grouped;
     spelled = subst (λ (ls : List (List ℕ)). codes "overlap" ++ 10 ∷ lines
         ≡ text_of_lines ls ++ after) (sym (begun_more has.begun.notes has.gs one.g))
-        (lines_below (codes "overlap" ++ 10 ∷ lines) rest after
-        (begun_lines has.begun.notes has.gs) (grouped_lines one.g) has.begun.spelled one.spelled);
+        (lines_below _ rest after (begun_lines has.begun.notes has.gs) (grouped_lines one.g)
+        has.begun.spelled one.spelled);
     counted =
         let more = ap length (begun_more has.begun.notes has.gs one.g) in
         let both = length-append (begun_lines has.begun.notes has.gs) (grouped_lines one.g) in
@@ -179,22 +178,15 @@ module _ (olds held : List State) (lines rest : List ℕ) (calls : List SeenCall
   pub reached_counts : (new : State) → Reached new
       → (old : State) × Contains olds old × OverlapStep has.gs old new
   reached_counts new (from, among, (order, is, leads)) =
-      let found = from_map (with_indices (length has.gs)) olds from
-      (subst (λ (l : List State). Contains l from) has.now among) in
-      let old = found.0 in
-      let counted : Leads (CountedStep calls) (with_indices (length has.gs) old) order new =
-      leads_counted calls (with_indices (length has.gs) old) new order (held_quiet old found.1)
-      (subst (λ (s : State). Leads (GroupStep calls) s order new) found.2 leads) in (
-        old,
+      let found = from_map (with_indices (length has.gs)) olds from (rw has.now at among) in
+      let counted = leads_counted calls (with_indices (length has.gs) found.0) new order
+      (held_quiet found.0 found.1) (rw found.2 at leads) in (
+        found.0,
         found.1,
         (
           order,
-          subst (λ (cs : List SeenCall). IsOrder (IsEarlier cs)
-              (range_with_len 0 (length has.gs)) order) (numbers old found.1)
-              (subst (λ (i : ℕ). IsOrder (IsEarlier calls) (range_with_len 0 i) order) has.many
-              is),
-          subst (λ (cs : List SeenCall). Leads (CountedStep cs)
-              (with_indices (length has.gs) old) order new) (numbers old found.1) counted,
+          rw (has.many, numbers found.0 found.1) at is,
+          rw (numbers found.0 found.1) at counted,
         ),
       )
 
@@ -202,27 +194,20 @@ module _ (olds held : List State) (lines rest : List ℕ) (calls : List SeenCall
       → Reached (quiet_state new)
   counted_reached old new among (order, is, leads) = (
     with_indices (length has.gs) old,
-    subst (λ (l : List State). Contains l (with_indices (length has.gs) old)) (sym has.now)
-        (to_map (with_indices (length has.gs)) olds old among),
+    rw has.now (to_map (with_indices (length has.gs)) olds old among),
     (
       order,
-      subst (λ (i : ℕ). IsOrder (IsEarlier calls) (range_with_len 0 i) order) (sym has.many)
-          (subst (λ (cs : List SeenCall). IsOrder (IsEarlier cs)
-          (range_with_len 0 (length has.gs)) order) (sym (numbers old among)) is),
-      subst (λ (s : State). Leads (GroupStep calls) s order (quiet_state new))
-          (held_quiet old among)
+      rw (← numbers old among, ← has.many) at is,
+      rw (held_quiet old among) at
           (leads_quiet calls (with_indices (length has.gs) old) new order
-          (subst (λ (cs : List SeenCall). Leads (CountedStep cs)
-          (with_indices (length has.gs) old) order new) (sym (numbers old among)) leads)),
+          (rw (← numbers old among) at leads)),
     ),
   )
 
   pub reached_rests : (new : State) → Reached new → IsQuiet new
   reached_rests new (from, among, (order, is, leads)) =
-      let found = from_map (with_indices (length has.gs)) olds from
-      (subst (λ (l : List State). Contains l from) has.now among) in
-      leads_rests calls from new order
-      (subst IsQuiet (sym found.2) (held_quiet found.0 found.1)) leads
+      let found = from_map (with_indices (length has.gs)) olds from (rw has.now at among) in
+      leads_rests calls from new order (rw found.2 (held_quiet found.0 found.1)) leads
 
   pub group_leads : (news : List State) → All Reached news
       → ((new : State) → Reached new → Contains news new)
@@ -295,8 +280,8 @@ fewer n most other = elim (cases_order n 8) as (λ _. n < 8) [
 pub written : (new items : List State) (len : ℕ) → length new ≡ length items → len ≡ length items
     → take len (new ++ drop (length new) items) ≡ new
 written new items len long e =
-    ap (λ (l : List State). take len (new ++ l)) (drop_all (length new) items (omega (arith, long)))
-    ∙ (ap (take len) (append-nil new) ∙ take_all len new (omega (arith, long, e)))
+    rw (drop_all (length new) items (omega (arith, long)), append-nil new)
+    (take_all len new (omega (arith, long, e)))
 
 module _ (olds news : List State) (lines rest : List ℕ) (calls : List SeenCall) (k above : ℕ)
     (has : HasCalls olds lines calls k rest news) (short : length calls < 8)
@@ -329,15 +314,8 @@ module _ (olds news : List State) (lines rest : List ℕ) (calls : List SeenCall
       lacks.1,
     ),
     has.begun.spelled
-        ∙ (ap (λ (l : List ℕ). text_of_lines (begun_lines has.begun.notes has.gs) ++ l) lacks.3
-        ∙ sym (append_assoc (text_of_lines (begun_lines has.begun.notes has.gs))
+        ∙ rw lacks.3 (sym (append_assoc (text_of_lines (begun_lines has.begun.notes has.gs))
         (caller_text lacks.0) lacks.2)),
     (lacks.4.0, lacks.4.1, omega (arith, lacks.4.2, has.begun.counted)),
   )
-  lacks_member (verdict.BadLine n expected.Service) lacks = absurd lacks
-  lacks_member (verdict.BadLine n expected.Command) lacks = absurd lacks
-  lacks_member (verdict.BadLine n expected.GroupEnd) lacks = absurd lacks
-  lacks_member (verdict.Conforms n m) lacks = absurd lacks
-  lacks_member (verdict.NoRun told) lacks = absurd lacks
-  lacks_member (verdict.NoOrder told) lacks = absurd lacks
-  lacks_member (verdict.TooManyStates n) lacks = absurd lacks
+  lacks_member _ lacks = absurd lacks

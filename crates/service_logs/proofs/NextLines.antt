@@ -4,6 +4,7 @@ use Rattle.std.proofs.lemmas.Fmt.{decimal_nonempty}
 use Rattle.std.proofs.lemmas.List.{append_cancel_left, get_or_append_left}
 use Rattle.std.proofs.lemmas.Option.{slice_get_within}
 use Rattle.std.proofs.lemmas.List.Elements.{All-contains}
+use Rattle.iox2_container.proofs.Gaining.{All-back}
 use Rattle.line_streams.specs.Numerals.{decimal_first, same_number}
 use Rattle.line_streams.specs.Spelling.{EndsNumber, HasNo}
 use Rattle.service_descriptions.specs.declared.replay.lines.service_line.ServiceLine.{ServiceLine}
@@ -15,7 +16,7 @@ use Rattle.service_descriptions.specs.Script.{IsServiceLine, service_line}
 use Rattle.service_logs.specs.declared.logs.services.NamedCheck.{NamedCheck}
 use Rattle.service_logs.specs.Logs.{BeginsItem, FirstIsNot, IsNamed, IsNew, IsNext, LogService, name_text, number_text}
 use Rattle.service_logs.specs.Services.{LacksName, LacksNumber, NamesCheck}
-use Rattle.service_logs.proofs.ServiceChecks.{AreChecksOf, all_back, all_fit, all_new, same_length}
+use Rattle.service_logs.proofs.ServiceChecks.{AreChecksOf, all_fit, all_new, same_length}
 
 abbrev first_byte : List ℕ → ℕ
 first_byte bytes = get_or bytes 0 0
@@ -34,12 +35,8 @@ command_first _ x p = absurd p
 
 begin_first : (begin x : List ℕ) → BeginsItem begin
     → (96 < first_byte (begin ++ x)) × (first_byte (begin ++ x) < 115)
-begin_first begin x (inl (command, has, e)) =
-    subst (λ (l : List ℕ). (96 < first_byte (l ++ x)) × (first_byte (l ++ x) < 115)) (sym e)
-    (command_first command x has)
-begin_first begin x (inr e) =
-    subst (λ (l : List ℕ). (96 < first_byte (l ++ x)) × (first_byte (l ++ x) < 115)) (sym e)
-    (lit< tt, lit< tt)
+begin_first begin x (inl (command, has, e)) = rw e (command_first command x has)
+begin_first begin x (inr e) = rw e (lit< tt, lit< tt)
 
 number_first : (n : ℕ) (x : List ℕ) → n < 2 ^ 64 → first_byte (number_text n ++ x) < 58
 number_first n x fits =
@@ -72,7 +69,7 @@ not_next ss bytes no_service no_item line rest whole e (inl (service, is, new, f
     no_service service rest is new (e ∙ ap (λ (l : List ℕ). l ++ 10 ∷ rest) f)
 not_next ss bytes no_service no_item line rest whole e (inr (name, named, is, begin, begins, f)) =
     no_item name named begin rest is begins
-    (all_back (λ b. b ≢ 10) (name_text name) begin (subst (HasNo 10) f whole))
+    (All-back (λ b. b ≢ 10) (name_text name) begin (subst (HasNo 10) f whole))
     (e ∙ (ap (λ (l : List ℕ). l ++ 10 ∷ rest) f
     ∙ append_assoc (name_text name) begin (10 ∷ rest)))
 

@@ -81,8 +81,7 @@ service_spelled : (log text line after rest lines : List ℕ) (below : List (Lis
     → log ≡ text ++ rest → rest ≡ line ++ 10 ∷ lines → lines ≡ text_of_lines below ++ after
     → log ≡ (text ++ text_of_lines (line ∷ below)) ++ after
 service_spelled log text line after rest lines below e f g =
-    simp append_assoc
-    (e ∙ ap (λ (xs : List ℕ). text ++ xs) (f ∙ ap (λ (xs : List ℕ). line ++ 10 ∷ xs) g))
+    simp append_assoc (e ∙ rw (f, g) refl)
 
 explained_service : (log : List ℕ) (at count : ℕ) (rest : List ℕ) (checks : List NamedCheck)
     (so : Explained log at count rest checks) (line : ServiceLine) (lines : List ℕ) (k calls : ℕ)
@@ -100,13 +99,12 @@ explained_service log at count rest checks so line lines k calls after new is e 
       (all_new line.number so.services checks so.stand has.is_new) has.below has.are_below);
   spelled = service_spelled log so.text (service_line line) after rest lines has.below so.spelled e
       has.spelled;
-  stand = subst (AreChecksOf (so.services ++ record { line = line; items = [] } ∷ [])) (sym has.now)
+  stand = rw has.now
       (checks_push so.services checks (record { line = line; items = [] }) has.c so.stand
       (record {
         number = has.number;
         fits = is.number;
-        stands = subst (Stands (first_state line) []) (sym has.states)
-            (stands_none (first_state line) refl);
+        stands = rw has.states (stands_none (first_state line) refl);
       }));
   counted = omega (arith, so.counted, has.no_call, as_many_calls so.services line);
   ends = has.ends;
@@ -129,17 +127,16 @@ explained_item log at count rest checks so index lines k calls after new names g
     record {
       text = so.text ++ item_text name.0 item;
       services = with_one;
-      is_log = subst (λ n. IsLog (so.text ++ item_text name.0 item) n with_one)
-          (omega (arith, has.counted))
-          (log_item so.text at found.front found.named found.back
-          (subst (λ (l : List LogService). IsLog so.text at l) found.split so.is_log) name.0
+      is_log = rw has.counted
+          (log_item so.text at found.front found.named found.back (rw found.split at so.is_log)
+          name.0
           (subst (λ (l : List LogService). IsNamed name.0 l found.named) found.split name.1)
           item has.is_item);
       spelled = so.spelled
           ∙ (ap (λ (xs : List ℕ). so.text ++ xs) name.2
           ∙ (ap (λ (xs : List ℕ). so.text ++ (name_text name.0 ++ xs)) has.spelled
           ∙ simp append_assoc));
-      stand = subst (AreChecksOf with_one) (sym goes.now)
+      stand = rw goes.now
           (found.others (with_item found.named item) goes.d
           (record {
             number = goes.number ∙ found.is.number;

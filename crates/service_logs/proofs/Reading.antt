@@ -8,7 +8,6 @@ use Rattle.line_streams.specs.Numerals.{cons_same}
 use Rattle.line_streams.specs.OneWay.{before_one}
 use Rattle.line_streams.specs.Spelling.{HasNo}
 use Rattle.service_descriptions.specs.declared.replay.machine.command.Command.{Command}
-use Rattle.service_descriptions.specs.Lines.{line_of}
 use Rattle.service_descriptions.proofs.Scripts.{shorter}
 use Rattle.service_logs.specs.Fronts.{HasHead, HasNotes, IsAfterNote}
 use Rattle.service_logs.specs.Items.{Call, Grouped, IsCall, IsCommandLine, IsNote, call_lines, caller_text, grouped_lines, reply_seen, text_of_lines}
@@ -74,9 +73,7 @@ module _ (lines : List ℕ) (command : Command) (words : List ℕ) (between : �
   pub call_spelled : lines ≡ text_of_lines (call_lines call_read) ++ rest
   call_spelled =
       simp (flat_map-append, append_assoc)
-      (head.spelled
-      ∙ ap (λ (xs : List ℕ). line_of command ++ 10 ∷ (text_of_lines head.notes
-      ++ (reply_seen words ++ 10 ∷ xs))) notes.spelled)
+      (head.spelled ∙ rw notes.spelled refl)
 
   pub call_counted : length (call_lines call_read) ≡ between + below + 2
   call_counted =
@@ -88,7 +85,7 @@ module _ (lines : List ℕ) (command : Command) (words : List ℕ) (between : �
     member_read = record { caller = caller; call = call_read }
 
     pub member_spelled : whole ≡ text_of_lines (grouped_lines member_read) ++ rest
-    member_spelled = e ∙ ap (λ (xs : List ℕ). caller_text caller ++ xs) call_spelled
+    member_spelled = e ∙ rw call_spelled refl
 
     pub member_counted : length (grouped_lines member_read) ≡ between + below + 2
     member_counted =

@@ -1,9 +1,9 @@
 -- Texts that are appended in parts.
-use Rattle.std.proofs.Common.{◌≡◌, ℕ, List, ◌++◌, ◌∙◌, ap, append_assoc}
+use Rattle.std.proofs.Common.{◌≡◌, ℕ, List, ◌++◌, ◌∙◌, append_assoc}
 
 pub two_parts : (old a b p q : List ℕ) → a ≡ old ++ p → b ≡ a ++ q → b ≡ old ++ (p ++ q)
 two_parts old a b p q e f =
-    f ∙ (ap (λ (xs : List ℕ). xs ++ q) e ∙ append_assoc old p q)
+    f ∙ rw e (append_assoc old p q)
 
 pub four_parts : (old a b c d p q r s : List ℕ) → a ≡ old ++ p → b ≡ a ++ q → c ≡ b ++ r
     → d ≡ c ++ s → d ≡ old ++ (p ++ (q ++ (r ++ s)))

@@ -52,8 +52,7 @@ item_quiet old new (overlap notes gs below) step =
     let from = with_indices (length gs) old in (
       step.0,
       step.1,
-      subst (λ (s : State). Leads (CountedStep calls) s step.0 (quiet_state new))
-          (quiet_held (length gs) old)
+      rw (quiet_held (length gs) old) at
           (leads_counted calls (quiet_state from) (quiet_state new) step.0 refl
           (leads_quiet calls from new step.0 step.2)),
     )

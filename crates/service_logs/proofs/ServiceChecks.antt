@@ -3,6 +3,7 @@ use Rattle.std.proofs.Common.{◌≡◌, ◌≢◌, ℕ, zero, suc, ◌<◌, ◌
 use Rattle.std.specs.List.{slice_get}
 use Rattle.std.proofs.lemmas.Option.{none-some}
 use Rattle.std.proofs.lemmas.List.Elements.{All-cons, All-contains, All-contains_itself, All-head, All-nil, All-tail}
+use Rattle.iox2_container.proofs.Gaining.{All-back}
 use Rattle.service_descriptions.specs.Script.{first_state}
 use Rattle.service_logs.specs.declared.logs.services.NamedCheck.{NamedCheck}
 use Rattle.service_logs.specs.Logs.{AreRuns, IsNamed, IsNew, LogService, name_text}
@@ -90,15 +91,11 @@ service_at (r ∷ ss) (d ∷ cs) (suc at) c p e =
       others = λ s f q. (p.0, rest.others s f q);
     }
 
-pub all_back : {X : Type 0} (P : X → Type 0) (xs ys : List X) → All P (xs ++ ys) → All P ys
-all_back P [] ys h = h
-all_back P (x ∷ xs) ys h = all_back P xs ys (All-tail P x (xs ++ ys) h)
-
 pub service_among : (ss front back : List LogService) (named : LogService)
     → ss ≡ front ++ named ∷ back → Contains ss named
 service_among ss front back named e =
     let all = subst (λ (l : List LogService). All (Contains ss) l) e (All-contains_itself ss) in
-    All-head (Contains ss) named back (all_back (Contains ss) front (named ∷ back) all)
+    All-head (Contains ss) named back (All-back (Contains ss) front (named ∷ back) all)
 
 pub none_among : (named : LogService) → ¬ (Contains [] named)
 none_among named h =

@@ -1,15 +1,11 @@
-use Rattle.std.proofs.Common.{◌≡◌, ◌≢◌, List, [], ◌∷◌, ◌++◌, All, refl, subst, ◌∙◌, ap, arith, rules}
+use Rattle.std.proofs.Common.{◌≡◌, refl, arith, rules}
 use Rattle.service_descriptions.specs.Script.{first_state}
-use Rattle.service_descriptions.specs.Steps.{State}
-use Rattle.service_logs.specs.declared.logs.services.NamedCheck.{NamedCheck}
-use Rattle.service_logs.specs.Services.{HasNumber}
 use Rattle.service_logs.proofs.logs.begin_service.Goals as goal
 
 pub returns-in_default-clause-none : goal.returns-in_default-clause-none
 returns-in_default-clause-none c = (
   c.in_default.field-0,
-  subst (λ (cs : List NamedCheck). HasNumber cs c.args.service.now.number c.in_default.field-0)
-      c.deref.ensures.value c.in_default.ensures.some,
+  rw c.deref.ensures.value at c.in_default.ensures.some,
 )
 
 pub returns-clause-some : goal.returns-clause-some
@@ -17,9 +13,7 @@ returns-clause-some c =
     let notes = c.after_notes-below.ensures.notes in
     let same : c.new.result ≡ first_state c.args.service.now = search rules in
     record {
-      is_new = subst (λ (cs : List NamedCheck).
-          All (λ (d : NamedCheck). d.number ≢ c.args.service.now.number) cs)
-          c.deref.ensures.value c.in-None.ensures.none;
+      is_new = rw c.deref.ensures.value at c.in-None.ensures.none;
       below = notes.notes;
       are_below = notes.are_notes;
       spelled = notes.spelled;
@@ -28,8 +22,6 @@ returns-clause-some c =
       ends = c.after_notes-below.ensures.all;
       c = record { number = c.args.service.now.number; states = c.push.new.self };
       number = refl;
-      states = c.in_ok-push.ensures.items
-          ∙ (ap (λ (l : List State). l ++ c.new.result ∷ []) c.new-states.ensures.items
-          ∙ ap (λ (s : State). s ∷ []) same);
+      states = rw (c.in_ok-push.ensures.items, c.new-states.ensures.items, same) refl;
       now = c.in_ok-push-2.ensures.items;
     }

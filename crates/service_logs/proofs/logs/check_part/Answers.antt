@@ -1,5 +1,4 @@
-use Rattle.std.proofs.Common.{◌≡◌, ◌≢◌, [], length, refl, ◌∙◌, ap, subst, inl, inr, rules, arith}
-use Rattle.service_logs.specs.Services.{LacksName, NamesCheck}
+use Rattle.std.proofs.Common.{◌≡◌, ◌≢◌, [], length, refl, ◌∙◌, ap, inl, inr, rules, arith}
 use Rattle.service_logs.proofs.NextLines.{names_fit, nothing}
 use Rattle.service_logs.proofs.logs.check_part.Goals as goal
 
@@ -19,17 +18,15 @@ returns-in_default-service_of-clause-none c =
     let len = c.deref.ensures.len in absurd (search rules)) in
     inr (inr (inl (
       λ line rest fits e. c.in_default.ensures (line, rest) fits e,
-      subst (λ cs. LacksName cs c.args.lines.now) c.deref.ensures.value
-          c.in_default-service_of.ensures.none,
+      rw c.deref.ensures.value at c.in_default-service_of.ensures.none,
       some,
       refl,
     )))
 
 pub check_item_at-requires-clause-there : goal.check_item_at-requires-clause-there
 check_item_at-requires-clause-there c =
-    (names_fit c.args.checks.now.items c.args.lines.now c.in-Some-service_of.item.now
-    c.in-Some-service_of.at (subst (λ cs. NamesCheck cs c.args.lines.now c.in-Some-service_of.at
-    c.in-Some-service_of.item.now) c.deref.ensures.value c.in-Some-service_of.ensures.some)).0
+    (names_fit c.args.checks.now.items _ _ _
+    (rw c.deref.ensures.value at c.in-Some-service_of.ensures.some)).0
 
 pub check_item_at-requires-clause-fits : goal.check_item_at-requires-clause-fits
 check_item_at-requires-clause-fits c =
@@ -41,8 +38,7 @@ pub returns-in-Ok-clause-part : goal.returns-in-Ok-clause-part
 returns-in-Ok-clause-part c = inr (
   c.in-Some-service_of.at,
   c.in-Some-service_of.item.now,
-  subst (λ cs. NamesCheck cs c.args.lines.now c.in-Some-service_of.at
-      c.in-Some-service_of.item.now) c.deref.ensures.value c.in-Some-service_of.ensures.some,
+  rw c.deref.ensures.value at c.in-Some-service_of.ensures.some,
   rw c.in-Ok.is at c.in_ok-part-2.ensures.item,
 )
 
@@ -59,8 +55,7 @@ returns-in-Err-clause-none c = inr (inr (inr (
   (
     c.in-Some-service_of.at,
     c.in-Some-service_of.item.now,
-    subst (λ cs. NamesCheck cs c.args.lines.now c.in-Some-service_of.at
-        c.in-Some-service_of.item.now) c.deref.ensures.value c.in-Some-service_of.ensures.some,
+    rw c.deref.ensures.value at c.in-Some-service_of.ensures.some,
     rw c.in-Err.is at c.in_ok-part-2.ensures.none,
   ),
 )))

@@ -1,8 +1,6 @@
-use Rattle.std.proofs.Common.{◌≡◌, ◌≢◌, ◌+◌, ◌<◌, List, [], ◌∷◌, ◌++◌, codes, drop, length, map, take, sym, ◌∙◌, ap, subst, arith, rules, length-append}
+use Rattle.std.proofs.Common.{◌≡◌, ◌≢◌, ◌<◌, [], ◌∷◌, length, map, ◌∙◌, ap, arith, rules, length-append}
 use Rattle.std.proofs.lemmas.List.{length-map}
-use Rattle.service_descriptions.specs.Steps.{State}
-use Rattle.service_logs.specs.Fronts.{AreAlike, HasCalls}
-use Rattle.service_conformance.specs.Groups.{SeenCall, with_index}
+use Rattle.service_conformance.specs.Groups.{with_index}
 use Rattle.service_logs.proofs.Groups.{calls_more, calls_none, fewer, lacks_member, written}
 use Rattle.service_logs.proofs.logs.group.calls_before.Goals as goal
 
@@ -10,13 +8,8 @@ pub calls-init : goal.calls-init
 calls-init c =
     let none = ap length c.new-calls.ensures.items in
     record {
-      has = subst (λ (l : List SeenCall). HasCalls c.args.states.now.items
-          (codes "overlap" ++ 10 ∷ c.args.lines.now) l (c.after_notes-notes.result.0 + 1)
-          c.after_notes-notes.result.1.now c.args.states.now.items)
-          (sym c.new-calls.ensures.items)
-          (calls_none c.args.states.now.items c.args.lines.now
-          c.after_notes-notes.result.1.now c.after_notes-notes.result.0
-          c.after_notes-notes.ensures.notes);
+      has = rw c.new-calls.ensures.items
+          (calls_none c.args.states.now.items _ _ _ c.after_notes-notes.ensures.notes);
       ends = c.after_notes-notes.ensures.all;
       fits = omega (arith, c.after_notes-notes.ensures.fits);
       counts = omega (arith, none);
@@ -24,7 +17,6 @@ calls-init c =
 
 pub calls-preserved : goal.calls-preserved
 calls-preserved c =
-    let olds = c.args.states.now.items in
     let news = c.calls.states.items in
     let held = c.hold_index.new.states in
     let has = c.calls.invariant.has in
@@ -42,19 +34,9 @@ calls-preserved c =
     let pushed = ap length c.in_ok-push-in-Ok.ensures.items in
     let some = rw c.in-Ok.is at c.in_ok-call.ensures.counts in
     record {
-      has = subst (λ (l : List SeenCall). HasCalls olds
-          (codes "overlap" ++ 10 ∷ c.args.lines.now) l (c.calls.count + c.in-Ok.size)
-          c.in-Ok.after.now
-          (take c.calls.states.len (held ++ drop (length held) news)))
-          (sym c.in_ok-push-in-Ok.ensures.items)
-          (subst (λ (l : List State). HasCalls olds (codes "overlap" ++ 10 ∷ c.args.lines.now)
-          (calls ++ c.in-Ok.call ∷ []) (c.calls.count + c.in-Ok.size) c.in-Ok.after.now l)
-          (sym (written held news c.calls.states.len long len))
-          (calls_more olds news held c.args.lines.now c.calls.rest.now c.in-Ok.after.now calls
-          c.in-Ok.call c.calls.count c.in-Ok.size c.in_ok-number.number has short one now
-          (λ m alike filled. c.in_ok-number.ensures.index m
-          (subst (AreAlike m) (sym c.deref_mut.ensures.value) alike)
-          (λ e. filled (sym c.deref_mut.ensures.value ∙ e)))));
+      has = rw (c.in_ok-push-in-Ok.ensures.items, written held news c.calls.states.len long len)
+          (calls_more _ news held _ _ _ calls c.in-Ok.call _ _ _ has short one now
+          (rw c.deref_mut.ensures.value at c.in_ok-number.ensures.index));
       ends = one.ends;
       fits = omega (arith, fits, c.calls.invariant.fits);
       counts = omega (arith, more, pushed, some, c.calls.invariant.counts);
@@ -65,9 +47,7 @@ returns-in-Err-clause-none c =
     let has = c.calls.invariant.has in
     let other : length c.calls.calls.items ≢ 8 =
     λ e. c.if-len-eq-MAX_CALLS.false (search rules) in
-    lacks_member c.args.states.now.items c.calls.states.items
-    (codes "overlap" ++ 10 ∷ c.args.lines.now) c.calls.rest.now c.calls.calls.items c.calls.count
-    c.args.above has
+    lacks_member _ _ _ _ _ _ c.args.above has
     (fewer (length c.calls.calls.items) (omega (arith, has.many, has.short)) other)
     c.calls.invariant.ends (λ after e. c.in_default.ensures.none after e) c.in-Err.verdict
     (rw c.in-Err.is at c.in_ok-call.ensures.none)

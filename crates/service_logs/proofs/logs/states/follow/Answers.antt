@@ -1,8 +1,5 @@
-use Rattle.std.proofs.Common.{◌≡◌, List, length, refl, sym, rules, ap, subst}
+use Rattle.std.proofs.Common.{◌≡◌, length, refl, sym, rules, ap}
 use Rattle.service_descriptions.specs.Lines.{command_of}
-use Rattle.service_descriptions.specs.Steps.{State}
-use Rattle.service_logs.specs.Fronts.{LeadsAll}
-use Rattle.service_conformance.specs.Words.{WordsStep}
 use Rattle.service_logs.proofs.Following.{follow_none, follow_one}
 use Rattle.service_logs.proofs.logs.states.follow.Goals as goal
 
@@ -17,18 +14,13 @@ returns-then-len-eq1 c =
 pub returns-then-is_empty : goal.returns-then-is_empty
 returns-then-is_empty c =
     let none : length c.in_ok-found.found.items ≡ 0 = search rules in (
-      follow_none c.args.states.now.items c.in_ok-found.found.items
-          (command_of c.args.command.now) c.args.words.now
-          (subst (λ (l : List State). LeadsAll
-          (λ s. WordsStep s (command_of c.args.command.now) c.args.words.now) l
-          c.in_ok-found.found.items) c.deref.ensures.value c.in_ok-found.ensures) none,
+      follow_none _ _ (command_of c.args.command.now) c.args.words.now
+          (rw c.deref.ensures.value at c.in_ok-found.ensures) none,
       refl,
     )
 
 pub returns : goal.returns
 returns c = (
-  subst (λ (l : List State). LeadsAll
-      (λ s. WordsStep s (command_of c.args.command.now) c.args.words.now) l
-      c.in_ok-found.found.items) c.deref.ensures.value c.in_ok-found.ensures,
+  rw c.deref.ensures.value at c.in_ok-found.ensures,
   λ e. (let none = ap length e in absurd (search rules)),
 )

@@ -4,7 +4,8 @@ use Rattle.std.proofs.lemmas.Fn.{filter_same}
 use Rattle.iox2_container.specs.declared.container.release.ReleaseMode.TheVariants.{LockIfLastIndex}
 use Rattle.iox2_container.specs.State.{Entry, IsRegistry}
 use Rattle.iox2_container.specs.Steps.{is_of}
-use Rattle.service_conformance.proofs.Filters.{filtered_is, kept_filter}
+use Rattle.service_conformance.proofs.Filters.{kept_filter}
+use Rattle.service_conformance.proofs.Removes.{with_left_is}
 use Rattle.service_conformance.proofs.conformance.registry_check.RegistryCheck+UniqueNodeId.recover.Goals as goal
 
 pub returns-clause-left : goal.returns-clause-left
@@ -12,9 +13,8 @@ returns-clause-left c =
     let p = λ (e : Entry ℕ). not (is_of (λ i. i) c.args.dead.now e.details) in
     let left : c.retain.new.self.items ≡ filter p c.self.inside.entries.items =
     filter_same _ _ _ (λ x b f' k. search rules) _ _ c.retain.ensures.filtered in
-    filtered_is _ c.args.self.now LockIfLastIndex p _ _ _ _ c.self.view_is left (search rules)
-    (search rules)
-    c.lock_after-self-inside.ensures
+    with_left_is _ c.args.self.now LockIfLastIndex (filter p) _ _ _ _ c.self.view_is left
+    (search rules) (search rules) c.lock_after-self-inside.ensures
 
 pub invariant_of-self : goal.invariant_of-self
 invariant_of-self c =
