@@ -12,8 +12,8 @@ use Rattle.std.specs.Fmt.{decimal}
 use Rattle.std.proofs.Math.Nat.{mod-lt}
 use Rattle.std.proofs.lemmas.Bool.{and_parts, false≢true}
 use Rattle.std.proofs.lemmas.Bool.Decides.{nat_tests}
-use Rattle.iox2_config.specs.declared.config.choices.BackpressureStrategy.TheVariants.{RetryUntilDelivered, DiscardData}
-use Rattle.iox2_config.specs.declared.config.choices.AllocationStrategy.TheVariants.{BestFit, PowerOfTwo, Static}
+use Rattle.iox2_config.specs.declared.config.choices.BackpressureStrategy.TheVariants.{DiscardData}
+use Rattle.iox2_config.specs.declared.config.choices.AllocationStrategy.TheVariants.{Static}
 use Rattle.toml.specs.Parse.{parse_document}
 use Rattle.toml.specs.Tables.{Nodes, no_nodes, open_table, implicit, header, insert, close, Document, Expression, std_table}
 use Rattle.toml.proofs.ReadLines.{run}
@@ -25,8 +25,8 @@ use Rattle.iox2_config_file.specs.declared.section.Section.TheVariants as sectio
 use Rattle.iox2_config_file.specs.Read.{sections}
 use Rattle.iox2_config_file.specs.ReadBack.{AreLegal}
 use Rattle.iox2_config_file.specs.Rows.{is_line}
-use Rattle.iox2_config_file.specs.Settings.{Setting, settings_in, tables_in, service_settings, node_settings, publish_subscribe_settings, event_settings, request_response_settings, blackboard_settings}
-use Rattle.iox2_config_file.specs.Values.{SettingValue, option_value, number, flag, text, backpressure, allocation, duration, absent, settings}
+use Rattle.iox2_config_file.specs.Settings.{Setting, settings_in, tables_in, service_settings, node_settings}
+use Rattle.iox2_config_file.specs.Values.{SettingValue, option_value, number, flag, text, backpressure, allocation, duration, settings}
 use Rattle.iox2_config_file.specs.Write.{value_text, value_fits, section_misfits, located_misfits, misfits, IsHeaderText, IsTableText, IsTablesText, IsConfigText}
 use Rattle.iox2_config_file.specs.declared.kind.Kind.TheVariants as kind
 use Rattle.iox2_config_file.proofs.Filling.{Pair, lines_of, keys_of, set_all, are_distinct, Focus, focus_root, focus_child, run_table, run_first}
@@ -82,20 +82,8 @@ head_block head name key is short (about, line, whole) =
 header_block : (s : Section) (head : List ℕ) → IsHeaderText s head → Block head (headers s)
 unfolding key_text
 header_block section.Root head h = block_is head [] [] h block_none
-header_block section.Global head h = head_block head _ ([], codes "global") refl (omega arith) h
-header_block section.Service head h =
-    head_block head _ (codes "global" ∷ [], codes "service") refl (omega arith) h
-header_block section.Node head h =
-    head_block head _ (codes "global" ∷ [], codes "node") refl (omega arith) h
 header_block section.Defaults head h = block_is head [] [] h block_none
-header_block section.PublishSubscribe head h =
-    head_block head _ (codes "defaults" ∷ [], codes "publish-subscribe") refl (omega arith) h
-header_block section.Event head h =
-    head_block head _ (codes "defaults" ∷ [], codes "event") refl (omega arith) h
-header_block section.RequestResponse head h =
-    head_block head _ (codes "defaults" ∷ [], codes "request-response") refl (omega arith) h
-header_block section.Blackboard head h =
-    head_block head _ (codes "defaults" ∷ [], codes "blackboard") refl (omega arith) h
+header_block s head h = head_block head _ _ refl (omega arith) h
 
 abbrev pub AllWritten : Config → Config → Type 0
 AllWritten default config =
@@ -206,12 +194,6 @@ optional_duration (Some d) = refl
 
 kinded_in : (config : Config) (s : Section)
     → list_all (λ x. has_kind x.kind x.value) (settings_in s config) ≡ true
-kinded_in config section.Root = refl
-kinded_in config section.Global = refl
-kinded_in config section.Service = refl
-kinded_in config section.Node = refl
-kinded_in config section.Defaults = refl
-kinded_in config section.PublishSubscribe = refl
 kinded_in config section.Event =
     let e = config.defaults.event in
     rw (
@@ -220,33 +202,18 @@ kinded_in config section.Event =
       optional_number e.notifier_dropped_event,
       optional_number e.notifier_dead_event,
     ) refl
-kinded_in config section.RequestResponse = refl
-kinded_in config section.Blackboard = refl
+kinded_in config s = refl
 
 bare_in : (config : Config) (s : Section)
     → list_all (λ x. is_bare_key x.key) (settings_in s config) ≡ true
 bare_in config section.Root = refl
-bare_in config section.Global = refl
-bare_in config section.Service = refl
-bare_in config section.Node = refl
-bare_in config section.Defaults = refl
-bare_in config section.PublishSubscribe = refl
-bare_in config section.Event = refl
-bare_in config section.RequestResponse = refl
-bare_in config section.Blackboard = refl
+bare_in config s = refl
 
 -- the rows of a table are those of every configuration
 pub rows_in_all : (one other : Config) (s : Section)
     → rows_of (settings_in s one) ≡ rows_of (settings_in s other)
 rows_in_all one other section.Root = refl
-rows_in_all one other section.Global = refl
-rows_in_all one other section.Service = refl
-rows_in_all one other section.Node = refl
-rows_in_all one other section.Defaults = refl
-rows_in_all one other section.PublishSubscribe = refl
-rows_in_all one other section.Event = refl
-rows_in_all one other section.RequestResponse = refl
-rows_in_all one other section.Blackboard = refl
+rows_in_all one other s = refl
 
 -- a value is written in one line
 word_line : (bytes : List ℕ) → list_all is_word bytes ≡ true → is_line bytes ≡ true
@@ -268,12 +235,7 @@ value_line : (v : SettingValue) → value_fits v ≡ true → is_text_line v ≡
     → is_line (value_text v) ≡ true
 value_line (number n) fits line = decimal_line n (small n fits)
 value_line (flag true) fits line = refl
-value_line (flag false) fits line = refl
-value_line (text s) fits line = line
-value_line (backpressure RetryUntilDelivered) fits line = refl
 value_line (backpressure DiscardData) fits line = refl
-value_line (allocation BestFit) fits line = refl
-value_line (allocation PowerOfTwo) fits line = refl
 value_line (allocation Static) fits line = refl
 value_line (duration n) fits line =
     let secs = decimal_line (n / 1_000_000_000) (small (n / 1_000_000_000) fits) in
@@ -283,8 +245,8 @@ value_line (duration n) fits line =
     (lines_append (codes "{ nanos = ") (decimal (n % 1_000_000_000)) refl nanos)
     (lines_append (codes ", secs = ") (decimal (n / 1_000_000_000) ++ codes " }") refl
     (lines_append (decimal (n / 1_000_000_000)) (codes " }") secs refl))
-value_line absent fits line = refl
 value_line settings fits line = absurd (false≢true line)
+value_line v fits line = line
 
 -- settings that are all written in one line each
 abbrev AreShort : List Setting → Type 0
@@ -301,22 +263,14 @@ short_lines (x ∷ xs) h =
 short_in : (default : Config) → IsDefaultConfig default → (s : Section)
     → AreShort (settings_in s default)
 unfolding string_text encoding_of escaped needs_escape quotes_after
-short_in default h section.Root = refl
 short_in default h section.Global =
     rw (h.global.root_path, h.global.prefix, h.global.creation_timeout) refl
 short_in default h section.Service =
     subst (λ x. AreShort (service_settings x)) (sym h.global.service) refl
 short_in default h section.Node =
     subst (λ x. AreShort (node_settings x)) (sym h.global.node) refl
-short_in default h section.Defaults = refl
-short_in default h section.PublishSubscribe =
-    subst (λ x. AreShort (publish_subscribe_settings x.publish_subscribe)) (sym h.defaults) refl
-short_in default h section.Event =
-    subst (λ x. AreShort (event_settings x.event)) (sym h.defaults) refl
-short_in default h section.RequestResponse =
-    subst (λ x. AreShort (request_response_settings x.request_response)) (sym h.defaults) refl
-short_in default h section.Blackboard =
-    subst (λ x. AreShort (blackboard_settings x.blackboard)) (sym h.defaults) refl
+short_in default h s =
+    subst (λ x. AreShort (settings_in s (record default { defaults = x }))) (sym h.defaults) refl
 
 -- all settings are written
 pub all_written : (default config : Config) → IsDefaultConfig default → misfits config ≡ []
@@ -335,14 +289,7 @@ all_written default config is fit legal s =
 pub distinct_in : (config : Config) (s : Section)
     → are_distinct (keys_of (pairs_in s config)) ≡ true
 distinct_in config section.Root = refl
-distinct_in config section.Global = refl
-distinct_in config section.Service = refl
-distinct_in config section.Node = refl
-distinct_in config section.Defaults = refl
-distinct_in config section.PublishSubscribe = refl
-distinct_in config section.Event = refl
-distinct_in config section.RequestResponse = refl
-distinct_in config section.Blackboard = refl
+distinct_in config s = refl
 
 -- what the tables of the document hold
 abbrev pub table_nodes : Config → Section → Nodes
