@@ -21,7 +21,6 @@ use Rattle.iox2_config_file.specs.Read.{IsSettingsOf, Located, fault_view, read_
 use Rattle.iox2_config_file.specs.declared.error.ConfigFileError.{ConfigFileError}
 use Rattle.iox2_config_file.specs.declared.error.ConfigFileError.TheVariants as error
 use Rattle.iox2_config_file.specs.declared.read.FileSettings.{FileSettings}
-use Rattle.iox2_config_file.specs.declared.unknown.UnknownKey.{UnknownKey}
 use Rattle.iox2_config_file.specs.declared.write.ConfigWriteError.{ConfigWriteError}
 use Rattle.iox2_config_file.specs.Answers.{ReadsOverDefaults, Refuses}
 use Rattle.iox2_config_file.specs.ReadBack.{AreLegal, ReadsBack, IsNoMemory}
@@ -31,7 +30,7 @@ use Rattle.iox2_config_file.specs.Values.{SettingValue, absent, value_or, fault_
 use Rattle.iox2_config_file.specs.Write.{value_is_set, misfits, IsConfigText, WritesOver}
 use Rattle.iox2_config_file.proofs.Filling.{keys_of, AllHold, AllKeys, all_hold, all_free, hold_more, keys_all, keys_more, get_closed}
 use Rattle.iox2_config_file.proofs.Written.{AreWritten, Keeps, keeps, data_at, pair_of, rows_of, are_set, rest_written, front}
-use Rattle.iox2_config_file.proofs.WrittenTables.{AllWritten, all_written, rows_in_all, distinct_in, pairs_in, table_nodes, global_nodes, defaults_nodes, root_nodes, run_all, written_is_read}
+use Rattle.iox2_config_file.proofs.WrittenTables.{AllWritten, all_written, rows_in_all, distinct_in, pairs_in, no_items, table_nodes, global_nodes, defaults_nodes, root_nodes, run_all, written_is_read}
 
 -- what stands in a table of the document
 abbrev pub nodes_in : Config → Section → Nodes
@@ -291,10 +290,6 @@ wrote_back default config (Err e) is whole services nodes h = tt
 
 -- ---- reading it
 
-none_viewed : (us : List UnknownKey) → map unknown_view us ≡ [] → us ≡ []
-none_viewed [] h = refl
-none_viewed (u ∷ us) h = absurd (omega (arith, ap length h))
-
 pub none_is_unknown : (config : Config) (bytes : List ℕ)
     (r : Result FileSettings ConfigFileError) → ReadsBack config bytes
     → IfOk r (ReadsOverDefaults bytes) → IfOk r (λ read. read.unknown.items ≡ [])
@@ -303,7 +298,7 @@ none_is_unknown config bytes (Ok read) back h =
     let (default, is, reads) = h in
     let (other, parsed_other, _, _, unknown) = reads in
     let same : other ≡ file = same_Some other file (sym parsed_other ∙ parsed) in
-    none_viewed read.unknown.items
+    no_items unknown_view read.unknown.items
     (unknown config ∙ ap (unknown_in config) same ∙ known config)
 none_is_unknown config bytes (Err e) back h = tt
 

@@ -89,7 +89,7 @@ misfits_end rows xs more i same past_rows =
     let few : length xs ≤ i = omega (arith, ap length same, all, length-map xs keyed, some) in
     rw (drop_of_length-le xs few)
 
-no_entries : (rows : List Row) (ds : List Setting) → entries_text rows ds [] ≡ []
+pub no_entries : (rows : List Row) (ds : List Setting) → entries_text rows ds [] ≡ []
 no_entries [] ds = refl
 no_entries (r ∷ rows) [] = refl
 no_entries (r ∷ rows) (d ∷ ds) = refl

@@ -1,5 +1,5 @@
 -- The tables of a configuration as they are written, and what a document holds after them.
-use Rattle.std.proofs.Common.{◌≡◌, ℕ, ◌<◌, ◌^◌, ◌/◌, ◌%◌, ◌&&◌, Bool, true, false, List, [], ◌∷◌, ◌++◌, length, codes, map, Option, Some, None, option_map, option_and_then, refl, sym, ap, ◌∙◌, subst, arith, append_assoc}
+use Rattle.std.proofs.Common.{◌≡◌, ℕ, ◌<◌, ◌^◌, ◌/◌, ◌%◌, ◌&&◌, Bool, true, false, List, [], ◌∷◌, ◌++◌, length, codes, map, drop, Option, Some, None, option_map, option_and_then, refl, sym, ap, ◌∙◌, subst, arith, append_assoc}
 use Rattle.std.specs.Prelude.{flat_map, if◌then◌else◌}
 use Rattle.std.specs.List.{list_all, filter_map, cons_option}
 use Rattle.std.specs.Duration.{as_nanos}
@@ -15,7 +15,7 @@ use Rattle.std.proofs.lemmas.Bool.Decides.{nat_tests}
 use Rattle.iox2_config.specs.declared.config.choices.BackpressureStrategy.TheVariants.{DiscardData}
 use Rattle.iox2_config.specs.declared.config.choices.AllocationStrategy.TheVariants.{Static}
 use Rattle.toml.specs.Parse.{parse_document}
-use Rattle.toml.specs.Tables.{Nodes, no_nodes, open_table, implicit, header, insert, close, Document, Expression, std_table}
+use Rattle.toml.specs.Tables.{Nodes, no_nodes, open_table, implicit, header, get_node, insert, close, Document, Expression, std_table}
 use Rattle.toml.proofs.ReadLines.{run}
 use Rattle.toml.proofs.Fill.{run-append}
 use Rattle.iox2_config.specs.Defaults.{IsDefaultConfig}
@@ -131,20 +131,15 @@ none_of : {X : Type 0} (xs ys : List X) → xs ++ ys ≡ [] → (xs ≡ []) × (
 none_of [] ys h = (refl, h)
 none_of (x ∷ xs) ys h = absurd (omega (arith, ap length h))
 
-abbrev located : Section → List ℕ → Section × List ℕ
-located s k = (s, k)
-
-no_keys : (s : Section) (keys : List (List ℕ)) → map (located s) keys ≡ [] → keys ≡ []
-no_keys s [] h = refl
-no_keys s (k ∷ keys) h = absurd (omega (arith, ap length h))
-
-some_key : (k : List ℕ) (keys : List (List ℕ)) → ¬ (k ∷ keys ≡ [])
-some_key k keys h = omega (arith, ap length h)
+-- nothing is made of nothing alone
+pub no_items : {X Y : Type 0} (f : X → Y) (xs : List X) → map f xs ≡ [] → xs ≡ []
+no_items f [] h = refl
+no_items f (x ∷ xs) h = absurd (omega (arith, ap length h))
 
 fits_of : (b : Bool) (k : List ℕ) (keys : List (List ℕ))
     → cons_option (if b then None else Some k) keys ≡ [] → (b ≡ true) × (keys ≡ [])
 fits_of true k keys h = (refl, h)
-fits_of false k keys h = absurd (some_key k keys h)
+fits_of false k keys h = absurd (omega (arith, ap length h))
 
 all_fit : (xs : List Setting)
     → filter_map (λ x. if value_fits x.value then None else Some x.key) xs ≡ []
@@ -163,7 +158,7 @@ none_in : (config : Config) (ss : List Section) → flat_map (located_misfits co
 none_in config [] h = tt
 none_in config (s ∷ ss) h =
     let (here, more) = none_of (located_misfits config s) (flat_map (located_misfits config) ss) h
-    in (no_keys s (section_misfits s config) here, none_in config ss more)
+    in (no_items _ (section_misfits s config) here, none_in config ss more)
 
 none_at : (config : Config) → NoneIn config sections → (s : Section)
     → section_misfits s config ≡ []
@@ -295,21 +290,21 @@ distinct_in config s = refl
 abbrev pub table_nodes : Config → Section → Nodes
 table_nodes c s = set_all (pairs_in s c) no_nodes
 
+-- a table below the others of one
+abbrev below : List ℕ → Config → Section → Nodes → Nodes
+below key c s ns = insert key (open_table header (table_nodes c s)) ns
+
 abbrev pub global_nodes : Config → Nodes
 global_nodes c =
-    insert (codes "node") (open_table header (table_nodes c section.Node))
-    (insert (codes "service") (open_table header (table_nodes c section.Service))
-    (table_nodes c section.Global))
-
-abbrev below_defaults : List ℕ → Config → Section → Nodes → Nodes
-below_defaults key c s ns = insert key (open_table header (table_nodes c s)) ns
+    below (codes "node") c section.Node
+    (below (codes "service") c section.Service (table_nodes c section.Global))
 
 abbrev pub defaults_nodes : Config → Nodes
 defaults_nodes c =
-    below_defaults (codes "blackboard") c section.Blackboard
-    (below_defaults (codes "request-response") c section.RequestResponse
-    (below_defaults (codes "event") c section.Event
-    (below_defaults (codes "publish-subscribe") c section.PublishSubscribe no_nodes)))
+    below (codes "blackboard") c section.Blackboard
+    (below (codes "request-response") c section.RequestResponse
+    (below (codes "event") c section.Event
+    (below (codes "publish-subscribe") c section.PublishSubscribe no_nodes)))
 
 abbrev at_global : Nodes → Nodes
 at_global ns = insert (codes "global") (open_table header ns) no_nodes
@@ -335,60 +330,37 @@ run_then doc next es fs h =
 abbrev rest_of : Config → List Section → List Expression
 rest_of c ss = flat_map (table_lines c) ss
 
--- the lines of the tables below `defaults`
-run_defaults : (c : Config) (old : List (List ℕ))
-    → run (at_global (global_nodes c), old)
-    (rest_of c (section.PublishSubscribe ∷ section.Event ∷ section.RequestResponse
-    ∷ section.Blackboard ∷ []))
-    ≡ Some (root_nodes c, codes "defaults" ∷ codes "blackboard" ∷ [])
-run_defaults c old =
-    let one = below_defaults (codes "publish-subscribe") c section.PublishSubscribe no_nodes in
-    let two = below_defaults (codes "event") c section.Event one in
-    let three = below_defaults (codes "request-response") c section.RequestResponse two in
-    run_then (at_global (global_nodes c), old)
-    (at_defaults c one, codes "defaults" ∷ codes "publish-subscribe" ∷ [])
-    (table_lines c section.PublishSubscribe)
-    (rest_of c (section.Event ∷ section.RequestResponse ∷ section.Blackboard ∷ []))
-    (run_first (codes "defaults") (codes "publish-subscribe") (pairs_in section.PublishSubscribe c)
-    (at_global (global_nodes c)) old refl (distinct_in c section.PublishSubscribe))
-    ∙ run_then (at_defaults c one, codes "defaults" ∷ codes "publish-subscribe" ∷ [])
-    (at_defaults c two, codes "defaults" ∷ codes "event" ∷ []) (table_lines c section.Event)
-    (rest_of c (section.RequestResponse ∷ section.Blackboard ∷ []))
-    (run_table (codes "defaults" ∷ []) (at_defaults c) (codes "event") (pairs_in section.Event c)
-    one _ (in_defaults c) refl (distinct_in c section.Event))
-    ∙ run_then (at_defaults c two, codes "defaults" ∷ codes "event" ∷ [])
-    (at_defaults c three, codes "defaults" ∷ codes "request-response" ∷ [])
-    (table_lines c section.RequestResponse) (rest_of c (section.Blackboard ∷ []))
-    (run_table (codes "defaults" ∷ []) (at_defaults c) (codes "request-response")
-    (pairs_in section.RequestResponse c) two _ (in_defaults c) refl
-    (distinct_in c section.RequestResponse))
-    ∙ run_then (at_defaults c three, codes "defaults" ∷ codes "request-response" ∷ [])
-    (root_nodes c, codes "defaults" ∷ codes "blackboard" ∷ [])
-    (table_lines c section.Blackboard) []
-    (run_table (codes "defaults" ∷ []) (at_defaults c) (codes "blackboard")
-    (pairs_in section.Blackboard c) three _ (in_defaults c) refl
-    (distinct_in c section.Blackboard))
+-- the lines of a table, and those of the tables from this number on
+table_then : (c : Config) (s : Section) (n : ℕ) (path : List (List ℕ)) (hole : Nodes → Nodes)
+    (k : List ℕ) (ns : Nodes) (old : List (List ℕ)) → Focus path hole → get_node k ns ≡ None
+    → run (hole ns, old)
+    ((((path, k), std_table) ∷ lines_of (pairs_in s c)) ++ rest_of c (drop n sections))
+    ≡ run (hole (below k c s ns), path ++ k ∷ []) (rest_of c (drop n sections))
+table_then c s n path hole k ns old focus free =
+    run_then (hole ns, old) _ (((path, k), std_table) ∷ lines_of (pairs_in s c))
+    (rest_of c (drop n sections))
+    (run_table path hole k (pairs_in s c) ns old focus free (distinct_in c s))
 
 -- all lines of a configuration
 pub run_all : (c : Config) → run (no_nodes, []) (rest_of c sections)
     ≡ Some (root_nodes c, codes "defaults" ∷ codes "blackboard" ∷ [])
 run_all c =
-    let one = table_nodes c section.Global in
-    let two = insert (codes "service") (open_table header (table_nodes c section.Service)) one in
-    let below_global = rest_of c (section.PublishSubscribe ∷ section.Event
-    ∷ section.RequestResponse ∷ section.Blackboard ∷ []) in
-    run_then (no_nodes, []) (at_global one, codes "global" ∷ []) (table_lines c section.Global)
-    (table_lines c section.Service ++ (table_lines c section.Node ++ below_global))
-    (run_table [] (λ x. x) (codes "global") (pairs_in section.Global c) no_nodes [] focus_root refl
-    (distinct_in c section.Global))
-    ∙ run_then (at_global one, codes "global" ∷ [])
-    (at_global two, codes "global" ∷ codes "service" ∷ []) (table_lines c section.Service)
-    (table_lines c section.Node ++ below_global)
-    (run_table (codes "global" ∷ []) at_global (codes "service") (pairs_in section.Service c) one _
-    in_global refl (distinct_in c section.Service))
-    ∙ run_then (at_global two, codes "global" ∷ codes "service" ∷ [])
-    (at_global (global_nodes c), codes "global" ∷ codes "node" ∷ []) (table_lines c section.Node)
-    below_global
-    (run_table (codes "global" ∷ []) at_global (codes "node") (pairs_in section.Node c) two _
-    in_global refl (distinct_in c section.Node))
-    ∙ run_defaults c (codes "global" ∷ codes "node" ∷ [])
+    let global = codes "global" ∷ [] in
+    let services = below (codes "service") c section.Service (table_nodes c section.Global) in
+    let defaults = codes "defaults" ∷ [] in
+    let one = below (codes "publish-subscribe") c section.PublishSubscribe no_nodes in
+    let two = below (codes "event") c section.Event one in
+    let three = below (codes "request-response") c section.RequestResponse two in
+    table_then c section.Global 2 [] (λ x. x) (codes "global") no_nodes [] focus_root refl
+    ∙ table_then c section.Service 3 global at_global (codes "service") _ _ in_global refl
+    ∙ table_then c section.Node 4 global at_global (codes "node") services _ in_global refl
+    ∙ run_then (at_global (global_nodes c), codes "global" ∷ codes "node" ∷ []) _
+    (table_lines c section.PublishSubscribe) (rest_of c (drop 6 sections))
+    (run_first (codes "defaults") (codes "publish-subscribe") (pairs_in section.PublishSubscribe c)
+    (at_global (global_nodes c)) _ refl (distinct_in c section.PublishSubscribe))
+    ∙ table_then c section.Event 7 defaults (at_defaults c) (codes "event") one _ (in_defaults c)
+    refl
+    ∙ table_then c section.RequestResponse 8 defaults (at_defaults c) (codes "request-response")
+    two _ (in_defaults c) refl
+    ∙ table_then c section.Blackboard 9 defaults (at_defaults c) (codes "blackboard") three _
+    (in_defaults c) refl
