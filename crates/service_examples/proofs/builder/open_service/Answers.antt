@@ -11,7 +11,7 @@ use Rattle.iox2_dynamic.specs.declared.dynamic_config.answers.RegisterNodeResult
 use Rattle.iox2_dynamic.specs.declared.dynamic_config.answers.RegisterNodeResult.TheVariants.{MarkedForDestruction, ExceedsMaxNumberOfNodes}
 use Rattle.service_examples.specs.declared.builder.Opener.{Opener}
 use Rattle.service_examples.specs.declared.builder.OpenError.{OpenError}
-use Rattle.service_examples.specs.declared.builder.OpenError.TheVariants.{IncompatibleMessagingPattern, IncompatibleAttributes, IncompatibleTypes, MessageTooLarge, NodeRefused}
+use Rattle.service_examples.specs.declared.builder.OpenError.TheVariants.{IncompatibleTypes, MessageTooLarge}
 use Rattle.service_examples.specs.Opening.{GivesRoom, IsVerified, Refuses, RefusesNodes, types_of}
 use Rattle.service_examples.proofs.builder.open_service.Goals as goal
 
