@@ -87,12 +87,6 @@ ends_past s ds xs i done h at =
     ends s ds xs i done h
     (subst (λ l. AreSettingLines s (drop i ds) l []) (sym (past xs i at)) (no_settings s _))
 
-pub ends_past_default : (s : Section) (ds xs : List Setting) (i : ℕ) (done : List ℕ)
-    → Follows s ds xs i done → held_at ds i ≡ None → AreSettingLines s ds xs done
-ends_past_default s ds xs i done h at =
-    ends s ds xs i done h
-    (subst (λ l. AreSettingLines s l (drop i xs) []) (sym (past ds i at)) refl)
-
 pub ends_at_rows : (s : Section) (rows : List Row) (ds xs : List Setting)
     (keys : List (List ℕ × Kind)) (i : ℕ) (done : List ℕ)
     → map row_view rows ≡ map keyed xs ++ keys → length rows ≤ i → Follows s ds xs i done

@@ -2,7 +2,9 @@
 use Rattle.std.proofs.Common.{◌≡◌, ℕ, Ordering, Less, Equal, Greater, nat_cmp, is_eq, Bool, true, false, not, ◌&&◌, List, [], ◌∷◌, ◌++◌, map, Option, Some, None, option_map, option_and_then, refl, sym, ap, ◌∙◌, inl, inr, ◌⊎◌}
 use Rattle.std.specs.Prelude.{bytes_eq}
 use Rattle.std.specs.List.{list_all, filter_map}
-use Rattle.std.proofs.lemmas.Bool.{and_parts, false≢true}
+use Rattle.std.proofs.lemmas.Bool.{and_parts}
+use Rattle.std.proofs.lemmas.Bool.Decides.{Decides-not}
+use Rattle.std.proofs.lemmas.Iterator.Adapters.{option_map_id}
 use Rattle.std.proofs.lemmas.Map.Text.{is_eq-slice_cmp}
 use Rattle.std.proofs.lemmas.Slice.Eq.{bytes_eq-Decides}
 use Rattle.std.specs.Cmp.Lexicographic.{slice_cmp}
@@ -11,6 +13,7 @@ use Rattle.toml.specs.Tables.{Origin, implicit, header, Node, Nodes, no_nodes, n
 use Rattle.toml.proofs.Turns.{at_key_new}
 use Rattle.toml.proofs.NodeLaws.{get_node-insert, replace-insert, along_found, along_missing, along_append}
 use Rattle.toml.proofs.ReadLines.{run}
+use Rattle.iox2_config_file.proofs.Legal.{no_decides}
 
 -- a key, and what is written at it, if anything is
 abbrev pub Pair : Type 0
@@ -44,27 +47,16 @@ abbrev pub are_distinct : List (List ℕ) → Bool
 are_distinct [] = true
 are_distinct (k ∷ ks) = is_apart k ks && are_distinct ks
 
-true≢not : (b : Bool) → not b ≡ true → b ≡ true → ⊥
-true≢not true h e = absurd (false≢true h)
-true≢not false h e = absurd (false≢true e)
-
 apart_from : (k l : List ℕ) → not (bytes_eq k l) ≡ true → ¬ (k ≡ l)
-apart_from k l h same = true≢not (bytes_eq k l) h ((bytes_eq-Decides k l).1 same)
-
-equal_from : (o : Ordering) → o ≡ Equal → is_eq o ≡ true
-equal_from o h = rw h refl
+apart_from k l h = (Decides-not _ (bytes_eq-Decides k l)).0 h
 
 pub same_from : (k l : List ℕ) → slice_cmp nat_cmp k l ≡ Equal → k ≡ l
 same_from k l h =
-    (bytes_eq-Decides k l).0 (sym (is_eq-slice_cmp k l) ∙ equal_from (slice_cmp nat_cmp k l) h)
-
-not_true : (b : Bool) → ¬ (b ≡ true) → b ≡ false
-not_true true h = absurd (h refl)
-not_true false h = refl
+    (bytes_eq-Decides k l).0 (sym (is_eq-slice_cmp k l) ∙ ap is_eq h)
 
 pub other_key : (k l : List ℕ) → ¬ (k ≡ l) → same_key k l ≡ false
 other_key k l apart =
-    is_eq-slice_cmp k l ∙ not_true (bytes_eq k l) (λ e. apart ((bytes_eq-Decides k l).0 e))
+    is_eq-slice_cmp k l ∙ no_decides (bytes_eq k l) (bytes_eq-Decides k l) apart
 
 cases_ordering : (o : Ordering) → (o ≡ Less) ⊎ ((o ≡ Equal) ⊎ (o ≡ Greater))
 cases_ordering Less = inl refl
@@ -191,13 +183,9 @@ get_closed k (node l x ns) =
 abbrev pub Focus : List (List ℕ) → (Nodes → Nodes) → Type 0
 Focus path hole = (e : Edit) (ns : Nodes) → along_header path e (hole ns) ≡ option_map hole (e ns)
 
-map_same : (o : Option Nodes) → o ≡ option_map (λ ns. ns) o
-map_same None = refl
-map_same (Some ns) = refl
-
 pub focus_root : Focus [] (λ ns. ns)
 unfolding along_header
-focus_root e ns = map_same (e ns)
+focus_root e ns = sym (option_map_id (e ns))
 
 map_hole : (k : List ℕ) (origin : Origin) (hole : Nodes → Nodes) (ns x : Nodes) (o : Option Nodes)
     → option_map hole (option_map (λ new. replace k new (insert k (open_table origin x) ns))

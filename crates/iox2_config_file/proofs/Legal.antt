@@ -31,7 +31,7 @@ is_byte b = (λ h. grind (arith, nat_tests), λ h. grind (arith, nat_tests))
 is_text : (s : List ℕ) → Decides (list_all byte_test s) (IsText s)
 is_text s = Decides-by_and byte_test IsTextByte (list_all byte_test) is_byte refl (λ _ _. refl) s
 
-no_decides : {P : Type 0} (b : Bool) → Decides b P → ¬ P → b ≡ false
+pub no_decides : {P : Type 0} (b : Bool) → Decides b P → ¬ P → b ≡ false
 no_decides true d h = absurd (h (d.0 refl))
 no_decides false d h = refl
 

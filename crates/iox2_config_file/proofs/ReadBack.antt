@@ -21,49 +21,35 @@ use Rattle.iox2_config_file.specs.Read.{IsSettingsOf, Located, fault_view, read_
 use Rattle.iox2_config_file.specs.declared.error.ConfigFileError.{ConfigFileError}
 use Rattle.iox2_config_file.specs.declared.error.ConfigFileError.TheVariants as error
 use Rattle.iox2_config_file.specs.declared.read.FileSettings.{FileSettings}
-use Rattle.iox2_config_file.specs.declared.unknown.UnknownKey.{UnknownKey}
 use Rattle.iox2_config_file.specs.declared.write.ConfigWriteError.{ConfigWriteError}
 use Rattle.iox2_config_file.specs.Answers.{ReadsOverDefaults, Refuses}
 use Rattle.iox2_config_file.specs.ReadBack.{AreLegal, ReadsBack, IsNoMemory}
 use Rattle.iox2_config_file.specs.Settings.{Setting, settings_in, tables_in, global_settings, service_settings, node_settings, event_settings}
 use Rattle.iox2_config_file.specs.Unknown.{is_known, unknown_view, unknown_at, unknown_among, section_unknown, unknown_in}
-use Rattle.iox2_config_file.specs.Values.{SettingValue, number, flag, text, backpressure, allocation, duration, absent, settings, value_or, fault_in}
+use Rattle.iox2_config_file.specs.Values.{SettingValue, absent, value_or, fault_in}
 use Rattle.iox2_config_file.specs.Write.{value_is_set, misfits, IsConfigText, WritesOver}
 use Rattle.iox2_config_file.proofs.Filling.{keys_of, AllHold, AllKeys, all_hold, all_free, hold_more, keys_all, keys_more, get_closed}
 use Rattle.iox2_config_file.proofs.Written.{AreWritten, Keeps, keeps, data_at, pair_of, rows_of, are_set, rest_written, front}
-use Rattle.iox2_config_file.proofs.WrittenTables.{AllWritten, all_written, rows_in_all, distinct_in, pairs_in, table_nodes, global_nodes, defaults_nodes, root_nodes, run_all, written_is_read}
+use Rattle.iox2_config_file.proofs.WrittenTables.{AllWritten, all_written, rows_in_all, distinct_in, pairs_in, no_items, table_nodes, global_nodes, defaults_nodes, root_nodes, run_all, written_is_read}
 
 -- what stands in a table of the document
 abbrev pub nodes_in : Config → Section → Nodes
 nodes_in c section.Root = root_nodes c
 nodes_in c section.Global = global_nodes c
-nodes_in c section.Service = table_nodes c section.Service
-nodes_in c section.Node = table_nodes c section.Node
 nodes_in c section.Defaults = defaults_nodes c
-nodes_in c section.PublishSubscribe = table_nodes c section.PublishSubscribe
-nodes_in c section.Event = table_nodes c section.Event
-nodes_in c section.RequestResponse = table_nodes c section.RequestResponse
-nodes_in c section.Blackboard = table_nodes c section.Blackboard
+nodes_in c s = table_nodes c s
 
 abbrev pub file_of : Config → Members
 file_of c = close (root_nodes c)
 
 members_in : (c : Config) (s : Section) → section_members s (file_of c) ≡ close (nodes_in c s)
 members_in c section.Root = refl
-members_in c section.Global = refl
-members_in c section.Service = refl
-members_in c section.Node = refl
-members_in c section.Defaults = refl
-members_in c section.PublishSubscribe = refl
-members_in c section.Event = refl
-members_in c section.RequestResponse = refl
-members_in c section.Blackboard = refl
+members_in c s = refl
 
 table_holds : (c : Config) (s : Section) → AllHold (table_nodes c s) (pairs_in s c)
 table_holds c s = all_hold (pairs_in s c) no_nodes (distinct_in c s) (all_free (pairs_in s c))
 
 holds_in : (c : Config) (s : Section) → AllHold (nodes_in c s) (pairs_in s c)
-holds_in c section.Root = tt
 holds_in c section.Global =
     let one = table_nodes c section.Global in
     let service = open_table header (table_nodes c section.Service) in
@@ -71,13 +57,7 @@ holds_in c section.Global =
     (insert (codes "service") service one) (pairs_in section.Global c) refl
     (hold_more (codes "service") service one (pairs_in section.Global c) refl
     (table_holds c section.Global))
-holds_in c section.Service = table_holds c section.Service
-holds_in c section.Node = table_holds c section.Node
-holds_in c section.Defaults = tt
-holds_in c section.PublishSubscribe = table_holds c section.PublishSubscribe
-holds_in c section.Event = table_holds c section.Event
-holds_in c section.RequestResponse = table_holds c section.RequestResponse
-holds_in c section.Blackboard = table_holds c section.Blackboard
+holds_in c s = table_holds c s
 
 -- ---- settings
 
@@ -90,14 +70,8 @@ member_is : (k : List ℕ) (ns : Nodes) (o : Option Data) → get_node k ns ≡ 
 member_is k ns o h = get_closed k ns ∙ ap (option_map close_node) h ∙ closed_value o
 
 unset_default : (d : SettingValue) → (not (value_is_set d) || false) ≡ true → d ≡ absent
-unset_default (number n) h = absurd (false≢true h)
-unset_default (flag b) h = absurd (false≢true h)
-unset_default (text s) h = absurd (false≢true h)
-unset_default (backpressure b) h = absurd (false≢true h)
-unset_default (allocation a) h = absurd (false≢true h)
-unset_default (duration n) h = absurd (false≢true h)
 unset_default absent h = refl
-unset_default settings h = absurd (false≢true h)
+unset_default d h = absurd (false≢true h)
 
 value_is : (k : Kind) (d v : SettingValue) (o : Option Data) → Keeps k v o
     → (not (value_is_set d) || value_is_set v) ≡ true → value_or k d o ≡ v
@@ -160,17 +134,10 @@ true_or false = refl
 -- a setting that may be left out is left out by default
 set_in : (default config : Config) → IsDefaultConfig default → (s : Section)
     → AreSet (settings_in s default) (settings_in s config)
-set_in default config h section.Root = refl
-set_in default config h section.Global = refl
-set_in default config h section.Service = refl
-set_in default config h section.Node = refl
-set_in default config h section.Defaults = refl
-set_in default config h section.PublishSubscribe = refl
 set_in default config h section.Event =
     subst (λ x. AreSet (event_settings x.event) (event_settings config.defaults.event))
     (sym h.defaults) refl
-set_in default config h section.RequestResponse = refl
-set_in default config h section.Blackboard = refl
+set_in default config h s = refl
 
 -- ---- faults
 
@@ -205,14 +172,7 @@ table_rows s = map (λ k. (k, kind.Table)) (tables_in s)
 tables_right : (c : Config) (s : Section)
     → filter_map (row_fault s (close (nodes_in c s))) (table_rows s) ≡ []
 tables_right c section.Root = refl
-tables_right c section.Global = refl
-tables_right c section.Service = refl
-tables_right c section.Node = refl
-tables_right c section.Defaults = refl
-tables_right c section.PublishSubscribe = refl
-tables_right c section.Event = refl
-tables_right c section.RequestResponse = refl
-tables_right c section.Blackboard = refl
+tables_right c s = refl
 
 both_none : {X : Type 0} (xs ys : List X) → xs ≡ [] → ys ≡ [] → xs ++ ys ≡ []
 both_none xs ys one other = rw (one, other) refl
@@ -268,13 +228,8 @@ known_in c section.Global =
     keys_more test (codes "node") (open_table header (table_nodes c section.Node))
     (insert (codes "service") service one) refl
     (keys_more test (codes "service") service one refl (table_known c section.Global refl))
-known_in c section.Service = table_known c section.Service refl
-known_in c section.Node = table_known c section.Node refl
 known_in c section.Defaults = (refl, (refl, (refl, (refl, tt))))
-known_in c section.PublishSubscribe = table_known c section.PublishSubscribe refl
-known_in c section.Event = table_known c section.Event refl
-known_in c section.RequestResponse = table_known c section.RequestResponse refl
-known_in c section.Blackboard = table_known c section.Blackboard refl
+known_in c s = table_known c s refl
 
 section_known : (config c : Config) (s : Section) → section_unknown c (file_of config) s ≡ []
 unfolding section_unknown
@@ -317,15 +272,10 @@ legal_in : (config : Config) → AreLegal (global_settings config.global)
     → AreLegal (service_settings config.global.service)
     → AreLegal (node_settings config.global.node)
     → (s : Section) → AreLegal (settings_in s config)
-legal_in config whole services nodes section.Root = tt
 legal_in config whole services nodes section.Global = whole
 legal_in config whole services nodes section.Service = services
 legal_in config whole services nodes section.Node = nodes
-legal_in config whole services nodes section.Defaults = tt
-legal_in config whole services nodes section.PublishSubscribe = search rules
-legal_in config whole services nodes section.Event = search rules
-legal_in config whole services nodes section.RequestResponse = search rules
-legal_in config whole services nodes section.Blackboard = search rules
+legal_in config whole services nodes s = search rules
 
 -- what is written is read back
 pub wrote_back : (default config : Config) (r : Result (String Global) ConfigWriteError)
@@ -340,10 +290,6 @@ wrote_back default config (Err e) is whole services nodes h = tt
 
 -- ---- reading it
 
-none_viewed : (us : List UnknownKey) → map unknown_view us ≡ [] → us ≡ []
-none_viewed [] h = refl
-none_viewed (u ∷ us) h = absurd (omega (arith, ap length h))
-
 pub none_is_unknown : (config : Config) (bytes : List ℕ)
     (r : Result FileSettings ConfigFileError) → ReadsBack config bytes
     → IfOk r (ReadsOverDefaults bytes) → IfOk r (λ read. read.unknown.items ≡ [])
@@ -352,7 +298,7 @@ none_is_unknown config bytes (Ok read) back h =
     let (default, is, reads) = h in
     let (other, parsed_other, _, _, unknown) = reads in
     let same : other ≡ file = same_Some other file (sym parsed_other ∙ parsed) in
-    none_viewed read.unknown.items
+    no_items unknown_view read.unknown.items
     (unknown config ∙ ap (unknown_in config) same ∙ known config)
 none_is_unknown config bytes (Err e) back h = tt
 

@@ -89,23 +89,15 @@ misfits_end rows xs more i same past_rows =
     let few : length xs ≤ i = omega (arith, ap length same, all, length-map xs keyed, some) in
     rw (drop_of_length-le xs few)
 
-no_entries : (rows : List Row) (ds : List Setting) → entries_text rows ds [] ≡ []
+pub no_entries : (rows : List Row) (ds : List Setting) → entries_text rows ds [] ≡ []
 no_entries [] ds = refl
 no_entries (r ∷ rows) [] = refl
 no_entries (r ∷ rows) (d ∷ ds) = refl
 
-no_defaults : (rows : List Row) (xs : List Setting) → entries_text rows [] xs ≡ []
-no_defaults [] xs = refl
-no_defaults (r ∷ rows) xs = refl
-
--- where a setting has no value or no default, nothing more is written
+-- where a setting has no value, nothing more is written
 pub entries_past : (rows : List Row) (ds xs : List Setting) (i : ℕ)
     → held_at xs i ≡ None → entries_text (drop i rows) (drop i ds) (drop i xs) ≡ []
 entries_past rows ds xs i h = rw (past xs i h) (no_entries _ _)
-
-pub entries_past_default : (rows : List Row) (ds xs : List Setting) (i : ℕ)
-    → held_at ds i ≡ None → entries_text (drop i rows) (drop i ds) (drop i xs) ≡ []
-entries_past_default rows ds xs i h = rw (past ds i h) (no_defaults _ _)
 
 drop_row : (rows : List Row) (i : ℕ) (r : Row) → slice_get rows i ≡ Some r
     → drop i rows ≡ r ∷ drop (suc i) rows
@@ -122,13 +114,6 @@ entries_here rows ds xs i r d v row default value =
     let (y, split_d, is_d, _) = here ds i d default in
     let (x, split_x, is_x, _) = here xs i v value in
     rw (add-one, drop_row rows i r row, split_d, split_x, is_d, is_x)
-
--- below the last row nothing is written
-pub entries_end : (rows : List Row) (ds xs : List Setting) (i : ℕ) → length rows ≤ i
-    → entries_text (drop i rows) (drop i ds) (drop i xs) ≡ []
-entries_end rows ds xs i past_rows =
-    let all : drop i rows ≡ [] = drop_of_length-le rows past_rows in
-    rw all
 
 -- one setting more was written
 pub entries_next : (rows : List Row) (ds xs : List Setting) (i : ℕ) (r : Row)

@@ -28,6 +28,7 @@ use Rattle.iox2_config_file.specs.Values.{SettingValue, number, flag, text, back
 use Rattle.iox2_config_file.specs.Write.{value_text, value_fits, value_is_set, assignment, entry_text, entries_text}
 use Rattle.iox2_config_file.proofs.Filling.{Pair, lines_of, more_lines}
 use Rattle.iox2_config_file.proofs.Legal.{any_path, plain, made_text}
+use Rattle.iox2_config_file.proofs.Rowed.{no_entries}
 use Rattle.iox2_config_file.proofs.Reading.{Block, block_append, block_none, block_newline, block_comment, block_pair}
 
 -- what TOML has for a value
@@ -249,11 +250,6 @@ rest_written d x ds xs h =
       fit = (and_parts _ _ h.fit).1;
       legal = h.legal.1;
     }
-
-no_entries : (rows : List Row) (ds : List Setting) → entries_text rows ds [] ≡ []
-no_entries [] ds = refl
-no_entries (row ∷ rows) [] = refl
-no_entries (row ∷ rows) (d ∷ ds) = refl
 
 -- the settings of a table are read as their pairs
 pub entries_block : (rows : List Row) (ds xs : List Setting) (more : List (List ℕ × Kind))

@@ -1,5 +1,5 @@
 -- The tables of a configuration as they are written, and what a document holds after them.
-use Rattle.std.proofs.Common.{◌≡◌, ℕ, ◌<◌, ◌^◌, ◌/◌, ◌%◌, ◌&&◌, Bool, true, false, List, [], ◌∷◌, ◌++◌, length, codes, map, Option, Some, None, option_map, option_and_then, refl, sym, ap, ◌∙◌, subst, arith, append_assoc}
+use Rattle.std.proofs.Common.{◌≡◌, ℕ, ◌<◌, ◌^◌, ◌/◌, ◌%◌, ◌&&◌, Bool, true, false, List, [], ◌∷◌, ◌++◌, length, codes, map, drop, Option, Some, None, option_map, option_and_then, refl, sym, ap, ◌∙◌, subst, arith, append_assoc}
 use Rattle.std.specs.Prelude.{flat_map, if◌then◌else◌}
 use Rattle.std.specs.List.{list_all, filter_map, cons_option}
 use Rattle.std.specs.Duration.{as_nanos}
@@ -12,10 +12,10 @@ use Rattle.std.specs.Fmt.{decimal}
 use Rattle.std.proofs.Math.Nat.{mod-lt}
 use Rattle.std.proofs.lemmas.Bool.{and_parts, false≢true}
 use Rattle.std.proofs.lemmas.Bool.Decides.{nat_tests}
-use Rattle.iox2_config.specs.declared.config.choices.BackpressureStrategy.TheVariants.{RetryUntilDelivered, DiscardData}
-use Rattle.iox2_config.specs.declared.config.choices.AllocationStrategy.TheVariants.{BestFit, PowerOfTwo, Static}
+use Rattle.iox2_config.specs.declared.config.choices.BackpressureStrategy.TheVariants.{DiscardData}
+use Rattle.iox2_config.specs.declared.config.choices.AllocationStrategy.TheVariants.{Static}
 use Rattle.toml.specs.Parse.{parse_document}
-use Rattle.toml.specs.Tables.{Nodes, no_nodes, open_table, implicit, header, insert, close, Document, Expression, std_table}
+use Rattle.toml.specs.Tables.{Nodes, no_nodes, open_table, implicit, header, get_node, insert, close, Document, Expression, std_table}
 use Rattle.toml.proofs.ReadLines.{run}
 use Rattle.toml.proofs.Fill.{run-append}
 use Rattle.iox2_config.specs.Defaults.{IsDefaultConfig}
@@ -25,8 +25,8 @@ use Rattle.iox2_config_file.specs.declared.section.Section.TheVariants as sectio
 use Rattle.iox2_config_file.specs.Read.{sections}
 use Rattle.iox2_config_file.specs.ReadBack.{AreLegal}
 use Rattle.iox2_config_file.specs.Rows.{is_line}
-use Rattle.iox2_config_file.specs.Settings.{Setting, settings_in, tables_in, service_settings, node_settings, publish_subscribe_settings, event_settings, request_response_settings, blackboard_settings}
-use Rattle.iox2_config_file.specs.Values.{SettingValue, option_value, number, flag, text, backpressure, allocation, duration, absent, settings}
+use Rattle.iox2_config_file.specs.Settings.{Setting, settings_in, tables_in, service_settings, node_settings}
+use Rattle.iox2_config_file.specs.Values.{SettingValue, option_value, number, flag, text, backpressure, allocation, duration, settings}
 use Rattle.iox2_config_file.specs.Write.{value_text, value_fits, section_misfits, located_misfits, misfits, IsHeaderText, IsTableText, IsTablesText, IsConfigText}
 use Rattle.iox2_config_file.specs.declared.kind.Kind.TheVariants as kind
 use Rattle.iox2_config_file.proofs.Filling.{Pair, lines_of, keys_of, set_all, are_distinct, Focus, focus_root, focus_child, run_table, run_first}
@@ -82,20 +82,8 @@ head_block head name key is short (about, line, whole) =
 header_block : (s : Section) (head : List ℕ) → IsHeaderText s head → Block head (headers s)
 unfolding key_text
 header_block section.Root head h = block_is head [] [] h block_none
-header_block section.Global head h = head_block head _ ([], codes "global") refl (omega arith) h
-header_block section.Service head h =
-    head_block head _ (codes "global" ∷ [], codes "service") refl (omega arith) h
-header_block section.Node head h =
-    head_block head _ (codes "global" ∷ [], codes "node") refl (omega arith) h
 header_block section.Defaults head h = block_is head [] [] h block_none
-header_block section.PublishSubscribe head h =
-    head_block head _ (codes "defaults" ∷ [], codes "publish-subscribe") refl (omega arith) h
-header_block section.Event head h =
-    head_block head _ (codes "defaults" ∷ [], codes "event") refl (omega arith) h
-header_block section.RequestResponse head h =
-    head_block head _ (codes "defaults" ∷ [], codes "request-response") refl (omega arith) h
-header_block section.Blackboard head h =
-    head_block head _ (codes "defaults" ∷ [], codes "blackboard") refl (omega arith) h
+header_block s head h = head_block head _ _ refl (omega arith) h
 
 abbrev pub AllWritten : Config → Config → Type 0
 AllWritten default config =
@@ -143,20 +131,15 @@ none_of : {X : Type 0} (xs ys : List X) → xs ++ ys ≡ [] → (xs ≡ []) × (
 none_of [] ys h = (refl, h)
 none_of (x ∷ xs) ys h = absurd (omega (arith, ap length h))
 
-abbrev located : Section → List ℕ → Section × List ℕ
-located s k = (s, k)
-
-no_keys : (s : Section) (keys : List (List ℕ)) → map (located s) keys ≡ [] → keys ≡ []
-no_keys s [] h = refl
-no_keys s (k ∷ keys) h = absurd (omega (arith, ap length h))
-
-some_key : (k : List ℕ) (keys : List (List ℕ)) → ¬ (k ∷ keys ≡ [])
-some_key k keys h = omega (arith, ap length h)
+-- nothing is made of nothing alone
+pub no_items : {X Y : Type 0} (f : X → Y) (xs : List X) → map f xs ≡ [] → xs ≡ []
+no_items f [] h = refl
+no_items f (x ∷ xs) h = absurd (omega (arith, ap length h))
 
 fits_of : (b : Bool) (k : List ℕ) (keys : List (List ℕ))
     → cons_option (if b then None else Some k) keys ≡ [] → (b ≡ true) × (keys ≡ [])
 fits_of true k keys h = (refl, h)
-fits_of false k keys h = absurd (some_key k keys h)
+fits_of false k keys h = absurd (omega (arith, ap length h))
 
 all_fit : (xs : List Setting)
     → filter_map (λ x. if value_fits x.value then None else Some x.key) xs ≡ []
@@ -175,7 +158,7 @@ none_in : (config : Config) (ss : List Section) → flat_map (located_misfits co
 none_in config [] h = tt
 none_in config (s ∷ ss) h =
     let (here, more) = none_of (located_misfits config s) (flat_map (located_misfits config) ss) h
-    in (no_keys s (section_misfits s config) here, none_in config ss more)
+    in (no_items _ (section_misfits s config) here, none_in config ss more)
 
 none_at : (config : Config) → NoneIn config sections → (s : Section)
     → section_misfits s config ≡ []
@@ -206,12 +189,6 @@ optional_duration (Some d) = refl
 
 kinded_in : (config : Config) (s : Section)
     → list_all (λ x. has_kind x.kind x.value) (settings_in s config) ≡ true
-kinded_in config section.Root = refl
-kinded_in config section.Global = refl
-kinded_in config section.Service = refl
-kinded_in config section.Node = refl
-kinded_in config section.Defaults = refl
-kinded_in config section.PublishSubscribe = refl
 kinded_in config section.Event =
     let e = config.defaults.event in
     rw (
@@ -220,33 +197,18 @@ kinded_in config section.Event =
       optional_number e.notifier_dropped_event,
       optional_number e.notifier_dead_event,
     ) refl
-kinded_in config section.RequestResponse = refl
-kinded_in config section.Blackboard = refl
+kinded_in config s = refl
 
 bare_in : (config : Config) (s : Section)
     → list_all (λ x. is_bare_key x.key) (settings_in s config) ≡ true
 bare_in config section.Root = refl
-bare_in config section.Global = refl
-bare_in config section.Service = refl
-bare_in config section.Node = refl
-bare_in config section.Defaults = refl
-bare_in config section.PublishSubscribe = refl
-bare_in config section.Event = refl
-bare_in config section.RequestResponse = refl
-bare_in config section.Blackboard = refl
+bare_in config s = refl
 
 -- the rows of a table are those of every configuration
 pub rows_in_all : (one other : Config) (s : Section)
     → rows_of (settings_in s one) ≡ rows_of (settings_in s other)
 rows_in_all one other section.Root = refl
-rows_in_all one other section.Global = refl
-rows_in_all one other section.Service = refl
-rows_in_all one other section.Node = refl
-rows_in_all one other section.Defaults = refl
-rows_in_all one other section.PublishSubscribe = refl
-rows_in_all one other section.Event = refl
-rows_in_all one other section.RequestResponse = refl
-rows_in_all one other section.Blackboard = refl
+rows_in_all one other s = refl
 
 -- a value is written in one line
 word_line : (bytes : List ℕ) → list_all is_word bytes ≡ true → is_line bytes ≡ true
@@ -268,12 +230,7 @@ value_line : (v : SettingValue) → value_fits v ≡ true → is_text_line v ≡
     → is_line (value_text v) ≡ true
 value_line (number n) fits line = decimal_line n (small n fits)
 value_line (flag true) fits line = refl
-value_line (flag false) fits line = refl
-value_line (text s) fits line = line
-value_line (backpressure RetryUntilDelivered) fits line = refl
 value_line (backpressure DiscardData) fits line = refl
-value_line (allocation BestFit) fits line = refl
-value_line (allocation PowerOfTwo) fits line = refl
 value_line (allocation Static) fits line = refl
 value_line (duration n) fits line =
     let secs = decimal_line (n / 1_000_000_000) (small (n / 1_000_000_000) fits) in
@@ -283,8 +240,8 @@ value_line (duration n) fits line =
     (lines_append (codes "{ nanos = ") (decimal (n % 1_000_000_000)) refl nanos)
     (lines_append (codes ", secs = ") (decimal (n / 1_000_000_000) ++ codes " }") refl
     (lines_append (decimal (n / 1_000_000_000)) (codes " }") secs refl))
-value_line absent fits line = refl
 value_line settings fits line = absurd (false≢true line)
+value_line v fits line = line
 
 -- settings that are all written in one line each
 abbrev AreShort : List Setting → Type 0
@@ -301,22 +258,14 @@ short_lines (x ∷ xs) h =
 short_in : (default : Config) → IsDefaultConfig default → (s : Section)
     → AreShort (settings_in s default)
 unfolding string_text encoding_of escaped needs_escape quotes_after
-short_in default h section.Root = refl
 short_in default h section.Global =
     rw (h.global.root_path, h.global.prefix, h.global.creation_timeout) refl
 short_in default h section.Service =
     subst (λ x. AreShort (service_settings x)) (sym h.global.service) refl
 short_in default h section.Node =
     subst (λ x. AreShort (node_settings x)) (sym h.global.node) refl
-short_in default h section.Defaults = refl
-short_in default h section.PublishSubscribe =
-    subst (λ x. AreShort (publish_subscribe_settings x.publish_subscribe)) (sym h.defaults) refl
-short_in default h section.Event =
-    subst (λ x. AreShort (event_settings x.event)) (sym h.defaults) refl
-short_in default h section.RequestResponse =
-    subst (λ x. AreShort (request_response_settings x.request_response)) (sym h.defaults) refl
-short_in default h section.Blackboard =
-    subst (λ x. AreShort (blackboard_settings x.blackboard)) (sym h.defaults) refl
+short_in default h s =
+    subst (λ x. AreShort (settings_in s (record default { defaults = x }))) (sym h.defaults) refl
 
 -- all settings are written
 pub all_written : (default config : Config) → IsDefaultConfig default → misfits config ≡ []
@@ -335,34 +284,27 @@ all_written default config is fit legal s =
 pub distinct_in : (config : Config) (s : Section)
     → are_distinct (keys_of (pairs_in s config)) ≡ true
 distinct_in config section.Root = refl
-distinct_in config section.Global = refl
-distinct_in config section.Service = refl
-distinct_in config section.Node = refl
-distinct_in config section.Defaults = refl
-distinct_in config section.PublishSubscribe = refl
-distinct_in config section.Event = refl
-distinct_in config section.RequestResponse = refl
-distinct_in config section.Blackboard = refl
+distinct_in config s = refl
 
 -- what the tables of the document hold
 abbrev pub table_nodes : Config → Section → Nodes
 table_nodes c s = set_all (pairs_in s c) no_nodes
 
+-- a table below the others of one
+abbrev below : List ℕ → Config → Section → Nodes → Nodes
+below key c s ns = insert key (open_table header (table_nodes c s)) ns
+
 abbrev pub global_nodes : Config → Nodes
 global_nodes c =
-    insert (codes "node") (open_table header (table_nodes c section.Node))
-    (insert (codes "service") (open_table header (table_nodes c section.Service))
-    (table_nodes c section.Global))
-
-abbrev below_defaults : List ℕ → Config → Section → Nodes → Nodes
-below_defaults key c s ns = insert key (open_table header (table_nodes c s)) ns
+    below (codes "node") c section.Node
+    (below (codes "service") c section.Service (table_nodes c section.Global))
 
 abbrev pub defaults_nodes : Config → Nodes
 defaults_nodes c =
-    below_defaults (codes "blackboard") c section.Blackboard
-    (below_defaults (codes "request-response") c section.RequestResponse
-    (below_defaults (codes "event") c section.Event
-    (below_defaults (codes "publish-subscribe") c section.PublishSubscribe no_nodes)))
+    below (codes "blackboard") c section.Blackboard
+    (below (codes "request-response") c section.RequestResponse
+    (below (codes "event") c section.Event
+    (below (codes "publish-subscribe") c section.PublishSubscribe no_nodes)))
 
 abbrev at_global : Nodes → Nodes
 at_global ns = insert (codes "global") (open_table header ns) no_nodes
@@ -388,60 +330,37 @@ run_then doc next es fs h =
 abbrev rest_of : Config → List Section → List Expression
 rest_of c ss = flat_map (table_lines c) ss
 
--- the lines of the tables below `defaults`
-run_defaults : (c : Config) (old : List (List ℕ))
-    → run (at_global (global_nodes c), old)
-    (rest_of c (section.PublishSubscribe ∷ section.Event ∷ section.RequestResponse
-    ∷ section.Blackboard ∷ []))
-    ≡ Some (root_nodes c, codes "defaults" ∷ codes "blackboard" ∷ [])
-run_defaults c old =
-    let one = below_defaults (codes "publish-subscribe") c section.PublishSubscribe no_nodes in
-    let two = below_defaults (codes "event") c section.Event one in
-    let three = below_defaults (codes "request-response") c section.RequestResponse two in
-    run_then (at_global (global_nodes c), old)
-    (at_defaults c one, codes "defaults" ∷ codes "publish-subscribe" ∷ [])
-    (table_lines c section.PublishSubscribe)
-    (rest_of c (section.Event ∷ section.RequestResponse ∷ section.Blackboard ∷ []))
-    (run_first (codes "defaults") (codes "publish-subscribe") (pairs_in section.PublishSubscribe c)
-    (at_global (global_nodes c)) old refl (distinct_in c section.PublishSubscribe))
-    ∙ run_then (at_defaults c one, codes "defaults" ∷ codes "publish-subscribe" ∷ [])
-    (at_defaults c two, codes "defaults" ∷ codes "event" ∷ []) (table_lines c section.Event)
-    (rest_of c (section.RequestResponse ∷ section.Blackboard ∷ []))
-    (run_table (codes "defaults" ∷ []) (at_defaults c) (codes "event") (pairs_in section.Event c)
-    one _ (in_defaults c) refl (distinct_in c section.Event))
-    ∙ run_then (at_defaults c two, codes "defaults" ∷ codes "event" ∷ [])
-    (at_defaults c three, codes "defaults" ∷ codes "request-response" ∷ [])
-    (table_lines c section.RequestResponse) (rest_of c (section.Blackboard ∷ []))
-    (run_table (codes "defaults" ∷ []) (at_defaults c) (codes "request-response")
-    (pairs_in section.RequestResponse c) two _ (in_defaults c) refl
-    (distinct_in c section.RequestResponse))
-    ∙ run_then (at_defaults c three, codes "defaults" ∷ codes "request-response" ∷ [])
-    (root_nodes c, codes "defaults" ∷ codes "blackboard" ∷ [])
-    (table_lines c section.Blackboard) []
-    (run_table (codes "defaults" ∷ []) (at_defaults c) (codes "blackboard")
-    (pairs_in section.Blackboard c) three _ (in_defaults c) refl
-    (distinct_in c section.Blackboard))
+-- the lines of a table, and those of the tables from this number on
+table_then : (c : Config) (s : Section) (n : ℕ) (path : List (List ℕ)) (hole : Nodes → Nodes)
+    (k : List ℕ) (ns : Nodes) (old : List (List ℕ)) → Focus path hole → get_node k ns ≡ None
+    → run (hole ns, old)
+    ((((path, k), std_table) ∷ lines_of (pairs_in s c)) ++ rest_of c (drop n sections))
+    ≡ run (hole (below k c s ns), path ++ k ∷ []) (rest_of c (drop n sections))
+table_then c s n path hole k ns old focus free =
+    run_then (hole ns, old) _ (((path, k), std_table) ∷ lines_of (pairs_in s c))
+    (rest_of c (drop n sections))
+    (run_table path hole k (pairs_in s c) ns old focus free (distinct_in c s))
 
 -- all lines of a configuration
 pub run_all : (c : Config) → run (no_nodes, []) (rest_of c sections)
     ≡ Some (root_nodes c, codes "defaults" ∷ codes "blackboard" ∷ [])
 run_all c =
-    let one = table_nodes c section.Global in
-    let two = insert (codes "service") (open_table header (table_nodes c section.Service)) one in
-    let below_global = rest_of c (section.PublishSubscribe ∷ section.Event
-    ∷ section.RequestResponse ∷ section.Blackboard ∷ []) in
-    run_then (no_nodes, []) (at_global one, codes "global" ∷ []) (table_lines c section.Global)
-    (table_lines c section.Service ++ (table_lines c section.Node ++ below_global))
-    (run_table [] (λ x. x) (codes "global") (pairs_in section.Global c) no_nodes [] focus_root refl
-    (distinct_in c section.Global))
-    ∙ run_then (at_global one, codes "global" ∷ [])
-    (at_global two, codes "global" ∷ codes "service" ∷ []) (table_lines c section.Service)
-    (table_lines c section.Node ++ below_global)
-    (run_table (codes "global" ∷ []) at_global (codes "service") (pairs_in section.Service c) one _
-    in_global refl (distinct_in c section.Service))
-    ∙ run_then (at_global two, codes "global" ∷ codes "service" ∷ [])
-    (at_global (global_nodes c), codes "global" ∷ codes "node" ∷ []) (table_lines c section.Node)
-    below_global
-    (run_table (codes "global" ∷ []) at_global (codes "node") (pairs_in section.Node c) two _
-    in_global refl (distinct_in c section.Node))
-    ∙ run_defaults c (codes "global" ∷ codes "node" ∷ [])
+    let global = codes "global" ∷ [] in
+    let services = below (codes "service") c section.Service (table_nodes c section.Global) in
+    let defaults = codes "defaults" ∷ [] in
+    let one = below (codes "publish-subscribe") c section.PublishSubscribe no_nodes in
+    let two = below (codes "event") c section.Event one in
+    let three = below (codes "request-response") c section.RequestResponse two in
+    table_then c section.Global 2 [] (λ x. x) (codes "global") no_nodes [] focus_root refl
+    ∙ table_then c section.Service 3 global at_global (codes "service") _ _ in_global refl
+    ∙ table_then c section.Node 4 global at_global (codes "node") services _ in_global refl
+    ∙ run_then (at_global (global_nodes c), codes "global" ∷ codes "node" ∷ []) _
+    (table_lines c section.PublishSubscribe) (rest_of c (drop 6 sections))
+    (run_first (codes "defaults") (codes "publish-subscribe") (pairs_in section.PublishSubscribe c)
+    (at_global (global_nodes c)) _ refl (distinct_in c section.PublishSubscribe))
+    ∙ table_then c section.Event 7 defaults (at_defaults c) (codes "event") one _ (in_defaults c)
+    refl
+    ∙ table_then c section.RequestResponse 8 defaults (at_defaults c) (codes "request-response")
+    two _ (in_defaults c) refl
+    ∙ table_then c section.Blackboard 9 defaults (at_defaults c) (codes "blackboard") three _
+    (in_defaults c) refl

@@ -72,362 +72,140 @@ pub struct Row {
     pub about: &'static str,
 }
 
-const ROOT: [Row; 2] = [
-    Row {
-        key: "global",
-        kind: Kind::Table,
-        about: "The settings that all services and nodes of one system share.",
-    },
-    Row {
-        key: "defaults",
-        kind: Kind::Table,
-        about: "The settings that services get where nothing else is said.",
-    },
-];
+/// Rows, each a key, the kind of its value, and what the value means.
+macro_rules! rows {
+    ($($key:literal, $kind:ident, $about:literal;)*) => {
+        [$(Row {
+            key: $key,
+            kind: Kind::$kind,
+            about: $about,
+        }),*]
+    };
+}
 
-const GLOBAL: [Row; 5] = [
-    Row {
-        key: "root-path",
-        kind: Kind::Path,
-        about: "The path below which everything else lies.",
-    },
-    Row {
-        key: "prefix",
-        kind: Kind::FileName,
-        about: "What the name of each file begins with.",
-    },
-    Row {
-        key: "creation-timeout",
-        kind: Kind::Duration,
-        about: "How long, in seconds and nanoseconds, one who opens a thing waits for its creator.",
-    },
-    Row {
-        key: "service",
-        kind: Kind::Table,
-        about: "The directory of services, and how the names of their files end.",
-    },
-    Row {
-        key: "node",
-        kind: Kind::Table,
-        about: "The directory of nodes, and how the names of their files end.",
-    },
-];
+const ROOT: [Row; 2] = rows! {
+    "global", Table, "The settings that all services and nodes of one system share.";
+    "defaults", Table, "The settings that services get where nothing else is said.";
+};
 
-const SERVICE: [Row; 9] = [
-    Row {
-        key: "directory",
-        kind: Kind::Path,
-        about: "The directory of services, below the root path.",
-    },
-    Row {
-        key: "data-segment-suffix",
-        kind: Kind::FileName,
-        about: "The end of the name of a port's data segment.",
-    },
-    Row {
-        key: "static-config-storage-suffix",
-        kind: Kind::FileName,
-        about: "The end of the name of a service's static configuration.",
-    },
-    Row {
-        key: "dynamic-config-storage-suffix",
-        kind: Kind::FileName,
-        about: "The end of the name of a service's dynamic configuration.",
-    },
-    Row {
-        key: "connection-suffix",
-        kind: Kind::FileName,
-        about: "The end of the name of a connection between two ports.",
-    },
-    Row {
-        key: "event-connection-suffix",
-        kind: Kind::FileName,
-        about: "The end of the name of a connection by which events are sent.",
-    },
-    Row {
-        key: "blackboard-mgmt-suffix",
-        kind: Kind::FileName,
-        about: "The end of the name of a blackboard's management segment.",
-    },
-    Row {
-        key: "blackboard-data-suffix",
-        kind: Kind::FileName,
-        about: "The end of the name of a blackboard's data segment.",
-    },
-    Row {
-        key: "cleanup-dead-nodes-on-open",
-        kind: Kind::Flag,
-        about: "Whether one who opens a service first removes what dead nodes left in it.",
-    },
-];
+const GLOBAL: [Row; 5] = rows! {
+    "root-path", Path, "The path below which everything else lies.";
+    "prefix", FileName, "What the name of each file begins with.";
+    "creation-timeout", Duration,
+        "How long, in seconds and nanoseconds, one who opens a thing waits for its creator.";
+    "service", Table, "The directory of services, and how the names of their files end.";
+    "node", Table, "The directory of nodes, and how the names of their files end.";
+};
 
-const NODE: [Row; 8] = [
-    Row {
-        key: "directory",
-        kind: Kind::Path,
-        about: "The directory of nodes, below the root path.",
-    },
-    Row {
-        key: "monitor-suffix",
-        kind: Kind::FileName,
-        about: "The end of the name of the token by which others see that a node lives.",
-    },
-    Row {
-        key: "static-config-suffix",
-        kind: Kind::FileName,
-        about: "The end of the name of a node's static configuration.",
-    },
-    Row {
-        key: "service-tag-suffix",
-        kind: Kind::FileName,
-        about: "The end of the name of a node's tag for each service that it uses.",
-    },
-    Row {
-        key: "port-tag-suffix",
-        kind: Kind::FileName,
-        about: "The end of the name of a node's tag for each of its ports.",
-    },
-    Row {
-        key: "global-mgmt-suffix",
-        kind: Kind::FileName,
-        about: "The end of the name of the segment with which nodes are managed.",
-    },
-    Row {
-        key: "cleanup-dead-nodes-on-creation",
-        kind: Kind::Flag,
-        about: "Whether one who creates a node first removes what dead nodes left.",
-    },
-    Row {
-        key: "cleanup-dead-nodes-on-destruction",
-        kind: Kind::Flag,
-        about: "Whether a node that goes removes what dead nodes left.",
-    },
-];
+const SERVICE: [Row; 9] = rows! {
+    "directory", Path, "The directory of services, below the root path.";
+    "data-segment-suffix", FileName, "The end of the name of a port's data segment.";
+    "static-config-storage-suffix", FileName,
+        "The end of the name of a service's static configuration.";
+    "dynamic-config-storage-suffix", FileName,
+        "The end of the name of a service's dynamic configuration.";
+    "connection-suffix", FileName, "The end of the name of a connection between two ports.";
+    "event-connection-suffix", FileName,
+        "The end of the name of a connection by which events are sent.";
+    "blackboard-mgmt-suffix", FileName, "The end of the name of a blackboard's management segment.";
+    "blackboard-data-suffix", FileName, "The end of the name of a blackboard's data segment.";
+    "cleanup-dead-nodes-on-open", Flag,
+        "Whether one who opens a service first removes what dead nodes left in it.";
+};
 
-const DEFAULTS: [Row; 4] = [
-    Row {
-        key: "publish-subscribe",
-        kind: Kind::Table,
-        about: "The settings of publish-subscribe services.",
-    },
-    Row {
-        key: "event",
-        kind: Kind::Table,
-        about: "The settings of event services.",
-    },
-    Row {
-        key: "request-response",
-        kind: Kind::Table,
-        about: "The settings of request-response services.",
-    },
-    Row {
-        key: "blackboard",
-        kind: Kind::Table,
-        about: "The settings of blackboard services.",
-    },
-];
+const NODE: [Row; 8] = rows! {
+    "directory", Path, "The directory of nodes, below the root path.";
+    "monitor-suffix", FileName,
+        "The end of the name of the token by which others see that a node lives.";
+    "static-config-suffix", FileName, "The end of the name of a node's static configuration.";
+    "service-tag-suffix", FileName,
+        "The end of the name of a node's tag for each service that it uses.";
+    "port-tag-suffix", FileName, "The end of the name of a node's tag for each of its ports.";
+    "global-mgmt-suffix", FileName,
+        "The end of the name of the segment with which nodes are managed.";
+    "cleanup-dead-nodes-on-creation", Flag,
+        "Whether one who creates a node first removes what dead nodes left.";
+    "cleanup-dead-nodes-on-destruction", Flag,
+        "Whether a node that goes removes what dead nodes left.";
+};
 
-const PUBLISH_SUBSCRIBE: [Row; 11] = [
-    Row {
-        key: "max-subscribers",
-        kind: Kind::Number,
-        about: "How many subscribers may be attached at once.",
-    },
-    Row {
-        key: "max-publishers",
-        kind: Kind::Number,
-        about: "How many publishers may be attached at once.",
-    },
-    Row {
-        key: "max-nodes",
-        kind: Kind::Number,
-        about: "How many nodes may use the service at once.",
-    },
-    Row {
-        key: "subscriber-max-buffer-size",
-        kind: Kind::Number,
-        about: "The capacity of a subscriber's buffer, in samples.",
-    },
-    Row {
-        key: "subscriber-max-borrowed-samples",
-        kind: Kind::Number,
-        about: "How many samples a subscriber may hold at once.",
-    },
-    Row {
-        key: "publisher-max-loaned-samples",
-        kind: Kind::Number,
-        about: "How many samples a publisher may have taken and not yet sent.",
-    },
-    Row {
-        key: "publisher-history-size",
-        kind: Kind::Number,
-        about: "How many of the last samples a publisher keeps for later subscribers.",
-    },
-    Row {
-        key: "enable-safe-overflow",
-        kind: Kind::Flag,
-        about: "Whether a new sample replaces the oldest one where a buffer is full.",
-    },
-    Row {
-        key: "backpressure-strategy",
-        kind: Kind::Backpressure,
-        about: "What a publisher does where a buffer is full and may not overflow.",
-    },
-    Row {
-        key: "subscriber-expired-connection-buffer",
-        kind: Kind::Number,
-        about: "How many connections of publishers that are gone a subscriber keeps.",
-    },
-    Row {
-        key: "publisher-allocation-strategy",
-        kind: Kind::Allocation,
-        about: "How a publisher's data segment grows for payloads of any length.",
-    },
-];
+const DEFAULTS: [Row; 4] = rows! {
+    "publish-subscribe", Table, "The settings of publish-subscribe services.";
+    "event", Table, "The settings of event services.";
+    "request-response", Table, "The settings of request-response services.";
+    "blackboard", Table, "The settings of blackboard services.";
+};
 
-const EVENT: [Row; 8] = [
-    Row {
-        key: "max-listeners",
-        kind: Kind::Number,
-        about: "How many listeners may be attached at once.",
-    },
-    Row {
-        key: "max-notifiers",
-        kind: Kind::Number,
-        about: "How many notifiers may be attached at once.",
-    },
-    Row {
-        key: "max-nodes",
-        kind: Kind::Number,
-        about: "How many nodes may use the service at once.",
-    },
-    Row {
-        key: "event-id-max-value",
-        kind: Kind::Number,
-        about: "The greatest number of an event.",
-    },
-    Row {
-        key: "deadline",
-        kind: Kind::Duration,
-        about: "The longest time, in seconds and nanoseconds, that may pass between two events.",
-    },
-    Row {
-        key: "notifier-created-event",
-        kind: Kind::Number,
-        about: "The number of the event that reports a new notifier.",
-    },
-    Row {
-        key: "notifier-dropped-event",
-        kind: Kind::Number,
-        about: "The number of the event that reports that a notifier went.",
-    },
-    Row {
-        key: "notifier-dead-event",
-        kind: Kind::Number,
-        about: "The number of the event that reports a notifier whose node died.",
-    },
-];
+const PUBLISH_SUBSCRIBE: [Row; 11] = rows! {
+    "max-subscribers", Number, "How many subscribers may be attached at once.";
+    "max-publishers", Number, "How many publishers may be attached at once.";
+    "max-nodes", Number, "How many nodes may use the service at once.";
+    "subscriber-max-buffer-size", Number, "The capacity of a subscriber's buffer, in samples.";
+    "subscriber-max-borrowed-samples", Number, "How many samples a subscriber may hold at once.";
+    "publisher-max-loaned-samples", Number,
+        "How many samples a publisher may have taken and not yet sent.";
+    "publisher-history-size", Number,
+        "How many of the last samples a publisher keeps for later subscribers.";
+    "enable-safe-overflow", Flag,
+        "Whether a new sample replaces the oldest one where a buffer is full.";
+    "backpressure-strategy", Backpressure,
+        "What a publisher does where a buffer is full and may not overflow.";
+    "subscriber-expired-connection-buffer", Number,
+        "How many connections of publishers that are gone a subscriber keeps.";
+    "publisher-allocation-strategy", Allocation,
+        "How a publisher's data segment grows for payloads of any length.";
+};
 
-const REQUEST_RESPONSE: [Row; 17] = [
-    Row {
-        key: "enable-safe-overflow-for-requests",
-        kind: Kind::Flag,
-        about: "Whether a new request replaces the oldest one where a server's buffer is full.",
-    },
-    Row {
-        key: "enable-safe-overflow-for-responses",
-        kind: Kind::Flag,
-        about: "Whether a new response replaces the oldest one where a client's buffer is full.",
-    },
-    Row {
-        key: "max-active-requests-per-client",
-        kind: Kind::Number,
-        about: "How many requests of one client may be open at each server at once.",
-    },
-    Row {
-        key: "max-response-buffer-size",
-        kind: Kind::Number,
-        about: "The capacity of a client's buffer for the responses to one request.",
-    },
-    Row {
-        key: "max-servers",
-        kind: Kind::Number,
-        about: "How many servers may be attached at once.",
-    },
-    Row {
-        key: "max-clients",
-        kind: Kind::Number,
-        about: "How many clients may be attached at once.",
-    },
-    Row {
-        key: "max-nodes",
-        kind: Kind::Number,
-        about: "How many nodes may use the service at once.",
-    },
-    Row {
-        key: "max-borrowed-responses-per-pending-response",
-        kind: Kind::Number,
-        about: "How many responses to one request a client may hold at once.",
-    },
-    Row {
-        key: "max-loaned-requests",
-        kind: Kind::Number,
-        about: "How many requests a client may have taken and not yet sent.",
-    },
-    Row {
-        key: "server-max-loaned-responses-per-request",
-        kind: Kind::Number,
-        about: "How many responses to one request a server may have taken and not yet sent.",
-    },
-    Row {
-        key: "client-backpressure-strategy",
-        kind: Kind::Backpressure,
-        about: "What a client does where a server's buffer is full and may not overflow.",
-    },
-    Row {
-        key: "server-backpressure-strategy",
-        kind: Kind::Backpressure,
-        about: "What a server does where a client's buffer is full and may not overflow.",
-    },
-    Row {
-        key: "client-expired-connection-buffer",
-        kind: Kind::Number,
-        about: "How many connections of servers that are gone a client keeps.",
-    },
-    Row {
-        key: "server-expired-connection-buffer",
-        kind: Kind::Number,
-        about: "How many connections of clients that are gone a server keeps.",
-    },
-    Row {
-        key: "enable-fire-and-forget-requests",
-        kind: Kind::Flag,
-        about: "Whether a client may send requests and wait for no response.",
-    },
-    Row {
-        key: "client-allocation-strategy",
-        kind: Kind::Allocation,
-        about: "How a client's data segment grows for payloads of any length.",
-    },
-    Row {
-        key: "server-allocation-strategy",
-        kind: Kind::Allocation,
-        about: "How a server's data segment grows for payloads of any length.",
-    },
-];
+const EVENT: [Row; 8] = rows! {
+    "max-listeners", Number, "How many listeners may be attached at once.";
+    "max-notifiers", Number, "How many notifiers may be attached at once.";
+    "max-nodes", Number, "How many nodes may use the service at once.";
+    "event-id-max-value", Number, "The greatest number of an event.";
+    "deadline", Duration,
+        "The longest time, in seconds and nanoseconds, that may pass between two events.";
+    "notifier-created-event", Number, "The number of the event that reports a new notifier.";
+    "notifier-dropped-event", Number, "The number of the event that reports that a notifier went.";
+    "notifier-dead-event", Number,
+        "The number of the event that reports a notifier whose node died.";
+};
 
-const BLACKBOARD: [Row; 2] = [
-    Row {
-        key: "max-readers",
-        kind: Kind::Number,
-        about: "How many readers may be attached at once.",
-    },
-    Row {
-        key: "max-nodes",
-        kind: Kind::Number,
-        about: "How many nodes may use the service at once.",
-    },
-];
+const REQUEST_RESPONSE: [Row; 17] = rows! {
+    "enable-safe-overflow-for-requests", Flag,
+        "Whether a new request replaces the oldest one where a server's buffer is full.";
+    "enable-safe-overflow-for-responses", Flag,
+        "Whether a new response replaces the oldest one where a client's buffer is full.";
+    "max-active-requests-per-client", Number,
+        "How many requests of one client may be open at each server at once.";
+    "max-response-buffer-size", Number,
+        "The capacity of a client's buffer for the responses to one request.";
+    "max-servers", Number, "How many servers may be attached at once.";
+    "max-clients", Number, "How many clients may be attached at once.";
+    "max-nodes", Number, "How many nodes may use the service at once.";
+    "max-borrowed-responses-per-pending-response", Number,
+        "How many responses to one request a client may hold at once.";
+    "max-loaned-requests", Number, "How many requests a client may have taken and not yet sent.";
+    "server-max-loaned-responses-per-request", Number,
+        "How many responses to one request a server may have taken and not yet sent.";
+    "client-backpressure-strategy", Backpressure,
+        "What a client does where a server's buffer is full and may not overflow.";
+    "server-backpressure-strategy", Backpressure,
+        "What a server does where a client's buffer is full and may not overflow.";
+    "client-expired-connection-buffer", Number,
+        "How many connections of servers that are gone a client keeps.";
+    "server-expired-connection-buffer", Number,
+        "How many connections of clients that are gone a server keeps.";
+    "enable-fire-and-forget-requests", Flag,
+        "Whether a client may send requests and wait for no response.";
+    "client-allocation-strategy", Allocation,
+        "How a client's data segment grows for payloads of any length.";
+    "server-allocation-strategy", Allocation,
+        "How a server's data segment grows for payloads of any length.";
+};
+
+const BLACKBOARD: [Row; 2] = rows! {
+    "max-readers", Number, "How many readers may be attached at once.";
+    "max-nodes", Number, "How many nodes may use the service at once.";
+};
 
 /// The name of a table that has settings, as its header has it, and what the table is.
 pub(crate) fn header(section: Section) -> Option<(&'static str, &'static str)>

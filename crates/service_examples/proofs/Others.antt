@@ -2,6 +2,7 @@
 use Rattle.std.proofs.Common.{◌≡◌, ◌∙◌, ℕ, ◌≤◌, Bool, true, false, List, [], ◌∷◌, ◌++◌, length, map, refl, sym, ap, subst, arith}
 use Rattle.std.specs.Prelude.{if◌then◌else◌, not, ◌||◌, ◌&&◌, ◌==◌}
 use Rattle.std.specs.List.{list_any}
+use Rattle.std.proofs.Math.Bool.{or-false, or-true, and-true}
 use Rattle.std.proofs.lemmas.Bool.{eqb-true, eq-eqb, ne_eqb}
 use Rattle.std.proofs.lemmas.List.Filters.{length-filter_both}
 use Rattle.std.proofs.lemmas.List.Elements.{filter_agree}
@@ -24,22 +25,10 @@ same_order a b =
       | false ↦ λ e. sym (ne_eqb b a (λ k. not_both (sym e ∙ eq-eqb a b (sym k))))
     ]) refl
 
-or_false : (b : Bool) → (b || false) ≡ b
-or_false true = refl
-or_false false = refl
-
-or_true : (b : Bool) → (b || true) ≡ true
-or_true true = refl
-or_true false = refl
-
 -- whether one node is meant
 is_other : {T : Type 0} (node : T → ℕ) (d : ℕ) (x : T)
     → not (is_of node d x) ≡ is_outside node (d ∷ []) x
-is_other node d x = ap not (same_order (node x) d ∙ sym (or_false (d == node x)))
-
-and_true : (b : Bool) → (b && true) ≡ b
-and_true true = refl
-and_true false = refl
+is_other node d x = ap not (same_order (node x) d ∙ sym (or-false (d == node x)))
 
 -- where each answer is yes, all candidates go
 pub all_go : {F T : Type 0} (calls : F → T → Bool → F → Type 0)
@@ -54,15 +43,15 @@ all_go calls agrees node d marked es f h a =
     (λ q x r v c. (refl, agrees q x r v c)) f _ _ h a)
     ∙ filter_agree (λ e. not (is_of node d e.details && true))
     (λ e. is_outside node (d ∷ []) e.details)
-    (λ e. ap not (and_true (is_of node d e.details)) ∙ is_other node d e.details) es
+    (λ e. ap not (and-true (is_of node d e.details)) ∙ is_other node d e.details) es
 
 -- the lock, where all of a node went
 pub lock_is : {A : Type 0} (all left : List (Entry A)) (locked : Bool)
     → lock_after LockIfLastIndex (length all) (length left) locked
     ≡ (locked || last_went all left)
-lock_is [] left locked = sym (or_false locked)
-lock_is (e ∷ all) [] locked = sym (or_true locked)
-lock_is (e ∷ all) (l ∷ left) locked = sym (or_false locked)
+lock_is [] left locked = sym (or-false locked)
+lock_is (e ∷ all) [] locked = sym (or-true locked)
+lock_is (e ∷ all) (l ∷ left) locked = sym (or-false locked)
 
 -- none of the node's is left
 pub none_left : {T : Type 0} (node : T → ℕ) (d : ℕ) (es : List (Entry T))
@@ -126,12 +115,10 @@ pub lock_then : {A : Type 0} (locked : Bool) (all some few : List (Entry A))
 lock_then true all some few a b = refl
 lock_then false [] [] few a b = refl
 lock_then false [] (s ∷ some) few a b = absurd (omega arith)
-lock_then false (e ∷ all) [] [] a b = refl
 lock_then false (e ∷ all) [] (f ∷ few) a b = absurd (omega arith)
-lock_then false (e ∷ all) (s ∷ some) [] a b = refl
-lock_then false (e ∷ all) (s ∷ some) (f ∷ few) a b = refl
+lock_then false (e ∷ all) some few a b = refl
 
 pub still_locked : {A : Type 0} (locked : Bool) (all : List (Entry A))
     → (locked || last_went all all) ≡ locked
-still_locked locked [] = or_false locked
-still_locked locked (e ∷ all) = or_false locked
+still_locked locked [] = or-false locked
+still_locked locked (e ∷ all) = or-false locked

@@ -11,7 +11,7 @@ use Rattle.iox2_dynamic.specs.declared.dynamic_config.answers.RegisterNodeResult
 use Rattle.iox2_dynamic.specs.declared.dynamic_config.answers.RegisterNodeResult.TheVariants.{MarkedForDestruction, ExceedsMaxNumberOfNodes}
 use Rattle.service_examples.specs.declared.builder.Opener.{Opener}
 use Rattle.service_examples.specs.declared.builder.OpenError.{OpenError}
-use Rattle.service_examples.specs.declared.builder.OpenError.TheVariants.{IncompatibleMessagingPattern, IncompatibleAttributes, IncompatibleTypes, MessageTooLarge, NodeRefused}
+use Rattle.service_examples.specs.declared.builder.OpenError.TheVariants.{IncompatibleTypes, MessageTooLarge}
 use Rattle.service_examples.specs.Opening.{GivesRoom, IsVerified, Refuses, RefusesNodes, types_of}
 use Rattle.service_examples.proofs.builder.open_service.Goals as goal
 
@@ -25,9 +25,7 @@ refused : (d : Description) (o : Opener) (s : Service) (why : OpenError) → IsV
     → GivesRoom (types_of d.pattern) o (Err why) → Refuses d o s why
 refused d o s IncompatibleTypes v g = (v, g)
 refused d o s MessageTooLarge v g = ((v, g.0), g.1)
-refused d o s IncompatibleMessagingPattern v g = absurd g
-refused d o s (IncompatibleAttributes missing) v g = absurd g
-refused d o s (NodeRefused why) v g = absurd g
+refused d o s other v g = absurd g
 
 -- so is that of the node
 not_registered : (s : Service) (id : ℕ) (why : RegisterNodeResult) (new : Service)
