@@ -1,5 +1,5 @@
 -- What is answered, and what follows from a status.
-use Rattle.std.proofs.Common.{◌≡◌, ℕ, List, ◌++◌, Option, Some, None, IfSome, Result, Ok, Err, IfOk, subst, sym, ap, ◌∙◌, arith, append_assoc}
+use Rattle.std.proofs.Common.{◌≡◌, ℕ, List, Option, Some, None, IfSome, Result, Ok, Err, IfOk, subst, sym, ap, ◌∙◌, arith}
 use Rattle.std.specs.Result.{IsErr, IsErrAnd, MatchResult}
 use Rattle.iox2_config.specs.declared.config.Config.{Config}
 use Rattle.service_drawing.specs.Descriptions.{StopsReading}
@@ -11,7 +11,6 @@ use Rattle.service_drawing.specs.declared.fault.Fault.{Fault}
 use Rattle.service_drawing.specs.declared.fault.Fault.TheVariants.{BadArgument, BadLine, BadSettings, NoEnd, NoMemory}
 use Rattle.service_drawing.specs.declared.streams.Written.{Written}
 use Rattle.service_drawing.specs.declared.reading.expected.Expected.{Expected}
-use Rattle.service_drawing.proofs.Fronts.{in_front}
 use Rattle.service_drawing.proofs.Reasons.{one_reason}
 
 -- the status 0 is that of an answer
@@ -43,24 +42,19 @@ pub draws_no_more : (base : Config) (warnings rest bytes : List ℕ) (expected :
     → StopsReading base expected.rest.now rest
     × IsReason base expected.reason expected.rest.now rest
     → TellsBadLine bytes expected fault → Draws bytes (Err fault)
-draws_no_more base warnings rest bytes expected (BadLine line cause prefix form) over s h =
-    let front = in_front base warnings rest bytes over in
-    record {
-      base = base;
-      warnings = warnings;
-      front = front.0;
-      rest = rest;
-      over = over;
-      parts = front.1;
-      left = expected.rest.now;
-      reason = expected.reason;
-      stops = s.0;
-      number = h.0 (front.0 ++ s.0.read)
-          (front.1 ∙ ap (λ l. front.0 ++ l) s.0.parts ∙ sym (append_assoc front.0 s.0.read _));
-      found = s.1;
-      alone = λ other h. one_reason base expected.reason other expected.rest.now rest s.1 h;
-      because = h.1;
-    }
+draws_no_more base warnings rest bytes expected (BadLine line cause prefix form) over s h = record {
+  base = base;
+  warnings = warnings;
+  rest = rest;
+  over = over;
+  left = expected.rest.now;
+  reason = expected.reason;
+  stops = s.0;
+  number = h.0;
+  found = s.1;
+  alone = λ other h. one_reason base expected.reason other expected.rest.now rest s.1 h;
+  because = h.1;
+}
 draws_no_more base warnings rest bytes expected BadArgument over s h = h
 draws_no_more base warnings rest bytes expected (BadSettings lines) over s h = absurd h
 draws_no_more base warnings rest bytes expected NoEnd over s h = absurd h

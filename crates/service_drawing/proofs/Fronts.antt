@@ -1,23 +1,11 @@
 -- What stands in front of a description, line by line.
-use Rattle.std.proofs.Common.{◌≡◌, ◌≢◌, ℕ, ◌-◌, List, [], ◌∷◌, ◌++◌, length, take, codes, inl, inr, refl, sym, ap, ◌∙◌, subst, arith, append_assoc, append-nil, length-append}
+use Rattle.std.proofs.Common.{◌≡◌, ◌≢◌, ℕ, ◌-◌, List, [], ◌∷◌, ◌++◌, length, take, codes, refl, sym, ap, ◌∙◌, subst, arith, append_assoc, append-nil, length-append}
 use Rattle.std.specs.List.{All}
 use Rattle.std.proofs.Math.Seq.{take-append_seam}
 use Rattle.std.proofs.lemmas.List.Elements.{All-head, All-tail, All-cons}
-use Rattle.iox2_config.specs.declared.config.Config.{Config}
 use Rattle.line_streams.specs.OneWay.{before_one}
 use Rattle.line_streams.specs.Spelling.{HasNo}
-use Rattle.service_drawing.specs.Fronts.{IsInside, lines_text, Ends, IsOver}
-
--- an input is what stands in front of what is left, and that
-pub in_front : (base : Config) (warnings rest bytes : List ℕ) → IsOver base warnings rest bytes
-    → (front : List ℕ) × (bytes ≡ front ++ rest)
-in_front base warnings rest bytes (inl none) = ([], sym none.1)
-in_front base warnings rest bytes (inr (settings, block, config)) = (
-  codes "config\n" ++ (block.inside ++ codes "end\n"),
-  block.opens
-      ∙ ap (λ l. codes "config\n" ++ l)
-      (block.ends.parts ∙ sym (append_assoc block.inside (codes "end\n") rest)),
-)
+use Rattle.service_drawing.specs.Fronts.{IsInside, lines_text, Ends}
 
 -- the word `end` is no newline
 end_lacks : HasNo 10 (codes "end")

@@ -2,10 +2,10 @@ mod Answered
 mod Attributes
 mod Descriptions
 mod Exchanges
+mod Forms
 mod Fronts
 mod Inside
 mod LinesOf
-mod MessageParts
 mod Messages
 mod Naming
 mod Pairs
@@ -13,6 +13,5 @@ mod Reasons
 mod Required
 mod ServiceNames
 mod SettingLines
-mod Stops
 mod Words
 mod Writes

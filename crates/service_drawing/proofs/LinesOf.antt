@@ -1,28 +1,19 @@
 -- Lines of one kind that were read, and what no further line may be.
-use Rattle.std.proofs.Common.{◌≡◌, ◌<◌, ℕ, List, [], ◌∷◌, ◌++◌, Some, None, length, map, refl, sym, ap, ◌∙◌, subst, arith, length-append}
+use Rattle.std.proofs.Common.{◌≡◌, ◌<◌, ℕ, List, [], ◌∷◌, ◌++◌, inl, inr, length, map, refl, sym, ap, ◌∙◌, subst, arith, length-append}
 use Rattle.std.proofs.lemmas.List.{length-map}
-use Rattle.service_drawing.specs.Lines.{IsLine, HasNoLine, HasSameLine, Stops, HasLineOf, HasLinesOf, UpTo}
+use Rattle.service_drawing.specs.Lines.{IsLine, AreLines, HasNoLine, StopsAt, HasMany, UpTo, line_by_line}
+use Rattle.service_drawing.proofs.Forms.{Lawful, lines_before, line_like, none_like, none_begins}
 use Rattle.service_drawing.proofs.Messages.{same_text}
-use Rattle.service_drawing.proofs.Stops.{IsPart, moves_as, line_moves, moves_then, line_later, none_begins, AreApart, other_line}
 use Rattle.service_drawing.proofs.Words.{line_one}
 
 -- one more line
 pub more_lines : {A : Type 0} (begin : List ℕ) (Spells : A → List ℕ → Type 0) (xs : List A) (x : A)
-    (at next bytes : List ℕ) → UpTo begin Spells xs at bytes → HasLineOf begin Spells x next at
-    → UpTo begin Spells (xs ++ x ∷ []) next bytes
-more_lines begin Spells [] x at next bytes e h =
-    (next, subst (λ (b : List ℕ). HasLineOf begin Spells x next b) (sym e) h, refl)
-more_lines begin Spells (y ∷ xs) x at next bytes u h =
-    (u.0, u.1, more_lines begin Spells xs x at next u.0 u.2 h)
-
--- no more follow
-pub all_lines : {A : Type 0} (begin : List ℕ) (Spells : A → List ℕ → Type 0) (xs : List A)
-    (at bytes : List ℕ) → UpTo begin Spells xs at bytes → HasNoLine begin at
-    → HasLinesOf begin Spells xs at bytes
-all_lines begin Spells [] at bytes e none =
-    (sym e, subst (λ (b : List ℕ). HasNoLine begin b) (sym e) none)
-all_lines begin Spells (x ∷ xs) at bytes u none =
-    (u.0, u.1, all_lines begin Spells xs at u.0 u.2 none)
+    (text at next bytes : List ℕ) → UpTo begin Spells xs at bytes → IsLine (begin ++ text) next at
+    → Spells x text → UpTo begin Spells (xs ++ x ∷ []) next bytes
+more_lines begin Spells [] x text at next bytes e l spelled =
+    (next, text, subst (λ (b : List ℕ). IsLine (begin ++ text) next b) (sym e) l, spelled, refl)
+more_lines begin Spells (y ∷ xs) x text at next bytes u l spelled =
+    (u.0, u.1, u.2, u.3, more_lines begin Spells xs x text at next u.0 u.4 l spelled)
 
 -- two lists that give a text after the same lines: the second goes on with one that gives it, and
 -- both give the same keys before
@@ -33,31 +24,32 @@ pub record GoesOn {A K : Type 0} (Spells : A → List ℕ → Type 0) (key : A �
   pub spelled : Spells one text
   pub keys : map key ys ≡ map key xs ++ key one ∷ map key more
 
-pub goes_on : {A K : Type 0} (begin : List ℕ) (Spells : A → List ℕ → Type 0) (key : A → K)
+goes_on : {A K : Type 0} (begin : List ℕ) (Spells : A → List ℕ → Type 0) (key : A → K)
     → ((x y : A) (t : List ℕ) → Spells x t → Spells y t → key x ≡ key y) → (xs ys : List A)
     (at rest bytes text tail : List ℕ) → UpTo begin Spells xs at bytes
-    → IsLine (begin ++ text) tail at → HasLinesOf begin Spells ys rest bytes
+    → IsLine (begin ++ text) tail at → UpTo begin Spells ys rest bytes → HasNoLine begin rest
     → GoesOn Spells key xs ys text
-goes_on begin Spells key same [] [] at rest bytes text tail e l h =
-    absurd (h.1 text tail (subst (λ (b : List ℕ). IsLine (begin ++ text) tail b) (sym e) l))
-goes_on begin Spells key same [] (y ∷ ys) at rest bytes text tail e l h = record {
+goes_on begin Spells key same [] [] at rest bytes text tail e l h none =
+    absurd (none text tail (subst (λ (b : List ℕ). IsLine (begin ++ text) tail b) (sym e ∙ h) l))
+goes_on begin Spells key same [] (y ∷ ys) at rest bytes text tail e l h none = record {
   one = y;
   more = ys;
   spelled = subst (λ (t : List ℕ). Spells y t)
-      (same_text begin h.1.text h.0 bytes h.1.line text tail
-      (subst (λ (b : List ℕ). IsLine (begin ++ text) tail b) (sym e) l)) h.1.spelled;
+      (same_text begin h.1 h.0 bytes h.2 text tail
+      (subst (λ (b : List ℕ). IsLine (begin ++ text) tail b) (sym e) l)) h.3;
   keys = refl;
 }
-goes_on begin Spells key same (x ∷ xs) [] at rest bytes text tail u l h =
-    absurd (h.1 u.1.text u.0 u.1.line)
-goes_on {K = K} begin Spells key same (x ∷ xs) (y ∷ ys) at rest bytes text tail u l h =
-    let texts : h.1.text ≡ u.1.text =
-    same_text begin h.1.text h.0 bytes h.1.line u.1.text u.0 u.1.line in
-    let mids : h.0 ≡ u.0 = (line_one _ _ h.0 u.0 bytes h.1.line u.1.line).1 in
-    let more = goes_on begin Spells key same xs ys at rest u.0 text tail u.2 l
-    (subst (λ (b : List ℕ). HasLinesOf begin Spells ys rest b) mids h.2) in
+goes_on begin Spells key same (x ∷ xs) [] at rest bytes text tail u l h none =
+    absurd (none u.1 u.0
+    (subst (λ (b : List ℕ). IsLine (begin ++ u.1) u.0 b) h u.2))
+goes_on {K = K} begin Spells key same (x ∷ xs) (y ∷ ys) at rest bytes text tail u l h none =
+    let texts : h.1 ≡ u.1 =
+    same_text begin h.1 h.0 bytes h.2 u.1 u.0 u.2 in
+    let mids : h.0 ≡ u.0 = (line_one _ _ h.0 u.0 bytes h.2 u.2).1 in
+    let more = goes_on begin Spells key same xs ys at rest u.0 text tail u.4 l
+    (subst (λ (b : List ℕ). UpTo begin Spells ys rest b) mids h.4) none in
     let keys : key y ≡ key x =
-    same y x u.1.text (subst (λ (t : List ℕ). Spells y t) texts h.1.spelled) u.1.spelled in
+    same y x u.1 (subst (λ (t : List ℕ). Spells y t) texts h.3) u.3 in
     record {
       one = more.one;
       more = more.more;
@@ -77,79 +69,113 @@ abbrev pub no_key : {A : Type 0} → A → Unit {0}
 no_key x = tt
 
 -- one rest follows the lines
-pub lines_rest : {A : Type 0} (begin : List ℕ) (Spells : A → List ℕ → Type 0) (xs ys : List A)
-    (r s bytes : List ℕ) → HasLinesOf begin Spells xs r bytes → HasLinesOf begin Spells ys s bytes
-    → r ≡ s
-lines_rest begin Spells [] [] r s bytes h k = h.0 ∙ sym k.0
-lines_rest begin Spells [] (y ∷ ys) r s bytes h k = absurd (h.1 k.1.text k.0 k.1.line)
-lines_rest begin Spells (x ∷ xs) [] r s bytes h k = absurd (k.1 h.1.text h.0 h.1.line)
-lines_rest begin Spells (x ∷ xs) (y ∷ ys) r s bytes h k =
-    let mids : k.0 ≡ h.0 = (line_one _ _ k.0 h.0 bytes k.1.line h.1.line).1 in
-    lines_rest begin Spells xs ys r s h.0 h.2
-    (subst (λ (b : List ℕ). HasLinesOf begin Spells ys s b) mids k.2)
+lines_rest : {A : Type 0} (begin : List ℕ) (Spells : A → List ℕ → Type 0) (xs ys : List A)
+    (r s bytes : List ℕ) → UpTo begin Spells xs r bytes → HasNoLine begin r
+    → UpTo begin Spells ys s bytes → HasNoLine begin s → r ≡ s
+lines_rest begin Spells [] [] r s bytes h p k q = sym h ∙ k
+lines_rest begin Spells [] (y ∷ ys) r s bytes h p k q =
+    absurd (p k.1 k.0 (subst (λ (b : List ℕ). IsLine (begin ++ k.1) k.0 b) h k.2))
+lines_rest begin Spells (x ∷ xs) [] r s bytes h p k q =
+    absurd (q h.1 h.0 (subst (λ (b : List ℕ). IsLine (begin ++ h.1) h.0 b) k h.2))
+lines_rest begin Spells (x ∷ xs) (y ∷ ys) r s bytes h p k q =
+    let mids : k.0 ≡ h.0 = (line_one _ _ k.0 h.0 bytes k.2 h.2).1 in
+    lines_rest begin Spells xs ys r s h.0 h.4 p
+    (subst (λ (b : List ℕ). UpTo begin Spells ys s b) mids k.4) q
 
--- the lines are read before other bytes too
-one_moves : {A : Type 0} (begin : List ℕ) (Spells : A → List ℕ → Type 0) (x : A)
-    (rest bytes : List ℕ) → HasLineOf begin Spells x rest bytes
-    → IsPart None (HasLineOf begin Spells x) rest bytes
-one_moves begin Spells x rest bytes h =
-    moves_as None (IsLine (begin ++ h.text)) (HasLineOf begin Spells x) rest bytes
-    (λ r b l. record { text = h.text; line = l; spelled = h.spelled })
-    (line_moves (begin ++ h.text) rest bytes h.line)
-
-pub up_moves : {A : Type 0} (begin : List ℕ) (Spells : A → List ℕ → Type 0) (xs : List A)
+-- the lines up to a place, as they would stand before other bytes too
+pub up_lines : {A : Type 0} (begin : List ℕ) (Spells : A → List ℕ → Type 0) (xs : List A)
     (at bytes : List ℕ) → UpTo begin Spells xs at bytes
-    → IsPart None (UpTo begin Spells xs) at bytes
-up_moves begin Spells [] at bytes e = record {
-  front = [];
-  parts = e;
-  ends = tt;
-  moved = λ other n. refl;
-}
-up_moves begin Spells (x ∷ xs) at bytes u =
-    moves_then None None (HasLineOf begin Spells x) (UpTo begin Spells xs) u.0 at bytes
-    (one_moves begin Spells x u.0 bytes u.1) (up_moves begin Spells xs at u.0 u.2) (λ o m n. tt)
+    → (texts : List (List ℕ)) × AreLines texts at bytes
+    × ((other whole : List ℕ) → AreLines texts other whole → UpTo begin Spells xs other whole)
+up_lines begin Spells [] at bytes e = ([], sym e, λ other whole l. sym l)
+up_lines begin Spells (x ∷ xs) at bytes u =
+    let more = up_lines begin Spells xs at u.0 u.4 in (
+      (begin ++ u.1) ∷ more.0,
+      (u.0, u.2, more.1),
+      λ other whole l. (l.0, u.1, l.1, u.3, more.2 other l.0 l.2),
+    )
 
-pub lines_move : {A : Type 0} (begin : List ℕ) (Spells : A → List ℕ → Type 0) (xs : List A)
-    (rest bytes : List ℕ) → HasLinesOf begin Spells xs rest bytes
-    → IsPart (Some begin) (HasLinesOf begin Spells xs) rest bytes
-lines_move begin Spells [] rest bytes h = record {
-  front = [];
-  parts = sym h.0;
-  ends = subst (λ (b : List ℕ). HasNoLine begin b) (sym h.0) h.1;
-  moved = λ other none. (refl, none);
+-- all lines of a kind, of which a value is made
+pub many_lawful : {A B : Type 0} (begin : List ℕ) (Spells : A → List ℕ → Type 0)
+    (Make : List A → B → Type 0) (x : B) → Make [] x
+    → Lawful (begin ∷ []) [] (line_by_line (HasMany begin Spells Make))
+many_lawful begin Spells Make x none = record {
+  rest = λ x y r s bytes h k.
+      lines_rest begin Spells h.each k.each r s bytes h.lines h.ends k.lines k.ends;
+  moves = λ y rest bytes h.
+      let lines = up_lines begin Spells h.each rest bytes h.lines in
+      record {
+        texts = lines.0;
+        lines = lines.1;
+        moved = λ other whole l follows. record {
+          each = h.each;
+          lines = lines.2 other whole l;
+          ends = elim follows [
+            | inl same ↦ none_like rest other begin same h.ends
+            | inr none ↦ none.0
+          ];
+          make = h.make;
+        };
+      };
+  some = (x, record { each = []; lines = refl; ends = none_begins begin; make = none });
+  stops = λ left bytes s. s;
 }
-lines_move begin Spells (x ∷ xs) rest bytes h =
-    moves_then None (Some begin) (HasLineOf begin Spells x) (HasLinesOf begin Spells xs) h.0 rest
-    bytes (one_moves begin Spells x h.0 bytes h.1) (lines_move begin Spells xs rest h.0 h.2)
-    (λ o m n. tt)
 
--- where the line that follows those that were read is no good after them, they stop
-pub lines_stop : {A : Type 0} (begin : List ℕ) (Spells : A → List ℕ → Type 0) (xs : List A)
-    (IsWhole IsGood : List ℕ → Type 0) (left at bytes text tail : List ℕ) → left ≡ at
-    → UpTo begin Spells xs at bytes → IsLine (begin ++ text) tail at
-    → ((b : List ℕ) → HasLinesOf begin Spells xs [] b → IsWhole b)
-    → ((other next rest : List ℕ) → UpTo begin Spells xs next other
-    → IsLine (begin ++ text) rest next → ¬ IsGood other) → Stops IsWhole IsGood left bytes
-lines_stop begin Spells xs IsWhole IsGood left at bytes text tail e u l whole bad =
-    let m = up_moves begin Spells xs at bytes u in
+-- the lines that were read, of which a value is made so far
+pub record ReadMany {A B : Type 0} (begin : List ℕ) (Spells : A → List ℕ → Type 0)
+    (Make : List A → B → Type 0) (x : B) (at bytes : List ℕ) : Type 0 where
+  pub each : List A
+  pub lines : UpTo begin Spells each at bytes
+  pub make : Make each x
+
+-- one more was read
+abbrev pub one_read : {A B : Type 0} (begin : List ℕ) (Spells : A → List ℕ → Type 0)
+    (Make : List A → B → Type 0) (x y : B) (at next bytes text : List ℕ) (a : A)
+    (r : ReadMany begin Spells Make x at bytes) → IsLine (begin ++ text) next at → Spells a text
+    → Make (r.each ++ a ∷ []) y → ReadMany begin Spells Make y next bytes
+one_read begin Spells Make x y at next bytes text a r l spelled make = record {
+  each = r.each ++ a ∷ [];
+  lines = more_lines begin Spells r.each a text at next bytes r.lines l spelled;
+  make = make;
+}
+
+-- all were read
+pub all_read : {A B : Type 0} (begin : List ℕ) (Spells : A → List ℕ → Type 0)
+    (Make : List A → B → Type 0) (x : B) (at bytes : List ℕ)
+    → ReadMany begin Spells Make x at bytes → HasNoLine begin at
+    → HasMany begin Spells Make x at bytes
+all_read begin Spells Make x at bytes r none =
+    record { each = r.each; lines = r.lines; ends = none; make = r.make }
+
+-- where no value is made of lines that go on with the next one, they stop
+pub many_stops : {A B K S : Type 0} (begin : List ℕ) (Spells : A → List ℕ → Type 0)
+    (Make : List A → B → Type 0) (view : S → B) (key : A → K)
+    → ((x y : A) (t : List ℕ) → Spells x t → Spells y t → key x ≡ key y)
+    → (s : S) (at bytes text tail : List ℕ) (r : ReadMany begin Spells Make (view s) at bytes)
+    → IsLine (begin ++ text) tail at
+    → ((ys : List A) (y : B) → Make ys y → GoesOn Spells key r.each ys text → ⊥)
+    → StopsAt (λ (s : S). HasMany begin Spells Make (view s)) at bytes
+many_stops begin Spells Make view key same s at bytes text tail r l bad =
+    let lines = up_lines begin Spells r.each at bytes r.lines in
+    let before = lines_before lines.0 at bytes lines.1 in
     record {
-      read = m.front;
+      read = lines.0;
+      lines = lines.1;
       more = [];
-      parts = m.parts ∙ ap (λ (a : List ℕ). m.front ++ a) (sym e);
-      begun = whole (m.front ++ [])
-          (all_lines begin Spells xs [] (m.front ++ []) (m.moved [] tt) (none_begins begin));
-      stops = λ other same.
-          let next = line_later [] at other (begin ++ text) tail
-          (subst (λ (a : List ℕ). HasSameLine a other) e same) l in
-          bad (m.front ++ other) other next.0 (m.moved other tt) next.1;
+      example = before.0 ++ [];
+      goes_on = before.2 [];
+      begun = (
+        s,
+        record {
+          each = r.each;
+          lines = lines.2 [] (before.0 ++ []) (before.2 []);
+          ends = none_begins begin;
+          make = r.make;
+        },
+      );
+      stops = λ other whole k like good.
+          let next = line_like at other (begin ++ text) tail like l in
+          bad good.2.each (view good.0) good.2.make
+          (goes_on begin Spells key same r.each good.2.each other good.1 whole text next.0
+          (lines.2 other whole k) next.1 good.2.lines good.2.ends);
     }
-
--- lines that begin in another way
-pub lines_apart : {A : Type 0} (begin word : List ℕ) (Spells : A → List ℕ → Type 0) (xs : List A)
-    (rest bytes : List ℕ) → AreApart word begin → HasLinesOf begin Spells xs rest bytes
-    → HasNoLine word rest → HasNoLine word bytes
-lines_apart begin word Spells [] rest bytes apart h none =
-    subst (λ (b : List ℕ). HasNoLine word b) h.0 none
-lines_apart begin word Spells (x ∷ xs) rest bytes apart h none =
-    other_line word begin h.1.text h.0 bytes apart h.1.line

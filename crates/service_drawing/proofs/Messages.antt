@@ -1,21 +1,19 @@
 -- The lines of a message, in one way.
-use Rattle.std.proofs.Common.{◌≡◌, ℕ, ◌<◌, ◌^◌, List, [], ◌∷◌, ◌++◌, cond, codes, length, Option, Some, None, Err, refl, sym, ◌∙◌, ap, subst, arith, IsTrue}
+use Rattle.std.proofs.Common.{◌≡◌, ℕ, ◌<◌, ◌≤◌, ◌^◌, List, [], ◌∷◌, ◌++◌, cond, codes, length, Option, Some, None, Err, refl, sym, ◌∙◌, ap, subst, arith, IsTrue}
 use Rattle.std.specs.Prelude.{◌==◌}
 use Rattle.std.specs.Fmt.{decimal}
 use Rattle.std.specs.Int.{is_power_of_two}
-use Rattle.std.specs.Str.{IsUtf8}
 use Rattle.std.proofs.lemmas.Fmt.{decimal_injective}
 use Rattle.std.proofs.lemmas.List.{append_cancel_left}
-use Rattle.iox2_texts.proofs.TextLemmas.{utf8_of_text}
 use Rattle.iox2_texts.specs.declared.bounded.StringModificationError.TheVariants.{InsertWouldExceedCapacity, InvalidCharacter}
 use Rattle.iox2_config.specs.TypeDetailParts.{TypeDetailParts}
-use Rattle.iox2_config.specs.TypeDetails.{detail, IsTypeName, MakesDetail}
+use Rattle.iox2_config.specs.TypeDetails.{IsTypeName, MakesDetail}
 use Rattle.iox2_config.specs.declared.types.message_details.MessageTypeDetails.{MessageTypeDetails}
 use Rattle.iox2_config.specs.declared.types.type_detail.TypeDetailError.{TypeDetailError}
 use Rattle.iox2_config.specs.declared.types.type_detail.TypeDetailError.TheVariants.{Name, AlignmentNotPowerOfTwo}
 use Rattle.iox2_config.specs.declared.types.type_detail.TypeVariant.{TypeVariant}
 use Rattle.iox2_config.specs.declared.types.type_detail.TypeVariant.TheVariants.{FixedSize, Dynamic}
-use Rattle.service_drawing.specs.Lines.{IsLine, IsDescribed, AreAlignments, type_text, payload_text, alignments_text, variant_word, HasType, HasPayload, HasElements, HasOpener}
+use Rattle.service_drawing.specs.Lines.{IsLine, HasLine, HasOpener, IsDescribed, AreAlignments, type_text, alignments_text, variant_word}
 use Rattle.service_drawing.proofs.Words.{same_number, line_one}
 
 -- no second number
@@ -34,44 +32,26 @@ same_numbers text a b m n x y pa pb pm pn e f =
     let second = same_number (decimal b ++ 32 ∷ x) b n x y pb pn refl first.1 in
     (first.0, second.0, second.1)
 
--- the type, of one text
-same_type : (text name : List ℕ) (a b : ℕ) → a < 2 ^ 64 → b < 2 ^ 64
-    → text ≡ decimal a ++ 32 ∷ (decimal b ++ 32 ∷ name) → (t : TypeDetailParts) → IsDescribed t
-    → text ≡ type_text t → (a ≡ t.size) × (b ≡ t.alignment) × (name ≡ t.type_name)
-same_type text name a b pa pb e t d is =
-    same_numbers text a b t.size t.alignment name t.type_name pa pb d.size d.alignment.0 e is
-
--- an empty name
-pub no_name : (text name : List ℕ) (a b : ℕ) → a < 2 ^ 64 → b < 2 ^ 64
-    → text ≡ decimal a ++ 32 ∷ (decimal b ++ 32 ∷ name) → length name ≡ 0 → (t : TypeDetailParts)
-    → IsDescribed t → ¬ (text ≡ type_text t)
-no_name text name a b pa pb e empty t d is =
-    let same = same_type text name a b pa pb e t d is in
-    omega (arith, d.named, ap length same.2, empty)
-
--- a name that is no text
-pub no_text : (text name : List ℕ) (a b : ℕ) → a < 2 ^ 64 → b < 2 ^ 64
-    → text ≡ decimal a ++ 32 ∷ (decimal b ++ 32 ∷ name) → ¬ IsUtf8 name → (t : TypeDetailParts)
-    → IsDescribed t → ¬ (text ≡ type_text t)
-no_text text name a b pa pb e bad t d is =
-    let same = same_type text name a b pa pb e t d is in
-    bad (subst IsUtf8 (sym same.2) (utf8_of_text t.type_name d.type_name.1))
-
-not_made : (parts : TypeDetailParts) (why : TypeDetailError) → MakesDetail parts (Err why)
-    → IsTypeName parts.type_name → IsTrue (is_power_of_two parts.alignment) → ⊥
-not_made parts (Name InsertWouldExceedCapacity) h name power = omega (arith, h, name.0)
-not_made parts (Name InvalidCharacter) h name power = h.1 name.1
-not_made parts AlignmentNotPowerOfTwo h name power = h.1 power
-
--- a type that is refused
-pub no_type : (text name : List ℕ) (a b : ℕ) (v : TypeVariant) (why : TypeDetailError) → a < 2 ^ 64
-    → b < 2 ^ 64
-    → text ≡ decimal a ++ 32 ∷ (decimal b ++ 32 ∷ name) → MakesDetail (detail v name a b) (Err why)
+-- what no type of the one text may have
+pub no_type : (text name : List ℕ) (a b : ℕ) → a < 2 ^ 64 → b < 2 ^ 64
+    → text ≡ decimal a ++ 32 ∷ (decimal b ++ 32 ∷ name)
+    → ¬ ((1 ≤ length name) × IsTypeName name × IsTrue (is_power_of_two b))
     → (t : TypeDetailParts) → IsDescribed t → ¬ (text ≡ type_text t)
-no_type text name a b v why pa pb e made t d is =
-    let same = same_type text name a b pa pb e t d is in
-    not_made (detail v name a b) why made (subst IsTypeName (sym same.2) d.type_name)
-    (subst (λ n. IsTrue (is_power_of_two n)) (sym same.1) d.alignment.1)
+no_type text name a b pa pb e bad t d is =
+    let same = same_numbers text a b t.size t.alignment name t.type_name pa pb d.size d.alignment.0
+    e is in
+    bad (
+      subst (λ (n : List ℕ). 1 ≤ length n) (sym same.2) d.named,
+      subst IsTypeName (sym same.2) d.type_name,
+      subst (λ n. IsTrue (is_power_of_two n)) (sym same.1) d.alignment.1,
+    )
+
+-- the parts of a type that is refused
+pub not_made : (parts : TypeDetailParts) (why : TypeDetailError) → MakesDetail parts (Err why)
+    → ¬ (IsTypeName parts.type_name × IsTrue (is_power_of_two parts.alignment))
+not_made parts (Name InsertWouldExceedCapacity) h legal = omega (arith, h, legal.0.0)
+not_made parts (Name InvalidCharacter) h legal = h.1 legal.0.1
+not_made parts AlignmentNotPowerOfTwo h legal = h.1 legal.1
 
 abbrev variant_at : List ℕ → TypeVariant
 variant_at [] = FixedSize
@@ -118,40 +98,19 @@ pub same_text : (begin text rest bytes : List ℕ) → IsLine (begin ++ text) re
 same_text begin text rest bytes l t x m =
     append_cancel_left begin text t (line_one _ _ rest x bytes l m).0
 
+-- the line says something that no value of this kind is
+pub no_line : {A : Type 0} (begin : List ℕ) (IsLegal : A → Type 0) (spelled : A → List ℕ)
+    (text rest bytes : List ℕ) → IsLine (begin ++ text) rest bytes
+    → ((x : A) → IsLegal x → ¬ (text ≡ spelled x)) → (x : A) (r : List ℕ)
+    → ¬ HasLine begin IsLegal spelled x r bytes
+no_line begin IsLegal spelled text rest bytes l bad x r h =
+    bad x h.legal (same_text begin text rest bytes l (spelled x) r h.line)
+
 -- the line of an opener that is refused
-pub no_opener_line : (prefix text rest bytes : List ℕ)
+pub no_opener : (prefix text rest bytes : List ℕ)
     → IsLine (prefix ++ codes "opener " ++ text) rest bytes
     → ((d : MessageTypeDetails) → AreAlignments d → ¬ (text ≡ alignments_text d))
     → (o : Option MessageTypeDetails) (x : List ℕ) → ¬ HasOpener prefix o x bytes
-no_opener_line prefix text rest bytes l bad None x h = h.1 text rest l
-no_opener_line prefix text rest bytes l bad (Some d) x h =
-    bad d h.0 (same_text (prefix ++ codes "opener ") text rest bytes l (alignments_text d) x h.1)
-
--- the lines of a type are followed by one rest
-pub type_rest : (begin : List ℕ) (t u : TypeDetailParts) (x y bytes : List ℕ)
-    → HasType begin t x bytes → HasType begin u y bytes → x ≡ y
-type_rest begin t u x y bytes p q = (line_one _ _ x y bytes p.line q.line).1
-
--- the line of a payload tells its variant
-pub payload_same : (prefix : List ℕ) (t u : TypeDetailParts) (x y bytes : List ℕ)
-    → HasPayload prefix t x bytes → HasPayload prefix u y bytes
-    → (t.variant ≡ u.variant) × (x ≡ y)
-payload_same prefix t u x y bytes p q =
-    let begin : List ℕ = prefix ++ codes "payload " in
-    let same = line_one _ _ x y bytes p.line q.line in (
-      same_variant t.variant u.variant (type_text t) (type_text u)
-          (append_cancel_left begin (payload_text t) (payload_text u) same.0),
-      same.1,
-    )
-
-pub elements_rest : (prefix : List ℕ) (v : TypeVariant) (m n : ℕ) (x y bytes : List ℕ)
-    → HasElements prefix v m x bytes → HasElements prefix v n y bytes → x ≡ y
-elements_rest prefix FixedSize m n x y bytes p q = p.1 ∙ sym q.1
-elements_rest prefix Dynamic m n x y bytes p q = (line_one _ _ x y bytes p.1 q.1).1
-
-pub opener_rest : (prefix : List ℕ) (o q : Option MessageTypeDetails) (x y bytes : List ℕ)
-    → HasOpener prefix o x bytes → HasOpener prefix q y bytes → x ≡ y
-opener_rest prefix None None x y bytes p q = p.0 ∙ sym q.0
-opener_rest prefix None (Some d) x y bytes p q = absurd (p.1 (alignments_text d) y q.1)
-opener_rest prefix (Some d) None x y bytes p q = absurd (q.1 (alignments_text d) x p.1)
-opener_rest prefix (Some d) (Some e) x y bytes p q = (line_one _ _ x y bytes p.1 q.1).1
+no_opener prefix text rest bytes l bad None x h = h.1 text rest l
+no_opener prefix text rest bytes l bad (Some d) x h =
+    no_line (prefix ++ codes "opener ") AreAlignments alignments_text text rest bytes l bad d x h

@@ -5,15 +5,15 @@ use Rattle.std.proofs.lemmas.Bool.{false≢true}
 use Rattle.iox2_config.specs.Hashing.{pattern_word}
 use Rattle.iox2_config.specs.declared.config.Config.{Config}
 use Rattle.iox2_config.specs.declared.hash.input.PatternKind.{PatternKind}
-use Rattle.service_drawing.specs.Descriptions.{StopsReading}
-use Rattle.service_drawing.specs.Lines.{IsLine, HasLinesOf, UpTo, HasService, IsInternal, IsNoService, Stops}
+use Rattle.service_drawing.specs.Descriptions.{StopsReading, after_settings}
+use Rattle.service_drawing.specs.Lines.{IsLine, AreLines, HasNoLine, UpTo, HasService, IsInternal, IsNoService}
 use Rattle.service_drawing.specs.Reasons.{BeginsInternal, IsServiceReason, AtSetting, IsUnknown, WasSet, IsSettingReason, AmongSettings, IsReason}
 use Rattle.service_drawing.specs.Settings.{HasName, IsSetting, GivesSetting, HasConfiguration, IsNotSet, NamesMarked, section, word_of}
 use Rattle.service_drawing.specs.declared.reading.cause.Reason.{Reason}
 use Rattle.service_drawing.specs.declared.reading.cause.Reason.TheVariants.{InternalName, UnknownSetting, SetTwice, OtherForm}
 use Rattle.service_drawing.specs.declared.settings.value.Value.{Value}
-use Rattle.service_drawing.proofs.Descriptions.{AfterSettings, service_same, stops_after_service, stops_after_settings}
-use Rattle.service_drawing.proofs.LinesOf.{up_moves, lines_move}
+use Rattle.service_drawing.proofs.Descriptions.{Breaks, broken, service_same, after_settings_lawful, stops_behind_service}
+use Rattle.service_drawing.proofs.LinesOf.{up_lines}
 use Rattle.service_drawing.proofs.Messages.{same_text}
 use Rattle.service_drawing.proofs.ServiceNames.{same_pattern}
 use Rattle.service_drawing.proofs.SettingLines.{Setting, numbers, one_setting, same_setting}
@@ -23,17 +23,16 @@ line_within : (text rest bytes : List ℕ) → IsLine text rest bytes → length
 line_within text rest bytes l =
     omega (arith, ap length l.spelled, length-append text (10 ∷ rest))
 
+texts_within : (texts : List (List ℕ)) (at bytes : List ℕ) → AreLines texts at bytes
+    → length at ≤ length bytes
+texts_within [] at bytes e = omega (arith, ap length e)
+texts_within (t ∷ ts) at bytes l =
+    omega (arith, line_within t l.0 bytes l.1, texts_within ts at l.0 l.2)
+
 up_within : {A : Type 0} (begin : List ℕ) (Spells : A → List ℕ → Type 0) (xs : List A)
     (at bytes : List ℕ) → UpTo begin Spells xs at bytes → length at ≤ length bytes
 up_within begin Spells xs at bytes u =
-    let m = up_moves begin Spells xs at bytes u in
-    omega (arith, ap length m.parts, length-append m.front at)
-
-lines_within : {A : Type 0} (begin : List ℕ) (Spells : A → List ℕ → Type 0) (xs : List A)
-    (rest bytes : List ℕ) → HasLinesOf begin Spells xs rest bytes → length rest ≤ length bytes
-lines_within begin Spells xs rest bytes h =
-    let m = lines_move begin Spells xs rest bytes h in
-    omega (arith, ap length m.parts, length-append m.front rest)
+    let lines = up_lines begin Spells xs at bytes u in texts_within lines.0 at bytes lines.1
 
 -- the lines up to one place give the same keys
 same_keys : {A K : Type 0} (begin : List ℕ) (Spells : A → List ℕ → Type 0) (key : A → K)
@@ -45,62 +44,60 @@ same_keys begin Spells key same [] (y ∷ ys) at bytes u v =
     absurd (omega (
       arith,
       ap length u,
-      line_within _ v.0 bytes v.1.line,
-      up_within begin Spells ys at v.0 v.2,
+      line_within _ v.0 bytes v.2,
+      up_within begin Spells ys at v.0 v.4,
     ))
 same_keys begin Spells key same (x ∷ xs) [] at bytes u v =
     absurd (omega (
       arith,
       ap length v,
-      line_within _ u.0 bytes u.1.line,
-      up_within begin Spells xs at u.0 u.2,
+      line_within _ u.0 bytes u.2,
+      up_within begin Spells xs at u.0 u.4,
     ))
 same_keys {K = K} begin Spells key same (x ∷ xs) (y ∷ ys) at bytes u v =
-    let texts : u.1.text ≡ v.1.text =
-    same_text begin u.1.text u.0 bytes u.1.line v.1.text v.0 v.1.line in
-    let mids : v.0 ≡ u.0 = (line_one _ _ v.0 u.0 bytes v.1.line u.1.line).1 in
+    let texts : u.1 ≡ v.1 =
+    same_text begin u.1 u.0 bytes u.2 v.1 v.0 v.2 in
+    let mids : v.0 ≡ u.0 = (line_one _ _ v.0 u.0 bytes v.2 u.2).1 in
     let keys : key x ≡ key y =
-    same x y v.1.text (subst (λ (t : List ℕ). Spells x t) texts u.1.spelled) v.1.spelled in
+    same x y v.1 (subst (λ (t : List ℕ). Spells x t) texts u.3) v.3 in
     let more : map key xs ≡ map key ys =
-    same_keys begin Spells key same xs ys at u.0 u.2
-    (subst (λ (b : List ℕ). UpTo begin Spells ys at b) mids v.2) in
+    same_keys begin Spells key same xs ys at u.0 u.4
+    (subst (λ (b : List ℕ). UpTo begin Spells ys at b) mids v.4) in
     ap (λ k. k ∷ map key xs) keys ∙ ap (λ (l : List K). key y ∷ l) more
 
 -- behind all lines of a kind there is no place for one more
 no_further : {A : Type 0} (begin : List ℕ) (Spells : A → List ℕ → Type 0) (xs ys : List A)
-    (left rest read text tail bytes : List ℕ) → HasLinesOf begin Spells xs rest bytes
-    → rest ≡ read ++ left → UpTo begin Spells ys left bytes → IsLine (begin ++ text) tail left → ⊥
-no_further begin Spells [] [] left rest read text tail bytes h p u l =
-    h.1 text tail (subst (λ (b : List ℕ). IsLine (begin ++ text) tail b) (sym u) l)
-no_further begin Spells [] (y ∷ ys) left rest read text tail bytes h p u l =
-    h.1 u.1.text u.0 u.1.line
-no_further begin Spells (x ∷ xs) [] left rest read text tail bytes h p u l =
+    (left rest text tail bytes : List ℕ) → UpTo begin Spells xs rest bytes → HasNoLine begin rest
+    → length left ≤ length rest → UpTo begin Spells ys left bytes
+    → IsLine (begin ++ text) tail left → ⊥
+no_further begin Spells [] [] left rest text tail bytes h none p u l =
+    none text tail (subst (λ (b : List ℕ). IsLine (begin ++ text) tail b) (sym u ∙ h) l)
+no_further begin Spells [] (y ∷ ys) left rest text tail bytes h none p u l =
+    none u.1 u.0 (subst (λ (b : List ℕ). IsLine (begin ++ u.1) u.0 b) h u.2)
+no_further begin Spells (x ∷ xs) [] left rest text tail bytes h none p u l =
     omega (
       arith,
       ap length u,
-      ap length p,
-      length-append read left,
-      line_within _ h.0 bytes h.1.line,
-      lines_within begin Spells xs rest h.0 h.2,
+      p,
+      line_within _ h.0 bytes h.2,
+      up_within begin Spells xs rest h.0 h.4,
     )
-no_further begin Spells (x ∷ xs) (y ∷ ys) left rest read text tail bytes h p u l =
-    let mids : u.0 ≡ h.0 = (line_one _ _ u.0 h.0 bytes u.1.line h.1.line).1 in
-    no_further begin Spells xs ys left rest read text tail h.0 h.2 p
-    (subst (λ (b : List ℕ). UpTo begin Spells ys left b) mids u.2) l
+no_further begin Spells (x ∷ xs) (y ∷ ys) left rest text tail bytes h none p u l =
+    let mids : u.0 ≡ h.0 = (line_one _ _ u.0 h.0 bytes u.2 h.2).1 in
+    no_further begin Spells xs ys left rest text tail h.0 h.4 none p
+    (subst (λ (b : List ℕ). UpTo begin Spells ys left b) mids u.4) l
 
 -- the reason why the next line sets nothing
 pub setting_reason : (names : List (List ℕ)) (defaults values : List Value) (given : List Bool)
-    (reason found : Reason) (left at bytes text tail : List ℕ) → reason ≡ found → left ≡ at
+    (reason : Reason) (at bytes text tail : List ℕ)
     → Setting names defaults values given at bytes → IsLine (codes "set " ++ text) tail at
-    → IsNotSet names values given text found → IsSettingReason names defaults reason left bytes
-setting_reason names defaults values given reason found left at bytes text tail f e r l bad =
-    subst (λ (a : List ℕ). IsSettingReason names defaults reason a bytes) (sym e)
-    (subst (λ why. IsSettingReason names defaults why at bytes) (sym f) (go found bad))
+    → IsNotSet names values given text reason → IsSettingReason names defaults reason at bytes
+setting_reason names defaults values given reason at bytes text tail r l bad = go reason bad
   where
     here : word_of text ≢ text → AtSetting names defaults at bytes
     here spaced = record {
-      sets = r.sets;
-      before = r.lines;
+      sets = r.read.each;
+      before = r.read.lines;
       text = text;
       rest = tail;
       line = l;
@@ -125,12 +122,12 @@ setting_reason names defaults values given reason found left at bytes text tail 
         one_setting names w.index m.index (word_of text)
         (subst (λ (t : List ℕ). IsSetting names w.index (word_of t)) (one w.at) w.setting)
         m.setting in
-        let keys : numbers w.at.sets ≡ numbers r.sets =
+        let keys : numbers w.at.sets ≡ numbers r.read.each =
         same_keys (codes "set ") (GivesSetting names defaults) (λ set. set.index)
-        (same_setting names defaults) w.at.sets r.sets at bytes w.at.before r.lines in
+        (same_setting names defaults) w.at.sets r.read.each at bytes w.at.before r.read.lines in
         let fresh : false ≡ list_any (nat_eq w.index) (numbers w.at.sets) =
         r.marks m.index false m.marked
-        ∙ ap (λ i. list_any (nat_eq i) (numbers r.sets)) (sym same)
+        ∙ ap (λ i. list_any (nat_eq i) (numbers r.read.each)) (sym same)
         ∙ ap (λ (k : List ℕ). list_any (nat_eq w.index) k) (sym keys) in
         false≢true (fresh ∙ w.before)
 
@@ -150,11 +147,9 @@ setting_reason names defaults values given reason found left at bytes text tail 
     )
 
 -- bytes without a line do not begin with that of a service
-pub no_line_reason : (reason : Reason) (bytes : List ℕ) → reason ≡ OtherForm
-    → ((text rest : List ℕ) → ¬ IsLine text rest bytes) → IsServiceReason reason bytes
-no_line_reason reason bytes e none =
-    let outside : ¬ BeginsInternal bytes = λ i. none i.text i.rest i.line in
-    subst (λ r. IsServiceReason r bytes) (sym e) outside
+pub no_line_reason : (bytes : List ℕ) → ((text rest : List ℕ) → ¬ IsLine text rest bytes)
+    → IsServiceReason OtherForm bytes
+no_line_reason bytes none i = none i.text i.rest i.line
 
 -- the reason why the first line spells no service
 pub service_reason : (reason : Reason) (line rest bytes : List ℕ) → IsLine line rest bytes
@@ -207,45 +202,47 @@ pub reason_in_settings : (base : Config) (reason : Reason) (k : PatternKind)
     → HasService k name rest bytes
     → IsSettingReason (section k).names ((section k).values base.defaults) reason left rest
     → IsReason base reason left bytes
-reason_in_settings base InternalName k name left rest bytes h b = absurd b
-reason_in_settings base UnknownSetting k name left rest bytes h b = record {
-  kind = k;
-  name = name;
-  at_settings = rest;
-  service = h;
-  holds = b;
-}
-reason_in_settings base SetTwice k name left rest bytes h b = record {
-  kind = k;
-  name = name;
-  at_settings = rest;
-  service = h;
-  holds = b;
-}
-reason_in_settings base OtherForm k name left rest bytes h b = (
-  from_outside k name rest bytes h,
-  λ a. b.0 (of_the_pattern base IsUnknown k name left rest bytes h a),
-  λ a. b.1 (of_the_pattern base WasSet k name left rest bytes h a),
-)
+reason_in_settings base reason k name left rest bytes h b = go reason b
+  where
+    among : (Holds : List (List ℕ) → List Value → List ℕ → List ℕ → Type 0)
+        → Holds (section k).names ((section k).values base.defaults) left rest
+        → AmongSettings base Holds left bytes
+    among Holds b =
+        record { kind = k; name = name; at_settings = rest; service = h; holds = b }
+
+    go : (why : Reason)
+        → IsSettingReason (section k).names ((section k).values base.defaults) why left rest
+        → IsReason base why left bytes
+    go InternalName b = absurd b
+    go UnknownSetting b = among IsUnknown b
+    go SetTwice b = among WasSet b
+    go OtherForm b = (
+      from_outside k name rest bytes h,
+      λ a. b.0 (of_the_pattern base IsUnknown k name left rest bytes h a),
+      λ a. b.1 (of_the_pattern base WasSet k name left rest bytes h a),
+    )
 
 -- behind the settings a line is bad for its form
 pub stops_behind_settings : (base : Config) (reason : Reason) (k : PatternKind) (name : List ℕ)
     (c : Config) (left rest mid bytes : List ℕ) → reason ≡ OtherForm → HasService k name mid bytes
-    → HasConfiguration base k c rest mid → Stops (AfterSettings k) (AfterSettings k) left rest
+    → HasConfiguration base k c rest mid → Breaks (after_settings k) left rest
     → StopsReading base left bytes × IsReason base reason left bytes
-stops_behind_settings base reason k name c left rest mid bytes e h g s =
+stops_behind_settings base reason k name c left rest mid bytes e h g bad =
     let names = (section k).names in
     let defaults = (section k).values base.defaults in
+    let s = broken (after_settings_lawful k) left rest bad in
     let late : AtSetting names defaults left mid → ⊥ =
-    λ a. no_further (codes "set ") (GivesSetting names defaults) g.0.sets a.sets left rest s.read
-    a.text a.rest mid g.0.lines s.parts a.before a.line in
+    λ a. no_further (codes "set ") (GivesSetting names defaults) g.0.each a.sets left rest a.text
+    a.rest mid g.0.lines g.0.ends (texts_within s.read left rest s.lines) a.before a.line in
     let form : IsReason base OtherForm left bytes = (
       from_outside k name mid bytes h,
       λ a. late (of_the_pattern base IsUnknown k name left mid bytes h a).at,
       λ a. late (of_the_pattern base WasSet k name left mid bytes h a).at,
     ) in (
-      stops_after_service base k name left mid bytes h
-          (stops_after_settings base k c left rest mid g s),
+      stops_behind_service base k name left mid bytes h (elim bad [
+        | inl fails ↦ inl (inr (c, rest, g, fails))
+        | inr more ↦ inr ((c, more.0), (rest, g, more.1), more.2)
+      ]),
       subst (λ r. IsReason base r left bytes) (sym e) form,
     )
 

@@ -1,17 +1,18 @@
 -- Settings that were read, and what no further line may be.
 use Rattle.std.proofs.Common.{◌≡◌, ◌≢◌, ℕ, zero, suc, ◌<◌, replicate, true, false, Bool, ◌||◌, List, [], ◌∷◌, ◌++◌, inl, inr, Some, codes, map, nat_eq, slice_get, slice_set, refl, sym, ◌∙◌, ap, subst, arith}
 use Rattle.std.specs.List.{AllByRecursion, IsDistinct, list_any}
-use Rattle.std.proofs.lemmas.Bool.{eqb-false, eqb-true, ne_eqb}
+use Rattle.std.proofs.Math.Bool.{or-false, or-true}
+use Rattle.std.proofs.lemmas.Bool.{eqb-false, eqb-true, ne_eqb, or_parts}
 use Rattle.std.proofs.lemmas.Cmp.{nat_eq_equiv}
 use Rattle.std.proofs.lemmas.List.{append_cancel_left, map-append}
 use Rattle.std.proofs.lemmas.List.Folds.{list_any-append}
 use Rattle.std.proofs.lemmas.Map.Keys.{IsDistinct-push}
-use Rattle.service_drawing.specs.Lines.{IsLine, HasNoLine, HasLinesOf, Begins, Stops, UpTo}
-use Rattle.service_drawing.specs.Settings.{IsSetting, MayBecome, Assignment, GivesSetting, assigned, HasSettings, Sets, NamesMarked, IsNotSet, word_of, value_text}
+use Rattle.service_drawing.specs.Lines.{IsLine, StopsAt}
+use Rattle.service_drawing.specs.Settings.{IsSetting, MayBecome, Assignment, GivesSetting, assigned, AreSettings, HasSettings, Sets, NamesMarked, IsNotSet, word_of, value_text}
 use Rattle.service_drawing.specs.declared.reading.cause.Reason.{Reason}
 use Rattle.service_drawing.specs.declared.reading.cause.Reason.TheVariants.{InternalName, UnknownSetting, SetTwice, OtherForm}
 use Rattle.service_drawing.specs.declared.settings.value.Value.{Value}
-use Rattle.service_drawing.proofs.LinesOf.{more_lines, all_lines, lines_stop, GoesOn, goes_on}
+use Rattle.service_drawing.proofs.LinesOf.{ReadMany, one_read, many_stops, GoesOn}
 use Rattle.service_drawing.proofs.Words.{longer}
 
 -- the numbers of the settings
@@ -57,12 +58,10 @@ not_a_value names values index old text rest named there e bad set g =
 -- what was read so far: each number is marked that was set
 pub record Setting (names : List (List ℕ)) (defaults values : List Value) (given : List Bool)
     (at bytes : List ℕ) : Type 0 where
-  pub sets : List Assignment
-  pub lines : UpTo (codes "set ") (GivesSetting names defaults) sets at bytes
-  pub once : IsDistinct nat_eq (numbers sets)
-  pub changed : values ≡ assigned defaults sets
+  pub read : ReadMany (codes "set ") (GivesSetting names defaults) (AreSettings defaults) values at
+      bytes
   pub marks : (i : ℕ) (mark : Bool) → slice_get given i ≡ Some mark
-      → mark ≡ list_any (nat_eq i) (numbers sets)
+      → mark ≡ list_any (nat_eq i) (numbers read.each)
 
 set_other : {A : Type 0} (xs : List A) (i j : ℕ) (v : A) → i ≢ j
     → slice_get (slice_set xs j v) i ≡ slice_get xs i
@@ -78,17 +77,13 @@ set_here [] i v w e = cc
 set_here (x ∷ xs) zero v w e = cc
 set_here (x ∷ xs) (suc i) v w e = set_here xs i v w e
 
-neither : (a b : Bool) → (a || b) ≡ false → (a ≡ false) × (b ≡ false)
-neither true b e = cc
-neither false b e = (refl, e)
-
 -- a setting that was not set has its default
 kept : (defaults : List Value) (sets : List Assignment) (i : ℕ)
     → list_any (nat_eq i) (numbers sets) ≡ false
     → slice_get (assigned defaults sets) i ≡ slice_get defaults i
 kept defaults [] i e = refl
 kept defaults (set ∷ sets) i e =
-    let apart = neither (nat_eq i set.index) (list_any (nat_eq i) (numbers sets)) e in
+    let apart = or_parts (nat_eq i set.index) (list_any (nat_eq i) (numbers sets)) e in
     kept (slice_set defaults set.index set.value) sets i apart.1
     ∙ set_other defaults i set.index set.value (eqb-false i set.index apart.0)
 
@@ -135,20 +130,9 @@ pub none_set : (names : List (List ℕ)) (defaults : List Value) (n : ℕ) (byte
     → Setting names defaults defaults (replicate n false) bytes bytes
 unfolding IsDistinct
 none_set names defaults n bytes = record {
-  sets = [];
-  lines = refl;
-  once = tt;
-  changed = refl;
+  read = record { each = []; lines = refl; make = (tt, refl) };
   marks = none_marked n;
 }
-
-or_true : (b : Bool) → (b || true) ≡ true
-or_true true = refl
-or_true false = refl
-
-or_false : (b : Bool) → (b || false) ≡ b
-or_false true = refl
-or_false false = refl
 
 mark_more : (given : List Bool) (xs : List ℕ) (y : ℕ)
     → ((i : ℕ) (mark : Bool) → slice_get given i ≡ Some mark → mark ≡ list_any (nat_eq i) xs)
@@ -161,10 +145,10 @@ mark_more given xs y marks i mark e =
     go true same =
         let here : slice_get (slice_set given y true) y ≡ Some mark =
         subst (λ k. slice_get (slice_set given y true) k ≡ Some mark) (eqb-true i y same) e in
-        set_here given y true mark here ∙ sym (or_true (list_any (nat_eq i) xs))
+        set_here given y true mark here ∙ sym (or-true (list_any (nat_eq i) xs))
     go false differ =
         marks i mark (sym (set_other given i y true (eqb-false i y differ)) ∙ e)
-        ∙ sym (or_false (list_any (nat_eq i) xs))
+        ∙ sym (or-false (list_any (nat_eq i) xs))
 
 -- one more was read
 pub one_more_setting : (names : List (List ℕ)) (defaults old new : List Value)
@@ -172,69 +156,43 @@ pub one_more_setting : (names : List (List ℕ)) (defaults old new : List Value)
     → Setting names defaults old given at bytes → IsLine (codes "set " ++ text) next at
     → Sets names old given text new marked → Setting names defaults new marked next bytes
 one_more_setting names defaults old new given marked at next bytes text r l s =
-    let fresh : list_any (nat_eq s.set.index) (numbers r.sets) ≡ false =
+    let sets = r.read.each in
+    let fresh : list_any (nat_eq s.set.index) (numbers sets) ≡ false =
     sym (r.marks s.set.index false s.first) in
     let same : slice_get old s.set.index ≡ slice_get defaults s.set.index =
-    ap (λ (l : List Value). slice_get l s.set.index) r.changed
-    ∙ kept defaults r.sets s.set.index fresh in
-    let long : numbers (r.sets ++ s.set ∷ []) ≡ numbers r.sets ++ s.set.index ∷ [] =
-    map-append (λ (set : Assignment). set.index) r.sets (s.set ∷ []) in
+    ap (λ (l : List Value). slice_get l s.set.index) r.read.make.1
+    ∙ kept defaults sets s.set.index fresh in
+    let long : numbers (sets ++ s.set ∷ []) ≡ numbers sets ++ s.set.index ∷ [] =
+    map-append (λ (set : Assignment). set.index) sets (s.set ∷ []) in
     record {
-      sets = r.sets ++ s.set ∷ [];
-      lines = more_lines (codes "set ") (GivesSetting names defaults) r.sets s.set at next bytes
-          r.lines
-          (record {
-            text = text;
-            line = l;
-            spelled = gives_at names old defaults s.set text same s.gives;
-          });
-      once = rw long (IsDistinct-push nat_eq_equiv (numbers r.sets) s.set.index r.once fresh);
-      changed = s.changed ∙ ap (λ (l : List Value). slice_set l s.set.index s.set.value) r.changed
-          ∙ sym (assigned_more defaults r.sets s.set);
-      marks = rw (long, s.noted) (mark_more given (numbers r.sets) s.set.index r.marks);
+      read = one_read (codes "set ") (GivesSetting names defaults) (AreSettings defaults) old new at
+          next bytes text s.set r.read l (gives_at names old defaults s.set text same s.gives) (
+            rw long (IsDistinct-push nat_eq_equiv (numbers sets) s.set.index r.read.make.0 fresh),
+            s.changed
+                ∙ ap (λ (l : List Value). slice_set l s.set.index s.set.value) r.read.make.1
+                ∙ sym (assigned_more defaults sets s.set),
+          );
+      marks = rw (long, s.noted) (mark_more given (numbers sets) s.set.index r.marks);
     }
-
--- the lines that were read are those of the settings
-settings_of : (names : List (List ℕ)) (defaults values : List Value) (given : List Bool)
-    (at bytes rest b : List ℕ) (r : Setting names defaults values given at bytes)
-    → HasLinesOf (codes "set ") (GivesSetting names defaults) r.sets rest b
-    → HasSettings names defaults values rest b
-settings_of names defaults values given at bytes rest b r l = record {
-  sets = r.sets;
-  lines = l;
-  once = r.once;
-  changed = r.changed;
-}
-
--- all were read
-pub settings_whole : (names : List (List ℕ)) (defaults values : List Value) (given : List Bool)
-    (at bytes : List ℕ) → Setting names defaults values given at bytes → HasNoLine (codes "set ") at
-    → HasSettings names defaults values at bytes
-settings_whole names defaults values given at bytes r none =
-    settings_of names defaults values given at bytes at bytes r
-    (all_lines (codes "set ") (GivesSetting names defaults) r.sets at bytes r.lines none)
 
 -- the next line sets nothing
 not_set : (names : List (List ℕ)) (defaults values : List Value) (given : List Bool)
-    (reason : Reason) (at bytes text tail : List ℕ) → Setting names defaults values given at bytes
-    → IsLine (codes "set " ++ text) tail at → IsNotSet names values given text reason
-    → (other : List Value) (rest : List ℕ) → ¬ HasSettings names defaults other rest bytes
-not_set names defaults values given reason at bytes text tail r l bad other rest h = go reason bad
+    (reason : Reason) (at bytes text : List ℕ) (r : Setting names defaults values given at bytes)
+    → IsNotSet names values given text reason → (sets : List Assignment) (other : List Value)
+    → AreSettings defaults sets other
+    → GoesOn (GivesSetting names defaults) (λ set. set.index) r.read.each sets text → ⊥
+not_set names defaults values given reason at bytes text r bad sets other made next = go reason bad
   where
-    next : GoesOn (GivesSetting names defaults) (λ set. set.index) r.sets h.sets text
-    next = goes_on (codes "set ") (GivesSetting names defaults) (λ set. set.index)
-        (same_setting names defaults) r.sets h.sets at rest bytes text tail r.lines l h.lines
-
     same_value : NamesMarked names given text false
         → slice_get defaults next.one.index ≡ slice_get values next.one.index
     same_value m =
         let same : m.index ≡ next.one.index =
         one_setting names m.index next.one.index (word_of text) m.setting next.spelled.setting in
-        let fresh : list_any (nat_eq next.one.index) (numbers r.sets) ≡ false =
-        subst (λ i. list_any (nat_eq i) (numbers r.sets) ≡ false) same
+        let fresh : list_any (nat_eq next.one.index) (numbers r.read.each) ≡ false =
+        subst (λ i. list_any (nat_eq i) (numbers r.read.each) ≡ false) same
         (sym (r.marks m.index false m.marked)) in
-        sym (kept defaults r.sets next.one.index fresh)
-        ∙ sym (ap (λ (l : List Value). slice_get l next.one.index) r.changed)
+        sym (kept defaults r.read.each next.one.index fresh)
+        ∙ sym (ap (λ (l : List Value). slice_get l next.one.index) r.read.make.1)
 
     go : (why : Reason) → ¬ IsNotSet names values given text why
     go InternalName b = b
@@ -243,12 +201,12 @@ not_set names defaults values given reason at bytes text tail r l bad other rest
         let m = b.1 in
         let same : m.index ≡ next.one.index =
         one_setting names m.index next.one.index (word_of text) m.setting next.spelled.setting in
-        let once : IsDistinct nat_eq (numbers r.sets ++ next.one.index ∷ numbers next.more) =
-        subst (IsDistinct nat_eq) next.keys h.once in
-        let fresh : list_any (nat_eq m.index) (numbers r.sets) ≡ false =
-        subst (λ i. list_any (nat_eq i) (numbers r.sets) ≡ false) (sym same)
-        (earlier_differ (numbers r.sets) (numbers next.more) next.one.index once) in
-        let marked : true ≡ list_any (nat_eq m.index) (numbers r.sets) =
+        let once : IsDistinct nat_eq (numbers r.read.each ++ next.one.index ∷ numbers next.more) =
+        subst (IsDistinct nat_eq) next.keys made.0 in
+        let fresh : list_any (nat_eq m.index) (numbers r.read.each) ≡ false =
+        subst (λ i. list_any (nat_eq i) (numbers r.read.each) ≡ false) (sym same)
+        (earlier_differ (numbers r.read.each) (numbers next.more) next.one.index once) in
+        let marked : true ≡ list_any (nat_eq m.index) (numbers r.read.each) =
         r.marks m.index true m.marked in
         cc
     go OtherForm b =
@@ -259,22 +217,13 @@ not_set names defaults values given reason at bytes text tail r l bad other rest
         ]
 
 -- reading stops at a line that sets nothing
-pub stops_at_setting : (names : List (List ℕ)) (defaults values : List Value) (given : List Bool)
-    (reason : Reason) (left at bytes text tail : List ℕ) → left ≡ at
-    → Setting names defaults values given at bytes → IsLine (codes "set " ++ text) tail at
-    → IsNotSet names values given text reason
-    → Stops (HasSettings names defaults values []) (Begins (HasSettings names defaults)) left bytes
-stops_at_setting names defaults values given reason left at bytes text tail e r l bad =
-    lines_stop (codes "set ") (GivesSetting names defaults) r.sets
-    (HasSettings names defaults values []) (Begins (HasSettings names defaults)) left at bytes
-    text tail e r.lines l
-    (λ b k. settings_of names defaults values given at bytes [] b r k)
-    (λ other next rest u k h.
-    not_set names defaults values given reason next other text rest
-    (record {
-      sets = r.sets;
-      lines = u;
-      once = r.once;
-      changed = r.changed;
-      marks = r.marks;
-    }) k bad h.0 h.1 h.2)
+pub stops_at_setting : {S : Type 0} (names : List (List ℕ)) (defaults : List Value)
+    (values : S → List Value) (s : S) (given : List Bool) (reason : Reason)
+    (at bytes text tail : List ℕ) → Setting names defaults (values s) given at bytes
+    → IsLine (codes "set " ++ text) tail at
+    → IsNotSet names (values s) given text reason
+    → StopsAt (λ (s : S). HasSettings names defaults (values s)) at bytes
+stops_at_setting names defaults values s given reason at bytes text tail r l bad =
+    many_stops (codes "set ") (GivesSetting names defaults) (AreSettings defaults) values
+    (λ set. set.index) (same_setting names defaults) s at bytes text tail r.read l
+    (not_set names defaults (values s) given reason at bytes text r bad)

@@ -1,24 +1,36 @@
 -- What a whole description is.
 use Rattle.std.specs.Prelude.{◌≡◌, ◌⊎◌, ℕ, List, []}
+use Rattle.iox2_texts.specs.Pair.{Pair}
+use Rattle.iox2_texts.specs.Verify.{Requirements}
 use Rattle.iox2_config.specs.Hashing.{hash_input, sha1_text}
 use Rattle.iox2_config.specs.declared.config.Config.{Config}
-use Rattle.service_drawing.specs.Lines.{Stops, HasService, HasExchange, HasAttributes, HasRequirements}
+use Rattle.iox2_config.specs.declared.hash.input.PatternKind.{PatternKind}
+use Rattle.service_drawing.specs.Lines.{Form, Stops, line_by_line, sequence, exchange, HasService, HasAttributes, HasRequirements}
 use Rattle.service_drawing.specs.Settings.{HasConfiguration}
 use Rattle.service_drawing.specs.declared.description.Description.{Description}
+use Rattle.service_drawing.specs.declared.description.Exchange.{Exchange}
 
--- the bytes are the lines of the description over a configuration: those of the service, of
--- settings, of what the ports exchange, of attributes and of what an opener requires
+-- the lines that follow those of settings: what the ports exchange, attributes and what an opener
+-- requires
+abbrev pub after_settings : PatternKind → Form (Exchange × (List Pair × Requirements))
+after_settings kind =
+    sequence (exchange kind)
+    (sequence (line_by_line HasAttributes) (line_by_line HasRequirements))
+
+-- the lines that follow that of a service of this pattern
+abbrev pub after_service : Config → PatternKind
+    → Form (Config × (Exchange × (List Pair × Requirements)))
+after_service base kind =
+    sequence (line_by_line (HasConfiguration base kind)) (after_settings kind)
+
+-- the bytes are the lines of the description over a configuration: that of the service, and those
+-- that follow it
 pub record HasDescription (base : Config) (d : Description) (bytes : List ℕ) : Type 0 where
-  pub at_settings : List ℕ
-  pub at_exchange : List ℕ
-  pub at_attributes : List ℕ
-  pub at_required : List ℕ
-  pub service : HasService d.kind d.name at_settings bytes
+  pub rest : List ℕ
+  pub service : HasService d.kind d.name rest bytes
   pub hash : d.hash ≡ sha1_text (hash_input d.kind d.name)
-  pub settings : HasConfiguration base d.kind d.config at_exchange at_settings
-  pub exchange : HasExchange d.kind d.exchange at_attributes at_exchange
-  pub attributes : HasAttributes d.attributes at_required at_attributes
-  pub required : HasRequirements d.required [] at_required
+  pub lines : (after_service base d.kind).Has
+      (d.config, (d.exchange, (d.attributes, d.required))) [] rest
 
 -- the bytes are a description over a configuration
 abbrev pub IsDescription : Config → List ℕ → Type 0

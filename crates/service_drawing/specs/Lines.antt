@@ -1,5 +1,5 @@
 -- How a description is spelled.
-use Rattle.std.specs.Prelude.{◌≡◌, ℕ, ◌<◌, ◌≤◌, ◌^◌, List, [], ◌∷◌, ◌++◌, ◌+◌, ◌⊎◌, codes, length, filter_map, Option, Some, None, IfSome, IsTrue, nat_eq}
+use Rattle.std.specs.Prelude.{◌≡◌, ℕ, ◌<◌, ◌≤◌, ◌^◌, List, [], ◌∷◌, ◌++◌, ◌+◌, ◌⊎◌, codes, length, filter_map, option_map, Option, Some, None, IsTrue, nat_eq}
 use Rattle.std.specs.List.{starts_with, AllPass}
 use Rattle.std.specs.Int.{is_power_of_two}
 use Rattle.std.specs.Fmt.{decimal}
@@ -19,10 +19,11 @@ use Rattle.iox2_config.specs.declared.types.type_detail.TypeVariant.TheVariants.
 use Rattle.line_streams.specs.Spelling.{HasNo}
 use Rattle.service_drawing.specs.Causes.{is_plain}
 use Rattle.service_drawing.specs.declared.description.Exchange.{Exchange}
-use Rattle.service_drawing.specs.declared.description.Exchange.TheVariants as exchange
+use Rattle.service_drawing.specs.declared.description.Exchange.TheVariants as exchanged
 use Rattle.service_drawing.specs.declared.description.Message.{Message}
 use Rattle.service_drawing.specs.declared.reading.cause.Reason.{Reason}
 use Rattle.service_drawing.specs.declared.reading.cause.Reason.TheVariants as reason
+use Rattle.service_drawing.specs.declared.reading.expected.Expected.{Expected}
 use Rattle.service_drawing.specs.declared.reading.service.Service.{Service}
 
 -- a line may hold the text: each byte is from 32 to 126
@@ -58,38 +59,100 @@ Begins {A} Has bytes = (x : A) × (rest : List ℕ) × Has x rest bytes
 abbrev pub Whole : {A : Type 0} → (A → List ℕ → List ℕ → Type 0) → List ℕ → Type 0
 Whole {A} Has bytes = (x : A) × Has x [] bytes
 
+-- the bytes begin with these lines, up to what is left
+abbrev pub AreLines : List (List ℕ) → List ℕ → List ℕ → Type 0
+AreLines [] left bytes = left ≡ bytes
+AreLines (text ∷ texts) left bytes =
+    (mid : List ℕ) × IsLine text mid bytes × AreLines texts left mid
+
 -- what is left of the bytes begins with the first line that none has there: something whole begins
--- with what was read, and nothing good goes on after it with that line
+-- with the lines that were read, and nothing good goes on after them with that line
 pub record Stops (IsWhole IsGood : List ℕ → Type 0) (left bytes : List ℕ) : Type 0 where
-  pub read : List ℕ
+  pub read : List (List ℕ)
+  pub lines : AreLines read left bytes
   pub more : List ℕ
-  pub parts : bytes ≡ read ++ left
-  pub begun : IsWhole (read ++ more)
-  pub stops : (other : List ℕ) → HasSameLine left other → ¬ IsGood (read ++ other)
+  pub example : List ℕ
+  pub goes_on : AreLines read more example
+  pub begun : IsWhole example
+  pub stops : (other whole : List ℕ) → AreLines read other whole → HasSameLine left other
+      → ¬ IsGood whole
 
 -- what is left begins with the first line that nothing of this kind has there
 abbrev pub StopsAt : {A : Type 0} → (A → List ℕ → List ℕ → Type 0) → List ℕ → List ℕ → Type 0
 StopsAt Has left bytes = Stops (Whole Has) (Begins Has) left bytes
 
--- the bytes begin with a line that begins so and then spells this
-pub record HasLineOf {A : Type 0} (begin : List ℕ) (Spells : A → List ℕ → Type 0) (x : A)
+-- the bytes begin with a line that begins so and then is the text of a value that is legal
+pub record HasLine {A : Type 0} (begin : List ℕ) (IsLegal : A → Type 0) (text : A → List ℕ) (x : A)
     (rest bytes : List ℕ) : Type 0 where
-  pub text : List ℕ
-  pub line : IsLine (begin ++ text) rest bytes
-  pub spelled : Spells x text
+  pub line : IsLine (begin ++ text x) rest bytes
+  pub legal : IsLegal x
 
--- the bytes begin with a line of each of these in this order, up to what is left
+-- A form of lines: which value the bytes begin with, and what follows it; and where reading one
+-- fails, which is where what is left begins.
+pub record Form (A : Type 0) : Type 1 where
+  pub Has : A → List ℕ → List ℕ → Type 0
+  pub Fails : List ℕ → List ℕ → Type 0
+
+-- a form of at most one line: reading fails where it would begin
+abbrev pub at_once : {A : Type 0} → (A → List ℕ → List ℕ → Type 0) → Form A
+at_once {A} Has = record {
+  Has = Has;
+  Fails = λ left bytes. (left ≡ bytes) × ((x : A) (rest : List ℕ) → ¬ Has x rest bytes);
+}
+
+-- no line, for this value alone
+abbrev pub no_lines : {A : Type 0} → A → Form A
+no_lines only = at_once (λ x rest bytes. (x ≡ only) × (rest ≡ bytes))
+
+-- a line that begins so and then is the text of a value that is legal
+abbrev pub line : {A : Type 0} → List ℕ → (A → Type 0) → (A → List ℕ) → Form A
+line begin IsLegal text = at_once (HasLine begin IsLegal text)
+
+-- a form of many lines: reading fails at the first line that none has there
+abbrev pub line_by_line : {A : Type 0} → (A → List ℕ → List ℕ → Type 0) → Form A
+line_by_line Has = record { Has = Has; Fails = StopsAt Has }
+
+-- one form, and then another, which depends on the value of the first
+abbrev pub then : {A K B : Type 0} → Form A → (A → K) → (K → Form B) → Form (A × B)
+then {A} F key G = record {
+  Has = λ pair rest bytes.
+      (mid : List ℕ) × F.Has pair.0 mid bytes × (G (key pair.0)).Has pair.1 rest mid;
+  Fails = λ left bytes.
+      F.Fails left bytes
+      ⊎ ((x : A) × (mid : List ℕ) × F.Has x mid bytes × (G (key x)).Fails left mid);
+}
+
+-- one form, and then another
+abbrev pub sequence : {A B : Type 0} → Form A → Form B → Form (A × B)
+sequence F G = then F (λ x. tt) (λ (j : Unit {0}). G)
+
+-- a value that is made of that of a form
+abbrev pub made : {A B : Type 0} → Form A → (A → B) → Form B
+made {A} F make = record {
+  Has = λ y rest bytes. (x : A) × (y ≡ make x) × F.Has x rest bytes;
+  Fails = F.Fails;
+}
+
+-- reading the form fails where something else was expected, and for its form alone
+abbrev pub IsFailure : {A : Type 0} → Form A → List ℕ → Expected → Type 0
+IsFailure F bytes expected =
+    F.Fails expected.rest.now bytes × (expected.reason ≡ reason.OtherForm)
+
+-- the bytes begin with a line for each of these in this order, up to what is left: the line begins
+-- so and then spells it
 abbrev pub UpTo : {A : Type 0} → List ℕ → (A → List ℕ → Type 0) → List A → List ℕ → List ℕ → Type 0
 UpTo begin Spells [] left bytes = bytes ≡ left
 UpTo begin Spells (x ∷ xs) left bytes =
-    (mid : List ℕ) × HasLineOf begin Spells x mid bytes × UpTo begin Spells xs left mid
+    (mid : List ℕ) × (text : List ℕ) × IsLine (begin ++ text) mid bytes × Spells x text
+    × UpTo begin Spells xs left mid
 
--- the bytes begin with a line of each of these in this order, and no more follow
-abbrev pub HasLinesOf : {A : Type 0} → List ℕ → (A → List ℕ → Type 0) → List A → List ℕ → List ℕ
-    → Type 0
-HasLinesOf begin Spells [] rest bytes = (rest ≡ bytes) × HasNoLine begin bytes
-HasLinesOf begin Spells (x ∷ xs) rest bytes =
-    (mid : List ℕ) × HasLineOf begin Spells x mid bytes × HasLinesOf begin Spells xs rest mid
+-- the bytes begin with a line of each of these, of which this value is made, and no more follow
+pub record HasMany {A B : Type 0} (begin : List ℕ) (Spells : A → List ℕ → Type 0)
+    (Make : List A → B → Type 0) (x : B) (rest bytes : List ℕ) : Type 0 where
+  pub each : List A
+  pub lines : UpTo begin Spells each rest bytes
+  pub ends : HasNoLine begin rest
+  pub make : Make each x
 
 -- a line may give the alignment: a power of two that a number of 64 bits can be
 abbrev pub IsGiven : ℕ → Type 0
@@ -127,63 +190,80 @@ pub record AreAlignments (d : MessageTypeDetails) : Type 0 where
   pub user_header : IsGiven d.user_header.alignment
   pub payload : IsGiven d.payload.alignment
 
--- the opener's types are those of the service but for their alignments
-pub record IsOpenerOf (opener service : MessageTypeDetails) : Type 0 where
-  pub header : opener.header ≡ record service.header { alignment = opener.header.alignment }
-  pub user_header : opener.user_header
-      ≡ record service.user_header { alignment = opener.user_header.alignment }
-  pub payload : opener.payload ≡ record service.payload { alignment = opener.payload.alignment }
+-- lines may describe a type that has one value in a message
+abbrev pub IsFixed : TypeDetailParts → Type 0
+IsFixed t = (t.variant ≡ FixedSize) × IsDescribed t
 
--- the bytes begin with the line of a type that has one value in a message: it begins so
-pub record HasType (begin : List ℕ) (t : TypeDetailParts) (rest bytes : List ℕ) : Type 0 where
-  pub line : IsLine (begin ++ type_text t) rest bytes
-  pub one_value : t.variant ≡ FixedSize
-  pub described : IsDescribed t
+-- the line of a type that has one value in a message: it begins so
+abbrev pub type_line : List ℕ → Form TypeDetailParts
+type_line begin = line begin IsFixed type_text
 
--- the bytes begin with the line of a payload
-pub record HasPayload (prefix : List ℕ) (t : TypeDetailParts) (rest bytes : List ℕ) : Type 0 where
-  pub line : IsLine (prefix ++ codes "payload " ++ payload_text t) rest bytes
-  pub described : IsDescribed t
+-- the line of a payload
+abbrev pub payload_line : List ℕ → Form TypeDetailParts
+payload_line prefix = line (prefix ++ codes "payload ") IsDescribed payload_text
 
 -- the bytes begin with the line of the number of elements, which a dynamic payload has
 abbrev pub HasElements : List ℕ → TypeVariant → ℕ → List ℕ → List ℕ → Type 0
 HasElements prefix FixedSize n rest bytes = (n ≡ 1) × (rest ≡ bytes)
 HasElements prefix Dynamic n rest bytes =
-    (n < 2 ^ 64) × IsLine (prefix ++ codes "elements " ++ decimal n) rest bytes
+    HasLine (prefix ++ codes "elements ") (λ n. n < 2 ^ 64) decimal n rest bytes
 
--- the bytes begin with the line of an opener, or with none
+-- the line of the number of elements
+abbrev pub elements_line : List ℕ → TypeVariant → Form ℕ
+elements_line prefix variant = at_once (HasElements prefix variant)
+
+-- the bytes begin with the line of an opener's alignments, or with none
 abbrev pub HasOpener : List ℕ → Option MessageTypeDetails → List ℕ → List ℕ → Type 0
 HasOpener prefix None rest bytes = (rest ≡ bytes) × HasNoLine (prefix ++ codes "opener ") bytes
 HasOpener prefix (Some opener) rest bytes =
-    AreAlignments opener
-    × IsLine (prefix ++ codes "opener " ++ alignments_text opener) rest bytes
+    HasLine (prefix ++ codes "opener ") AreAlignments alignments_text opener rest bytes
 
--- the bytes begin with the lines of a message
-pub record HasMessage (prefix : List ℕ) (m : Message) (rest bytes : List ℕ) : Type 0 where
-  pub at_user_header : List ℕ
-  pub at_payload : List ℕ
-  pub at_elements : List ℕ
-  pub at_opener : List ℕ
-  pub header : HasType (prefix ++ codes "header ") m.details.header at_user_header bytes
-  pub user_header : HasType (prefix ++ codes "user-header ") m.details.user_header at_payload
-      at_user_header
-  pub payload : HasPayload prefix m.details.payload at_elements at_payload
-  pub elements : HasElements prefix m.details.payload.variant m.elements at_opener at_elements
-  pub opener : HasOpener prefix m.opener rest at_opener
-  pub opens : IfSome m.opener (λ opener. IsOpenerOf opener m.details)
+-- the line of an opener's alignments, if it stands there
+abbrev pub opener_line : List ℕ → Form (Option MessageTypeDetails)
+opener_line prefix = at_once (HasOpener prefix)
 
--- the bytes begin with what the lines of this pattern say of messages and keys
-abbrev pub HasExchange : PatternKind → Exchange → List ℕ → List ℕ → Type 0
-HasExchange PublishSubscribe x rest bytes =
-    (message : Message) × (x ≡ exchange.PublishSubscribe message)
-    × HasMessage [] message rest bytes
-HasExchange Event x rest bytes = (x ≡ exchange.Event) × (rest ≡ bytes)
-HasExchange RequestResponse x rest bytes =
-    (request : Message) × (response : Message) × (x ≡ exchange.RequestResponse request response)
-    × (mid : List ℕ) × HasMessage (codes "request-") request mid bytes
-    × HasMessage (codes "response-") response rest mid
-HasExchange Blackboard x rest bytes =
-    (key : TypeDetailParts) × (x ≡ exchange.Blackboard key) × HasType (codes "key ") key rest bytes
+-- the lines of a message in turn
+abbrev pub message_lines : List ℕ
+    → Form (TypeDetailParts × (TypeDetailParts
+    × (TypeDetailParts × (ℕ × Option MessageTypeDetails))))
+message_lines prefix =
+    sequence (type_line (prefix ++ codes "header "))
+    (sequence (type_line (prefix ++ codes "user-header "))
+    (then (payload_line prefix) (λ t. t.variant)
+    (λ variant. sequence (elements_line prefix variant) (opener_line prefix))))
+
+-- the opener's types are those of the service but for their alignments
+abbrev pub aligned : MessageTypeDetails → MessageTypeDetails → MessageTypeDetails
+aligned service opener = record {
+  header = record service.header { alignment = opener.header.alignment };
+  user_header = record service.user_header { alignment = opener.user_header.alignment };
+  payload = record service.payload { alignment = opener.payload.alignment };
+}
+
+-- the message of its lines
+abbrev pub message_of : TypeDetailParts × (TypeDetailParts
+    × (TypeDetailParts × (ℕ × Option MessageTypeDetails))) → Message
+message_of (header, (user_header, (payload, (elements, opener)))) =
+    let details : MessageTypeDetails =
+    record { header = header; user_header = user_header; payload = payload } in
+    record {
+      details = details;
+      elements = elements;
+      opener = option_map (aligned details) opener;
+    }
+
+-- the lines of a message
+abbrev pub message : List ℕ → Form Message
+message prefix = made (message_lines prefix) message_of
+
+-- what the lines of this pattern say of messages and keys
+abbrev pub exchange : PatternKind → Form Exchange
+exchange PublishSubscribe = made (message []) exchanged.PublishSubscribe
+exchange Event = no_lines exchanged.Event
+exchange RequestResponse =
+    made (sequence (message (codes "request-")) (message (codes "response-")))
+    (λ both. exchanged.RequestResponse both.0 both.1)
+exchange Blackboard = made (type_line (codes "key ")) exchanged.Blackboard
 
 -- a line may give the key of an attribute: 1 to 64 bytes, none of which is a space
 pub record IsKey (key : List ℕ) : Type 0 where
@@ -204,12 +284,13 @@ pub record GivesPair (pair : Pair) (text : List ℕ) : Type 0 where
   pub legal : IsPair pair
   pub spelled : text ≡ pair_text pair
 
+-- at most 16 pairs, of which this is the set
+abbrev pub AreAttributes : List Pair → List Pair → Type 0
+AreAttributes pairs set = (length pairs ≤ 16) × IsListing pairs set
+
 -- the bytes begin with the lines of the attributes of this set
-pub record HasAttributes (set : List Pair) (rest bytes : List ℕ) : Type 0 where
-  pub pairs : List Pair
-  pub lines : HasLinesOf (codes "attribute ") GivesPair pairs rest bytes
-  pub few : length pairs ≤ 16
-  pub listing : IsListing pairs set
+abbrev pub HasAttributes : List Pair → List ℕ → List ℕ → Type 0
+HasAttributes = HasMany (codes "attribute ") GivesPair AreAttributes
 
 -- what a line requires
 pub data Requirement : Type 0 where
@@ -253,13 +334,15 @@ abbrev pub key_of : Requirement → Option (List ℕ)
 key_of (OfPair pair) = None
 key_of (OfKey key) = Some key
 
+-- this is what at most 16 lines require
+abbrev pub AreRequired : List Requirement → Requirements → Type 0
+AreRequired each required =
+    (length each ≤ 16) × IsListing (filter_map pair_of each) required.pairs
+    × (filter_map key_of each ≡ required.keys)
+
 -- the bytes begin with the lines of what is required
-pub record HasRequirements (required : Requirements) (rest bytes : List ℕ) : Type 0 where
-  pub each : List Requirement
-  pub lines : HasLinesOf (codes "require") GivesRequirement each rest bytes
-  pub few : length each ≤ 16
-  pub pairs : IsListing (filter_map pair_of each) required.pairs
-  pub keys : filter_map key_of each ≡ required.keys
+abbrev pub HasRequirements : Requirements → List ℕ → List ℕ → Type 0
+HasRequirements = HasMany (codes "require") GivesRequirement AreRequired
 
 -- a service of this pattern may have the name: 1 to 255 bytes, not that of
 -- an internal service, and its hash text is one that a service can have

@@ -13,7 +13,7 @@ use Rattle.iox2_config.specs.declared.config.publish_subscribe.PublishSubscribe.
 use Rattle.iox2_config.specs.declared.config.request_response.RequestResonse.{RequestResonse}
 use Rattle.iox2_config.specs.declared.hash.input.PatternKind.{PatternKind}
 use Rattle.iox2_config.specs.declared.hash.input.PatternKind.TheVariants as kind
-use Rattle.service_drawing.specs.Lines.{HasLinesOf}
+use Rattle.service_drawing.specs.Lines.{HasMany}
 use Rattle.service_drawing.specs.declared.reading.cause.Reason.{Reason}
 use Rattle.service_drawing.specs.declared.reading.cause.Reason.TheVariants.{InternalName, UnknownSetting, SetTwice, OtherForm}
 use Rattle.service_drawing.specs.declared.settings.value.Value.{Value}
@@ -173,14 +173,15 @@ abbrev pub assigned : List Value → List Assignment → List Value
 assigned values [] = values
 assigned values (set ∷ sets) = assigned (slice_set values set.index set.value) sets
 
--- the bytes begin with the lines of settings, each of which is set once
--- at most, and the values are the defaults but for those that are set
-pub record HasSettings (names : List (List ℕ)) (defaults values : List Value)
-    (rest bytes : List ℕ) : Type 0 where
-  pub sets : List Assignment
-  pub lines : HasLinesOf (codes "set ") (GivesSetting names defaults) sets rest bytes
-  pub once : IsDistinct nat_eq (map (λ set. set.index) sets)
-  pub changed : values ≡ assigned defaults sets
+-- each setting is set once at most, and the values are the defaults but for those that are set
+abbrev pub AreSettings : List Value → List Assignment → List Value → Type 0
+AreSettings defaults sets values =
+    IsDistinct nat_eq (map (λ set. set.index) sets) × (values ≡ assigned defaults sets)
+
+-- the bytes begin with the lines of settings of these names, of which the values are made
+abbrev pub HasSettings : List (List ℕ) → List Value → List Value → List ℕ → List ℕ → Type 0
+HasSettings names defaults =
+    HasMany (codes "set ") (GivesSetting names defaults) (AreSettings defaults)
 
 -- the text gives one of the settings, which no line before has set,
 -- and that alone has got the value and is marked as set

@@ -75,14 +75,12 @@ TellsBadLine bytes expected NoMemory = ⊥
 pub record IsBadLine (line : ℕ) (cause : Cause) (bytes : List ℕ) : Type 0 where
   pub base : Config
   pub warnings : List ℕ
-  pub front : List ℕ
   pub rest : List ℕ
   pub over : IsOver base warnings rest bytes
-  pub parts : bytes ≡ front ++ rest
   pub left : List ℕ
   pub reason : Reason
   pub stops : StopsReading base left rest
-  pub number : line ≡ count_by (λ b. b == 10) (front ++ stops.read) + 1
+  pub number : (read : List ℕ) → bytes ≡ read ++ left → line ≡ count_by (λ b. b == 10) read + 1
   pub found : IsReason base reason left rest
   pub alone : (other : Reason) → IsReason base other left rest → other ≡ reason
   pub because : IsCause left reason cause

@@ -1,11 +1,9 @@
 //! Descriptions as lines.
-ghost use Rattle.std.specs.Prelude.{◌≡◌, ℕ, List, codes, IfOk, IfErr, MatchResult};
-ghost use Rattle.iox2_config.specs.TypeDetailParts.{TypeDetailParts};
+ghost use Rattle.std.specs.Prelude.{MatchResult};
 ghost use Rattle.service_drawing.specs.Descriptions.{HasDescription, StopsReading};
-ghost use Rattle.service_drawing.specs.Lines.{HasType, HasExchange, StopsAt};
+ghost use Rattle.service_drawing.specs.Lines.{IsFailure, StopsAt, exchange};
 ghost use Rattle.service_drawing.specs.Reasons.{IsReason, IsSettingReason};
 ghost use Rattle.service_drawing.specs.Settings.{HasConfiguration, section};
-ghost use Rattle.service_drawing.specs.declared.reading.cause.Reason.TheVariants.{OtherForm};
 
 mod attributes;
 pub(crate) mod cause;
@@ -21,7 +19,6 @@ use attributes::{attributes_before, required_before};
 pub(crate) use expected::Expected;
 use iox2_config::config::Config;
 use iox2_config::hash::PatternKind;
-use iox2_config::types::TypeDetail;
 use message::{fixed_before, message_before};
 use service::service_before;
 use settings::settings_before;
@@ -59,28 +56,11 @@ fn configuration_before(
     }
 }
 
-/// The line of a blackboard's keys.
-fn key_type_before(bytes: &[u8]) -> Result<(TypeDetail, &[u8]), Expected<'_>>
-    ensures spelled { MatchResult result
-        (λ found. HasType (codes "key ") found.0 found.1.now bytes.now)
-        (λ expected. (t : TypeDetailParts) (rest : List ℕ)
-        → ¬ HasType (codes "key ") t rest bytes.now) }
-    ensures place { IfErr result (λ expected. expected.rest.now ≡ bytes.now) }
-    ensures reason { IfErr result (λ expected. expected.reason ≡ OtherForm) }
-{
-    fixed_before(
-        bytes,
-        "",
-        "key ",
-        "key SIZE ALIGNMENT NAME: two numbers, the second a power of two, and 1 to 256 bytes",
-    )
-}
-
 /// The lines of what the ports exchange.
 fn exchange_before(bytes: &[u8], kind: PatternKind) -> Result<(Exchange, &[u8]), Expected<'_>>
-    ensures { MatchResult result (λ found. HasExchange kind found.0 found.1.now bytes.now)
-        (λ expected. StopsAt (HasExchange kind) expected.rest.now bytes.now
-        × (expected.reason ≡ OtherForm)) }
+    ensures { MatchResult result
+        (λ found. (exchange kind).Has found.0 found.1.now bytes.now)
+        (IsFailure (exchange kind) bytes.now) }
 {
     match kind {
         PatternKind::PublishSubscribe => {
@@ -94,7 +74,12 @@ fn exchange_before(bytes: &[u8], kind: PatternKind) -> Result<(Exchange, &[u8]),
             Ok((Exchange::RequestResponse(request, response), rest))
         }
         PatternKind::Blackboard => {
-            let (key, rest) = key_type_before(bytes)?;
+            let (key, rest) = fixed_before(
+                bytes,
+                "",
+                "key ",
+                "key SIZE ALIGNMENT NAME: two numbers, the second a power of two, and 1 to 256 bytes",
+            )?;
             Ok((Exchange::Blackboard(key), rest))
         }
     }

@@ -1,9 +1,9 @@
 //! The lines of attributes.
 ghost use Rattle.std.specs.Prelude.{◌≡◌, ℕ, List, MatchOption, MatchResult};
 ghost use Rattle.iox2_texts.specs.Pair.{Pair};
-ghost use Rattle.service_drawing.specs.Lines.{IsKey, IsPair, pair_text, HasAttributes, StopsAt};
+ghost use Rattle.service_drawing.specs.Lines.{IsFailure, line_by_line};
+ghost use Rattle.service_drawing.specs.Lines.{IsKey, IsPair, pair_text, HasAttributes};
 ghost use Rattle.service_drawing.specs.Lines.{HasRequirements, RequiresMore, RequiresNoMore};
-ghost use Rattle.service_drawing.specs.declared.reading.cause.Reason.TheVariants.{OtherForm};
 
 use super::expected::Expected;
 use super::words::line_after;
@@ -46,8 +46,7 @@ fn key_in(text: &[u8]) -> Option<AttributeKey>
 /// The lines of the attributes that the service has, at most 16.
 pub(super) fn attributes_before(bytes: &[u8]) -> Result<(AttributeSet, &[u8]), Expected<'_>>
     ensures { MatchResult result (λ found. HasAttributes found.0 found.1.now bytes.now)
-        (λ expected. StopsAt HasAttributes expected.rest.now bytes.now
-        × (expected.reason ≡ OtherForm)) }
+        (IsFailure (line_by_line HasAttributes) bytes.now) }
 {
     let mut attributes = AttributeSet::new();
     let mut rest = bytes;
@@ -70,8 +69,7 @@ pub(super) fn attributes_before(bytes: &[u8]) -> Result<(AttributeSet, &[u8]), E
 /// The lines of the attributes that an opener requires, at most 16.
 pub(super) fn required_before(bytes: &[u8]) -> Result<(AttributeVerifier, &[u8]), Expected<'_>>
     ensures { MatchResult result (λ found. HasRequirements found.0 found.1.now bytes.now)
-        (λ expected. StopsAt HasRequirements expected.rest.now bytes.now
-        × (expected.reason ≡ OtherForm)) }
+        (IsFailure (line_by_line HasRequirements) bytes.now) }
 {
     let mut required = AttributeVerifier::new();
     let mut rest = bytes;

@@ -1,6 +1,6 @@
 //! The lines of a message.
 ghost use Rattle.std.specs.Prelude.{◌≡◌, ◌∷◌, ◌++◌, ◌<◌, ◌^◌, ℕ, List, length, IsTrue, decimal, codes};
-ghost use Rattle.std.specs.Prelude.{IfSome, IfOk, IfErr, Option, MatchOption, MatchResult};
+ghost use Rattle.std.specs.Prelude.{IfSome, IfOk, MatchOption, MatchResult, option_map};
 ghost use Rattle.std.specs.Int.{is_power_of_two};
 ghost use Rattle.iox2_config.specs.TypeDetailParts.{TypeDetailParts};
 ghost use Rattle.iox2_config.specs.declared.types.message_details.MessageTypeDetails.{
@@ -8,10 +8,9 @@ ghost use Rattle.iox2_config.specs.declared.types.message_details.MessageTypeDet
 };
 ghost use Rattle.iox2_config.specs.declared.types.type_detail.TypeVariant.TheVariants.{Dynamic};
 ghost use Rattle.service_drawing.specs.Lines.{type_text, payload_text, alignments_text};
-ghost use Rattle.service_drawing.specs.Lines.{IsDescribed, IsOpenerOf};
-ghost use Rattle.service_drawing.specs.Lines.{AreAlignments, HasType, HasPayload, HasElements};
-ghost use Rattle.service_drawing.specs.Lines.{IsPlain, HasOpener, HasMessage, StopsAt};
-ghost use Rattle.service_drawing.specs.declared.reading.cause.Reason.TheVariants.{OtherForm};
+ghost use Rattle.service_drawing.specs.Lines.{AreAlignments, IsDescribed, IsFailure};
+ghost use Rattle.service_drawing.specs.Lines.{type_line, payload_line, elements_line, opener_line};
+ghost use Rattle.service_drawing.specs.Lines.{aligned, message};
 
 use super::expected::Expected;
 use super::words::{line_after, number, number_word};
@@ -94,7 +93,7 @@ fn opener_in(text: &[u8], service: &MessageTypeDetails) -> Option<MessageTypeDet
     ensures spelled { MatchOption result
         ((d : MessageTypeDetails) → AreAlignments d → ¬ (text.now ≡ alignments_text d))
         (λ opener. AreAlignments opener × (text.now ≡ alignments_text opener)) }
-    ensures same { IfSome result (λ opener. IsOpenerOf opener service.now) }
+    ensures same { IfSome result (λ opener. opener ≡ aligned service.now opener) }
 {
     let Some((header, user_header, payload)) = numbers_in(text) else {
         return None;
@@ -125,12 +124,9 @@ pub(super) fn fixed_before<'a>(
     word: &'static str,
     form: &'static str,
 ) -> Result<(TypeDetail, &'a [u8]), Expected<'a>>
-    ensures spelled { MatchResult result
-        (λ found. HasType (prefix.now ++ word.now) found.0 found.1.now bytes.now)
-        (λ expected. (t : TypeDetailParts) (rest : List ℕ)
-        → ¬ HasType (prefix.now ++ word.now) t rest bytes.now) }
-    ensures place { IfErr result (λ expected. expected.rest.now ≡ bytes.now) }
-    ensures reason { IfErr result (λ expected. expected.reason ≡ OtherForm) }
+    ensures { MatchResult result
+        (λ found. (type_line (prefix.now ++ word.now)).Has found.0 found.1.now bytes.now)
+        (IsFailure (type_line (prefix.now ++ word.now)) bytes.now) }
 {
     let expected = Expected::prefixed(bytes, prefix, form);
     let Some((text, rest)) = line_after(bytes, prefix, word) else {
@@ -147,12 +143,9 @@ fn payload_before<'a>(
     bytes: &'a [u8],
     prefix: &'static str,
 ) -> Result<(TypeDetail, &'a [u8]), Expected<'a>>
-    ensures spelled { MatchResult result
-        (λ found. HasPayload prefix.now found.0 found.1.now bytes.now)
-        (λ expected. (t : TypeDetailParts) (rest : List ℕ)
-        → ¬ HasPayload prefix.now t rest bytes.now) }
-    ensures place { IfErr result (λ expected. expected.rest.now ≡ bytes.now) }
-    ensures reason { IfErr result (λ expected. expected.reason ≡ OtherForm) }
+    ensures { MatchResult result
+        (λ found. (payload_line prefix.now).Has found.0 found.1.now bytes.now)
+        (IsFailure (payload_line prefix.now) bytes.now) }
 {
     let expected = Expected::prefixed(
         bytes,
@@ -173,12 +166,9 @@ fn number_of_elements_before<'a>(
     bytes: &'a [u8],
     prefix: &'static str,
 ) -> Result<(usize, &'a [u8]), Expected<'a>>
-    ensures spelled { MatchResult result
-        (λ found. HasElements prefix.now Dynamic found.0 found.1.now bytes.now)
-        (λ expected. (n : ℕ) (rest : List ℕ)
-        → ¬ HasElements prefix.now Dynamic n rest bytes.now) }
-    ensures place { IfErr result (λ expected. expected.rest.now ≡ bytes.now) }
-    ensures reason { IfErr result (λ expected. expected.reason ≡ OtherForm) }
+    ensures { MatchResult result
+        (λ found. (elements_line prefix.now Dynamic).Has found.0 found.1.now bytes.now)
+        (IsFailure (elements_line prefix.now Dynamic) bytes.now) }
 {
     let expected = Expected::prefixed(bytes, prefix, "elements NUMBER");
     let Some((text, rest)) = line_after(bytes, prefix, "elements ") else {
@@ -196,12 +186,9 @@ fn elements_before<'a>(
     prefix: &'static str,
     variant: TypeVariant,
 ) -> Result<(usize, &'a [u8]), Expected<'a>>
-    ensures spelled { MatchResult result
-        (λ found. HasElements prefix.now variant found.0 found.1.now bytes.now)
-        (λ expected. (n : ℕ) (rest : List ℕ)
-        → ¬ HasElements prefix.now variant n rest bytes.now) }
-    ensures place { IfErr result (λ expected. expected.rest.now ≡ bytes.now) }
-    ensures reason { IfErr result (λ expected. expected.reason ≡ OtherForm) }
+    ensures { MatchResult result
+        (λ found. (elements_line prefix.now variant).Has found.0 found.1.now bytes.now)
+        (IsFailure (elements_line prefix.now variant) bytes.now) }
 {
     match variant {
         TypeVariant::FixedSize => Ok((1, bytes)),
@@ -216,12 +203,9 @@ fn opener_before<'a>(
     service: &MessageTypeDetails,
 ) -> Result<(Option<MessageTypeDetails>, &'a [u8]), Expected<'a>>
     ensures spelled { MatchResult result
-        (λ found. HasOpener prefix.now found.0 found.1.now bytes.now)
-        (λ expected. (opener : Option MessageTypeDetails) (rest : List ℕ)
-        → ¬ HasOpener prefix.now opener rest bytes.now) }
-    ensures same { IfOk result (λ found. IfSome found.0 (λ opener. IsOpenerOf opener service.now)) }
-    ensures place { IfErr result (λ expected. expected.rest.now ≡ bytes.now) }
-    ensures reason { IfErr result (λ expected. expected.reason ≡ OtherForm) }
+        (λ found. (opener_line prefix.now).Has found.0 found.1.now bytes.now)
+        (IsFailure (opener_line prefix.now) bytes.now) }
+    ensures same { IfOk result (λ found. found.0 ≡ option_map (aligned service.now) found.0) }
 {
     let Some((text, rest)) = line_after(bytes, prefix, "opener ") else {
         return Ok((None, bytes));
@@ -241,10 +225,9 @@ pub(super) fn message_before<'a>(
     bytes: &'a [u8],
     prefix: &'static str,
 ) -> Result<(Message, &'a [u8]), Expected<'a>>
-    requires { IsPlain prefix.now }
-    ensures { MatchResult result (λ found. HasMessage prefix.now found.0 found.1.now bytes.now)
-        (λ expected. StopsAt (HasMessage prefix.now) expected.rest.now bytes.now
-        × (expected.reason ≡ OtherForm)) }
+    ensures { MatchResult result
+        (λ found. (message prefix.now).Has found.0 found.1.now bytes.now)
+        (IsFailure (message prefix.now) bytes.now) }
 {
     let (header, rest) = fixed_before(
         bytes,

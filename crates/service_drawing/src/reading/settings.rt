@@ -1,7 +1,7 @@
 //! The lines of settings.
-ghost use Rattle.std.specs.Prelude.{◌≡◌, ◌<◌, ◌↔◌, ℕ, [], IsTrue, Some, IfOk, IfSome, IfErr, MatchOption, MatchResult};
+ghost use Rattle.std.specs.Prelude.{◌≡◌, ◌<◌, ◌↔◌, ℕ, IsTrue, Some, IfOk, IfSome, IfErr, MatchOption, MatchResult};
 ghost use Rattle.std.specs.Prelude.{slice_get};
-ghost use Rattle.service_drawing.specs.Lines.{Begins, Stops};
+ghost use Rattle.service_drawing.specs.Lines.{StopsAt};
 ghost use Rattle.service_drawing.specs.Reasons.{IsSettingReason};
 ghost use Rattle.service_drawing.specs.Settings.{HasName, HasSettings, IsDashed, IsNamed, IsNotSet};
 ghost use Rattle.service_drawing.specs.Settings.{IsSetting, Sets, dash_for};
@@ -112,8 +112,8 @@ pub(super) fn settings_before<'a, S: Settings>(
     ensures { MatchResult result
         (λ rest. HasSettings S.names (S.values settings.old) (S.values settings.new) rest.now
         bytes.now)
-        (λ expected. Stops (HasSettings S.names (S.values settings.old) (S.values settings.new) [])
-        (Begins (HasSettings S.names (S.values settings.old))) expected.rest.now bytes.now
+        (λ expected. StopsAt (λ s. HasSettings S.names (S.values settings.old) (S.values s))
+        expected.rest.now bytes.now
         × IsSettingReason S.names (S.values settings.old) expected.reason expected.rest.now
         bytes.now) }
 {

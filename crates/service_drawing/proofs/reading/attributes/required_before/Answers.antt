@@ -1,5 +1,6 @@
 use Rattle.std.proofs.Common.{rules}
-use Rattle.service_drawing.proofs.Required.{one_more_required, required_whole, stops_at_required}
+use Rattle.service_drawing.proofs.LinesOf.{all_read}
+use Rattle.service_drawing.proofs.Required.{one_more_required, stops_at_required}
 use Rattle.service_drawing.proofs.reading.attributes.required_before.Goals as goal
 
 pub loop-text-preserved : goal.loop-text-preserved
@@ -9,14 +10,14 @@ loop-text-preserved c =
     c.in-Some-requiring.ensures
 
 pub returns-in_default-requiring : goal.returns-in_default-requiring
-returns-in_default-requiring c = (
-  stops_at_required c.loop-text.required c.plain-expected.result.rest.now c.loop-text.rest.now
-      c.args.bytes.now c.in-Some.text.now c.in-Some.tail.now c.plain-expected.ensures.place
-      c.loop-text.invariant (search rules) c.in_default-requiring.ensures,
-  c.plain-expected.ensures.reason,
-)
+returns-in_default-requiring c =
+    let expected = c.plain-expected.ensures in
+    let stops = stops_at_required c.loop-text.required c.loop-text.rest.now c.args.bytes.now
+    c.in-Some.text.now c.in-Some.tail.now c.loop-text.invariant (search rules)
+    c.in_default-requiring.ensures in
+    (rw expected.place stops, expected.reason)
 
 pub returns : goal.returns
 returns c =
-    required_whole c.loop-text.required c.loop-text.rest.now c.args.bytes.now
+    all_read _ _ _ c.loop-text.required c.loop-text.rest.now c.args.bytes.now
     c.loop-text.invariant c.in_default.ensures.line

@@ -1,10 +1,11 @@
 use Rattle.std.proofs.Common.{◌++◌, codes, rules}
-use Rattle.service_drawing.specs.Lines.{payload_text}
-use Rattle.service_drawing.proofs.Messages.{same_text}
+use Rattle.service_drawing.specs.Lines.{IsDescribed, payload_text}
+use Rattle.service_drawing.proofs.Messages.{no_line}
 use Rattle.service_drawing.proofs.reading.message.payload_before.Goals as goal
 
-pub returns-in-None-clause-spelled : goal.returns-in-None-clause-spelled
-returns-in-None-clause-spelled c t rest h =
-    c.in-None.ensures t h.described
-    (same_text (c.args.prefix.now ++ codes "payload ") c.in-Some.text.now c.in-Some.rest.now
-    c.args.bytes.now (search rules) (payload_text t) rest h.line)
+pub returns-in-None : goal.returns-in-None
+returns-in-None c =
+    let expected = c.prefixed-expected.ensures in
+    let none = no_line (c.args.prefix.now ++ codes "payload ") IsDescribed payload_text
+    c.in-Some.text.now c.in-Some.rest.now c.args.bytes.now (search rules) c.in-None.ensures in
+    ((expected.place, none), expected.reason)

@@ -5,8 +5,7 @@ use Rattle.service_drawing.proofs.reading.service.service_before.Goals as goal
 
 pub returns-in_default-clause-reason : goal.returns-in_default-clause-reason
 returns-in_default-clause-reason c =
-    no_line_reason c.plain-expected.result.reason c.args.bytes.now c.plain-expected.ensures.reason
-    c.in_default.ensures.line
+    rw c.plain-expected.ensures.reason (no_line_reason c.args.bytes.now c.in_default.ensures.line)
 
 pub returns-in-Err-clause-spelled : goal.returns-in-Err-clause-spelled
 returns-in-Err-clause-spelled c =

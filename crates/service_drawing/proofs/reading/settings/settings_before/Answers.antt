@@ -1,5 +1,6 @@
 use Rattle.std.proofs.Common.{rules}
-use Rattle.service_drawing.proofs.SettingLines.{none_set, one_more_setting, settings_whole, stops_at_setting}
+use Rattle.service_drawing.proofs.LinesOf.{all_read}
+use Rattle.service_drawing.proofs.SettingLines.{none_set, one_more_setting, stops_at_setting}
 use Rattle.service_drawing.proofs.Reasons.{setting_reason}
 use Rattle.service_drawing.proofs.reading.settings.settings_before.Goals as goal
 
@@ -15,21 +16,19 @@ loop-text-preserved g c =
 
 pub returns-in-Err : goal.returns-in-Err
 returns-in-Err g c =
-    rw c.in-Err.ensures.kept (
-      stops_at_setting g.S.Settings.names (g.S.Settings.values c.args.settings.now)
-          (g.S.Settings.values c.loop-text.settings) c.loop-text.given c.in-Err.reason
-          c.expected.result.rest.now c.loop-text.rest.now c.args.bytes.now c.in-Some.text.now
-          c.in-Some.tail.now c.expected.ensures.place c.loop-text.invariant (search rules)
+    let defaults = g.S.Settings.values c.args.settings.now in
+    let expected = c.expected.ensures in
+    rw (expected.place, expected.reason) (
+      stops_at_setting g.S.Settings.names defaults g.S.Settings.values c.loop-text.settings
+          c.loop-text.given c.in-Err.reason c.loop-text.rest.now c.args.bytes.now c.in-Some.text.now
+          c.in-Some.tail.now c.loop-text.invariant (search rules) c.in-Err.ensures.refused,
+      setting_reason g.S.Settings.names defaults (g.S.Settings.values c.loop-text.settings)
+          c.loop-text.given c.in-Err.reason c.loop-text.rest.now c.args.bytes.now
+          c.in-Some.text.now c.in-Some.tail.now c.loop-text.invariant (search rules)
           c.in-Err.ensures.refused,
-      setting_reason g.S.Settings.names (g.S.Settings.values c.args.settings.now)
-          (g.S.Settings.values c.loop-text.settings) c.loop-text.given c.expected.result.reason
-          c.in-Err.reason c.expected.result.rest.now c.loop-text.rest.now c.args.bytes.now
-          c.in-Some.text.now c.in-Some.tail.now c.expected.ensures.reason c.expected.ensures.place
-          c.loop-text.invariant (search rules) c.in-Err.ensures.refused,
     )
 
 pub returns : goal.returns
 returns g c =
-    settings_whole g.S.Settings.names (g.S.Settings.values c.args.settings.now)
-    (g.S.Settings.values c.loop-text.settings) c.loop-text.given c.loop-text.rest.now
-    c.args.bytes.now c.loop-text.invariant c.in_default.ensures.line
+    all_read _ _ _ (g.S.Settings.values c.loop-text.settings) c.loop-text.rest.now c.args.bytes.now
+    c.loop-text.invariant.read c.in_default.ensures.line
