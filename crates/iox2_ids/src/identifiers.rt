@@ -2,7 +2,6 @@
 
 mod hexadecimal;
 mod node_id;
-mod packing;
 mod port_id;
 mod time;
 mod unique_id;

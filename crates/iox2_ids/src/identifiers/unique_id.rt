@@ -3,7 +3,6 @@ ghost use Rattle.std.specs.Prelude.{◌≡◌, Some};
 ghost use Rattle.iox2_ids.specs.Packing.{packed, process_of, time_of, hexadecimal};
 
 use super::hexadecimal::Hexadecimal;
-use super::packing::{creation_time_of, pack, pid_of};
 use super::time::{ProcessId, Time};
 use std::fmt;
 use std::marker::{Model, PhantomData};
@@ -53,7 +52,10 @@ impl<K> UniqueId<K> {
         ensures { result ≡ packed process seconds nanoseconds counter }
     {
         UniqueId {
-            value: pack(process, seconds, nanoseconds, counter),
+            value: ((process as u128) << 96)
+                + ((seconds as u128) << 64)
+                + ((nanoseconds as u128) << 32)
+                + counter as u128,
             kind: PhantomData,
         }
     }
@@ -70,14 +72,17 @@ impl<K> UniqueId<K> {
     pub fn pid(&self) -> ProcessId
         ensures { result ≡ process_of self.now }
     {
-        pid_of(self.value)
+        ProcessId::new((self.value >> 96) as u32)
     }
 
     /// When it was created.
     pub fn creation_time(&self) -> Time
         ensures { result ≡ time_of self.now }
     {
-        creation_time_of(self.value)
+        Time::new(
+            ((self.value >> 64) % (1 << 32)) as u64,
+            ((self.value >> 32) % (1 << 32)) as u32,
+        )
     }
 }
 
