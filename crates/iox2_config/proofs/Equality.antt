@@ -1,6 +1,6 @@
 -- What `==` decides: a derived test asks each field's
 -- test in turn, and so decides equality where those do.
-use Rattle.std.proofs.Common.{rules, ◌≡◌, ◌∙◌, ℕ, List, Bool, true, ◌&&◌, nat_eq, Option, Some, None, refl, sym, ap}
+use Rattle.std.proofs.Common.{rules, ◌≡◌, ◌∙◌, ℕ, List, Bool, true, ◌&&◌, nat_eq, Option, refl, sym, ap}
 use Rattle.std.proofs.Math.Bool.{beq}
 use Rattle.std.proofs.lemmas.Bool.Decides.{Decides-and, Decides-like}
 use Rattle.std.proofs.lemmas.Slice.Eq.{slice_eq-Decides}
@@ -33,9 +33,7 @@ flags = record { test = beq; decides = booleans_Decides }
 module _ {A B : Type 0} where
   pub pairs_decide : (s : EqualityTest A) (t : EqualityTest B) (p q : A × B)
       → Decides (s.test p.0 q.0 && t.test p.1 q.1) (p ≡ q)
-  pairs_decide s t p q =
-      Decides-like _ (λ e i. (e.0 i, e.1 i)) (λ e. (ap (λ r. r.0) e, ap (λ r. r.1) e))
-      (Decides-and _ _ (s.decides p.0 q.0) (t.decides p.1 q.1))
+  pairs_decide s t p q = search rules
 
   -- of two values, each by its own test
   abbrev pub pairs : EqualityTest A → EqualityTest B → EqualityTest (A × B)
@@ -53,9 +51,7 @@ module _ {A B : Type 0} where
 
 module _ {A : Type 0} (t : EqualityTest A) where
   pub options_decide : (x y : Option A) → Decides (option_eq t.test x y) (x ≡ y)
-  options_decide None None = (λ _. refl, λ _. refl)
-  options_decide (Some x) (Some y) = Decides-like _ (ap Some) (λ e. cc) (t.decides x y)
-  options_decide _ _ = search rules
+  options_decide x y = search rules
 
   abbrev pub options : EqualityTest (Option A)
   options = record { test = option_eq t.test; decides = options_decide }

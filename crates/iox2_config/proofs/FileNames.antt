@@ -1,9 +1,8 @@
 -- The letters of base64 make the name of a file.
-use Rattle.std.proofs.Common.{◌≡◌, ◌≢◌, ◌∙◌, ℕ, zero, suc, ◌+◌, ◌*◌, ◌/◌, ◌%◌, ◌<◌, rules, Bool, true, false, ◌&&◌, List, [], ◌∷◌, ◌++◌, length, refl, ap, arith}
-use Rattle.std.specs.Prelude.{All, IsTrue, nat_lt, slice_index, codes}
-use Rattle.std.proofs.lemmas.Bool.{ltb-true}
+use Rattle.std.proofs.Common.{◌≡◌, ◌∙◌, ℕ, zero, suc, ◌+◌, ◌*◌, ◌/◌, ◌%◌, ◌<◌, rules, Bool, true, ◌&&◌, List, [], ◌∷◌, length, refl, arith}
+use Rattle.std.specs.Prelude.{All, IsTrue, nat_lt, slice_index}
 use Rattle.std.proofs.lemmas.List.{append-nil}
-use Rattle.std.proofs.lemmas.List.Elements.{All-nil, All-cons, All-append, All-get_or, All-weaker}
+use Rattle.std.proofs.lemmas.List.Elements.{All-nil, All-cons, All-append, All-get_or}
 use Rattle.std.proofs.lemmas.List.Sums.{AllPass-from_list_all}
 use Rattle.base64.proofs.RoundTrip.{length-encode_symbols}
 use Rattle.base64.specs.Engines.{url_safe_no_pad}
@@ -23,17 +22,8 @@ is_letter b = nat_lt 0 b && (nat_lt b 128 && is_restricted b)
 abbrev Letter : ℕ → Type 0
 Letter b = IsTextByte b × IsTrue (is_restricted b)
 
-both : (x y : Bool) → (x && y) ≡ true → (x ≡ true) × (y ≡ true)
-both true y holds = (refl, holds)
-both false y holds = search rules
-
 letter_of : (b : ℕ) → is_letter b ≡ true → Letter b
-letter_of b holds =
-    let first = both (nat_lt 0 b) (nat_lt b 128 && is_restricted b) holds in
-    let second = both (nat_lt b 128) (is_restricted b) first.1 in
-    let low : 0 < b = ltb-true 0 b first.0 in
-    let high : b < 128 = ltb-true b 128 second.0 in
-    ((omega arith, omega arith), second.1)
+letter_of b holds = search rules
 
 -- each symbol of the alphabet is one
 symbol : (i : ℕ) → i < 64 → Letter (slice_index alphabet i)
@@ -45,26 +35,20 @@ symbol i below =
 abbrev at : ℕ → ℕ
 at i = slice_index alphabet i
 
-one : (i : ℕ) → i < 64 → All Letter (at i ∷ [])
-one i li = All-cons Letter (at i) [] (symbol i li) (All-nil Letter)
-
 two : (i j : ℕ) → i < 64 → j < 64 → All Letter (at i ∷ at j ∷ [])
-two i j li lj = All-cons Letter (at i) (at j ∷ []) (symbol i li) (one j lj)
+two i j li lj = search (All-cons, All-nil, symbol)
 
 three : (i j k : ℕ) → i < 64 → j < 64 → k < 64 → All Letter (at i ∷ at j ∷ at k ∷ [])
-three i j k li lj lk = All-cons Letter (at i) (at j ∷ at k ∷ []) (symbol i li) (two j k lj lk)
+three i j k li lj lk = search (All-cons, symbol, two)
 
 four : (i j k l : ℕ) → i < 64 → j < 64 → k < 64 → l < 64
     → All Letter (at i ∷ at j ∷ at k ∷ at l ∷ [])
-four i j k l li lj lk ll =
-    All-cons Letter (at i) (at j ∷ at k ∷ at l ∷ []) (symbol i li) (three j k l lj lk ll)
+four i j k l li lj lk ll = search (All-cons, symbol, three)
 
 letters : (m : List ℕ) → IsBytes m → All Letter (encode_symbols alphabet m)
 unfolding encode_symbols
 letters [] bytes = All-nil Letter
-letters (a ∷ []) bytes =
-    let la : a < 256 = bytes zero in
-    two (a / 4) (a % 4 * 16) (omega arith) (omega arith)
+letters (a ∷ []) bytes = let la : a < 256 = bytes zero in search (arith, two)
 letters (a ∷ b ∷ []) bytes =
     let la : a < 256 = bytes zero in
     let lb : b < 256 = bytes (suc zero) in
@@ -78,24 +62,11 @@ letters (a ∷ b ∷ c ∷ rest) bytes =
     (omega arith) (omega arith) (omega arith) (omega arith))
     (letters rest (λ i. bytes (suc (suc (suc i)))))
 
--- a text of another length than a fixed one is another
-other : (text fixed : List ℕ) → length text ≢ length fixed → text ≢ fixed
-other text fixed apart same = apart (ap (λ (l : List ℕ). length l) same)
-
 -- the text of twenty bytes
 pub twenty_bytes : (m : List ℕ) → length m ≡ 20 → IsBytes m
     → IsRestrictedName 64 (encode_of url_safe_no_pad m)
 twenty_bytes m long bytes =
     let text : List ℕ = encode_symbols alphabet m in
-    let whole : text ++ [] ≡ text = append-nil text in
     let size : length text ≡ 27 = length-encode_symbols alphabet m ∙ rw long refl in
     let all : All Letter text = letters m bytes in
-    rw whole (
-      (omega arith, All-weaker Letter IsTextByte (λ b l. l.0) text all),
-      (
-        omega arith,
-        All-weaker Letter (λ b. IsTrue (is_restricted b)) (λ b l. l.1) text all,
-        other text (codes ".") (omega arith),
-        other text (codes "..") (omega arith),
-      ),
-    )
+    rw (append-nil text) (grind arith)

@@ -1,9 +1,8 @@
 -- Rounding up to a power of two by a mask.
-use Rattle.std.proofs.Common.{◌≡◌, ℕ, ◌+◌, ◌-◌, ◌*◌, ◌/◌, ◌^◌, ◌<◌, ◌≤◌, arith, subst, sym, inl, inr, ap, ◌∙◌, bit_and}
+use Rattle.std.proofs.Common.{◌≡◌, ℕ, ◌+◌, ◌-◌, ◌*◌, ◌/◌, ◌^◌, ◌<◌, ◌≤◌, arith, ◌∙◌, bit_and}
 use Rattle.std.specs.Prelude.{IsTrue}
 use Rattle.std.specs.Int.{◌∣◌, is_power_of_two}
 use Rattle.std.proofs.Math.Nat.{dvd-mul_left}
-use Rattle.std.proofs.lemmas.Bool.{cases_lt}
 use Rattle.std.proofs.lemmas.Nat.{div-add-mod', mod_below, pow_below, pow_pos}
 use Rattle.std.proofs.lemmas.Nat.Bits.{and_high_mask}
 use Rattle.iox2_texts.specs.Multiple.{least_multiple}
@@ -12,20 +11,14 @@ use Rattle.iox2_config.proofs.Powers.{power_from_test, powers_divide}
 
 -- a power of two is not zero
 pub power_positive : (a : ℕ) → IsTrue (is_power_of_two a) → 0 < a
-power_positive a power =
-    let p = power_from_test a power in omega (arith, p.1, pow_pos p.0)
+power_positive a power = grind (arith, power_from_test, pow_pos)
 
 -- the last multiple up to n = v + (a - 1) is the first from v on
 last_is_least : (v a n : ℕ) → 0 < a → n ≡ v + (a - 1) → n / a * a ≡ least_multiple v a
 last_is_least v a n positive e =
-    let whole = div-add-mod' n a in
-    let rest = mod_below n a positive in
     let multiple = dvd-mul_left a (n / a) in
-    same_from_least v a (n / a * a) (least_multiple v a) (
-      omega (arith, whole, rest),
-      multiple,
-      λ z over az. multiples_apart a (n / a * a) z multiple az (omega (arith, whole, over, e)),
-    ) (least_multiple-is v a positive)
+    same_from_least v a (n / a * a) (least_multiple v a)
+    (grind (arith, div-add-mod', mod_below, multiples_apart)) (least_multiple-is v a positive)
 
 -- the mask clears what is over the last multiple
 pub rounded : (v a n mask : ℕ) → IsTrue (is_power_of_two a) → a < 2 ^ 64 → n ≡ v + (a - 1)
@@ -33,23 +26,16 @@ pub rounded : (v a n mask : ℕ) → IsTrue (is_power_of_two a) → a < 2 ^ 64 �
     → bit_and n mask ≡ least_multiple v a
 rounded v a n mask power fits e below is =
     let p = power_from_test a power in
-    let within : p.0 ≤ 64 =
-    elim (cases_lt 64 p.0) [
-      | inl above ↦ absurd (let more = pow_below 64 p.0 above in omega (arith, more, p.1, fits))
-      | inr within ↦ within
-    ] in
-    subst (λ m. bit_and n m ≡ least_multiple v a) (sym (is ∙ ap (λ b. 2 ^ 64 - b) p.1))
-    (and_high_mask 64 p.0 within n below
-    ∙ subst (λ b. n / b * b ≡ least_multiple v a) p.1
-    (last_is_least v a n (power_positive a power) e))
+    let within : p.0 ≤ 64 = grind (arith, pow_below 64 p.0, p.1) in
+    let last = last_is_least v a n (power_positive a power) e in
+    rw (is, p.1) (and_high_mask 64 p.0 within n below ∙ rw (← p.1) last)
 
 -- and where there is no room for the mask, the multiple does not fit
 pub not_rounded : (v a : ℕ) → IsTrue (is_power_of_two a) → a < 2 ^ 64 → 2 ^ 64 ≤ v + (a - 1)
     → 2 ^ 64 ≤ least_multiple v a
 not_rounded v a power fits over =
     let p = power_from_test a power in
-    let divides : a ∣ 2 ^ 64 =
-    subst (λ b. b ∣ 2 ^ 64) (sym p.1) (powers_divide p.0 64 (omega (arith, p.1, fits))) in
     let positive = power_positive a power in
+    let divides : a ∣ 2 ^ 64 = rw p.1 (powers_divide p.0 64 (omega arith)) in
     multiples_apart a (2 ^ 64) (least_multiple v a) divides (least_multiple-dvd v a positive)
-    (omega (arith, least_multiple-ge v a, over))
+    (omega (arith, least_multiple-ge v a))

@@ -33,9 +33,7 @@ module _ {F A R : Type 0} (g : Mut F (Bor A × Unit {0}) R) where
 module _ {F A : Type 0} (g : Mut F (Bor A × Unit {0}) CallbackProgression) where
   pub CanVisit-from_always : (f : F) (items : List A) → always_mut g f
       → CanVisit (TakesAt g) (CalledAt g) f items
-  CanVisit-from_always =
-      CanVisit-by (TakesAt g) (CalledAt g) (λ f _. always_mut g f)
-      (λ f x xs m. takes_always g f x m) (λ f x xs h m c. next_always g f x Continue h m c)
+  CanVisit-from_always = search (CanVisit-by, takes_always, next_always)
 
   pub always_after_visits : (f : F) (items : List A) (h : F) → always_mut g f
       → Visits (CalledAt g) f items h → always_mut g h

@@ -4,6 +4,4 @@ pub mod Multiple
 pub mod PathLemmas
 pub mod Merging
 pub mod TextLemmas
-pub mod ValueLemmas
 pub mod VerifyLemmas
-pub mod VisitLemmas

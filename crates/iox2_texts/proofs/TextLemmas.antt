@@ -1,7 +1,6 @@
 -- Lemmas on legal texts.
-use Rattle.std.proofs.Common.{◌≡◌, ℕ, List, ◌++◌, length, arith, IsUtf8, inl, inr, length-append, ap}
+use Rattle.std.proofs.Common.{◌≡◌, ℕ, List, ◌++◌, length, arith, IsUtf8, length-append, ap}
 use Rattle.std.specs.Str.{IsAscii}
-use Rattle.std.proofs.lemmas.Bool.{cases_lt}
 use Rattle.std.proofs.lemmas.List.{get_or_past}
 use Rattle.std.proofs.lemmas.List.Elements.{All-drop}
 use Rattle.std.proofs.Math.Seq.{drop-append_seam}
@@ -16,11 +15,7 @@ use Rattle.iox2_texts.specs.declared.service_name.ServiceNameError.{ServiceNameE
 
 -- a legal text is ASCII
 pub IsAscii-from_text : (bytes : List ℕ) → IsText bytes → IsAscii bytes
-IsAscii-from_text bytes legal i =
-    elim (cases_lt i (length bytes)) [
-      | inl inside ↦ let byte = legal i 0 inside in omega (arith, byte)
-      | inr past ↦ rw (get_or_past bytes i 0 past) (omega arith)
-    ]
+IsAscii-from_text bytes legal i = grind (arith, get_or_past)
 
 -- and so UTF-8
 pub utf8_of_text : (bytes : List ℕ) → IsText bytes → IsUtf8 bytes

@@ -1,12 +1,10 @@
 -- Lemmas on what a verifier finds missing.
-use Rattle.std.proofs.Common.{◌≡◌, ℕ, ◌<◌, ◌≤◌, Bool, false, List, length, get_or, take, ap, sym, refl, ◌∙◌, subst, inl, inr, arith, take_all, true≢false}
+use Rattle.std.proofs.Common.{◌≡◌, ℕ, ◌<◌, ◌≤◌, Bool, false, List, length, get_or, take, sym, ◌∙◌, subst, arith, take_all, true≢false}
 use Rattle.std.specs.Prelude.{All, Contains, IsSorted, IsTrue, ◌↔◌}
 use Rattle.std.specs.Ordering.{is_lt}
 use Rattle.std.specs.Cmp.{IsTotalOrder, on_total, then_total}
 use Rattle.std.specs.Cmp.Lexicographic.{nat_list_cmp_total}
-use Rattle.std.proofs.lemmas.Bool.{cases_lt}
-use Rattle.std.proofs.lemmas.List.{get_or-take, length-take-le}
-use Rattle.std.proofs.lemmas.Option.{slice_get_read, get_or_from_slice_get}
+use Rattle.std.proofs.lemmas.List.{get_or_default, get_or-take, length-take-le}
 use Rattle.std.proofs.lemmas.List.Sorted.{ranks_by, sorted_far}
 use Rattle.iox2_texts.specs.Pair.{Pair, pair_cmp}
 use Rattle.iox2_texts.specs.Verify.{IsLeastMissing}
@@ -35,26 +33,11 @@ least_missing required pairs i item rises inside is before missing = (
   (i, inside, sym is),
   missing,
   λ other at not_in less.
-      elim (cases_lt at.0 i) [
-        | inl earlier ↦
-            let long : at.0 < length (take i required) =
-            subst (λ n. at.0 < n)
-            (sym (length-take-le i required (omega (arith, inside)))) earlier in
-            not_in (subst (λ p. Contains pairs p) (get_or-take i required at.0 other earlier ∙ at.2)
-            (before at.0 other long))
-        | inr later ↦
-            let far =
-            sorted_far (λ x y. is_lt (pair_cmp x y))
-            (ranks_by pair_cmp_total (λ p. p)) required rises i at.0 other later at.1 in
-            let here : get_or required i other ≡ item =
-            get_or_from_slice_get required i item other
-            (slice_get_read required (length required) i item refl inside is) in
-            let not_less : is_lt (pair_cmp other item) ≡ false =
-            subst (λ p. is_lt (pair_cmp p item) ≡ false) at.2
-            (subst (λ q. is_lt (pair_cmp (get_or required at.0 other) q) ≡ false) here far)
-            in
-            true≢false (sym (ap is_lt less) ∙ not_less)
-      ],
+      let rank = ranks_by pair_cmp_total (λ p. p) in
+      let far = sorted_far (λ x y. is_lt (pair_cmp x y)) rank required rises i at.0 other in
+      let here = get_or_default required i other item inside in
+      let earlier = before at.0 other in
+      grind (arith, get_or-take, length-take-le),
 )
 
 -- the same for copies of the pair's parts
@@ -62,8 +45,4 @@ pub pair_fault : (required shown pairs : List Pair) (item : Pair) (key value : L
     → shown ≡ required
     → IsLeastMissing shown pairs item → key ≡ item.key → value ≡ item.value
     → IsLeastMissing required pairs (record { key = key; value = value })
-pair_fault required shown pairs item key value same missing key_is value_is =
-    let whole : item ≡ record { key = key; value = value } =
-    λ j. record { key = sym key_is j; value = sym value_is j } in
-    subst (λ p. IsLeastMissing required pairs p) whole
-    (subst (λ r. IsLeastMissing r pairs item) same missing)
+pair_fault required shown pairs item key value same missing key_is value_is = grind arith

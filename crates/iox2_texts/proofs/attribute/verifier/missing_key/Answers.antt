@@ -1,4 +1,4 @@
-use Rattle.std.proofs.Common.{arith, subst}
+use Rattle.std.proofs.Common.{arith, rules}
 use Rattle.std.proofs.lemmas.List.Elements.{All-more}
 use Rattle.iox2_texts.specs.Attribute.{ContainsKey}
 use Rattle.iox2_texts.proofs.VerifyLemmas.{all_of_take}
@@ -7,14 +7,10 @@ use Rattle.iox2_texts.proofs.attribute.verifier.missing_key.Goals as goal
 pub loop-key-preserved : goal.loop-key-preserved
 loop-key-preserved c = record {
   met =
-      All-more (ContainsKey c.args.pairs.now) c.args.required.now c.loop-key.key-index
-      c.key-item.result c.loop-key-test.true c.loop-key.invariant.met
-      (subst (λ k. ContainsKey c.args.pairs.now k) c.key-item.is c.in-Some.ensures.1);
+      All-more (ContainsKey c.args.pairs.now) _ _ c.key-item.result c.loop-key-test.true
+      c.loop-key.invariant.met (rw c.key-item.is at c.in-Some.ensures.1);
   fits = omega (arith, c.in-Some.ensures.0);
 }
 
 pub returns : goal.returns
-returns c =
-    all_of_take
-    (ContainsKey c.args.pairs.now) c.args.required.now c.loop-key.key-index
-    c.loop-key-test.false c.loop-key.invariant.met
+returns c = search (rules, all_of_take)
