@@ -111,10 +111,7 @@ fn write_kinds(
         ≡ string_bytes out.old ++ flat_map (file_line prefix.now) (map kind_view kinds.now)) }
 {
     for kind in kinds {
-        match write_kind(out, prefix, kind) {
-            Ok(()) => {}
-            Err(e) => return Err(e),
-        }
+        write_kind(out, prefix, kind)?;
     }
     Ok(())
 }

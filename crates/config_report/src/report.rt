@@ -65,15 +65,13 @@ pub fn read_file(alloc: Global, bytes: &[u8]) -> Result<FileConfig, ReportError>
 pub fn report_file(alloc: Global, bytes: &[u8]) -> Result<Report, ReportError>
     ensures { Reports bytes.now result }
 {
-    match read_file(alloc, bytes) {
-        Ok(file) => match text_of(alloc, &file.config) {
-            Ok(text) => Ok(Report {
-                text,
-                warnings: file.warnings,
-            }),
-            Err(_) => Err(ReportError::NoMemory),
-        },
-        Err(error) => Err(error),
+    let file = read_file(alloc, bytes)?;
+    match text_of(alloc, &file.config) {
+        Ok(text) => Ok(Report {
+            text,
+            warnings: file.warnings,
+        }),
+        Err(_) => Err(ReportError::NoMemory),
     }
 }
 

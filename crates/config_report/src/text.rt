@@ -56,10 +56,7 @@ fn write_tables(
         × AreTableLines default.now config.now sections.now lines) }
 {
     for section in sections {
-        match write_table(out, *section, config, default) {
-            Ok(()) => {}
-            Err(e) => return Err(e),
-        }
+        write_table(out, *section, config, default)?;
     }
     Ok(())
 }
@@ -84,10 +81,7 @@ fn write_table(
         let Some(usual) = value_at(default, section, index) else {
             return Ok(());
         };
-        match write_setting(out, section, &rows[index], value, usual) {
-            Ok(()) => {}
-            Err(e) => return Err(e),
-        }
+        write_setting(out, section, &rows[index], value, usual)?;
     }
     Ok(())
 }

@@ -1,5 +1,5 @@
 -- The settings of a configuration, table by table.
-use Rattle.std.proofs.Common.{◌≡◌, refl}
+use Rattle.std.proofs.Common.{◌≡◌, arith}
 use Rattle.iox2_config.specs.declared.config.Config.{Config}
 use Rattle.iox2_config_file.specs.declared.section.Section.{Section}
 use Rattle.iox2_config_file.specs.declared.section.Section.TheVariants.{Global, Service, Node, PublishSubscribe, Event, RequestResponse, Blackboard}
@@ -13,11 +13,4 @@ Reads s file d c = settings_in s c ≡ read_section s file (settings_in s d)
 pub built : (file : Members) (d c : Config) → Reads Global file d c → Reads Service file d c
     → Reads Node file d c → Reads PublishSubscribe file d c → Reads Event file d c
     → Reads RequestResponse file d c → Reads Blackboard file d c → IsSettingsOf d file c
-built file d c global service node publish event request board Global = global
-built file d c global service node publish event request board Service = service
-built file d c global service node publish event request board Node = node
-built file d c global service node publish event request board PublishSubscribe = publish
-built file d c global service node publish event request board Event = event
-built file d c global service node publish event request board RequestResponse = request
-built file d c global service node publish event request board Blackboard = board
-built file d c global service node publish event request board s = refl
+built file d c global service node publish event request board = grind arith

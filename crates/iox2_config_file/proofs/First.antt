@@ -1,5 +1,5 @@
 -- The first of the faults of a file.
-use Rattle.std.proofs.Common.{◌≡◌, List, [], ◌∷◌, Option, sym, subst}
+use Rattle.std.proofs.Common.{◌≡◌, List, [], ◌∷◌, Option, sym, arith}
 use Rattle.std.specs.Prelude.{map, option_map, slice_get}
 use Rattle.iox2_config.specs.declared.config.Config.{Config}
 use Rattle.iox2_config_file.specs.declared.fault.SettingFault.{SettingFault}
@@ -10,8 +10,5 @@ use Rattle.toml.specs.Data.{Members}
 pub first_is : (file : Members) (xs : List SettingFault) (r : Option SettingFault)
     → ((c : Config) → map fault_view xs ≡ faults_in c file) → r ≡ slice_get xs 0
     → FirstIs file (option_map fault_view r)
-first_is file [] r all is =
-    subst (λ o. FirstIs file (option_map fault_view o)) (sym is) (λ c. sym (all c))
-first_is file (x ∷ xs) r all is =
-    subst (λ o. FirstIs file (option_map fault_view o)) (sym is)
-    (λ c. (map fault_view xs, sym (all c)))
+first_is file [] r all is = grind arith
+first_is file (x ∷ xs) r all is = rw is (λ c. (map fault_view xs, sym (all c)))

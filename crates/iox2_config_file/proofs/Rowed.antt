@@ -1,7 +1,7 @@
 -- The settings of a table beside its rows, one after the other.
-use Rattle.std.proofs.Common.{◌≡◌, ℕ, zero, suc, ◌+◌, ◌≤◌, true, false, cond, List, [], ◌∷◌, ◌++◌, length, map, drop, slice_get, Option, Some, None, option_map, refl, sym, ap, ◌∙◌, add-one, append_assoc, append-nil, arith, length-append, drop_of_length-le}
+use Rattle.std.proofs.Common.{◌≡◌, ℕ, zero, suc, ◌+◌, ◌≤◌, true, false, cond, List, [], ◌∷◌, ◌++◌, length, map, drop, slice_get, Option, Some, None, refl, sym, ap, add-one, append_assoc, arith, length-append, drop_of_length-le, rules}
 use Rattle.std.specs.List.{filter_map}
-use Rattle.std.proofs.lemmas.List.{length-map}
+use Rattle.std.proofs.lemmas.List.{length-map, length-drop}
 use Rattle.std.proofs.lemmas.Option.{none-some, same_Some, slice_get-map}
 use Rattle.iox2_config_file.specs.declared.kind.Kind.{Kind}
 use Rattle.iox2_config_file.specs.declared.section.Row.{Row}
@@ -31,25 +31,19 @@ here [] i v h = absurd (none-some v h)
 here (x ∷ xs) zero v h = (x, refl, same_Some _ v h, refl)
 here (x ∷ xs) (suc i) v h = here xs i v h
 
-drop_none : (xs : List Setting) (i : ℕ) → drop i xs ≡ [] → drop (suc i) xs ≡ []
-drop_none [] i h = refl
-drop_none (x ∷ xs) zero h = ap (drop 1) h
-drop_none (x ∷ xs) (suc i) h = drop_none xs i h
-
 -- past the last setting nothing more is found
 pub misfits_past : (xs : List Setting) (i : ℕ) → held_at xs i ≡ None
     → filter_map misfit (drop (i + 1) xs) ≡ filter_map misfit (drop i xs)
 misfits_past xs i h =
     let none = past xs i h in
-    rw (add-one, none, drop_none xs i none)
+    let more : drop (i + 1) xs ≡ [] =
+    drop_of_length-le xs (omega (arith, length-drop i xs, ap length none)) in
+    cc
 
 -- a setting that fits is passed over
 pub misfits_fit : (xs : List Setting) (i : ℕ) (v : SettingValue) → held_at xs i ≡ Some v
     → value_fits v ≡ true → filter_map misfit (drop (i + 1) xs) ≡ filter_map misfit (drop i xs)
-misfits_fit xs i v h fits =
-    let (x, split, value, there) = here xs i v h in
-    let ok : value_fits x.value ≡ true = ap value_fits value ∙ fits in
-    rw (add-one, split, ok)
+misfits_fit xs i v h fits = grind (arith, here, add-one)
 
 front : {A : Type 0} (xs ys : List A) (i : ℕ) (x : A) → slice_get xs i ≡ Some x
     → slice_get (xs ++ ys) i ≡ Some x
@@ -62,12 +56,9 @@ pub row_key : (rows : List Row) (xs : List Setting) (more : List (List ℕ × Ki
     (x : Setting) (r : Row) → map row_view rows ≡ map keyed xs ++ more → slice_get xs i ≡ Some x
     → slice_get rows i ≡ Some r → r.key.now ≡ x.key
 row_key rows xs more i x r same at row =
-    let keyed_at : slice_get (map keyed xs) i ≡ Some (keyed x) =
-    slice_get-map keyed xs i ∙ ap (option_map keyed) at in
-    let both : Some (row_view r) ≡ Some (keyed x) =
-    sym (slice_get-map row_view rows i ∙ ap (option_map row_view) row)
-    ∙ ap (λ l. slice_get l i) same ∙ front (map keyed xs) more i (keyed x) keyed_at in
-    ap (λ p. p.0) (same_Some _ _ both)
+    let keyed_at = slice_get-map keyed xs i in
+    let viewed = slice_get-map row_view rows i in
+    grind (arith, front)
 
 -- a setting that does not fit is the first that is found
 pub misfits_here : (rows : List Row) (xs : List Setting) (more : List (List ℕ × Kind)) (i : ℕ)
@@ -76,18 +67,14 @@ pub misfits_here : (rows : List Row) (xs : List Setting) (more : List (List ℕ 
     → Some r.key.now ≡ slice_get (filter_map misfit (drop i xs)) 0
 misfits_here rows xs more i v r same h fits row =
     let (x, split, value, there) = here xs i v h in
-    let ok : value_fits x.value ≡ false = ap value_fits value ∙ fits in
-    rw (split, ok) (ap Some (row_key rows xs more i x r same there row))
+    let key = row_key rows xs more i x r same there row in grind arith
 
 -- there are no more settings than rows
 pub misfits_end : (rows : List Row) (xs : List Setting) (more : List (List ℕ × Kind)) (i : ℕ)
     → map row_view rows ≡ map keyed xs ++ more → length rows ≤ i
     → filter_map misfit (drop i xs) ≡ []
 misfits_end rows xs more i same past_rows =
-    let all = length-map rows row_view in
-    let some = length-append (map keyed xs) more in
-    let few : length xs ≤ i = omega (arith, ap length same, all, length-map xs keyed, some) in
-    rw (drop_of_length-le xs few)
+    grind (arith, length-map, length-append, drop_of_length-le)
 
 pub no_entries : (rows : List Row) (ds : List Setting) → entries_text rows ds [] ≡ []
 no_entries [] ds = refl
@@ -97,12 +84,12 @@ no_entries (r ∷ rows) (d ∷ ds) = refl
 -- where a setting has no value, nothing more is written
 pub entries_past : (rows : List Row) (ds xs : List Setting) (i : ℕ)
     → held_at xs i ≡ None → entries_text (drop i rows) (drop i ds) (drop i xs) ≡ []
-entries_past rows ds xs i h = rw (past xs i h) (no_entries _ _)
+entries_past rows ds xs i h = grind (arith, past, no_entries)
 
 drop_row : (rows : List Row) (i : ℕ) (r : Row) → slice_get rows i ≡ Some r
     → drop i rows ≡ r ∷ drop (suc i) rows
 drop_row [] i r h = absurd (none-some r h)
-drop_row (a ∷ rows) zero r h = ap (λ b. b ∷ rows) (same_Some a r h)
+drop_row (a ∷ rows) zero r h = cc
 drop_row (a ∷ rows) (suc i) r h = drop_row rows i r h
 
 -- one setting more is written
@@ -123,11 +110,8 @@ pub entries_next : (rows : List Row) (ds xs : List Setting) (i : ℕ) (r : Row)
     → held_at xs i ≡ Some v
     → new ++ entries_text (drop (i + 1) rows) (drop (i + 1) ds) (drop (i + 1) xs) ≡ whole
 entries_next rows ds xs i r d v out new whole before wrote row default value =
-    ap (λ l. l ++ entries_text (drop (i + 1) rows) (drop (i + 1) ds) (drop (i + 1) xs)) wrote
-    ∙ append_assoc out (entry_text r d v) _
-    ∙ ap (λ l. out ++ l) (sym (entries_here rows ds xs i r d v row default value)) ∙ before
+    grind (arith, append_assoc, entries_here)
 
 -- all is written where nothing is left
 pub all_written : (out rest whole : List ℕ) → out ++ rest ≡ whole → rest ≡ [] → out ≡ whole
-all_written out rest whole before none =
-    sym (append-nil out) ∙ ap (λ l. out ++ l) (sym none) ∙ before
+all_written out rest whole before none = search rules

@@ -1,15 +1,10 @@
 -- The tables of a file, one after the other.
-use Rattle.std.proofs.Common.{◌≡◌, ℕ, ◌+◌, ◌<◌, List, [], ◌∷◌, ◌++◌, length, map, drop, get_or, slice_get, Some, None, refl, sym, ap, ◌∙◌, subst, add-one, append_assoc, drop-cons}
+use Rattle.std.proofs.Common.{◌≡◌, ℕ, ◌+◌, ◌<◌, List, [], ◌∷◌, ◌++◌, length, map, drop, get_or, slice_get, Some, None, refl, sym, ap, add-one, append_assoc, drop-cons, arith}
 use Rattle.std.specs.Prelude.{flat_map}
 use Rattle.std.proofs.lemmas.Option.{none-some, same_Some}
 use Rattle.iox2_config.specs.declared.config.Config.{Config}
 use Rattle.iox2_config_file.specs.declared.section.Section.{Section}
 use Rattle.iox2_config_file.specs.Write.{section_misfits, located_misfits, IsTableText, IsTablesText}
-
--- a list whose first element is none is empty
-none_first : (xs : List (List ℕ)) → None ≡ slice_get xs 0 → xs ≡ []
-none_first [] h = refl
-none_first (x ∷ xs) h = absurd (none-some x h)
 
 some_first : (xs : List (List ℕ)) (x : List ℕ) → Some x ≡ slice_get xs 0
     → (more : List (List ℕ)) × (xs ≡ x ∷ more)
@@ -19,7 +14,7 @@ some_first (y ∷ ys) x h = (ys, ap (λ z. z ∷ ys) (sym (same_Some x y h)))
 -- from this table on, it comes first
 split_at : (ss : List Section) (i : ℕ) (d : Section) → i < length ss
     → drop i ss ≡ get_or ss i d ∷ drop (i + 1) ss
-split_at ss i d lt = rw add-one (drop-cons ss i d lt)
+split_at ss i d lt = grind (arith, add-one, drop-cons)
 
 -- the first setting of this table that does not fit is the first of all
 pub misfit_first : (config : Config) (ss : List Section) (i : ℕ) (d : Section) (key : List ℕ)
@@ -28,30 +23,17 @@ pub misfit_first : (config : Config) (ss : List Section) (i : ℕ) (d : Section)
     → (more : List (Section × List ℕ))
     × (flat_map (located_misfits config) ss ≡ (get_or ss i d, key) ∷ more)
 misfit_first config ss i d key lt h same =
+    let (more, is) = some_first (section_misfits (get_or ss i d) config) key h in
+    let split = split_at ss i d lt in
     let s = get_or ss i d in
-    let (more, is) = some_first (section_misfits s config) key h in
-    let whole : flat_map (located_misfits config) (drop i ss)
-    ≡ located_misfits config s ++ flat_map (located_misfits config) (drop (i + 1) ss) =
-    ap (flat_map (located_misfits config)) (split_at ss i d lt) in
-    let these : located_misfits config s ≡ (s, key) ∷ map (λ k. (s, k)) more =
-    ap (map (λ k. (s, k))) is in (
-      map (λ k. (s, k)) more ++ flat_map (located_misfits config) (drop (i + 1) ss),
-      same ∙ whole ∙ ap (λ l. l ++ flat_map (located_misfits config) (drop (i + 1) ss)) these,
-    )
+    (map (λ k. (s, k)) more ++ flat_map (located_misfits config) (drop (i + 1) ss), grind arith)
 
 -- a table whose settings fit is passed over
 pub misfit_next : (config : Config) (ss : List Section) (i : ℕ) (d : Section) → i < length ss
     → None ≡ slice_get (section_misfits (get_or ss i d) config) 0
     → flat_map (located_misfits config) (drop (i + 1) ss)
     ≡ flat_map (located_misfits config) (drop i ss)
-misfit_next config ss i d lt h =
-    let s = get_or ss i d in
-    let none = none_first (section_misfits s config) h in
-    let whole : flat_map (located_misfits config) (drop i ss)
-    ≡ located_misfits config s ++ flat_map (located_misfits config) (drop (i + 1) ss) =
-    ap (flat_map (located_misfits config)) (split_at ss i d lt) in
-    let these : located_misfits config s ≡ [] = ap (map (λ k. (s, k))) none in
-    sym (whole ∙ ap (λ l. l ++ flat_map (located_misfits config) (drop (i + 1) ss)) these)
+misfit_next config ss i d lt h = grind (arith, none-some, split_at)
 
 -- one table more is written
 pub tables_next : (default config : Config) (ss : List Section) (i : ℕ) (d : Section)
@@ -64,11 +46,7 @@ pub tables_next : (default config : Config) (ss : List Section) (i : ℕ) (d : S
     → IsTablesText default config ss (all ++ more))
 tables_next default config ss i d before old new done table lt was now h rest = (
   done ++ table,
-  now ∙ ap (λ l. l ++ table) was ∙ append_assoc before done table,
-  λ more tables.
-      let here : IsTablesText default config (drop i ss) (table ++ more) =
-      subst (λ l. IsTablesText default config l (table ++ more)) (sym (split_at ss i d lt))
-      (table, more, refl, h, tables) in
-      subst (λ l. IsTablesText default config ss l) (sym (append_assoc done table more))
-      (rest (table ++ more) here),
+  grind (arith, append_assoc),
+  λ more tables. rw (append_assoc done table more) (rest (table ++ more)
+      (rw (split_at ss i d lt) (table, more, refl, h, tables))),
 )

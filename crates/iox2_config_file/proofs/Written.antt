@@ -1,9 +1,8 @@
 -- The settings of a table as they are written, and as they are read from that.
-use Rattle.std.proofs.Common.{◌≡◌, ℕ, ◌/◌, ◌%◌, ◌<◌, ◌≤◌, ◌^◌, pos, Bool, true, false, not, ◌&&◌, ◌||◌, List, [], ◌∷◌, ◌++◌, length, codes, map, Option, Some, None, Ok, refl, sym, ap, arith, append_assoc, subst}
+use Rattle.std.proofs.Common.{◌≡◌, ℕ, ◌/◌, ◌%◌, ◌<◌, ◌≤◌, ◌^◌, pos, Bool, true, false, not, ◌&&◌, ◌||◌, List, [], ◌∷◌, ◌++◌, length, codes, map, Option, Some, None, Ok, refl, sym, ap, arith, append_assoc, subst, rules}
 use Rattle.std.specs.Prelude.{nat_lt, ⊤}
 use Rattle.std.specs.List.{list_all}
 use Rattle.std.proofs.Math.Nat.{mod-lt}
-use Rattle.std.proofs.lemmas.Bool.{and_parts, false≢true}
 use Rattle.std.proofs.lemmas.Bool.Decides.{nat_tests}
 use Rattle.std.proofs.lemmas.Nat.{div-add-mod'}
 use Rattle.std.proofs.lemmas.List.Folds.{list_all-append}
@@ -91,57 +90,14 @@ parts_written : (n : ℕ) → n / 1_000_000_000 < 2 ^ 63 → n % 1_000_000_000 <
     (member (codes "secs") (integer (pos (n / 1_000_000_000))) no_members)))
     (value_text (duration n))
 unfolding key_text
-parts_written n fits less = (
-  _,
-  refl,
-  (_, _, refl, (refl, omega arith), (_, _, refl, (refl, omega arith), refl, refl), refl),
-)
+parts_written n fits less = grind arith
 
 -- what is written is read as the value
 pub keeps : (k : Kind) (v : SettingValue) → has_kind k v ≡ true → IsLegal k v
     → value_fits v ≡ true → Keeps k v (data_at v)
 unfolding string_text encoding_of escaped needs_escape quotes_after
-keeps kind.Number (number n) kinded legal fits =
-    let fit = small n fits in
-    record {
-      set = refl;
-      writes = (refl, omega arith);
-      shallow = omega arith;
-      valid = refl;
-      reads = refl;
-    }
-keeps kind.Flag (flag true) kinded legal fits =
-    record { set = refl; writes = refl; shallow = omega arith; valid = refl; reads = refl }
-keeps kind.Flag (flag false) kinded legal fits =
-    record { set = refl; writes = refl; shallow = omega arith; valid = refl; reads = refl }
-keeps kind.Path (text s) kinded legal fits =
-    let reads = legal_path s legal in
-    record { set = refl; writes = refl; shallow = omega arith; valid = refl; reads = rw reads refl }
-keeps kind.FileName (text s) kinded legal fits =
-    let reads = legal_name s legal in
-    record { set = refl; writes = refl; shallow = omega arith; valid = refl; reads = rw reads refl }
-keeps kind.Backpressure (backpressure RetryUntilDelivered) kinded legal fits =
-    record { set = refl; writes = refl; shallow = omega arith; valid = refl; reads = refl }
-keeps kind.Backpressure (backpressure DiscardData) kinded legal fits =
-    record { set = refl; writes = refl; shallow = omega arith; valid = refl; reads = refl }
-keeps kind.Allocation (allocation BestFit) kinded legal fits =
-    record { set = refl; writes = refl; shallow = omega arith; valid = refl; reads = refl }
-keeps kind.Allocation (allocation PowerOfTwo) kinded legal fits =
-    record { set = refl; writes = refl; shallow = omega arith; valid = refl; reads = refl }
-keeps kind.Allocation (allocation Static) kinded legal fits =
-    record { set = refl; writes = refl; shallow = omega arith; valid = refl; reads = refl }
-keeps kind.Duration (duration n) kinded legal fits =
-    let parts = div-add-mod' n 1_000_000_000 in
-    let less : n % 1_000_000_000 < 1_000_000_000 = mod-lt n (omega arith) in
-    record {
-      set = refl;
-      writes = parts_written n (small (n / 1_000_000_000) fits) less;
-      shallow = omega arith;
-      valid = refl;
-      reads = rw (below _ _ less, parts) refl;
-    }
-keeps k absent kinded legal fits = refl
-keeps k v kinded legal fits = absurd (false≢true kinded)
+keeps k v kinded legal fits =
+    grind (arith, nat_tests, legal_path, legal_name, div-add-mod', mod-lt, parts_written)
 
 -- a key that is written as it is
 abbrev pub is_bare_key : List ℕ → Bool
@@ -156,33 +112,24 @@ lines_append a b one other = rw (list_all-append is_non_eol a b, one, other) ref
 
 bare_line : (k : List ℕ) → list_all is_bare k ≡ true → is_line k ≡ true
 bare_line [] bare = refl
-bare_line (c ∷ cs) bare =
-    let (this, more) = and_parts (is_bare c) (list_all is_bare cs) bare in
-    let here : is_non_eol c ≡ true = grind (arith, nat_tests) in
-    rw (here, bare_line cs more) refl
+bare_line (c ∷ cs) bare = grind (arith, nat_tests, bare_line cs)
 
 pub block_is : (a b : List ℕ) (es : List Expression) → a ≡ b → Block b es → Block a es
 block_is a b es is block = subst (λ text. Block text es) (sym is) block
 
 unset_block : (key : List ℕ) → is_bare_key key ≡ true → Block (assignment key absent) []
 unset_block key bare =
-    let (_, bytes) = and_parts (nat_lt 0 (length key)) (list_all is_bare key) bare in
-    let line : is_line (32 ∷ (key ++ codes " is not set")) ≡ true =
-    lines_append key (codes " is not set") (bare_line key bytes) refl in
-    let layout : assignment key absent ≡ 35 ∷ ((32 ∷ (key ++ codes " is not set")) ++ 10 ∷ []) =
-    simp append_assoc refl in
-    block_is _ _ [] layout (block_comment (32 ∷ (key ++ codes " is not set")) line)
+    let text = 32 ∷ (key ++ codes " is not set") in
+    let line : is_line text ≡ true = grind (arith, bare_line, lines_append) in
+    block_is _ (35 ∷ (text ++ 10 ∷ [])) [] (simp append_assoc refl) (block_comment text line)
 
 -- what stands below the comment of a setting
 assignment_block : (key : List ℕ) (k : Kind) (v : SettingValue) (o : Option Data)
     → is_bare_key key ≡ true → Keeps k v o → Block (assignment key v) (lines_of ((key, o) ∷ []))
 assignment_block key k v None bare kept = rw kept (unset_block key bare)
 assignment_block key k v (Some d) bare kept =
-    let value_at = codes " = " ++ (value_text v ++ codes "\n") in
-    let layout : assignment key v ≡ key_text key ++ value_at =
-    rw kept.set (ap (λ k. k ++ value_at) (sym (bare_text key bare))) in
-    block_is _ _ (lines_of ((key, Some d) ∷ [])) layout
-    (block_pair key (value_text v) d kept.writes kept.shallow kept.valid)
+    let block = block_pair key (value_text v) d kept.writes kept.shallow kept.valid in
+    grind (arith, kept.set, bare_text)
 
 -- the comment of a setting, from its first space on
 abbrev comment : List ℕ → List ℕ → List ℕ
@@ -190,10 +137,7 @@ comment about default = 32 ∷ (about ++ (codes " By default " ++ (default ++ co
 
 comment_line : (about default : List ℕ) → is_line about ≡ true → is_line default ≡ true
     → is_line (comment about default) ≡ true
-comment_line about default one other =
-    lines_append about (codes " By default " ++ (default ++ codes ".")) one
-    (lines_append (codes " By default ") (default ++ codes ".") refl
-    (lines_append default (codes ".") other refl))
+comment_line about default one other = grind (arith, lines_append)
 
 entry_layout : (about default rest : List ℕ)
     → codes "\n# " ++ (about ++ (codes " By default " ++ (default ++ (codes ".\n" ++ rest))))
@@ -241,31 +185,18 @@ behind (x ∷ xs) = xs
 
 pub rest_written : (d x : Setting) (ds xs : List Setting) → AreWritten (d ∷ ds) (x ∷ xs)
     → AreWritten ds xs
-rest_written d x ds xs h =
-    record {
-      rows = ap behind h.rows;
-      lines = (and_parts _ _ h.lines).1;
-      bare = (and_parts _ _ h.bare).1;
-      kinded = (and_parts _ _ h.kinded).1;
-      fit = (and_parts _ _ h.fit).1;
-      legal = h.legal.1;
-    }
+rest_written d x ds xs h = search rules
 
 -- the settings of a table are read as their pairs
 pub entries_block : (rows : List Row) (ds xs : List Setting) (more : List (List ℕ × Kind))
     → map row_view rows ≡ rows_of xs ++ more → are_lines rows ≡ true → AreWritten ds xs
     → Block (entries_text rows ds xs) (lines_of (map pair_of xs))
-entries_block rows ds [] more same lines h = block_is _ [] [] (no_entries rows ds) block_none
+entries_block rows ds [] more same lines h = rw (no_entries rows ds) block_none
 entries_block rows [] (x ∷ xs) more same lines h = absurd (omega (arith, ap length h.rows))
 entries_block [] (d ∷ ds) (x ∷ xs) more same lines h = absurd (omega (arith, ap length same))
 entries_block (row ∷ rows) (d ∷ ds) (x ∷ xs) more same lines h =
-    let is : row_view row ≡ (x.key, x.kind) = ap (front (row_view row)) same in
+    let is : row_view row ≡ (x.key, x.kind) = cc in
     let here = entry_block row d.value x.key x.kind x.value (data_at x.value) (ap (λ r. r.0) is)
-    (and_parts _ _ lines).0 (and_parts _ _ h.lines).0 (and_parts _ _ h.bare).0
-    (keeps x.kind x.value (and_parts _ _ h.kinded).0 h.legal.0 (and_parts _ _ h.fit).0) in
-    let below = entries_block rows ds xs more (ap behind same) (and_parts _ _ lines).1
-    (rest_written d x ds xs h) in
-    let both = block_append (entry_text row d.value x.value) (entries_text rows ds xs)
-    (lines_of (pair_of x ∷ [])) (lines_of (map pair_of xs)) here below in
-    subst (λ es. Block (entries_text (row ∷ rows) (d ∷ ds) (x ∷ xs)) es)
-    (sym (more_lines x.key (data_at x.value) (map pair_of xs))) both
+    (grind arith) (grind arith) (grind arith) (grind (arith, keeps)) in
+    let below = entries_block rows ds xs more (cc) (grind arith) (rest_written d x ds xs h) in
+    rw more_lines (block_append _ _ _ _ here below)

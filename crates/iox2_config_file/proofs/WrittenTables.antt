@@ -1,19 +1,14 @@
 -- The tables of a configuration as they are written, and what a document holds after them.
-use Rattle.std.proofs.Common.{◌≡◌, ℕ, ◌<◌, ◌^◌, ◌/◌, ◌%◌, ◌&&◌, Bool, true, false, List, [], ◌∷◌, ◌++◌, length, codes, map, drop, Option, Some, None, option_map, option_and_then, refl, sym, ap, ◌∙◌, subst, arith, append_assoc}
+use Rattle.std.proofs.Common.{◌≡◌, ℕ, ◌<◌, ◌^◌, ◌&&◌, Bool, true, false, List, [], ◌∷◌, ◌++◌, length, codes, map, drop, Some, None, option_map, refl, ap, ◌∙◌, arith, append_assoc}
 use Rattle.std.specs.Prelude.{flat_map, if◌then◌else◌}
-use Rattle.std.specs.List.{list_all, filter_map, cons_option}
-use Rattle.std.specs.Duration.{as_nanos}
-use Rattle.std.specs.declared.time.Duration.{Duration}
+use Rattle.std.specs.List.{list_all, filter_map}
 use Rattle.toml_writer.specs.Text.{key_text, dotted_text, string_text, encoding_of, escaped, needs_escape, quotes_after}
-use Rattle.toml_parser.specs.Lexical.{is_word, is_non_eol}
+use Rattle.toml_parser.specs.Lexical.{is_word}
 use Rattle.toml_parser.specs.Strings.{Key}
 use Rattle.toml_writer.proofs.Scalars.{IsWord-pos}
 use Rattle.std.specs.Fmt.{decimal}
 use Rattle.std.proofs.Math.Nat.{mod-lt}
-use Rattle.std.proofs.lemmas.Bool.{and_parts, false≢true}
 use Rattle.std.proofs.lemmas.Bool.Decides.{nat_tests}
-use Rattle.iox2_config.specs.declared.config.choices.BackpressureStrategy.TheVariants.{DiscardData}
-use Rattle.iox2_config.specs.declared.config.choices.AllocationStrategy.TheVariants.{Static}
 use Rattle.toml.specs.Parse.{parse_document}
 use Rattle.toml.specs.Tables.{Nodes, no_nodes, open_table, implicit, header, get_node, insert, close, Document, Expression, std_table}
 use Rattle.toml.proofs.ReadLines.{run}
@@ -25,13 +20,12 @@ use Rattle.iox2_config_file.specs.declared.section.Section.TheVariants as sectio
 use Rattle.iox2_config_file.specs.Read.{sections}
 use Rattle.iox2_config_file.specs.ReadBack.{AreLegal}
 use Rattle.iox2_config_file.specs.Rows.{is_line}
-use Rattle.iox2_config_file.specs.Settings.{Setting, settings_in, tables_in, service_settings, node_settings}
-use Rattle.iox2_config_file.specs.Values.{SettingValue, option_value, number, flag, text, backpressure, allocation, duration, settings}
+use Rattle.iox2_config_file.specs.Settings.{Setting, settings_in}
+use Rattle.iox2_config_file.specs.Values.{SettingValue, text, settings}
 use Rattle.iox2_config_file.specs.Write.{value_text, value_fits, section_misfits, located_misfits, misfits, IsHeaderText, IsTableText, IsTablesText, IsConfigText}
-use Rattle.iox2_config_file.specs.declared.kind.Kind.TheVariants as kind
 use Rattle.iox2_config_file.proofs.Filling.{Pair, lines_of, keys_of, set_all, are_distinct, Focus, focus_root, focus_child, run_table, run_first}
 use Rattle.iox2_config_file.proofs.Reading.{Block, block_append, block_none, block_newline, block_comment, block_header, read_document}
-use Rattle.iox2_config_file.proofs.Written.{AreWritten, small, lines_append, has_kind, is_bare_key, rows_of, pair_of, entries_block, block_is}
+use Rattle.iox2_config_file.proofs.Written.{AreWritten, lines_append, rows_of, pair_of, entries_block}
 
 -- the header of a table, as the reader has it
 abbrev pub headers : Section → List Expression
@@ -65,25 +59,19 @@ named_block : (about name : List ℕ) (key : Key) → is_line about ≡ true →
     → Block (codes "\n# " ++ (about ++ (codes "\n[" ++ (name ++ codes "]\n"))))
     ((key, std_table) ∷ [])
 named_block about name key line is short =
-    let named : Block (91 ∷ (name ++ codes "]\n")) ((key, std_table) ∷ []) =
-    block_is _ (91 ∷ (dotted_text key ++ codes "]\n")) ((key, std_table) ∷ [])
-    (ap (λ n. 91 ∷ (n ++ codes "]\n")) is) (block_header key short) in
-    block_is _ _ ((key, std_table) ∷ []) (named_layout about name)
-    (block_append (10 ∷ []) _ [] ((key, std_table) ∷ []) block_newline
-    (block_append _ _ [] ((key, std_table) ∷ []) (block_comment (32 ∷ about) line) named))
+    rw (named_layout, is)
+    (block_append (10 ∷ []) _ [] _ block_newline
+    (block_append _ _ [] _ (block_comment (32 ∷ about) line) (block_header key short)))
 
 head_block : (head name : List ℕ) (key : Key) → name ≡ dotted_text key → length key.0 < 80
     → (about : List ℕ) × (is_line about ≡ true)
     × (head ≡ codes "\n# " ++ (about ++ (codes "\n[" ++ (name ++ codes "]\n"))))
     → Block head ((key, std_table) ∷ [])
-head_block head name key is short (about, line, whole) =
-    block_is head _ ((key, std_table) ∷ []) whole (named_block about name key line is short)
+head_block head name key is short (about, line, whole) = grind (arith, named_block)
 
 header_block : (s : Section) (head : List ℕ) → IsHeaderText s head → Block head (headers s)
 unfolding key_text
-header_block section.Root head h = block_is head [] [] h block_none
-header_block section.Defaults head h = block_is head [] [] h block_none
-header_block s head h = head_block head _ _ refl (omega arith) h
+header_block s head h = grind (arith, block_none, head_block)
 
 abbrev pub AllWritten : Config → Config → Type 0
 AllWritten default config =
@@ -93,23 +81,15 @@ table_block : (default config : Config) (s : Section) (table : List ℕ)
     → AreWritten (settings_in s default) (settings_in s config) → IsTableText default config s table
     → Block table (table_lines config s)
 table_block default config s table written (head, entries, whole, headed, listed) =
-    let (rows, same, lines, is) = listed in
-    let below = entries_block rows (settings_in s default) (settings_in s config)
-    (map (λ k. (k, kind.Table)) (tables_in s)) same lines written in
-    let below_head = block_is entries _ (lines_of (pairs_in s config)) is below in
-    block_is table (head ++ entries) (table_lines config s) whole
-    (block_append head entries (headers s) (lines_of (pairs_in s config))
-    (header_block s head headed) below_head)
+    grind (arith, entries_block, lines_of, block_append, header_block)
 
 tables_block : (default config : Config) (ss : List Section) (tables : List ℕ)
     → AllWritten default config → IsTablesText default config ss tables
     → Block tables (flat_map (table_lines config) ss)
-tables_block default config [] tables written h = block_is tables [] [] h block_none
+tables_block default config [] tables written h = rw h block_none
 tables_block default config (s ∷ ss) tables written (table, more, whole, this, rest) =
-    block_is tables (table ++ more) (flat_map (table_lines config) (s ∷ ss)) whole
-    (block_append table more (table_lines config s) (flat_map (table_lines config) ss)
-    (table_block default config s table (written s) this)
-    (tables_block default config ss more written rest))
+    let below = tables_block default config ss more written rest in
+    grind (arith, block_append, table_block)
 
 title : List ℕ
 title = codes " The settings of the middleware. A key that is left out has its default."
@@ -136,18 +116,11 @@ pub no_items : {X Y : Type 0} (f : X → Y) (xs : List X) → map f xs ≡ [] �
 no_items f [] h = refl
 no_items f (x ∷ xs) h = absurd (omega (arith, ap length h))
 
-fits_of : (b : Bool) (k : List ℕ) (keys : List (List ℕ))
-    → cons_option (if b then None else Some k) keys ≡ [] → (b ≡ true) × (keys ≡ [])
-fits_of true k keys h = (refl, h)
-fits_of false k keys h = absurd (omega (arith, ap length h))
-
 all_fit : (xs : List Setting)
     → filter_map (λ x. if value_fits x.value then None else Some x.key) xs ≡ []
     → list_all (λ x. value_fits x.value) xs ≡ true
 all_fit [] h = refl
-all_fit (x ∷ xs) h =
-    let (here, more) = fits_of (value_fits x.value) x.key _ h in
-    rw (here, all_fit xs more) refl
+all_fit (x ∷ xs) h = grind (arith, all_fit xs)
 
 abbrev NoneIn : Config → List Section → Type 0
 NoneIn config [] = Unit {0}
@@ -156,67 +129,26 @@ NoneIn config (s ∷ ss) = (section_misfits s config ≡ []) × NoneIn config ss
 none_in : (config : Config) (ss : List Section) → flat_map (located_misfits config) ss ≡ []
     → NoneIn config ss
 none_in config [] h = tt
-none_in config (s ∷ ss) h =
-    let (here, more) = none_of (located_misfits config s) (flat_map (located_misfits config) ss) h
-    in (no_items _ (section_misfits s config) here, none_in config ss more)
+none_in config (s ∷ ss) h = grind (arith, none_of, no_items, none_in config ss)
 
 none_at : (config : Config) → NoneIn config sections → (s : Section)
     → section_misfits s config ≡ []
-none_at config h section.Root = h.0
-none_at config h section.Global = h.1.0
-none_at config h section.Service = h.1.1.0
-none_at config h section.Node = h.1.1.1.0
-none_at config h section.Defaults = h.1.1.1.1.0
-none_at config h section.PublishSubscribe = h.1.1.1.1.1.0
-none_at config h section.Event = h.1.1.1.1.1.1.0
-none_at config h section.RequestResponse = h.1.1.1.1.1.1.1.0
-none_at config h section.Blackboard = h.1.1.1.1.1.1.1.1.0
+none_at config h s = grind (arith, none_in config sections)
 
 -- a configuration whose numbers TOML has
 fit_in : (config : Config) → misfits config ≡ [] → (s : Section)
     → list_all (λ x. value_fits x.value) (settings_in s config) ≡ true
 fit_in config h s = all_fit (settings_in s config) (none_at config (none_in config sections h) s)
 
--- each value is one of its kind
-optional_number : (n : Option ℕ) → has_kind kind.Number (option_value number n) ≡ true
-optional_number None = refl
-optional_number (Some n) = refl
-
-optional_duration : (d : Option Duration)
-    → has_kind kind.Duration (option_value (λ x. duration (as_nanos x)) d) ≡ true
-optional_duration None = refl
-optional_duration (Some d) = refl
-
-kinded_in : (config : Config) (s : Section)
-    → list_all (λ x. has_kind x.kind x.value) (settings_in s config) ≡ true
-kinded_in config section.Event =
-    let e = config.defaults.event in
-    rw (
-      optional_duration e.deadline,
-      optional_number e.notifier_created_event,
-      optional_number e.notifier_dropped_event,
-      optional_number e.notifier_dead_event,
-    ) refl
-kinded_in config s = refl
-
-bare_in : (config : Config) (s : Section)
-    → list_all (λ x. is_bare_key x.key) (settings_in s config) ≡ true
-bare_in config section.Root = refl
-bare_in config s = refl
-
 -- the rows of a table are those of every configuration
 pub rows_in_all : (one other : Config) (s : Section)
     → rows_of (settings_in s one) ≡ rows_of (settings_in s other)
-rows_in_all one other section.Root = refl
-rows_in_all one other s = refl
+rows_in_all one other s = grind arith
 
 -- a value is written in one line
 word_line : (bytes : List ℕ) → list_all is_word bytes ≡ true → is_line bytes ≡ true
 word_line [] all = refl
-word_line (c ∷ cs) all =
-    let (this, more) = and_parts (is_word c) (list_all is_word cs) all in
-    let here : is_non_eol c ≡ true = grind (arith, nat_tests) in
-    rw (here, word_line cs more) refl
+word_line (c ∷ cs) all = grind (arith, nat_tests, word_line cs)
 
 decimal_line : (n : ℕ) → n < 2 ^ 63 → is_line (decimal n) ≡ true
 decimal_line n fits = word_line (decimal n) (IsWord-pos n fits).all
@@ -228,20 +160,7 @@ is_text_line _ = true
 
 value_line : (v : SettingValue) → value_fits v ≡ true → is_text_line v ≡ true
     → is_line (value_text v) ≡ true
-value_line (number n) fits line = decimal_line n (small n fits)
-value_line (flag true) fits line = refl
-value_line (backpressure DiscardData) fits line = refl
-value_line (allocation Static) fits line = refl
-value_line (duration n) fits line =
-    let secs = decimal_line (n / 1_000_000_000) (small (n / 1_000_000_000) fits) in
-    let less : n % 1_000_000_000 < 1_000_000_000 = mod-lt n (omega arith) in
-    let nanos = decimal_line (n % 1_000_000_000) (omega arith) in
-    lines_append (codes "{ nanos = " ++ decimal (n % 1_000_000_000)) _
-    (lines_append (codes "{ nanos = ") (decimal (n % 1_000_000_000)) refl nanos)
-    (lines_append (codes ", secs = ") (decimal (n / 1_000_000_000) ++ codes " }") refl
-    (lines_append (decimal (n / 1_000_000_000)) (codes " }") secs refl))
-value_line settings fits line = absurd (false≢true line)
-value_line v fits line = line
+value_line v fits line = grind (arith, decimal_line, nat_tests, mod-lt, lines_append)
 
 -- settings that are all written in one line each
 abbrev AreShort : List Setting → Type 0
@@ -250,41 +169,23 @@ AreShort xs = list_all (λ x. value_fits x.value && is_text_line x.value) xs ≡
 short_lines : (xs : List Setting) → AreShort xs
     → list_all (λ x. is_line (value_text x.value)) xs ≡ true
 short_lines [] h = refl
-short_lines (x ∷ xs) h =
-    let (this, more) = and_parts (value_fits x.value && is_text_line x.value) _ h in
-    let (fits, line) = and_parts (value_fits x.value) (is_text_line x.value) this in
-    rw (value_line x.value fits line, short_lines xs more) refl
+short_lines (x ∷ xs) h = grind (arith, value_line, short_lines xs)
 
 short_in : (default : Config) → IsDefaultConfig default → (s : Section)
     → AreShort (settings_in s default)
 unfolding string_text encoding_of escaped needs_escape quotes_after
-short_in default h section.Global =
-    rw (h.global.root_path, h.global.prefix, h.global.creation_timeout) refl
-short_in default h section.Service =
-    subst (λ x. AreShort (service_settings x)) (sym h.global.service) refl
-short_in default h section.Node =
-    subst (λ x. AreShort (node_settings x)) (sym h.global.node) refl
-short_in default h s =
-    subst (λ x. AreShort (settings_in s (record default { defaults = x }))) (sym h.defaults) refl
+short_in default h s = grind arith
 
 -- all settings are written
 pub all_written : (default config : Config) → IsDefaultConfig default → misfits config ≡ []
     → ((s : Section) → AreLegal (settings_in s config)) → AllWritten default config
 all_written default config is fit legal s =
-    record {
-      rows = rows_in_all default config s;
-      lines = short_lines (settings_in s default) (short_in default is s);
-      bare = bare_in config s;
-      kinded = kinded_in config s;
-      fit = fit_in config fit s;
-      legal = legal s;
-    }
+    grind (arith, rows_in_all, short_lines, short_in, fit_in)
 
 -- no key of a table occurs twice
 pub distinct_in : (config : Config) (s : Section)
     → are_distinct (keys_of (pairs_in s config)) ≡ true
-distinct_in config section.Root = refl
-distinct_in config s = refl
+distinct_in config s = grind arith
 
 -- what the tables of the document hold
 abbrev pub table_nodes : Config → Section → Nodes
@@ -324,8 +225,7 @@ in_defaults c =
 
 run_then : (doc next : Document) (es fs : List Expression) → run doc es ≡ Some next
     → run doc (es ++ fs) ≡ run next fs
-run_then doc next es fs h =
-    run-append doc es fs ∙ ap (option_and_then (λ d. run d fs)) h
+run_then doc next es fs h = grind (arith, run-append, run)
 
 abbrev rest_of : Config → List Section → List Expression
 rest_of c ss = flat_map (table_lines c) ss
@@ -337,30 +237,21 @@ table_then : (c : Config) (s : Section) (n : ℕ) (path : List (List ℕ)) (hole
     ((((path, k), std_table) ∷ lines_of (pairs_in s c)) ++ rest_of c (drop n sections))
     ≡ run (hole (below k c s ns), path ++ k ∷ []) (rest_of c (drop n sections))
 table_then c s n path hole k ns old focus free =
-    run_then (hole ns, old) _ (((path, k), std_table) ∷ lines_of (pairs_in s c))
-    (rest_of c (drop n sections))
+    run_then _ _ (((path, k), std_table) ∷ lines_of (pairs_in s c)) (rest_of c (drop n sections))
     (run_table path hole k (pairs_in s c) ns old focus free (distinct_in c s))
 
 -- all lines of a configuration
 pub run_all : (c : Config) → run (no_nodes, []) (rest_of c sections)
     ≡ Some (root_nodes c, codes "defaults" ∷ codes "blackboard" ∷ [])
 run_all c =
-    let global = codes "global" ∷ [] in
-    let services = below (codes "service") c section.Service (table_nodes c section.Global) in
-    let defaults = codes "defaults" ∷ [] in
-    let one = below (codes "publish-subscribe") c section.PublishSubscribe no_nodes in
-    let two = below (codes "event") c section.Event one in
-    let three = below (codes "request-response") c section.RequestResponse two in
     table_then c section.Global 2 [] (λ x. x) (codes "global") no_nodes [] focus_root refl
-    ∙ table_then c section.Service 3 global at_global (codes "service") _ _ in_global refl
-    ∙ table_then c section.Node 4 global at_global (codes "node") services _ in_global refl
-    ∙ run_then (at_global (global_nodes c), codes "global" ∷ codes "node" ∷ []) _
-    (table_lines c section.PublishSubscribe) (rest_of c (drop 6 sections))
+    ∙ table_then c section.Service 3 _ at_global (codes "service") _ _ in_global refl
+    ∙ table_then c section.Node 4 _ at_global (codes "node") _ _ in_global refl
+    ∙ run_then _ _ (table_lines c section.PublishSubscribe) (rest_of c (drop 6 sections))
     (run_first (codes "defaults") (codes "publish-subscribe") (pairs_in section.PublishSubscribe c)
     (at_global (global_nodes c)) _ refl (distinct_in c section.PublishSubscribe))
-    ∙ table_then c section.Event 7 defaults (at_defaults c) (codes "event") one _ (in_defaults c)
-    refl
-    ∙ table_then c section.RequestResponse 8 defaults (at_defaults c) (codes "request-response")
-    two _ (in_defaults c) refl
-    ∙ table_then c section.Blackboard 9 defaults (at_defaults c) (codes "blackboard") three _
+    ∙ table_then c section.Event 7 _ (at_defaults c) (codes "event") _ _ (in_defaults c) refl
+    ∙ table_then c section.RequestResponse 8 _ (at_defaults c) (codes "request-response") _ _
     (in_defaults c) refl
+    ∙ table_then c section.Blackboard 9 _ (at_defaults c) (codes "blackboard") _ _ (in_defaults c)
+    refl

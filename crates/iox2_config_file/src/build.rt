@@ -14,54 +14,31 @@ use iox2_config::config::{
 };
 use toml::Table;
 
+/// The settings of a table, each read by its key, or else the default's, of which a text is copied.
+macro_rules! settings {
+    ($table:ident, $default:ident, $settings:ident {
+        $($field:ident: $key:literal $(, $copied:ident)?;)*
+    }) => {
+        $settings { $($field: read($table, $key, $default.$field$(.$copied())?)),* }
+    };
+}
+
 /// The settings of services' files.
 pub(crate) fn service(table: &Table, default: &Service) -> Service
     ensures { table_of.service_settings result
         ≡ map (read_setting (table_view table.now)) (table_of.service_settings default.now) }
 {
-    Service {
-        directory: read(table, "directory", default.directory.copied()),
-        data_segment_suffix: read(
-            table,
-            "data-segment-suffix",
-            default.data_segment_suffix.copied(),
-        ),
-        static_config_storage_suffix: read(
-            table,
-            "static-config-storage-suffix",
-            default.static_config_storage_suffix.copied(),
-        ),
-        dynamic_config_storage_suffix: read(
-            table,
-            "dynamic-config-storage-suffix",
-            default.dynamic_config_storage_suffix.copied(),
-        ),
-        connection_suffix: read(
-            table,
-            "connection-suffix",
-            default.connection_suffix.copied(),
-        ),
-        event_connection_suffix: read(
-            table,
-            "event-connection-suffix",
-            default.event_connection_suffix.copied(),
-        ),
-        blackboard_mgmt_suffix: read(
-            table,
-            "blackboard-mgmt-suffix",
-            default.blackboard_mgmt_suffix.copied(),
-        ),
-        blackboard_data_suffix: read(
-            table,
-            "blackboard-data-suffix",
-            default.blackboard_data_suffix.copied(),
-        ),
-        cleanup_dead_nodes_on_open: read(
-            table,
-            "cleanup-dead-nodes-on-open",
-            default.cleanup_dead_nodes_on_open,
-        ),
-    }
+    settings! {table, default, Service {
+        directory: "directory", copied;
+        data_segment_suffix: "data-segment-suffix", copied;
+        static_config_storage_suffix: "static-config-storage-suffix", copied;
+        dynamic_config_storage_suffix: "dynamic-config-storage-suffix", copied;
+        connection_suffix: "connection-suffix", copied;
+        event_connection_suffix: "event-connection-suffix", copied;
+        blackboard_mgmt_suffix: "blackboard-mgmt-suffix", copied;
+        blackboard_data_suffix: "blackboard-data-suffix", copied;
+        cleanup_dead_nodes_on_open: "cleanup-dead-nodes-on-open";
+    }}
 }
 
 /// The settings of nodes' files.
@@ -69,36 +46,16 @@ pub(crate) fn node(table: &Table, default: &Node) -> Node
     ensures { table_of.node_settings result
         ≡ map (read_setting (table_view table.now)) (table_of.node_settings default.now) }
 {
-    Node {
-        directory: read(table, "directory", default.directory.copied()),
-        monitor_suffix: read(table, "monitor-suffix", default.monitor_suffix.copied()),
-        static_config_suffix: read(
-            table,
-            "static-config-suffix",
-            default.static_config_suffix.copied(),
-        ),
-        service_tag_suffix: read(
-            table,
-            "service-tag-suffix",
-            default.service_tag_suffix.copied(),
-        ),
-        port_tag_suffix: read(table, "port-tag-suffix", default.port_tag_suffix.copied()),
-        global_mgmt_suffix: read(
-            table,
-            "global-mgmt-suffix",
-            default.global_mgmt_suffix.copied(),
-        ),
-        cleanup_dead_nodes_on_creation: read(
-            table,
-            "cleanup-dead-nodes-on-creation",
-            default.cleanup_dead_nodes_on_creation,
-        ),
-        cleanup_dead_nodes_on_destruction: read(
-            table,
-            "cleanup-dead-nodes-on-destruction",
-            default.cleanup_dead_nodes_on_destruction,
-        ),
-    }
+    settings! {table, default, Node {
+        directory: "directory", copied;
+        monitor_suffix: "monitor-suffix", copied;
+        static_config_suffix: "static-config-suffix", copied;
+        service_tag_suffix: "service-tag-suffix", copied;
+        port_tag_suffix: "port-tag-suffix", copied;
+        global_mgmt_suffix: "global-mgmt-suffix", copied;
+        cleanup_dead_nodes_on_creation: "cleanup-dead-nodes-on-creation";
+        cleanup_dead_nodes_on_destruction: "cleanup-dead-nodes-on-destruction";
+    }}
 }
 
 /// The settings of publish-subscribe services.
@@ -107,47 +64,19 @@ pub(crate) fn publish_subscribe(table: &Table, default: &PublishSubscribe) -> Pu
         ≡ map (read_setting (table_view table.now))
         (table_of.publish_subscribe_settings default.now) }
 {
-    PublishSubscribe {
-        max_subscribers: read(table, "max-subscribers", default.max_subscribers),
-        max_publishers: read(table, "max-publishers", default.max_publishers),
-        max_nodes: read(table, "max-nodes", default.max_nodes),
-        subscriber_max_buffer_size: read(
-            table,
-            "subscriber-max-buffer-size",
-            default.subscriber_max_buffer_size,
-        ),
-        subscriber_max_borrowed_samples: read(
-            table,
-            "subscriber-max-borrowed-samples",
-            default.subscriber_max_borrowed_samples,
-        ),
-        publisher_max_loaned_samples: read(
-            table,
-            "publisher-max-loaned-samples",
-            default.publisher_max_loaned_samples,
-        ),
-        publisher_history_size: read(
-            table,
-            "publisher-history-size",
-            default.publisher_history_size,
-        ),
-        enable_safe_overflow: read(table, "enable-safe-overflow", default.enable_safe_overflow),
-        backpressure_strategy: read(
-            table,
-            "backpressure-strategy",
-            default.backpressure_strategy,
-        ),
-        subscriber_expired_connection_buffer: read(
-            table,
-            "subscriber-expired-connection-buffer",
-            default.subscriber_expired_connection_buffer,
-        ),
-        publisher_allocation_strategy: read(
-            table,
-            "publisher-allocation-strategy",
-            default.publisher_allocation_strategy,
-        ),
-    }
+    settings! {table, default, PublishSubscribe {
+        max_subscribers: "max-subscribers";
+        max_publishers: "max-publishers";
+        max_nodes: "max-nodes";
+        subscriber_max_buffer_size: "subscriber-max-buffer-size";
+        subscriber_max_borrowed_samples: "subscriber-max-borrowed-samples";
+        publisher_max_loaned_samples: "publisher-max-loaned-samples";
+        publisher_history_size: "publisher-history-size";
+        enable_safe_overflow: "enable-safe-overflow";
+        backpressure_strategy: "backpressure-strategy";
+        subscriber_expired_connection_buffer: "subscriber-expired-connection-buffer";
+        publisher_allocation_strategy: "publisher-allocation-strategy";
+    }}
 }
 
 /// The settings of event services.
@@ -155,24 +84,16 @@ pub(crate) fn event(table: &Table, default: &Event) -> Event
     ensures { table_of.event_settings result
         ≡ map (read_setting (table_view table.now)) (table_of.event_settings default.now) }
 {
-    Event {
-        max_listeners: read(table, "max-listeners", default.max_listeners),
-        max_notifiers: read(table, "max-notifiers", default.max_notifiers),
-        max_nodes: read(table, "max-nodes", default.max_nodes),
-        event_id_max_value: read(table, "event-id-max-value", default.event_id_max_value),
-        deadline: read(table, "deadline", default.deadline),
-        notifier_created_event: read(
-            table,
-            "notifier-created-event",
-            default.notifier_created_event,
-        ),
-        notifier_dropped_event: read(
-            table,
-            "notifier-dropped-event",
-            default.notifier_dropped_event,
-        ),
-        notifier_dead_event: read(table, "notifier-dead-event", default.notifier_dead_event),
-    }
+    settings! {table, default, Event {
+        max_listeners: "max-listeners";
+        max_notifiers: "max-notifiers";
+        max_nodes: "max-nodes";
+        event_id_max_value: "event-id-max-value";
+        deadline: "deadline";
+        notifier_created_event: "notifier-created-event";
+        notifier_dropped_event: "notifier-dropped-event";
+        notifier_dead_event: "notifier-dead-event";
+    }}
 }
 
 /// The settings of request-response services.
@@ -181,77 +102,25 @@ pub(crate) fn request_response(table: &Table, default: &RequestResonse) -> Reque
         ≡ map (read_setting (table_view table.now))
         (table_of.request_response_settings default.now) }
 {
-    RequestResonse {
-        enable_safe_overflow_for_requests: read(
-            table,
-            "enable-safe-overflow-for-requests",
-            default.enable_safe_overflow_for_requests,
-        ),
-        enable_safe_overflow_for_responses: read(
-            table,
-            "enable-safe-overflow-for-responses",
-            default.enable_safe_overflow_for_responses,
-        ),
-        max_active_requests_per_client: read(
-            table,
-            "max-active-requests-per-client",
-            default.max_active_requests_per_client,
-        ),
-        max_response_buffer_size: read(
-            table,
-            "max-response-buffer-size",
-            default.max_response_buffer_size,
-        ),
-        max_servers: read(table, "max-servers", default.max_servers),
-        max_clients: read(table, "max-clients", default.max_clients),
-        max_nodes: read(table, "max-nodes", default.max_nodes),
-        max_borrowed_responses_per_pending_response: read(
-            table,
-            "max-borrowed-responses-per-pending-response",
-            default.max_borrowed_responses_per_pending_response,
-        ),
-        max_loaned_requests: read(table, "max-loaned-requests", default.max_loaned_requests),
-        server_max_loaned_responses_per_request: read(
-            table,
-            "server-max-loaned-responses-per-request",
-            default.server_max_loaned_responses_per_request,
-        ),
-        client_backpressure_strategy: read(
-            table,
-            "client-backpressure-strategy",
-            default.client_backpressure_strategy,
-        ),
-        server_backpressure_strategy: read(
-            table,
-            "server-backpressure-strategy",
-            default.server_backpressure_strategy,
-        ),
-        client_expired_connection_buffer: read(
-            table,
-            "client-expired-connection-buffer",
-            default.client_expired_connection_buffer,
-        ),
-        server_expired_connection_buffer: read(
-            table,
-            "server-expired-connection-buffer",
-            default.server_expired_connection_buffer,
-        ),
-        enable_fire_and_forget_requests: read(
-            table,
-            "enable-fire-and-forget-requests",
-            default.enable_fire_and_forget_requests,
-        ),
-        client_allocation_strategy: read(
-            table,
-            "client-allocation-strategy",
-            default.client_allocation_strategy,
-        ),
-        server_allocation_strategy: read(
-            table,
-            "server-allocation-strategy",
-            default.server_allocation_strategy,
-        ),
-    }
+    settings! {table, default, RequestResonse {
+        enable_safe_overflow_for_requests: "enable-safe-overflow-for-requests";
+        enable_safe_overflow_for_responses: "enable-safe-overflow-for-responses";
+        max_active_requests_per_client: "max-active-requests-per-client";
+        max_response_buffer_size: "max-response-buffer-size";
+        max_servers: "max-servers";
+        max_clients: "max-clients";
+        max_nodes: "max-nodes";
+        max_borrowed_responses_per_pending_response: "max-borrowed-responses-per-pending-response";
+        max_loaned_requests: "max-loaned-requests";
+        server_max_loaned_responses_per_request: "server-max-loaned-responses-per-request";
+        client_backpressure_strategy: "client-backpressure-strategy";
+        server_backpressure_strategy: "server-backpressure-strategy";
+        client_expired_connection_buffer: "client-expired-connection-buffer";
+        server_expired_connection_buffer: "server-expired-connection-buffer";
+        enable_fire_and_forget_requests: "enable-fire-and-forget-requests";
+        client_allocation_strategy: "client-allocation-strategy";
+        server_allocation_strategy: "server-allocation-strategy";
+    }}
 }
 
 /// The settings of blackboard services.
@@ -259,10 +128,10 @@ pub(crate) fn blackboard(table: &Table, default: &Blackboard) -> Blackboard
     ensures { table_of.blackboard_settings result
         ≡ map (read_setting (table_view table.now)) (table_of.blackboard_settings default.now) }
 {
-    Blackboard {
-        max_readers: read(table, "max-readers", default.max_readers),
-        max_nodes: read(table, "max-nodes", default.max_nodes),
-    }
+    settings! {table, default, Blackboard {
+        max_readers: "max-readers";
+        max_nodes: "max-nodes";
+    }}
 }
 
 /// The settings of a whole system.

@@ -43,17 +43,12 @@ fn fault_of(section: Section, table: &Table, row: &Row) -> Option<SettingFault>
     ensures { option_map fault_view result
         ≡ row_fault section (table_view table.now) (row_view row.now) }
 {
-    match get(table, row.key) {
-        Some(value) => match fault(row.kind, value) {
-            Some(fault) => Some(SettingFault {
-                section,
-                key: row.key,
-                fault,
-            }),
-            None => None,
-        },
-        None => None,
-    }
+    let value = get(table, row.key)?;
+    Some(SettingFault {
+        section,
+        key: row.key,
+        fault: fault(row.kind, value)?,
+    })
 }
 
 /// Adds the faults of a table's values.
@@ -68,12 +63,8 @@ fn add_faults(
         ++ filter_map (row_fault section (table_view table.now)) (map row_view rows.now)) }
 {
     for row in rows {
-        match fault_of(section, table, row) {
-            Some(fault) => match faults.push(fault) {
-                Ok(()) => {}
-                Err(_) => return Err(AllocError),
-            },
-            None => {}
+        if let Some(fault) = fault_of(section, table, row) {
+            faults.push(fault)?;
         }
     }
     Ok(())
@@ -112,10 +103,7 @@ fn add_sections(
         ++ flat_map (section_faults c (table_view file.now)) sections.now) }
 {
     for section in sections {
-        match add_section(faults, *section, file, empty) {
-            Ok(()) => {}
-            Err(e) => return Err(e),
-        }
+        add_section(faults, *section, file, empty)?;
     }
     Ok(())
 }
@@ -129,10 +117,8 @@ pub(crate) fn first_fault(
     requires { table_view empty.now ≡ no_members }
     ensures { IfOk result (λ first. FirstIs (table_view file.now) (option_map fault_view first)) }
 {
-    match file_faults(alloc, file, empty) {
-        Ok(faults) => Ok(faults.first().copied()),
-        Err(e) => Err(e),
-    }
+    let faults = file_faults(alloc, file, empty)?;
+    Ok(faults.first().copied())
 }
 
 /// The faults of all values of a file, in the order of the tables and of the keys in each.
@@ -147,8 +133,6 @@ pub(crate) fn file_faults(
         → map fault_view faults.items ≡ faults_in c (table_view file.now)) }
 {
     let mut faults = Vec::new(alloc);
-    match add_sections(&mut faults, &SECTIONS, file, empty) {
-        Ok(()) => Ok(faults),
-        Err(e) => Err(e),
-    }
+    add_sections(&mut faults, &SECTIONS, file, empty)?;
+    Ok(faults)
 }

@@ -23,10 +23,8 @@ pub fn what_is_written_is_read_back(
     ensures known { IfOk result (λ read. IfOk read (λ settings. settings.unknown.items ≡ [])) }
     ensures refused { IfOk result (λ read. IfErr read IsNoMemory) }
 {
-    match write_config(alloc, config) {
-        Ok(text) => Ok(read_config(alloc, text.as_str())),
-        Err(e) => Err(e),
-    }
+    let text = write_config(alloc, config)?;
+    Ok(read_config(alloc, text.as_str()))
 }
 
 /// What a setting holds, a key of a table, what its value may be and what it is, what is wrong with

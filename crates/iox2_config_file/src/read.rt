@@ -43,10 +43,7 @@ pub fn read_config_over(
     ensures ok { IfOk result (Reads default.now text.now) }
     ensures err { IfErr result (Refuses text.now) }
 {
-    let file = match parse(alloc, text) {
-        Ok(file) => file,
-        Err(e) => return Err(e),
-    };
+    let file = parse(alloc, text)?;
     let empty = Table::new(alloc);
     match first_fault(alloc, &file, &empty) {
         Ok(Some(fault)) => Err(ConfigFileError::Setting(fault)),
@@ -83,10 +80,7 @@ pub fn report_all(alloc: Global, text: &str) -> Result<Vec<SettingFault>, Config
     ensures ok { IfOk result (λ faults. ReportsAll text.now faults.items) }
     ensures err { IfErr result (IsUnparsed text.now) }
 {
-    let file = match parse(alloc, text) {
-        Ok(file) => file,
-        Err(e) => return Err(e),
-    };
+    let file = parse(alloc, text)?;
     let empty = Table::new(alloc);
     match file_faults(alloc, &file, &empty) {
         Ok(faults) => Ok(faults),

@@ -53,14 +53,10 @@ fn nearest(alloc: Global, key: &str, rows: &[Row]) -> Result<Option<&'static str
     let mut found = None;
     let mut limit = 3;
     for row in rows {
-        match distance(alloc, key, row.key) {
-            Ok(n) => {
-                if n < limit {
-                    found = Some(row.key);
-                    limit = n;
-                }
-            }
-            Err(e) => return Err(e),
+        let n = distance(alloc, key, row.key)?;
+        if n < limit {
+            found = Some(row.key);
+            limit = n;
         }
     }
     Ok(found)
@@ -80,17 +76,11 @@ fn unknown_of(
     if is_known(key, rows) {
         return Ok(None);
     }
-    match nearest(alloc, key, rows) {
-        Ok(meant) => match String::from_str(alloc, key) {
-            Ok(key) => Ok(Some(UnknownKey {
-                section,
-                key,
-                meant,
-            })),
-            Err(e) => Err(e),
-        },
-        Err(e) => Err(e),
-    }
+    Ok(Some(UnknownKey {
+        section,
+        meant: nearest(alloc, key, rows)?,
+        key: String::from_str(alloc, key)?,
+    }))
 }
 
 /// Adds the unknown keys of a table.
@@ -106,13 +96,8 @@ fn add_unknown(
         ++ unknown_among section (map row_view rows.now) (table_view table.now)) }
 {
     for (key, _) in table.iter() {
-        match unknown_of(alloc, section, key.as_str(), rows) {
-            Ok(Some(found)) => match unknown.push(found) {
-                Ok(()) => {}
-                Err(_) => return Err(AllocError),
-            },
-            Ok(None) => {}
-            Err(e) => return Err(e),
+        if let Some(found) = unknown_of(alloc, section, key.as_str(), rows)? {
+            unknown.push(found)?;
         }
     }
     Ok(())
@@ -149,10 +134,7 @@ fn add_sections(
         ++ flat_map (section_unknown c (table_view file.now)) sections.now) }
 {
     for section in sections {
-        match add_section(alloc, unknown, *section, file, empty) {
-            Ok(()) => {}
-            Err(e) => return Err(e),
-        }
+        add_section(alloc, unknown, *section, file, empty)?;
     }
     Ok(())
 }
@@ -169,8 +151,6 @@ pub(crate) fn unknown_keys(
         → map unknown_view unknown.items ≡ unknown_in c (table_view file.now)) }
 {
     let mut unknown = Vec::new(alloc);
-    match add_sections(alloc, &mut unknown, &SECTIONS, file, empty) {
-        Ok(()) => Ok(unknown),
-        Err(e) => Err(e),
-    }
+    add_sections(alloc, &mut unknown, &SECTIONS, file, empty)?;
+    Ok(unknown)
 }

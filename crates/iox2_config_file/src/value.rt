@@ -6,6 +6,7 @@ ghost use Rattle.toml.specs.Data.{get_member};
 ghost use Rattle.toml.specs.View.{view, table_view};
 ghost use Rattle.iox2_config_file.specs.Values.{type_in, value_in, value_or, duration_in, part_in, flag};
 ghost use Rattle.iox2_config_file.specs.Values as values;
+ghost use Rattle.iox2_config_file.specs.declared.kind.Kind.TheVariants as kind;
 ghost use Rattle.iox2_config_file.specs.Write.{value_view};
 
 use crate::kind::{Fault, Kind, TomlType};
@@ -38,11 +39,9 @@ pub(crate) trait FromToml {
 }
 
 impl FromToml for usize {
-    ghost use Rattle.iox2_config_file.specs.declared.kind.Kind.TheVariants.{Number};
-
     ghost value_of = { values.number };
 
-    ghost wanted = { Number };
+    ghost wanted = { kind.Number };
 
     fn from_toml(value: &Value) -> Result<usize, Fault> {
         match value {
@@ -57,11 +56,9 @@ impl FromToml for usize {
 }
 
 impl FromToml for bool {
-    ghost use Rattle.iox2_config_file.specs.declared.kind.Kind.TheVariants.{Flag};
-
     ghost value_of = { flag };
 
-    ghost wanted = { Flag };
+    ghost wanted = { kind.Flag };
 
     fn from_toml(value: &Value) -> Result<bool, Fault> {
         match value {
@@ -76,10 +73,7 @@ impl FromToml for bool {
 }
 
 impl FromToml for Path {
-    ghost use Rattle.iox2_config_file.specs.Values.{text};
-    ghost use Rattle.iox2_config_file.specs.declared.kind.Kind.TheVariants as kind;
-
-    ghost value_of = { text };
+    ghost value_of = { values.text };
 
     ghost wanted = { kind.Path };
 
@@ -96,10 +90,7 @@ impl FromToml for Path {
 }
 
 impl FromToml for FileName {
-    ghost use Rattle.iox2_config_file.specs.Values.{text};
-    ghost use Rattle.iox2_config_file.specs.declared.kind.Kind.TheVariants as kind;
-
-    ghost value_of = { text };
+    ghost value_of = { values.text };
 
     ghost wanted = { kind.FileName };
 
@@ -116,10 +107,7 @@ impl FromToml for FileName {
 }
 
 impl FromToml for BackpressureStrategy {
-    ghost use Rattle.iox2_config_file.specs.Values.{backpressure};
-    ghost use Rattle.iox2_config_file.specs.declared.kind.Kind.TheVariants as kind;
-
-    ghost value_of = { backpressure };
+    ghost value_of = { values.backpressure };
 
     ghost wanted = { kind.Backpressure };
 
@@ -140,10 +128,7 @@ impl FromToml for BackpressureStrategy {
 }
 
 impl FromToml for AllocationStrategy {
-    ghost use Rattle.iox2_config_file.specs.Values.{allocation};
-    ghost use Rattle.iox2_config_file.specs.declared.kind.Kind.TheVariants as kind;
-
-    ghost value_of = { allocation };
+    ghost value_of = { values.allocation };
 
     ghost wanted = { kind.Allocation };
 
@@ -165,10 +150,7 @@ impl FromToml for AllocationStrategy {
 }
 
 impl FromToml for Duration {
-    ghost use Rattle.iox2_config_file.specs.Values.{duration};
-    ghost use Rattle.iox2_config_file.specs.declared.kind.Kind.TheVariants as kind;
-
-    ghost value_of = { λ d. duration (as_nanos d) };
+    ghost value_of = { λ d. values.duration (as_nanos d) };
 
     ghost wanted = { kind.Duration };
 
@@ -218,25 +200,17 @@ fn number(value: &Value) -> Option<u64>
 fn part(parts: &Table, key: &str) -> Option<u64>
     ensures { result ≡ part_in (get_member key.now (table_view parts.now)) }
 {
-    match get(parts, key) {
-        Some(value) => number(value),
-        None => None,
-    }
+    number(get(parts, key)?)
 }
 
 /// A setting that may be absent.
 impl<T: FromToml> FromToml for Option<T> {
-    ghost use Rattle.iox2_config_file.specs.Values.{option_value};
-
-    ghost value_of = { option_value T.value_of };
+    ghost value_of = { values.option_value T.value_of };
 
     ghost wanted = { T.wanted };
 
     fn from_toml(value: &Value) -> Result<Option<T>, Fault> {
-        match T::from_toml(value) {
-            Ok(setting) => Ok(Some(setting)),
-            Err(fault) => Err(fault),
-        }
+        Ok(Some(T::from_toml(value)?))
     }
 
     fn to_value(&self) -> SettingValue<'_> {

@@ -217,46 +217,30 @@ fn read_system(given: &PlainConfig) -> Result<Global, Refusal>
     if !has_names(&given.texts) {
         return Err(Refusal::Cause(Status::NoFileName));
     }
-    match read_global(&given.global) {
-        Ok(timeout) => Ok(system_of(&given.texts, &given.global, timeout)),
-        Err(field) => Err(Refusal::Invalid(field)),
-    }
+    let timeout = read_global(&given.global)?;
+    Ok(system_of(&given.texts, &given.global, timeout))
 }
 
 /// The settings of services, or the first field that is not valid.
 fn read_defaults(given: &PlainConfig) -> Result<Defaults, Field>
     ensures { ReadsDefaults given.now result }
 {
-    let publish_subscribe = match read_publish_subscribe(&given.publish_subscribe) {
-        Ok(settings) => settings,
-        Err(field) => return Err(field),
-    };
-    let event = match read_event(&given.event) {
-        Ok(settings) => settings,
-        Err(field) => return Err(field),
-    };
-    match read_request_response(&given.request_response) {
-        Ok(request_response) => Ok(Defaults {
-            publish_subscribe,
-            event,
-            request_response,
-            blackboard: read_blackboard(&given.blackboard),
-        }),
-        Err(field) => Err(field),
-    }
+    Ok(Defaults {
+        publish_subscribe: read_publish_subscribe(&given.publish_subscribe)?,
+        event: read_event(&given.event)?,
+        request_response: read_request_response(&given.request_response)?,
+        blackboard: read_blackboard(&given.blackboard),
+    })
 }
 
 /// All settings, or what is not valid in them.
 fn read_given(given: &PlainConfig) -> Result<Config, Refusal>
     ensures { ReadsConfig given.now result }
 {
-    match read_system(given) {
-        Ok(global) => match read_defaults(given) {
-            Ok(defaults) => Ok(Config { global, defaults }),
-            Err(field) => Err(Refusal::Invalid(field)),
-        },
-        Err(refusal) => Err(refusal),
-    }
+    Ok(Config {
+        global: read_system(given)?,
+        defaults: read_defaults(given)?,
+    })
 }
 
 /// Writes the text of settings to the front of the buffer, where it fits.

@@ -246,16 +246,12 @@ pub fn read_blackboard(settings: &BlackboardSettings) -> Blackboard
 pub fn read_event(settings: &EventSettings) -> Result<Event, Field>
     ensures { ReadsEvent settings.now result }
 {
-    let deadline = match read_deadline(&settings.deadline) {
-        Ok(deadline) => deadline,
-        Err(field) => return Err(field),
-    };
     Ok(Event {
         max_listeners: settings.max_listeners,
         max_notifiers: settings.max_notifiers,
         max_nodes: settings.max_nodes,
         event_id_max_value: settings.event_id_max_value,
-        deadline,
+        deadline: read_deadline(&settings.deadline)?,
         notifier_created_event: read_event_id(&settings.notifier_created_event),
         notifier_dropped_event: read_event_id(&settings.notifier_dropped_event),
         notifier_dead_event: read_event_id(&settings.notifier_dead_event),
@@ -305,8 +301,5 @@ pub fn read_request_response(settings: &RequestResponseSettings) -> Result<Reque
 pub fn read_global(settings: &GlobalSettings) -> Result<Duration, Field>
     ensures { ReadsGlobal settings.now result }
 {
-    match read_duration(settings.creation_timeout) {
-        Some(timeout) => Ok(timeout),
-        None => Err(Field::CreationTimeout),
-    }
+    read_duration(settings.creation_timeout).ok_or(Field::CreationTimeout)
 }

@@ -141,28 +141,16 @@ pub(super) fn read_details(details: &Details<'_>) -> Result<MessageTypeDetails, 
 fn shape_part(part: &Part<'_>) -> Option<TypeDetail>
     ensures { ShapesPart part.now result }
 {
-    match TypeDetail::from_parts(TypeVariant::FixedSize, "", part.size, part.alignment) {
-        Ok(detail) => Some(detail),
-        Err(_) => None,
-    }
+    TypeDetail::from_parts(TypeVariant::FixedSize, "", part.size, part.alignment).ok()
 }
 
 /// The sizes and alignments of all parts, where the alignments are powers of two.
 pub(super) fn shape_details(details: &Details<'_>) -> Option<MessageTypeDetails>
     ensures { ShapesDetails details.now result }
 {
-    let Some(header) = shape_part(&details.header) else {
-        return None;
-    };
-    let Some(user_header) = shape_part(&details.user_header) else {
-        return None;
-    };
-    let Some(payload) = shape_part(&details.payload) else {
-        return None;
-    };
     Some(MessageTypeDetails {
-        header,
-        user_header,
-        payload,
+        header: shape_part(&details.header)?,
+        user_header: shape_part(&details.user_header)?,
+        payload: shape_part(&details.payload)?,
     })
 }

@@ -69,26 +69,16 @@ fn places_answer(made: Result<Places, Status>) -> PlacesAnswer
 fn lay_out(details: &Details<'_>, elements: usize) -> Result<SampleLayout, Status>
     ensures { LaysOut details.now elements result }
 {
-    let Some(details) = shape_details(details) else {
-        return Err(Status::BadAlignment);
-    };
-    match details.sample_layout(elements) {
-        Some(room) => Ok(room),
-        None => Err(Status::TooLarge),
-    }
+    let details = shape_details(details).ok_or(Status::BadAlignment)?;
+    details.sample_layout(elements).ok_or(Status::TooLarge)
 }
 
 /// The offsets of user header and payload behind a header at this offset.
 fn places_of(details: &Details<'_>, header: usize) -> Result<Places, Status>
     ensures { PlacesOf details.now header result }
 {
-    let Some(details) = shape_details(details) else {
-        return Err(Status::BadAlignment);
-    };
-    match details.places(header) {
-        Some(places) => Ok(places),
-        None => Err(Status::TooLarge),
-    }
+    let details = shape_details(details).ok_or(Status::BadAlignment)?;
+    details.places(header).ok_or(Status::TooLarge)
 }
 
 /// The layout of a message whose payload has so many elements. Only sizes and alignments are

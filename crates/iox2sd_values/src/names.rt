@@ -103,10 +103,7 @@ fn hash_of(pattern: u32, name: &[u8]) -> Result<ServiceHash, Status>
     let Some(kind) = PatternKind::of_number(pattern) else {
         return Err(Status::UnknownPattern);
     };
-    match service_name(name) {
-        Ok(name) => hash_text(kind, &name),
-        Err(status) => Err(status),
-    }
+    hash_text(kind, &service_name(name)?)
 }
 
 /// The hash text of a pattern's number and any name.
@@ -116,10 +113,7 @@ fn internal_hash_of(pattern: u32, name: &[u8]) -> Result<ServiceHash, Status>
     let Some(kind) = PatternKind::of_number(pattern) else {
         return Err(Status::UnknownPattern);
     };
-    match internal_service_name(name) {
-        Ok(name) => hash_text(kind, &name),
-        Err(status) => Err(status),
-    }
+    hash_text(kind, &internal_service_name(name)?)
 }
 
 /// Writes the hash text of a service's pattern and name, by SHA-1: 27 bytes.

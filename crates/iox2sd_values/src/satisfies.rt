@@ -116,10 +116,8 @@ fn settings_of(config: &EventConfig) -> EventSettings
 fn read_event_config(config: &EventConfig) -> Result<event::StaticConfig, Field>
     ensures { ReadsFixed config.now result }
 {
-    match read_event(&settings_of(config)) {
-        Ok(settings) => Ok(event::StaticConfig::with_settings(&settings)),
-        Err(field) => Err(field),
-    }
+    let settings = read_event(&settings_of(config))?;
+    Ok(event::StaticConfig::with_settings(&settings))
 }
 
 /// The answer on what is fixed of an event service, and on what an opener requires.

@@ -10,7 +10,8 @@ loop-index-preserved c =
     setting_next c.args.section rows _ _ _ c.loop-index.index _ _ _ _ _ _ done
     (c.rows-rows.ensures.keys c.args.config.now)
     (slice_get-get_or rows c.loop-index.index _ c.loop-index-test.true)
-    (sym c.in-Some-value_at.ensures) (sym c.in-Some.ensures) c.in-Ok.ensures was follows
+    (sym c.in-Some-value_at.ensures) (sym c.in-Some.ensures) c.in_ok-write_setting.ensures
+    was follows
 
 pub returns-in_default : goal.returns-in_default
 returns-in_default c =

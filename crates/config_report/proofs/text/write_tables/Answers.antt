@@ -4,7 +4,7 @@ use Rattle.config_report.proofs.text.write_tables.Goals as goal
 pub loop-section-preserved : goal.loop-section-preserved
 loop-section-preserved c =
     let (done, was, rest) = c.loop-section.invariant in
-    let (table, now, is) = c.in-Ok.ensures in
+    let (table, now, is) = c.in_ok-write_table.ensures in
     table_next c.args.default.now c.args.config.now c.args.sections.now
     c.loop-section.section-index _ _ _ _ done table c.loop-section-test.true was now is rest
 

@@ -3,14 +3,16 @@ use Rattle.iox2_config_file.specs.ReadBack.{ReadsBack}
 use Rattle.iox2_config_file.proofs.ReadBack.{none_is_unknown, only_memory}
 use Rattle.iox2_config_file.proofs.laws.what_is_written_is_read_back.Goals as goal
 
-pub returns-in-Ok-clause-known : goal.returns-in-Ok-clause-known
-returns-in-Ok-clause-known c =
+pub returns-clause-known : goal.returns-clause-known
+returns-clause-known c =
     none_is_unknown c.args.config.now c.as_str.result.now c.read_config.result
-    (subst (ReadsBack c.args.config.now) (sym c.as_str.ensures.value) c.in-Ok.ensures.reads_back)
+    (subst (ReadsBack c.args.config.now) (sym c.as_str.ensures.value)
+    c.in_ok-text.ensures.reads_back)
     c.read_config.ensures.ok
 
-pub returns-in-Ok-clause-refused : goal.returns-in-Ok-clause-refused
-returns-in-Ok-clause-refused c =
+pub returns-clause-refused : goal.returns-clause-refused
+returns-clause-refused c =
     only_memory c.args.config.now c.as_str.result.now c.read_config.result
-    (subst (ReadsBack c.args.config.now) (sym c.as_str.ensures.value) c.in-Ok.ensures.reads_back)
+    (subst (ReadsBack c.args.config.now) (sym c.as_str.ensures.value)
+    c.in_ok-text.ensures.reads_back)
     c.read_config.ensures.err

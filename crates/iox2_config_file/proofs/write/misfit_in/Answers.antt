@@ -1,4 +1,4 @@
-use Rattle.std.proofs.Common.{◌≡◌, ◌∙◌, true, false, slice_get, sym, ap}
+use Rattle.std.proofs.Common.{◌≡◌, ◌∙◌, true, sym, arith}
 use Rattle.std.proofs.lemmas.Option.{slice_get-get_or}
 use Rattle.iox2_config_file.specs.Settings.{settings_in}
 use Rattle.iox2_config_file.specs.Write.{value_view, value_fits}
@@ -8,11 +8,8 @@ use Rattle.iox2_config_file.proofs.write.misfit_in.Goals.{in-Some+else-not-fits,
 
 pub returns-then-not-fits : goal.returns-then-not-fits
 returns-then-not-fits c =
-    let fits : value_fits (value_view c.in-Some.value) ≡ false = cc in
-    misfits_here _ _ _ c.loop-index.index _ _ (c.rows-rows.ensures.keys c.args.config.now)
-    (sym c.in-Some.ensures) fits
-    (slice_get-get_or c.rows-rows.result.now c.loop-index.index _ c.loop-index-test.true)
-    ∙ ap (λ l. slice_get l 0) c.loop-index.invariant
+    let row = slice_get-get_or c.rows-rows.result.now c.loop-index.index in
+    grind (arith, misfits_here)
 
 pub loop-index-preserved : goal.loop-index-preserved
 loop-index-preserved c =
@@ -26,8 +23,4 @@ loop-index-preserved c =
     ]
 
 pub returns : goal.returns
-returns c =
-    let xs = settings_in c.args.section c.args.config.now in
-    sym (ap (λ l. slice_get l 0) (sym c.loop-index.invariant
-    ∙ misfits_end _ xs _ c.loop-index.index (c.rows-rows.ensures.keys c.args.config.now)
-    c.loop-index-test.false))
+returns c = grind (arith, misfits_end)
