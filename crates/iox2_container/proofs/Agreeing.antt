@@ -1,15 +1,8 @@
 -- Replies that agree, by any `==` of their details.
-use Rattle.std.proofs.Common.{◌≡◌, ◌↔◌, Bool, List, [], ◌∷◌, length, sym, ◌∙◌, IsTrue, count_by}
-use Rattle.std.specs.List.{list_all, AllZip}
-use Rattle.std.specs.List.Sorted.{IsPermutation}
-use Rattle.std.proofs.Math.Dec.{eqb}
-use Rattle.std.proofs.lemmas.Bool.{eqb-true, eq-eqb}
+use Rattle.iox2_container.proofs.Prelude.{[], ◌↔◌, ◌∙◌, ◌∷◌, ◌≡◌, AllZip, Bool, IsPermutation, IsTrue, List, count_by, eq-eqb, eqb, eqb-true, length, length_permutation, list_all, sum_by-IsPermutation, sym}
+use Rattle.iox2_container.specs.Prelude.{AgreesBy, EquallyMany, RegistryReply, SameKind, SameReply}
 use Rattle.std.proofs.lemmas.List.Sums.{AllPass-from_list_all, list_all-from_AllPass}
-use Rattle.std.proofs.lemmas.List.Sorted.{length_permutation, sum_by-IsPermutation}
-use Rattle.iox2_container.specs.declared.container.comparison.calls.RegistryReply.{RegistryReply}
 use Rattle.iox2_container.specs.declared.container.comparison.calls.RegistryReply.TheVariants as Reply
-use Rattle.iox2_container.specs.Agreement.{EquallyMany, AgreesBy}
-use Rattle.iox2_container.specs.Calls.{SameReply, SameKind}
 
 -- the test of each item in turn decides it, where the lists are equally long
 pub tells_equally_many : {T : Type 0} (eq : T → T → Bool) (ones others : List T) (all : Bool)
@@ -46,7 +39,6 @@ same_agree eq one other same = same
 pub same_kind_agrees : {T : Type 0} (eq : T → T → Bool) (ones others : List (RegistryReply T))
     → SameKind ones others → AllZip (AgreesBy eq) ones others
 same_kind_agrees eq [] [] same = tt
-same_kind_agrees eq [] (other ∷ others) same = same
-same_kind_agrees eq (one ∷ ones) [] same = same
 same_kind_agrees eq (one ∷ ones) (other ∷ others) same =
     (same_agree eq one other same.0, same_kind_agrees eq ones others same.1)
+same_kind_agrees eq ones others same = same

@@ -1,26 +1,15 @@
 -- Callbacks that are asked in turn.
-use Rattle.std.proofs.Common.{◌≡◌, ℕ, zero, suc, ◌+◌, Option, Some, None, List, [], ◌∷◌, ◌++◌, take, map, refl, sym, ◌∙◌, ap, subst, arith, inl, inr}
-use Rattle.std.specs.Prelude.{slice_get}
-use Rattle.iox2_texts.specs.declared.bounded.callback_progression.CallbackProgression.{CallbackProgression}
-use Rattle.iox2_texts.specs.declared.bounded.callback_progression.CallbackProgression.TheVariants.{Continue, Stop}
-use Rattle.iox2_container.specs.declared.container.slots.cell.Occupant.{Occupant}
-use Rattle.iox2_container.specs.Cells.{occupant}
-use Rattle.iox2_container.specs.State.{Entry}
-use Rattle.iox2_container.specs.Places.{entries_from}
-use Rattle.std.proofs.lemmas.List.{append-nil, append_assoc, map-append}
-use Rattle.iox2_texts.specs.Attribute.{Visits}
-use Rattle.iox2_container.specs.Passes.{AskedOfCell}
-use Rattle.iox2_container.specs.Steps.{Asked, Visit}
+use Rattle.iox2_container.proofs.Prelude.{[], ◌++◌, ◌+◌, ◌∙◌, ◌∷◌, ◌≡◌, List, None, Option, Some, ℕ, ap, append-nil, append_assoc, arith, inl, inr, map, map-append, refl, slice_get, suc, sym, take, zero}
+use Rattle.iox2_container.specs.Prelude.{Asked, AskedOfCell, CallbackProgression, Continue, Entry, Occupant, Stop, Visit, Visits, entries_from, occupant}
 use Rattle.iox2_container.proofs.CellEntries.{same_entry}
 
 pub Asked-push : {F A R : Type 0} (calls : F → A → R → F → Type 0) (f : F) (items : List A)
     (answers : List R) (g : F) (item : A) (answer : R) (h : F) → Asked calls f items answers g
     → calls g item answer h → Asked calls f (items ++ item ∷ []) (answers ++ answer ∷ []) h
 Asked-push calls f [] [] g item answer h a c = (h, rw a at c, refl)
-Asked-push calls f [] (r ∷ rs) g item answer h a c = absurd a
-Asked-push calls f (x ∷ xs) [] g item answer h a c = absurd a
 Asked-push calls f (x ∷ xs) (r ∷ rs) g item answer h a c =
     (a.0, a.1, Asked-push calls a.0 xs rs g item answer h a.2 c)
+Asked-push calls f items answers g item answer h a c = absurd a
 
 -- the details in the first cells, and those after them
 pub entries_split : {T : Type 0} (low i : ℕ) (cells : List (Option (Occupant T)))
@@ -28,10 +17,8 @@ pub entries_split : {T : Type 0} (low i : ℕ) (cells : List (Option (Occupant T
 entries_split low zero cells = (entries_from low cells, refl)
 entries_split low (suc i) [] = ([], refl)
 entries_split low (suc i) (None ∷ cells) = entries_split (low + 1) i cells
-entries_split {T} low (suc i) (Some o ∷ cells) =
-    let x : Entry T = record { slot = low; ticket = o.ticket; details = o.details } in
-    let r = entries_split (low + 1) i cells in
-    (r.0, ap (λ (l : List (Entry T)). x ∷ l) r.1)
+entries_split low (suc i) (Some o ∷ cells) =
+    let r = entries_split (low + 1) i cells in (r.0, rw r.1 refl)
 
 abbrev pub details_of : {T : Type 0} → List (Entry T) → List T
 details_of es = map (λ e. e.details) es
@@ -45,9 +32,8 @@ taken_more low zero (None ∷ cells) x h s = (cc)
 taken_more {T} low zero (Some o ∷ cells) x h s =
     ap (λ (y : Entry T). y ∷ []) (same_entry low o x (omega arith) h)
 taken_more low (suc i) (None ∷ cells) x h s = taken_more (low + 1) i cells x h (omega arith)
-taken_more {T} low (suc i) (Some o ∷ cells) x h s =
-    let y : Entry T = record { slot = low; ticket = o.ticket; details = o.details } in
-    ap (λ (l : List (Entry T)). y ∷ l) (taken_more (low + 1) i cells x h (omega arith))
+taken_more low (suc i) (Some o ∷ cells) x h s =
+    rw (taken_more (low + 1) i cells x h (omega arith)) refl
 
 pub taken_free : {T : Type 0} (low i : ℕ) (cells : List (Option (Occupant T)))
     → slice_get cells i ≡ Some None
@@ -56,9 +42,7 @@ taken_free low i [] h = (cc)
 taken_free low zero (None ∷ cells) h = refl
 taken_free low zero (Some o ∷ cells) h = (cc)
 taken_free low (suc i) (None ∷ cells) h = taken_free (low + 1) i cells h
-taken_free {T} low (suc i) (Some o ∷ cells) h =
-    let y : Entry T = record { slot = low; ticket = o.ticket; details = o.details } in
-    ap (λ (l : List (Entry T)). y ∷ l) (taken_free (low + 1) i cells h)
+taken_free low (suc i) (Some o ∷ cells) h = rw (taken_free (low + 1) i cells h) refl
 
 -- so far each answer was `Continue`
 abbrev pub GoesOn : {F T : Type 0} → (F → T → CallbackProgression → F → Type 0) → F → List T → F
@@ -89,9 +73,8 @@ pub goes_on : {F T : Type 0} (calls : F → T → CallbackProgression → F → 
 goes_on calls f g h cells i None answer is a c w = rw a.1 (rw (taken_free 0 i cells is) w)
 goes_on {F} {T} calls f g h cells i (Some o) answer is a c w =
     let seen : List T = details_of (entries_from 0 (take i cells)) in
-    rw (details_more i cells o.ticket o.details is)
-    (rw (map-append (λ _. Continue) seen (o.details ∷ []))
-    (Asked-push calls f seen (map (λ _. Continue) seen) g o.details Continue h w (rw c at a)))
+    rw (details_more i cells o.ticket o.details is, map-append (λ _. Continue) seen)
+    (Asked-push calls f seen (map (λ _. Continue) seen) g o.details Continue h w (rw c at a))
 
 pub stops : {F T : Type 0} (calls : F → T → CallbackProgression → F → Type 0) (f g h : F)
     (cells : List (Option (Occupant T))) (i : ℕ) (cell : Option (Occupant T))
@@ -104,23 +87,15 @@ stops {F} {T} calls f g h cells i None answer is a c w =
 stops {F} {T} calls f g h cells i (Some o) answer is a c w =
     let split = entries_split 0 (suc i) cells in
     let seen : List T = details_of (entries_from 0 (take i cells)) in
-    let rest : List T = details_of split.0 in
-    let all_are : details_of (entries_from 0 cells) ≡ seen ++ o.details ∷ rest =
-    ap details_of split.1
-    ∙ (map-append (λ e. e.details) (entries_from 0 (take (suc i) cells)) split.0
-    ∙ (ap (λ (l : List T). l ++ rest) (details_more i cells o.ticket o.details is)
-    ∙ append_assoc seen (o.details ∷ []) rest)) in
     record {
-      visits = rw all_are
-          (visits_rest calls f seen g (o.details ∷ rest) h w (inl (rw c at a)));
+      visits = rw (split.1, map-append, details_more i cells o.ticket o.details is, append_assoc)
+          (visits_rest calls f seen g (o.details ∷ details_of split.0) h w (inl (rw c at a)));
     }
 
 pub ends : {F T : Type 0} (calls : F → T → CallbackProgression → F → Type 0) (f g : F)
     (items : List T) → GoesOn calls f items g → Visit calls f items g
-ends {F} {T} calls f g items w = record {
-  visits = subst (λ (l : List T). Visits calls f l g) (append-nil items)
-      (visits_rest calls f items g [] g w refl);
-}
+ends calls f g items w =
+    record { visits = rw append-nil at (visits_rest calls f items g [] g w refl) }
 
 pub not_stop : (a : CallbackProgression) → (a ≡ Stop → ⊥) → a ≡ Continue
 not_stop Continue h = refl

@@ -1,14 +1,10 @@
 -- Callbacks that may be asked about items in turn.
-use Rattle.std.proofs.Common.{List, [], ◌∷◌, ◌++◌, map, refl, sym, subst}
-use Rattle.std.specs.Fn.{Mut, Called, CalledAt, Takes, TakesAt}
+use Rattle.iox2_container.proofs.Prelude.{[], ◌++◌, ◌∷◌, Called, CalledAt, List, Mut, Takes, TakesAt, map, refl}
+use Rattle.iox2_container.specs.Prelude.{Asked, CallbackProgression, CanBeAsked, CanVisit, Continue, MayAsk, MayVisit, Visit}
 use denote.Ref.{Bor}
 use denote.Param.Always.{always_mut, mut_next}
-use Rattle.iox2_texts.specs.declared.bounded.callback_progression.CallbackProgression.{CallbackProgression}
-use Rattle.iox2_texts.specs.declared.bounded.callback_progression.CallbackProgression.TheVariants.{Continue}
 use Rattle.iox2_texts.proofs.Callable.{takes_always, next_always, always_after_visits}
 pub use Rattle.iox2_texts.proofs.Callable.{CanVisit-by, CanVisit-from_always, CanVisit-from_total}
-use Rattle.iox2_container.specs.Steps.{Asked, Visit}
-use Rattle.iox2_container.specs.Callbacks.{MayAsk, CanBeAsked, MayVisit, CanVisit}
 
 -- what each state takes, and what each call leaves it in, gives it for any items
 module _ {F A R : Type 0} (takes : F → A → Type 0) (calls : F → A → R → F → Type 0)
@@ -30,11 +26,10 @@ pub Asked-keeps : {F A R : Type 0} (calls : F → A → R → F → Type 0)
     → calls f x r h → I h xs rs)
     → (f : F) (items : List A) (answers : List R) (h : F) → I f items answers
     → Asked calls f items answers h → I h [] []
-Asked-keeps calls I keeps f [] [] h i a = subst (λ g. I g [] []) (sym a) i
-Asked-keeps calls I keeps f [] (r ∷ rs) h i a = absurd a
-Asked-keeps calls I keeps f (x ∷ xs) [] h i a = absurd a
+Asked-keeps calls I keeps f [] [] h i a = rw a i
 Asked-keeps calls I keeps f (x ∷ xs) (r ∷ rs) h i a =
     Asked-keeps calls I keeps a.0 xs rs h (keeps f x xs r rs a.0 i a.1) a.2
+Asked-keeps calls I keeps f items answers h i a = absurd a
 
 -- a callback that may always be called may be asked
 -- about any items, and always be called afterwards

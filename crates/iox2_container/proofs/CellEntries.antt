@@ -1,15 +1,6 @@
 -- The entries that stand in cells.
-use Rattle.std.proofs.Common.{◌≡◌, ◌≢◌, ℕ, zero, suc, ◌+◌, ◌<◌, ◌≤◌, Option, Some, None, List, [], ◌∷◌, length, take, refl, sym, ◌∙◌, ap, subst, arith}
-use Rattle.std.specs.Prelude.{All, AllPairs, slice_get, slice_set, replicate}
-use Rattle.std.proofs.lemmas.List.{set-get_or, set-set}
-use Rattle.std.proofs.lemmas.List.Elements.{All-nil, All-cons, All-weaker}
-use Rattle.std.proofs.lemmas.List.Kept.{AllPairs-cons}
-use Rattle.std.proofs.lemmas.Option.{get_or_from_slice_get, slice_get_within}
-use Rattle.iox2_container.specs.declared.container.slots.cell.Occupant.{Occupant}
-use Rattle.iox2_container.specs.Cells.{occupant}
-use Rattle.iox2_container.specs.State.{Entry}
-use Rattle.iox2_container.specs.Steps.{InsertsOne}
-use Rattle.iox2_container.specs.Places.{NoneFrom, entries_from}
+use Rattle.iox2_container.proofs.Prelude.{[], ◌+◌, ◌<◌, ◌∙◌, ◌∷◌, ◌≡◌, ◌≢◌, ◌≤◌, All, All-cons, All-nil, All-weaker, AllPairs, AllPairs-cons, List, None, Option, Some, ℕ, ap, arith, get_or_from_slice_get, length, refl, replicate, set-get_or, set-set, slice_get, slice_get_within, slice_set, suc, sym, take, zero}
+use Rattle.iox2_container.specs.Prelude.{Entry, InsertsOne, NoneFrom, Occupant, entries_from, occupant}
 use Rattle.iox2_container.proofs.ListEdits.{get_set_same}
 
 -- the entry is that of a cell
@@ -19,25 +10,22 @@ pub record HasEntry {T : Type 0} (low : ℕ) (cells : List (Option (Occupant T))
   pub slot_is : e.slot ≡ low + at
   pub cell_is : slice_get cells at ≡ Some (Some (occupant e.ticket e.details))
 
-stands_later : {T : Type 0} (low : ℕ) (c : Option (Occupant T)) (cells : List (Option (Occupant T)))
-    (e : Entry T) → HasEntry (low + 1) cells e → HasEntry low (c ∷ cells) e
-stands_later low c cells e s =
-    record { at = suc s.at; slot_is = omega (arith, s.slot_is); cell_is = s.cell_is }
+stand_later : {T : Type 0} (low : ℕ) (c : Option (Occupant T)) (cells : List (Option (Occupant T)))
+    (es : List (Entry T)) → All (HasEntry (low + 1) cells) es → All (HasEntry low (c ∷ cells)) es
+stand_later low c cells =
+    All-weaker (HasEntry (low + 1) cells) (HasEntry low (c ∷ cells))
+    (λ e s. record { at = suc s.at; slot_is = omega (arith, s.slot_is); cell_is = s.cell_is })
 
 pub entries_stand : {T : Type 0} (low : ℕ) (cells : List (Option (Occupant T)))
     → All (HasEntry low cells) (entries_from low cells)
 entries_stand {T} low [] = All-nil (HasEntry low ([]))
 entries_stand low (None ∷ cells) =
-    All-weaker (HasEntry (low + 1) cells) (HasEntry low (None ∷ cells))
-    (stands_later low None cells) (entries_from (low + 1) cells)
-    (entries_stand (low + 1) cells)
-entries_stand {T} low (Some o ∷ cells) =
-    let x : Entry T = record { slot = low; ticket = o.ticket; details = o.details } in
-    All-cons (HasEntry low (Some o ∷ cells)) x (entries_from (low + 1) cells)
+    stand_later low None cells (entries_from (low + 1) cells) (entries_stand (low + 1) cells)
+entries_stand low (Some o ∷ cells) =
+    All-cons (HasEntry low (Some o ∷ cells))
+    (record { slot = low; ticket = o.ticket; details = o.details }) (entries_from (low + 1) cells)
     (record { at = zero; slot_is = omega arith; cell_is = refl })
-    (All-weaker (HasEntry (low + 1) cells) (HasEntry low (Some o ∷ cells))
-    (stands_later low (Some o) cells) (entries_from (low + 1) cells)
-    (entries_stand (low + 1) cells))
+    (stand_later low (Some o) cells (entries_from (low + 1) cells) (entries_stand (low + 1) cells))
 
 pub slots_from : {T : Type 0} (low : ℕ) (cells : List (Option (Occupant T)))
     → AllPairs (λ (v w : Entry T). v.slot < w.slot) (entries_from low cells)
@@ -56,11 +44,7 @@ pub same_entry : {T : Type 0} (slot : ℕ) (o : Occupant T) (x : Entry T) → sl
     → ◌≡◌ {A = Option (Option (Occupant T))} (Some (Some o))
     (Some (Some (occupant x.ticket x.details)))
     → (let y : Entry T = record { slot = slot; ticket = o.ticket; details = o.details } in y) ≡ x
-same_entry {T} slot o x s h =
-    let f : ℕ → Occupant T → Entry T =
-    λ n p. record { slot = n; ticket = p.ticket; details = p.details } in
-    let e : o ≡ occupant x.ticket x.details = (cc) in
-    ap (λ n. f n o) s ∙ ap (f x.slot) e
+same_entry slot o x s h = (let e : o ≡ occupant x.ticket x.details = (cc) in rw (s, e) refl)
 
 pub gains_later : {T : Type 0} (old new : List (Entry T)) (x y : Entry T) → InsertsOne old new x
     → InsertsOne (y ∷ old) (y ∷ new) x
@@ -84,10 +68,7 @@ gains_write {T} low (None ∷ cells) zero x h s =
       before = [];
       after = entries_from (low + 1) cells;
       old_is = refl;
-      new_is = ap
-          (λ (n : ℕ).
-          (let y : Entry T = record { slot = n; ticket = x.ticket; details = x.details } in y)
-          ∷ entries_from (low + 1) cells) e;
+      new_is = rw e refl;
     }
 gains_write low (Some o ∷ cells) zero x h s = (cc)
 gains_write low (None ∷ cells) (suc i) x h s = gains_write (low + 1) cells i x h (omega arith)
@@ -107,8 +88,7 @@ gains_clear {T} low cells i x h s =
     ∙ (ap (slice_set cells i) (sym (get_or_from_slice_get cells i o None h))
     ∙ set-get_or cells i None) in
     let left = slice_set cells i None in
-    subst (λ cs. InsertsOne (entries_from low left) (entries_from low cs) x) back
-    (gains_write low left i x
+    rw back at (gains_write low left i x
     (get_set_same cells i None (slice_get_within cells i o h)) s)
 
 -- a free cell is room
@@ -132,11 +112,9 @@ all_before low zero (None ∷ cells) free =
 all_before low zero (Some entry ∷ cells) free = absurd (free zero (omega arith) (entry, refl))
 all_before low (suc end) (None ∷ cells) free =
     all_before (low + 1) end cells (λ slot later taken. free (suc slot) (omega arith) taken)
-all_before {T} low (suc end) (Some o ∷ cells) free =
-    let x : Entry T = record { slot = low; ticket = o.ticket; details = o.details } in
-    ap (λ (l : List (Entry T)). x ∷ l)
-    (all_before (low + 1) end cells
-    (λ slot later taken. free (suc slot) (omega arith) taken))
+all_before low (suc end) (Some o ∷ cells) free =
+    rw (all_before (low + 1) end cells
+    (λ slot later taken. free (suc slot) (omega arith) taken)) refl
 
 pub below_from : {T : Type 0} (cells : List (Option (Occupant T)))
     → All (λ (e : Entry T). e.slot < length cells) (entries_from 0 cells)

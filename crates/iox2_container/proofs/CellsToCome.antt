@@ -1,22 +1,11 @@
 -- Passes over cells, as far as the cells to come, whose
 -- callbacks may be asked about what stands there.
-use Rattle.std.proofs.Common.{◌≡◌, ℕ, zero, suc, ◌+◌, ◌≤◌, Bool, true, false, Option, Some, None, List, [], ◌∷◌, length, map, drop, take, refl, sym, ◌∙◌, ap, add-one, arith}
-use Rattle.std.specs.Prelude.{slice_get, slice_set, IsTrue, if◌then◌else◌}
-use Rattle.iox2_texts.specs.declared.bounded.callback_progression.CallbackProgression.{CallbackProgression}
-use Rattle.iox2_texts.specs.declared.bounded.callback_progression.CallbackProgression.TheVariants.{Continue}
-use Rattle.iox2_container.specs.declared.container.passes.Found.{Found}
-use Rattle.iox2_container.specs.declared.container.slots.cell.Cell.{Cell}
-use Rattle.iox2_container.specs.declared.container.slots.cell.Occupant.{Occupant}
-use Rattle.iox2_container.specs.Cells.{occupant, shown}
-use Rattle.iox2_container.specs.State.{Entry}
-use Rattle.iox2_container.specs.Places.{NoneFrom, entries_from}
-use Rattle.iox2_container.specs.Passes.{AreOthers, AskedOfCell, IsNextOf, Swept, SweptCell, TakesCell, TakesDead}
-use Rattle.iox2_container.specs.Steps.{candidates, is_of}
-use Rattle.iox2_container.specs.Callbacks.{MayAsk, MayVisit}
+use Rattle.iox2_container.proofs.Prelude.{[], ◌+◌, ◌∙◌, ◌∷◌, ◌≡◌, ◌≤◌, Bool, List, None, Option, Some, ℕ, add-one, ap, arith, drop, false, if◌then◌else◌, length, map, refl, slice_get, slice_set, suc, sym, take, true, zero}
+use Rattle.iox2_container.specs.Prelude.{AreOthers, AskedOfCell, CallbackProgression, Cell, Continue, Entry, Found, IsNextOf, MayAsk, MayVisit, NoneFrom, Occupant, Swept, TakesCell, candidates, cell_is_of, entries_from, is_of, occupant, shown}
 use Rattle.iox2_container.proofs.AskedInTurn.{details_of}
 use Rattle.iox2_container.proofs.CellEntries.{all_before}
 use Rattle.iox2_container.proofs.Counting.{few_more}
-use Rattle.iox2_container.proofs.Sweeping.{add_zero, later_kept, length_kept, other_swept, over_others, swept_cell}
+use Rattle.iox2_container.proofs.Sweeping.{found_cell, later_kept, length_kept, over_others, past_cell}
 
 -- the cells from one on
 drop_one : {C : Type 0} (cells : List C) (i : ℕ) (cell : C) → slice_get cells i ≡ Some cell
@@ -51,42 +40,21 @@ module _ {F T : Type 0} (takes : F → T → Type 0)
       rw (add-one i)
       (rw (add-one i) at (shows f i cell (drop (suc i) cells) (rw (drop_one cells i cell is) at m)))
 
--- a sweep that has come to a cell
-module _ {F T : Type 0} (takes : F → T → Type 0) (calls : F → T → Bool → F → Type 0)
-    (is_dead : T → Bool) where
-  asks_one : (f : F) (x : Entry T) (rest : List (Entry T)) (b : Bool) → b ≡ is_dead x.details
-      → MayAsk takes calls f
-      (details_of (if b then x ∷ candidates is_dead rest else candidates is_dead rest))
-      → (IsTrue b → takes f x.details)
-      × ((goes : Bool) (h : F)
-      → SweptCell calls is_dead f
-      (Some (record { ticket = x.ticket; details = x.details })) goes h
-      → MayAsk takes calls h (details_of (candidates is_dead rest)))
-  asks_one f x rest true e m = (λ t. m.0, λ goes h s. m.1 goes h (rw (sym e) at s))
-  asks_one f x rest false e m = (
-    λ t. (let z : false ≡ true = t in cc),
-    λ goes h s. (let skipped : (goes ≡ false) × (h ≡ f) = rw (sym e) at s in rw skipped.1 m),
-  )
+-- the candidates from a cell on
+candidate_here : {T : Type 0} (is_dead : T → Bool) (cells : List (Option (Occupant T)))
+    (i ticket : ℕ) (details : T) → slice_get cells i ≡ Some (Some (occupant ticket details))
+    → is_dead details ≡ true
+    → candidates_from is_dead i cells ≡ details ∷ candidates_from is_dead (i + 1) cells
+candidate_here is_dead cells i ticket details is e =
+    rw (drop_one cells i (Some (occupant ticket details)) is, e, add-one i) refl
 
-  sweeps_one : (f : F) (i : ℕ) (cell : Option (Occupant T)) (rest : List (Option (Occupant T)))
-      → MayAsk takes calls f (details_of (candidates is_dead (entries_from i (cell ∷ rest))))
-      → TakesDead takes is_dead f cell
-      × ((goes : Bool) (h : F) → SweptCell calls is_dead f cell goes h
-      → MayAsk takes calls h (details_of (candidates is_dead (entries_from (i + 1) rest))))
-  sweeps_one f i None rest m = (tt, λ goes h s. rw s.1 m)
-  sweeps_one f i (Some o) rest m =
-      asks_one f (record { slot = i; ticket = o.ticket; details = o.details })
-      (entries_from (i + 1) rest) (is_dead o.details) refl m
-
-  pub sweep_at : (f : F) (cells : List (Option (Occupant T))) (i : ℕ) (cell : Option (Occupant T))
-      → slice_get cells i ≡ Some cell → MayAsk takes calls f (candidates_from is_dead i cells)
-      → TakesDead takes is_dead f cell
-      × ((goes : Bool) (h : F) → SweptCell calls is_dead f cell goes h
-      → MayAsk takes calls h (candidates_from is_dead (i + 1) cells))
-  sweep_at f cells i cell is m =
-      rw (add-one i)
-      (rw (add-one i) at
-      (sweeps_one f i cell (drop (suc i) cells) (rw (drop_one cells i cell is) at m)))
+candidate_past : {T : Type 0} (node : T → ℕ) (id : ℕ) (cells : List (Option (Occupant T)))
+    (i : ℕ) (cell : Option (Occupant T)) → slice_get cells i ≡ Some cell
+    → false ≡ cell_is_of node id cell
+    → candidates_from (is_of node id) i cells ≡ candidates_from (is_of node id) (i + 1) cells
+candidate_past node id cells i None is e = rw (drop_one cells i None is, ← add-one i) refl
+candidate_past node id cells i (Some o) is e =
+    rw (drop_one cells i (Some o) is, ← e, add-one i) refl
 
 -- a sweep that has come to a place: what it did so far, and whom it may still ask
 pub record HasSwept {F T : Type 0} (takes : F → T → Type 0) (calls : F → T → Bool → F → Type 0)
@@ -98,27 +66,6 @@ pub record HasSwept {F T : Type 0} (takes : F → T → Type 0) (calls : F → T
   pub len : length m ≡ length cs
   pub few : gone ≤ i
 
--- one place more is swept, by what a loop knows of it
-pub sweep_more : {F T : Type 0} (takes : F → T → Type 0) (calls : F → T → Bool → F → Type 0)
-    (is_dead : T → Bool) (f g h : F) (cs m n : List (Option (Occupant T))) (i gone gone' : ℕ)
-    (goes : Bool) → (cell : Option (Occupant T)) × (slice_get m i ≡ Some cell)
-    × SweptCell calls is_dead g cell goes h
-    → n ≡ (if goes then slice_set m i None else m) → gone' ≡ gone + (if goes then 1 else 0)
-    → HasSwept takes calls is_dead f cs i g m gone
-    → HasSwept takes calls is_dead f cs (i + 1) h n gone'
-sweep_more takes calls is_dead f g h cs m n i gone gone' goes s en eg w =
-    let same : slice_get m i ≡ slice_get cs i = w.later i (omega arith) in
-    record {
-      callable = (sweep_at takes calls is_dead g cs i s.0 (sym same ∙ s.1) w.callable).1 goes h s.2;
-      swept = rw (add-one i)
-          (rw en
-          (rw eg (swept_cell calls is_dead f g h cs m i gone s.0 goes (sym same ∙ s.1) s.1 s.2
-          w.swept)));
-      later = later_kept cs m n i goes en w.later;
-      len = length_kept m n i goes en ∙ w.len;
-      few = few_more gone gone' i goes eg w.few;
-    }
-
 -- places where no entry of the node stands are passed over
 pub sweep_past : {F T : Type 0} (takes : F → T → Type 0) (calls : F → T → Bool → F → Type 0)
     (node : T → ℕ) (id : ℕ) (f g : F) (cs m : List (Option (Occupant T))) (i j gone : ℕ) → i ≤ j
@@ -126,8 +73,13 @@ pub sweep_past : {F T : Type 0} (takes : F → T → Type 0) (calls : F → T �
     → HasSwept takes calls (is_of node id) f cs j g m gone
 sweep_past takes calls node id f g cs m i j gone l others =
     over_others node id m (λ k. HasSwept takes calls (is_of node id) f cs k g m gone) i j l others
-    (λ k h o. sweep_more takes calls (is_of node id) f g g cs m m k gone gone false
-    (o.0, o.1, other_swept calls node id g o.0 o.2) refl (add_zero gone))
+    (λ k h o w. let is = sym (w.later k (omega arith)) ∙ o.1 in record {
+      callable = rw (candidate_past node id cs k o.0 is o.2) at w.callable;
+      swept = rw (add-one k) (past_cell calls node id f g cs m k gone w.swept o.0 is o.1 o.2);
+      later = λ n n_later. w.later n (omega arith);
+      len = w.len;
+      few = omega (arith, w.few);
+    })
 
 -- the next entry of the node, after places that are passed over
 module _ {F T N : Type 0} (takes : F → T → Type 0) (calls : F → T → Bool → F → Type 0)
@@ -138,13 +90,17 @@ module _ {F T N : Type 0} (takes : F → T → Type 0) (calls : F → T → Bool
   so_far = sweep_past takes calls node id f g cs (map shown a) i found.slot gone next.order
       next.others w
 
+  stands : slice_get cs found.slot ≡ Some (Some (occupant next.here.1.0 found.details))
+  stands = sym (so_far.later found.slot (omega arith)) ∙ next.here.1.1
+
+  asks : MayAsk takes calls g
+      (found.details ∷ candidates_from (is_of node id) (found.slot + 1) cs)
+  asks = rw (candidate_here (is_of node id) cs found.slot next.here.1.0 found.details stands
+      next.here.0) at so_far.callable
+
   -- the callback may be asked about it
   pub takes_next : takes g found.details
-  takes_next =
-      (sweep_at takes calls (is_of node id) g cs found.slot
-      (Some (occupant next.here.1.0 found.details))
-      (sym (so_far.later found.slot (omega arith)) ∙ next.here.1.1) so_far.callable).0
-      next.here.0
+  takes_next = asks.0
 
   -- it is swept
   pub sweep_next : (b n : List (Cell T N)) (h : F) (gone' : ℕ) (goes : Bool) → b ≡ a
@@ -153,10 +109,18 @@ module _ {F T N : Type 0} (takes : F → T → Type 0) (calls : F → T → Bool
       → gone' ≡ gone + (if goes then 1 else 0)
       → HasSwept takes calls (is_of node id) f cs (found.slot + 1) h (map shown n) gone'
   sweep_next b n h gone' goes b_is called n_is gone_is =
-      let cell : Option (Occupant T) = Some (occupant next.here.1.0 found.details) in
-      let swept : SweptCell calls (is_of node id) g cell goes h = rw next.here.0 called in
-      sweep_more takes calls (is_of node id) f g h cs (map shown a) (map shown n) found.slot gone
-      gone' goes (cell, next.here.1.1, swept) (rw b_is at n_is) gone_is so_far
+      let x : Entry T =
+      record { slot = found.slot; ticket = next.here.1.0; details = found.details } in
+      let left = rw b_is at n_is in
+      record {
+        callable = asks.1 goes h called;
+        swept = rw (add-one found.slot, left, gone_is)
+            (found_cell calls node id f g cs (map shown a) found.slot gone so_far.swept h goes x
+            refl stands next.here.1.1 next.here.0 called);
+        later = later_kept cs (map shown a) (map shown n) found.slot goes left so_far.later;
+        len = length_kept (map shown a) (map shown n) found.slot goes left ∙ so_far.len;
+        few = few_more gone gone' found.slot goes gone_is so_far.few;
+      }
 
 -- after the last entry all are swept
 pub sweep_ends : {F T : Type 0} (takes : F → T → Type 0) (calls : F → T → Bool → F → Type 0)

@@ -1,12 +1,6 @@
 -- Callbacks that collect what they are asked about, and callbacks that answer by what they hold.
-use Rattle.std.proofs.Common.{◌≡◌, ℕ, ◌+◌, ◌<◌, ◌≤◌, Bool, true, false, List, [], ◌∷◌, ◌++◌, length, map, refl, sym, ◌∙◌, ap, arith, inl, inr}
-use Rattle.std.specs.Prelude.{if◌then◌else◌, filter, IsTrue}
-use Rattle.std.proofs.lemmas.List.{append-nil, append_assoc}
-use Rattle.iox2_texts.specs.declared.bounded.callback_progression.CallbackProgression.{CallbackProgression}
-use Rattle.iox2_texts.specs.declared.bounded.callback_progression.CallbackProgression.TheVariants.{Continue, Stop}
-use Rattle.iox2_texts.specs.Attribute.{Visits}
-use Rattle.iox2_container.specs.Callbacks.{CanVisit}
-use Rattle.iox2_container.specs.Steps.{Asked, Visit}
+use Rattle.iox2_container.proofs.Prelude.{[], ◌++◌, ◌+◌, ◌<◌, ◌∙◌, ◌∷◌, ◌≡◌, ◌≤◌, Bool, IsTrue, List, ℕ, ap, append-nil, append_assoc, arith, false, filter, if◌then◌else◌, inl, inr, length, map, refl, sym, true}
+use Rattle.iox2_container.specs.Prelude.{Asked, CallbackProgression, CanVisit, Continue, Stop, Visit, Visits}
 use Rattle.iox2_container.proofs.Callable.{Asked-keeps, CanVisit-by}
 
 -- a callback that puts what it makes of each item that
@@ -23,9 +17,8 @@ module _ {F A B N : Type 0} (calls : F → A → CallbackProgression → F → T
   put_more : (f g : F) (b : Bool) (x : A) (xs : List A) (ys : List B) → ys ≡ items_of g ++ made xs
       → items_of g ≡ (if b then items_of f ++ u x ∷ [] else items_of f)
       → ys ≡ items_of f ++ map u (if b then x ∷ filter p xs else filter p xs)
-  put_more f g true x xs ys e s = e
-      ∙ (ap (λ (l : List B). l ++ made xs) s ∙ append_assoc (items_of f) (u x ∷ []) (made xs))
-  put_more f g false x xs ys e s = e ∙ ap (λ (l : List B). l ++ made xs) s
+  put_more f g true x xs ys e s = rw (e, s, append_assoc) refl
+  put_more f g false x xs ys e s = rw (e, s) refl
 
   count_more : (f g : F) (n : ℕ) (b : Bool) (x : A) (xs : List A) → n ≡ len g + length (filter p xs)
       → len g ≡ (if b then len f + 1 else len f)

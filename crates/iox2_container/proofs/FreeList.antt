@@ -1,11 +1,6 @@
 -- The list of free slots, that is linked through the cells.
-use Rattle.std.proofs.Common.{◌≡◌, ◌≢◌, ℕ, zero, suc, ◌<◌, Option, Some, None, List, [], ◌∷◌, length, map, refl, sym, ◌∙◌, ap, arith}
-use Rattle.std.specs.Prelude.{All, slice_get, slice_set, replicate}
-use Rattle.std.proofs.lemmas.List.Elements.{All-nil, All-cons, All-head, All-tail, All-weaker}
-use Rattle.iox2_container.specs.FreeList.{Linked, LeadsThrough, IsFreeAt}
-use Rattle.iox2_container.specs.declared.container.slots.cell.Cell.TheVariants.{Taken, Free}
-use Rattle.iox2_container.specs.declared.container.slots.cell.Occupant.{Occupant}
-use Rattle.iox2_container.specs.Cells.{occupant, shown}
+use Rattle.iox2_container.proofs.Prelude.{[], ◌<◌, ◌∙◌, ◌∷◌, ◌≡◌, ◌≢◌, All, All-cons, All-head, All-nil, All-tail, All-weaker, List, None, Option, Some, ℕ, ap, arith, length, map, refl, replicate, slice_get, slice_set, suc, zero}
+use Rattle.iox2_container.specs.Prelude.{Free, IsFreeAt, LeadsThrough, Linked, Occupant, Taken, occupant, shown}
 use Rattle.iox2_container.proofs.ListEdits.{get_set_other, get_set_same}
 use Rattle.iox2_container.proofs.ShownCells.{shown_at}
 
@@ -13,10 +8,9 @@ use Rattle.iox2_container.proofs.ShownCells.{shown_at}
 pub threads_free : {T : Type 0} (cells : List (Linked T)) (head : Option ℕ) (free : List ℕ)
     → LeadsThrough cells head free → All (IsFreeAt cells) free
 threads_free cells None [] t = All-nil (IsFreeAt cells)
-threads_free cells None (slot ∷ slots) t = absurd t
-threads_free cells (Some head) [] t = absurd t
 threads_free cells (Some head) (slot ∷ slots) t =
     All-cons (IsFreeAt cells) slot slots (t.2.0, t.2.1) (threads_free cells t.2.0 slots t.2.2)
+threads_free cells head free t = absurd t
 
 -- a slot that is not free is not in the list
 pub taken_apart : {T : Type 0} (cells : List (Linked T)) (head : Option ℕ) (free : List ℕ)
@@ -24,9 +18,7 @@ pub taken_apart : {T : Type 0} (cells : List (Linked T)) (head : Option ℕ) (fr
     → slice_get cells slot ≡ Some (Taken ticket details) → All (λ other. other ≢ slot) free
 taken_apart {T} cells head free slot ticket details t h =
     All-weaker (IsFreeAt cells) (λ other. other ≢ slot)
-    (λ other is e.
-    (let z : ◌≡◌ {A = Option (Linked T)} (Some (Free is.0))
-    (Some (Taken ticket details)) = sym is.1 ∙ (ap (slice_get cells) e ∙ h) in cc))
+    (λ other is e. (let free = rw e at is.1 in cc (free, h)))
     free (threads_free cells head free t)
 
 -- a write to another slot leaves the list
@@ -34,8 +26,6 @@ pub threads_kept : {T : Type 0} (cells : List (Linked T)) (head : Option ℕ) (f
     (slot : ℕ) (cell : Linked T) → All (λ other. other ≢ slot) free
     → LeadsThrough cells head free → LeadsThrough (slice_set cells slot cell) head free
 threads_kept cells None [] slot cell o t = t
-threads_kept cells None (s ∷ slots) slot cell o t = absurd t
-threads_kept cells (Some head) [] slot cell o t = absurd t
 threads_kept cells (Some head) (s ∷ slots) slot cell o t = (
   t.0,
   t.1,
@@ -45,6 +35,7 @@ threads_kept cells (Some head) (s ∷ slots) slot cell o t = (
     threads_kept cells t.2.0 slots slot cell (All-tail (λ other. other ≢ slot) s slots o) t.2.2,
   ),
 )
+threads_kept cells head free slot cell o t = absurd t
 
 -- a slot is put before the list
 pub threads_freed : {T : Type 0} (cells : List (Linked T)) (head : Option ℕ) (free : List ℕ)

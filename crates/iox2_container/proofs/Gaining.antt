@@ -1,11 +1,7 @@
 -- What follows where a list of entries gains one.
-use Rattle.std.proofs.Common.{◌≡◌, zero, suc, ◌+◌, List, [], ◌∷◌, ◌++◌, length, ◌∙◌, ap, arith, length-append}
-use Rattle.std.specs.Prelude.{All, AllPairs}
+use Rattle.iox2_container.proofs.Prelude.{[], ◌++◌, ◌+◌, ◌∙◌, ◌∷◌, ◌≡◌, All, All-append, All-cons, All-drop, All-head, All-tail, All-take, AllPairs, AllPairs-cons, List, ap, arith, length, length-append, suc, zero}
+use Rattle.iox2_container.specs.Prelude.{Entry, InsertsOne}
 use Rattle.std.proofs.Math.Seq.{take-append_seam, drop-append_seam}
-use Rattle.std.proofs.lemmas.List.Elements.{All-append, All-cons, All-head, All-tail, All-take, All-drop}
-use Rattle.std.proofs.lemmas.List.Kept.{AllPairs-cons}
-use Rattle.iox2_container.specs.State.{Entry}
-use Rattle.iox2_container.specs.Steps.{InsertsOne}
 
 pub AllPairs-head : {X : Type 0} (R : X → X → Type 0) (x : X) (xs : List X) → AllPairs R (x ∷ xs)
     → All (R x) xs

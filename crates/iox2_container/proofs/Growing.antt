@@ -1,16 +1,6 @@
 -- What each change leaves as it was, what it adds and what it takes out.
-use Rattle.std.proofs.Common.{◌≡◌, ℕ, ◌≤◌, Bool, Result, Ok, Err, List, [], ◌∷◌, map, refl, sym, ◌∙◌, ap, arith, inl, inr, ◌⊎◌, Contains}
-use Rattle.iox2_container.specs.declared.container.refusal.ContainerAddFailure.{ContainerAddFailure}
-use Rattle.iox2_container.specs.declared.container.refusal.ContainerAddFailure.TheVariants.{IsLocked, OutOfSpace}
-use Rattle.iox2_container.specs.declared.container.refusal.ContainerRemoveError.{ContainerRemoveError}
-use Rattle.iox2_container.specs.declared.container.release.ReleaseMode.{ReleaseMode}
-use Rattle.iox2_container.specs.declared.container.release.ReleaseState.{ReleaseState}
-use Rattle.iox2_container.specs.declared.container.role.Role.{Role}
-use Rattle.iox2_container.specs.Handle.{Handle}
-use Rattle.iox2_container.specs.Histories.{Change, ChangeStep, TakesOut}
-use Rattle.iox2_container.specs.Histories.Change.{Adding, Removing, Recovering}
-use Rattle.iox2_container.specs.State.{Entry, RegistryState, IsRegistry, handle_of}
-use Rattle.iox2_container.specs.Steps.{AddStep, RemoveStep, Recovers, Leaves, Enters, leaving}
+use Rattle.iox2_container.proofs.Prelude.{[], ◌∙◌, ◌∷◌, ◌≡◌, ◌≤◌, ◌⊎◌, Bool, Contains, Err, List, Ok, Result, ℕ, ap, arith, inl, inr, map, refl, sym}
+use Rattle.iox2_container.specs.Prelude.{AddStep, Adding, Change, ChangeStep, ContainerAddFailure, ContainerRemoveError, Enters, Entry, Handle, IsLocked, IsRegistry, Leaves, OutOfSpace, Recovering, Recovers, RegistryState, ReleaseMode, ReleaseState, RemoveStep, Removing, Role, TakesOut, handle_of, leaving}
 use Rattle.iox2_container.proofs.Members.{Among, DifferBy, among_contained, among_less, among_more, contains_among, gained, moved, other_differs}
 use Rattle.iox2_container.proofs.Leaving.{leaves_among, stays_among, stays_apart, stays_or_leaves}
 

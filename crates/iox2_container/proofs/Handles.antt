@@ -1,16 +1,6 @@
 -- What a handle names.
-use Rattle.std.proofs.Common.{◌≡◌, ◌≢◌, ℕ, Option, Some, None, List, refl, sym, ◌∙◌, ap, arith}
-use Rattle.std.specs.Prelude.{MatchOption, slice_get, slice_set}
-use Rattle.std.proofs.lemmas.List.Elements.{All-weaker}
-use Rattle.iox2_container.specs.declared.container.registry_header.RegistryHeader.{RegistryHeader}
-use Rattle.iox2_container.specs.declared.container.role.Role.{Role}
-use Rattle.iox2_container.specs.declared.container.slots.cell.Occupant.{Occupant}
-use Rattle.iox2_container.specs.Cells.{occupant}
-use Rattle.iox2_container.specs.Handle.{Handle}
-use Rattle.iox2_container.specs.State.{Entry, RegistryState, handle_of}
-use Rattle.iox2_container.specs.Steps.{IsUnknownHandle, HasEntry}
-use Rattle.iox2_container.specs.Places.{Finds, entries_from}
-use Rattle.iox2_container.specs.HeaderAndPlaces.{registry_of}
+use Rattle.iox2_container.proofs.Prelude.{◌≡◌, ◌≢◌, All-weaker, List, MatchOption, None, Option, Some, arith, refl, slice_get, slice_set}
+use Rattle.iox2_container.specs.Prelude.{Entry, Finds, Handle, HasEntry, IsUnknownHandle, Occupant, RegistryHeader, RegistryState, entries_from, handle_of, occupant, registry_of}
 use Rattle.iox2_container.proofs.CellEntries.{shown_from, gains_clear}
 use Rattle.iox2_container.proofs.Members.{of_all, gained}
 
@@ -20,12 +10,7 @@ pub foreign_by_ticket : {T : Type 0} (a : RegistryHeader) (cells : List (Option 
 foreign_by_ticket {T} a cells handle none =
     All-weaker (λ (x : Entry T). slice_get cells x.slot ≡ Some (Some (occupant x.ticket x.details)))
     (λ (x : Entry T). handle ≢ handle_of (registry_of a cells) x)
-    (λ x is q.
-    let f : ℕ → Option (Option (Occupant T)) = λ t. Some (Some (occupant t x.details)) in
-    none x.details
-    (ap (λ (k : Handle). slice_get cells k.slot) q
-    ∙ (is ∙ ap f (sym (ap (λ (k : Handle). k.ticket) q)))))
-    (entries_from 0 cells) (shown_from cells)
+    (λ x is q. none x.details (rw q is)) (entries_from 0 cells) (shown_from cells)
 
 -- the handle is that of an entry of this container
 pub has_parts : (a : RegistryHeader) (handle : Handle) → handle.service ≡ a.service
@@ -36,10 +21,7 @@ pub has_parts : (a : RegistryHeader) (handle : Handle) → handle.service ≡ a.
       slot = handle.slot;
       ticket = handle.ticket;
     }
-has_parts a handle hs hr =
-    let h : ℕ → Role → Handle =
-    λ n r. record { service = n; role = r; slot = handle.slot; ticket = handle.ticket } in
-    ap (λ n. h n handle.role) hs ∙ ap (h a.service) hr
+has_parts a handle hs hr = rw (← hs, ← hr) refl
 
 -- what was found is what the handle names
 pub names : {T : Type 0} (a : RegistryHeader) (cells : List (Option (Occupant T))) (handle : Handle)

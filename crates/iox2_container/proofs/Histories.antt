@@ -1,18 +1,7 @@
 -- What histories of registries say of their entries.
-use Rattle.std.proofs.Common.{◌≡◌, ◌≢◌, ◌+◌, ◌<◌, ◌≤◌, List, [], ◌∷◌, ◌++◌, refl, sym, ◌∙◌, ap, subst, arith, inl, inr, ◌⊎◌, ◌↔◌, Result, Ok, Err, Any}
-use Rattle.std.specs.Prelude.{All, AllPairs}
-use Rattle.std.specs.List.{cons_option}
-use Rattle.std.proofs.lemmas.List.Elements.{All-nil, All-cons, All-head, All-tail, All-weaker}
-use Rattle.std.proofs.lemmas.List.Kept.{AllPairs-cons}
-use Rattle.iox2_container.specs.declared.container.refusal.ContainerRemoveError.{ContainerRemoveError}
+use Rattle.iox2_container.proofs.Prelude.{[], ◌++◌, ◌+◌, ◌<◌, ◌↔◌, ◌∙◌, ◌∷◌, ◌≡◌, ◌≢◌, ◌≤◌, ◌⊎◌, All, All-cons, All-head, All-nil, All-tail, All-weaker, AllPairs, AllPairs-cons, Any, Err, List, Ok, Result, ap, arith, cons_option, inl, inr, refl, sym}
+use Rattle.iox2_container.specs.Prelude.{Adding, Change, ChangeStep, ContainerRemoveError, Enters, Entry, Handle, HasEntry, History, IsNew, IsRefused, IsRegistry, Leaves, RegistryState, ReleaseMode, ReleaseState, Remains, RemoveStep, TakesOut, handle_given_by, handle_of, handles_given}
 use Rattle.iox2_container.specs.declared.container.refusal.ContainerRemoveError.TheVariants.{ContainerHandleNotOwnedByContainer}
-use Rattle.iox2_container.specs.declared.container.release.ReleaseMode.{ReleaseMode}
-use Rattle.iox2_container.specs.declared.container.release.ReleaseState.{ReleaseState}
-use Rattle.iox2_container.specs.Handle.{Handle}
-use Rattle.iox2_container.specs.State.{Entry, RegistryState, IsRegistry, handle_of}
-use Rattle.iox2_container.specs.Steps.{Leaves, Enters, RemoveStep, HasEntry}
-use Rattle.iox2_container.specs.Histories.{Change, ChangeStep, History, IsNew, TakesOut, Remains, IsRefused, handles_given, handle_given_by}
-use Rattle.iox2_container.specs.Histories.Change.{Adding, Removing, Recovering}
 use Rattle.iox2_container.proofs.Members.{Among, of_all, moved, first_or_other, gained, without}
 use Rattle.iox2_container.proofs.Keeping.{new_is_registry}
 use Rattle.iox2_container.proofs.Growing.{Edits, edits, same_key}
@@ -22,22 +11,15 @@ abbrev IsHeld : {T : Type 0} → RegistryState T → Handle → T → Type 0
 IsHeld {T} r handle details =
     (x : Entry T) × Among x r.entries × (handle ≡ handle_of r x) × (details ≡ x.details)
 
-held_stands : {T : Type 0} (r : RegistryState T) (handle : Handle) (details : T)
-    → IsHeld r handle details → HasEntry r handle details
-held_stands r handle details h =
-    let w = without r.entries h.0 h.1 in
-    (h.0, h.2, sym h.3, (w.rest, w.gains))
+module _ {T : Type 0} (r : RegistryState T) (handle : Handle) (details : T) where
+  held_stands : IsHeld r handle details → HasEntry r handle details
+  held_stands h = let w = without r.entries h.0 h.1 in (h.0, h.2, sym h.3, (w.rest, w.gains))
 
-stands_held : {T : Type 0} (r : RegistryState T) (handle : Handle) (details : T)
-    → HasEntry r handle details → IsHeld r handle details
-stands_held r handle details h = (h.0, gained h.3.0 r.entries h.0 h.3.1, h.1, sym h.2)
+  stands_held : HasEntry r handle details → IsHeld r handle details
+  stands_held h = (h.0, gained h.3.0 r.entries h.0 h.3.1, h.1, sym h.2)
 
 pub ticket_of : (h k : Handle) → h ≡ k → h.ticket ≡ k.ticket
 ticket_of h k e = ap (λ (n : Handle). n.ticket) e
-
-held_still : {T : Type 0} (old new : RegistryState T) (handle : Handle) (details : T) → new ≡ old
-    → IsHeld old handle details → IsHeld new handle details
-held_still old new handle details e h = rw e h
 
 -- what is held after a change was held before it and stayed, or was added
 abbrev Follows : {T : Type 0} → RegistryState T → Change T → Handle → T → Type 0
@@ -45,25 +27,22 @@ Follows {T} old change handle details =
     (IsHeld old handle details × (TakesOut handle change → ⊥))
     ⊎ (◌≡◌ {A = Change T} change (Adding details (Ok handle)))
 
-held_after : {T : Type 0} (old mid : RegistryState T) (change : Change T) (handle : Handle)
-    (details : T) → IsRegistry old → Edits old change mid → IsHeld mid handle details
-    → Follows old change handle details
-held_after {T} old mid change handle details w m h =
-    let key : handle ≡ handle_of old h.0 = h.2 ∙ sym (same_key old mid h.0 m.grows) in
-    elim (m.was h.0 h.1) [
-      | inl k ↦ inl ((h.0, k.0, key, h.3), λ t. k.1 w (subst (λ n. TakesOut n change) key t))
-      | inr e ↦ inr (rw key (rw h.3 e))
-    ]
+module _ {T : Type 0} (old mid : RegistryState T) (change : Change T) (m : Edits old change mid)
+    (handle : Handle) (details : T) where
+  held_after : IsRegistry old → IsHeld mid handle details → Follows old change handle details
+  held_after w h =
+      let key : handle ≡ handle_of old h.0 = h.2 ∙ sym (same_key old mid h.0 m.grows) in
+      elim (m.was h.0 h.1) [
+        | inl k ↦ inl ((h.0, k.0, key, h.3), λ t. k.1 w (rw key at t))
+        | inr e ↦ inr (rw key (rw h.3 e))
+      ]
 
--- what stayed is still held
-held_on : {T : Type 0} (old mid : RegistryState T) (change : Change T) (handle : Handle)
-    (details : T) → Edits old change mid → IsHeld old handle details
-    → (TakesOut handle change → ⊥) → IsHeld mid handle details
-held_on {T} old mid change handle details m h f =
-    elim (m.stays h.0 h.1) [
-      | inl k ↦ (h.0, k, h.2 ∙ same_key old mid h.0 m.grows, h.3)
-      | inr t ↦ absurd (f (subst (λ n. TakesOut n change) (sym h.2) t))
-    ]
+  -- what stayed is still held
+  held_on : IsHeld old handle details → (TakesOut handle change → ⊥) → IsHeld mid handle details
+  held_on h f = elim (m.stays h.0 h.1) [
+    | inl k ↦ (h.0, k, h.2 ∙ same_key old mid h.0 m.grows, h.3)
+    | inr t ↦ absurd (f (rw h.2 t))
+  ]
 
 -- what was added is held
 held_new : {T : Type 0} (old mid : RegistryState T) (handle : Handle) (details : T)
@@ -72,16 +51,6 @@ held_new {T} old mid handle details s =
     let n : Enters old details handle mid = s.2 in
     let y : Entry T = record { slot = handle.slot; ticket = old.used; details = details } in
     rw n.3 (y, gained old.entries mid.entries y n.2, n.0, refl)
-
-remains_more : {T : Type 0} (change : Change T) (changes : List (Change T)) (handle : Handle)
-    (details : T) → Remains changes handle details → Remains (change ∷ changes) handle details
-remains_more {T} change changes handle details r =
-    record {
-      earlier = change ∷ r.earlier;
-      later = r.later;
-      added = ap (λ (l : List (Change T)). change ∷ l) r.added;
-      untouched = r.untouched;
-    }
 
 -- what is held at the end was held at the beginning and stayed, or was added and stayed
 abbrev Stays : {T : Type 0} → RegistryState T → List (Change T) → Handle → T → Type 0
@@ -93,34 +62,30 @@ stays_of : {T : Type 0} (old new : RegistryState T) (changes : List (Change T)) 
     (details : T) → IsRegistry old → History old changes new → IsHeld new handle details
     → Stays old changes handle details
 stays_of old new [] handle details w s h =
-    inl (
-      held_still new old handle details (sym s) h,
-      All-nil (λ change. TakesOut handle change → ⊥),
-    )
+    inl (rw (← s) h, All-nil (λ change. TakesOut handle change → ⊥))
 stays_of {T} old new (c ∷ cs) handle details w s h =
     let kept : Change T → Type 0 = λ change. TakesOut handle change → ⊥ in
     elim (stays_of s.0 new cs handle details s.2 s.3 h) [
-      | inl p ↦ elim (held_after old s.0 c handle details w (edits old c s.0 s.1) p.0) [
+      | inl p ↦ elim (held_after old s.0 c (edits old c s.0 s.1) handle details w p.0) [
         | inl q ↦ inl (q.0, All-cons kept c cs q.1 p.1)
-        | inr e ↦ inr
-            (record {
-              earlier = [];
-              later = cs;
-              added = ap (λ (z : Change T). z ∷ cs) e;
-              untouched = p.1;
-            })
+        | inr e ↦ inr (record { earlier = []; later = cs; added = rw e refl; untouched = p.1 })
       ]
-      | inr r ↦ inr (remains_more c cs handle details r)
+      | inr r ↦ inr (record {
+        earlier = c ∷ r.earlier;
+        later = r.later;
+        added = ap (λ l. c ∷ l) r.added;
+        untouched = r.untouched;
+      })
     ]
 
 held_at_end : {T : Type 0} (old new : RegistryState T) (changes : List (Change T)) (handle : Handle)
     (details : T) → History old changes new → IsHeld old handle details
     → All (λ change. TakesOut handle change → ⊥) changes → IsHeld new handle details
-held_at_end old new [] handle details s k f = held_still old new handle details s k
+held_at_end old new [] handle details s k f = rw s k
 held_at_end {T} old new (c ∷ cs) handle details s k f =
     let kept : Change T → Type 0 = λ change. TakesOut handle change → ⊥ in
     held_at_end s.0 new cs handle details s.3
-    (held_on old s.0 c handle details (edits old c s.0 s.1) k (All-head kept c cs f))
+    (held_on old s.0 c (edits old c s.0 s.1) handle details k (All-head kept c cs f))
     (All-tail kept c cs f)
 
 added_at_end : {T : Type 0} (old new : RegistryState T) (earlier later : List (Change T))
@@ -143,8 +108,7 @@ what_remains {T} start now changes handle details n s = (
         | inr r ↦ r
       ],
   λ r. held_stands now handle details
-      (added_at_end start now r.earlier r.later handle details
-      (subst (λ (l : List (Change T)). History start l now) r.added s) r.untouched),
+      (added_at_end start now r.earlier r.later handle details (rw r.added at s) r.untouched),
 )
 
 -- the handle had its ticket, and no entry has it any more
@@ -152,56 +116,43 @@ record IsSpent {T : Type 0} (r : RegistryState T) (handle : Handle) : Type 0 whe
   pub ticket : handle.ticket < r.used
   pub gone : (details : T) → IsHeld r handle details → ⊥
 
-used_of : {T : Type 0} (r s : RegistryState T) → r ≡ s → r.used ≡ s.used
-used_of {T} r s e = ap (λ (x : RegistryState T). x.used) e
-
 -- what is added has the next ticket
 new_ticket : {T : Type 0} (old mid : RegistryState T) (handle : Handle) (details : T)
     → ChangeStep old (Adding details (Ok handle)) mid → handle.ticket ≡ old.used
-new_ticket {T} old mid handle details s =
-    let n : Enters old details handle mid = s.2 in
-    ticket_of handle
-    (handle_of old (record { slot = handle.slot; ticket = old.used; details = details }))
-    n.0
+new_ticket old mid handle details s = ap (λ (h : Handle). h.ticket) s.2.0
 
-spent_after : {T : Type 0} (old mid : RegistryState T) (change : Change T) (handle : Handle)
-    → IsRegistry old → ChangeStep old change mid → TakesOut handle change → IsSpent mid handle
-spent_after {T} old mid change handle w s t =
-    let m = edits old change mid s in
-    let k = m.out handle t in
-    let below : k.0.ticket < old.used =
-    of_all (λ (e : Entry T). e.ticket < old.used) old.entries k.0 w.tickets_used k.1 in
-    record {
-      ticket = omega (arith, ticket_of handle (handle_of old k.0) k.2, m.grows.used);
-      gone = λ details h. elim (held_after old mid change handle details w m h) [
-        | inl p ↦ p.1 t
-        | inr e ↦ subst (λ (c : Change T). TakesOut handle c) e t
-      ];
-    }
+module _ {T : Type 0} (old mid : RegistryState T) (change : Change T) (handle : Handle)
+    (w : IsRegistry old) (s : ChangeStep old change mid) where
+  spent_after : TakesOut handle change → IsSpent mid handle
+  spent_after t =
+      let m = edits old change mid s in
+      let k = m.out handle t in
+      let below : k.0.ticket < old.used =
+      of_all (λ (e : Entry T). e.ticket < old.used) old.entries k.0 w.tickets_used k.1 in
+      record {
+        ticket = omega (arith, ticket_of handle (handle_of old k.0) k.2, m.grows.used);
+        gone = λ details h. elim (held_after old mid change m handle details w h) [
+          | inl p ↦ p.1 t
+          | inr e ↦ rw e at t
+        ];
+      }
 
-spent_stays : {T : Type 0} (old mid : RegistryState T) (change : Change T) (handle : Handle)
-    → IsRegistry old → ChangeStep old change mid → IsSpent old handle → IsSpent mid handle
-spent_stays {T} old mid change handle w s p =
-    let m = edits old change mid s in
-    record {
-      ticket = omega (arith, p.ticket, m.grows.used);
-      gone = λ details h. elim (held_after old mid change handle details w m h) [
-        | inl q ↦ p.gone details q.0
-        | inr e ↦ absurd
-            (omega (
-              arith,
-              p.ticket,
-              new_ticket old mid handle details
-                  (subst (λ (c : Change T). ChangeStep old c mid) e s),
-            ))
-      ];
-    }
+  spent_stays : IsSpent old handle → IsSpent mid handle
+  spent_stays p =
+      let m = edits old change mid s in
+      record {
+        ticket = omega (arith, p.ticket, m.grows.used);
+        gone = λ details h. elim (held_after old mid change m handle details w h) [
+          | inl q ↦ p.gone details q.0
+          | inr e ↦ absurd
+              (omega (arith, p.ticket, new_ticket old mid handle details (rw e at s)))
+        ];
+      }
 
 spent_at_end : {T : Type 0} (old new : RegistryState T) (changes : List (Change T))
     (handle : Handle) → IsRegistry old → History old changes new → IsSpent old handle
     → IsSpent new handle
-spent_at_end {T} old new [] handle w s p =
-    subst (λ (r : RegistryState T). IsSpent r handle) (sym s) p
+spent_at_end old new [] handle w s p = rw s p
 spent_at_end old new (c ∷ cs) handle w s p =
     spent_at_end s.0 new cs handle s.2 s.3 (spent_stays old s.0 c handle w s.1 p)
 
@@ -238,9 +189,7 @@ given_first : {T : Type 0} (P : Handle → Type 0) (change : Change T) (given : 
     → ((handle : Handle) (details : T) → ◌≡◌ {A = Change T} change (Adding details (Ok handle))
     → P handle) → All P given → All P (cons_option (handle_given_by change) given)
 given_first P (Adding d (Ok handle)) given f h = All-cons P handle given (f handle d refl) h
-given_first P (Adding d (Err e)) given f h = h
-given_first P (Removing key mode result) given f h = h
-given_first P (Recovering is_dead marked went mode state) given f h = h
+given_first P change given f h = h
 
 -- the tickets of the handles that are given from here on
 tickets_to_come : {T : Type 0} (old new : RegistryState T) (changes : List (Change T))
@@ -248,11 +197,7 @@ tickets_to_come : {T : Type 0} (old new : RegistryState T) (changes : List (Chan
 tickets_to_come old new [] s = All-nil (λ (h : Handle). old.used ≤ h.ticket)
 tickets_to_come {T} old new (c ∷ cs) s =
     given_first (λ h. old.used ≤ h.ticket) c (handles_given cs)
-    (λ handle d e. omega (
-      arith,
-      new_ticket old s.0 handle d
-          (subst (λ (change : Change T). ChangeStep old change s.0) e s.1),
-    ))
+    (λ handle d e. omega (arith, new_ticket old s.0 handle d (rw e at s.1)))
     (All-weaker (λ (h : Handle). s.0.used ≤ h.ticket) (λ (h : Handle). old.used ≤ h.ticket)
     (λ h l. omega (arith, l, (edits old c s.0 s.1).grows.used)) (handles_given cs)
     (tickets_to_come s.0 new cs s.3))
@@ -261,20 +206,12 @@ first_differs : {T : Type 0} (old mid : RegistryState T) (change : Change T) (gi
     → ChangeStep old change mid → All (λ h. mid.used ≤ h.ticket) given → AllPairs ◌≢◌ given
     → AllPairs ◌≢◌ (cons_option (handle_given_by change) given)
 first_differs {T} old mid (Adding d (Ok handle)) given s h p =
-    let n : Enters old d handle mid = s.2 in
+    let used : mid.used ≡ old.used + 1 = ap (λ (r : RegistryState T). r.used) s.2.3 in
     AllPairs-cons ◌≢◌ handle given
     (All-weaker (λ (k : Handle). mid.used ≤ k.ticket) (λ (k : Handle). handle ≢ k)
-    (λ k l e. omega (
-      arith,
-      l,
-      ticket_of handle k e,
-      new_ticket old mid handle d s,
-      used_of mid (record old { entries = mid.entries; used = old.used + 1 }) n.3,
-    )) given h)
+    (λ k l e. omega (arith, l, used, ticket_of handle k e, new_ticket old mid handle d s)) given h)
     p
-first_differs old mid (Adding d (Err e)) given s h p = p
-first_differs old mid (Removing key mode result) given s h p = p
-first_differs old mid (Recovering is_dead marked went mode state) given s h p = p
+first_differs old mid change given s h p = p
 
 pub handles_differ : {T : Type 0} (old new : RegistryState T) (changes : List (Change T))
     → History old changes new → AllPairs ◌≢◌ (handles_given changes)

@@ -1,20 +1,8 @@
 -- The handles that a registry gave: what it knows of them while it is called.
-use Rattle.std.proofs.Common.{◌≡◌, ℕ, zero, suc, ◌+◌, ◌<◌, Option, Some, None, Result, Ok, Err, List, [], ◌∷◌, ◌++◌, sym, ◌∙◌, ap, subst, arith, inl, inr}
-use Rattle.std.specs.Prelude.{⊤}
-use Rattle.iox2_container.specs.declared.container.refusal.ContainerAddFailure.{ContainerAddFailure}
-use Rattle.iox2_container.specs.declared.container.refusal.ContainerRemoveError.{ContainerRemoveError}
-use Rattle.iox2_container.specs.declared.container.release.ReleaseMode.{ReleaseMode}
-use Rattle.iox2_container.specs.declared.container.release.ReleaseState.{ReleaseState}
-use Rattle.iox2_container.specs.declared.container.comparison.calls.RegistryCall.{RegistryCall}
+use Rattle.iox2_container.proofs.Prelude.{[], ⊤, ◌++◌, ◌<◌, ◌∙◌, ◌∷◌, ◌≡◌, Err, List, None, Ok, Option, Result, Some, ℕ, ap, arith, inl, inr, suc, zero}
+use Rattle.iox2_container.specs.Prelude.{AddStep, Adding, CallStep, ContainerAddFailure, ContainerRemoveError, ContainerState, Enters, Entry, Handle, IsRegistry, RegistryCall, RegistryReply, RegistryState, ReleaseMode, ReleaseState, RemoveGiven, handle_given, handle_in, handle_of, is_of, reply_of_add, reply_of_remove}
 use Rattle.iox2_container.specs.declared.container.comparison.calls.RegistryCall.TheVariants as Call
-use Rattle.iox2_container.specs.declared.container.comparison.calls.RegistryReply.{RegistryReply}
 use Rattle.iox2_container.specs.declared.container.comparison.calls.RegistryReply.TheVariants as Reply
-use Rattle.iox2_container.specs.Handle.{Handle}
-use Rattle.iox2_container.specs.ContainerState.{ContainerState}
-use Rattle.iox2_container.specs.State.{Entry, RegistryState, IsRegistry, handle_of}
-use Rattle.iox2_container.specs.Steps.{AddStep, Enters, is_of}
-use Rattle.iox2_container.specs.Calls.{CallStep, RemoveGiven, handle_given, handle_in, reply_of_add, reply_of_remove}
-use Rattle.iox2_container.specs.Histories.Change.{Adding}
 use Rattle.iox2_container.proofs.Members.{Among, of_all}
 use Rattle.iox2_container.proofs.Growing.{Grows, edits, grows_same, grows_add, grows_remove, grows_recover, same_key}
 
@@ -33,14 +21,6 @@ knows_on {T} old new handle m k = record {
   ];
 }
 
-grows_given : {T : Type 0} (old new : ContainerState T) (given : Option Handle) (mode : ReleaseMode)
-    (reply : RegistryReply T) → RemoveGiven old given mode reply new
-    → Grows old.registry new.registry
-grows_given {T} old new None mode reply s =
-    grows_same old.registry new.registry (ap (λ (c : ContainerState T). c.registry) s.1)
-grows_given old new (Some handle) mode reply s =
-    grows_remove old.registry handle mode s.result new.registry s.step.step
-
 abbrev pub KnowsGiven : {T : Type 0} → RegistryState T → Option Handle → Type 0
 KnowsGiven r None = ⊤
 KnowsGiven r (Some handle) = Knows r handle
@@ -56,18 +36,16 @@ knows_added old new d (Err f) w s = tt
 knows_added {T} old new d (Ok key) w s =
     let n : Enters old d key new = s.2 in
     let k : key.ticket ≡ old.used = ap (λ (h : Handle). h.ticket) n.0 in
-    let u : new.used ≡ old.used + 1 = ap (λ (r : RegistryState T). r.used) n.3 in
     let m = edits old (Adding d (Ok key)) new s in
     record {
-      ticket = omega (arith, k, u);
+      ticket = omega (arith, k, ap (λ r. r.used) n.3);
       same = λ x a e. elim (m.was x a) [
-        | inl o ↦ absurd
-            (omega (
-              arith,
-              k,
-              e,
-              of_all (λ (z : Entry T). z.ticket < old.used) old.entries x w.tickets_used o.0,
-            ))
+        | inl o ↦ absurd (omega (
+          arith,
+          k,
+          e,
+          of_all (λ (z : Entry T). z.ticket < old.used) old.entries x w.tickets_used o.0,
+        ))
         | inr q ↦ (let one : key ≡ handle_of old x = (cc) in one ∙ same_key old new x m.grows)
       ];
     }
@@ -78,60 +56,43 @@ knows_removed : {T : Type 0} (new : RegistryState T)
 knows_removed new (Ok t) = tt
 knows_removed new (Err e) = tt
 
-knows_reply : {T : Type 0} (new : RegistryState T) (reply told : RegistryReply T) → reply ≡ told
-    → KnowsGiven new (given_by told) → KnowsGiven new (given_by reply)
-knows_reply {T} new reply told e k =
-    subst (λ (q : RegistryReply T). KnowsGiven new (given_by q)) (sym e) k
-
-knows_given : {T : Type 0} (old new : ContainerState T) (given : Option Handle) (mode : ReleaseMode)
-    (reply : RegistryReply T) → RemoveGiven old given mode reply new
-    → KnowsGiven new.registry (given_by reply)
-knows_given old new None mode reply s = knows_reply new.registry reply Reply.NoHandle s.0 tt
-knows_given {T} old new (Some handle) mode reply s =
-    knows_reply new.registry reply (reply_of_remove s.result) s.reply_is
-    (knows_removed new.registry s.result)
-
 -- what a call does for the handles that were given
 record Goes {T : Type 0} (old new : RegistryState T) (reply : RegistryReply T) : Type 0 where
   pub grows : Grows old new
   pub knows : KnowsGiven new (given_by reply)
 
-goes_on : {T : Type 0} (node number : T → ℕ) (old : ContainerState T)
-    (earlier : List (RegistryReply T)) (call : RegistryCall T) (reply : RegistryReply T)
-    (new : ContainerState T) → IsRegistry old.registry
-    → CallStep node number old earlier call reply new → Goes old.registry new.registry reply
-goes_on node number old earlier (Call.Add d) reply new w s =
-    record {
-      grows = grows_add old.registry d s.result new.registry s.step.step;
-      knows = knows_reply new.registry reply (reply_of_add s.result) s.reply_is
-          (knows_added old.registry new.registry d s.result w s.step.step);
-    }
-goes_on node number old earlier (Call.Remove k mode) reply new w s =
-    record {
-      grows = grows_given old new (handle_given earlier k) mode reply s;
-      knows = knows_given old new (handle_given earlier k) mode reply s;
-    }
-goes_on node number old earlier (Call.Recover dead keys mode) reply new w s =
-    record {
-      grows =
-          grows_recover (is_of node dead) s.step.step.marked old.registry mode s.result new.registry
-          s.step.step.recovers;
-      knows = knows_reply new.registry reply (Reply.State s.result) s.reply_is tt;
-    }
-goes_on {T} node number old earlier Call.List reply new w s =
-    record {
-      grows = grows_same old.registry new.registry
-          (ap (λ (c : ContainerState T). c.registry) s.step.1);
-      knows =
-          knows_reply new.registry reply (Reply.Entries s.result) s.reply_is tt;
-    }
-goes_on {T} node number old earlier Call.Len reply new w s =
-    record {
-      grows = grows_same old.registry new.registry
-          (ap (λ (c : ContainerState T). c.registry) s.1);
-      knows =
-          knows_reply new.registry reply (Reply.Count _) s.0 tt;
-    }
+module _ {T : Type 0} (old new : ContainerState T) (reply : RegistryReply T) where
+  goes_still : (told : RegistryReply T) → reply ≡ told → new ≡ old
+      → KnowsGiven new.registry (given_by told) → Goes old.registry new.registry reply
+  goes_still told e same k = record {
+    grows = grows_same old.registry new.registry (ap (λ c. c.registry) same);
+    knows = rw e k;
+  }
+
+  goes_given : (given : Option Handle) (mode : ReleaseMode) → RemoveGiven old given mode reply new
+      → Goes old.registry new.registry reply
+  goes_given None mode s = goes_still Reply.NoHandle s.0 s.1 tt
+  goes_given (Some handle) mode s = record {
+    grows = grows_remove old.registry handle mode s.result new.registry s.step.step;
+    knows = rw s.reply_is (knows_removed new.registry s.result);
+  }
+
+  goes_on : (node number : T → ℕ) (earlier : List (RegistryReply T)) (call : RegistryCall T)
+      → IsRegistry old.registry → CallStep node number old earlier call reply new
+      → Goes old.registry new.registry reply
+  goes_on node number earlier (Call.Add d) w s = record {
+    grows = grows_add old.registry d s.result new.registry s.step.step;
+    knows = rw s.reply_is (knows_added old.registry new.registry d s.result w s.step.step);
+  }
+  goes_on node number earlier (Call.Remove k mode) w s = goes_given (handle_given earlier k) mode s
+  goes_on node number earlier (Call.Recover dead keys mode) w s = record {
+    grows = grows_recover (is_of node dead) s.step.step.marked old.registry mode s.result
+        new.registry s.step.step.recovers;
+    knows = rw s.reply_is tt;
+  }
+  goes_on node number earlier Call.List w s =
+      goes_still (Reply.Entries s.result) s.reply_is s.step.1 tt
+  goes_on node number earlier Call.Len w s = goes_still (Reply.Count _) s.0 s.1 tt
 
 -- the handles in all replies
 abbrev pub AllKnown : {T : Type 0} → RegistryState T → List (RegistryReply T) → Type 0
@@ -157,7 +118,7 @@ pub known_on : {T : Type 0} (node number : T → ℕ) (old : ContainerState T)
     → AllKnown new.registry (earlier ++ reply ∷ [])
 known_on node number old earlier call reply new w s a =
     known_push old.registry new.registry earlier reply
-    (goes_on node number old earlier call reply new w s) a
+    (goes_on old new reply node number earlier call w s) a
 
 pub known_at : {T : Type 0} (r : RegistryState T) (xs : List (RegistryReply T)) (k : ℕ)
     → AllKnown r xs → KnowsGiven r (handle_given xs k)

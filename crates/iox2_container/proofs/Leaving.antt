@@ -1,8 +1,6 @@
 -- Which entries stay and which leave in a recovery.
-use Rattle.std.proofs.Common.{◌≡◌, ◌≢◌, ℕ, Bool, true, false, List, [], ◌∷◌, map, refl, sym, ◌∙◌, ap, inl, inr, ◌⊎◌}
-use Rattle.std.specs.Prelude.{if◌then◌else◌, not, ◌&&◌}
-use Rattle.iox2_container.specs.State.{Entry}
-use Rattle.iox2_container.specs.Steps.{marks_of, candidates, is_leaving, leaving, staying}
+use Rattle.iox2_container.proofs.Prelude.{[], ◌&&◌, ◌∙◌, ◌∷◌, ◌≡◌, ◌≢◌, ◌⊎◌, Bool, List, ℕ, ap, false, if◌then◌else◌, inl, inr, map, not, refl, sym, true}
+use Rattle.iox2_container.specs.Prelude.{Entry, candidates, is_leaving, leaving, marks_of, staying}
 use Rattle.iox2_container.proofs.AskedInTurn.{details_of}
 use Rattle.iox2_container.proofs.Members.{Among, DifferBy, among_less, filter_from, filter_to, other_differs, without}
 use Rattle.iox2_container.proofs.SameEntries.{passing}
@@ -55,8 +53,6 @@ staying_by {T} is_dead answer marked (e ∷ es) a =
       | true ↦ λ a.
           let first : marked e.slot ≡ answer e.details = (cc) in
           let rest : marks_of is_dead marked es ≡ map answer (details_of asked) = (cc) in
-          ap (λ b. if not b then e ∷ staying is_dead marked es else staying is_dead marked es) first
-          ∙ ap (λ (l : List (Entry T)). if not (answer e.details) then e ∷ l else l)
-          (staying_by is_dead answer marked es rest)
+          rw (first, staying_by is_dead answer marked es rest) refl
       | false ↦ λ a. ap (λ (l : List (Entry T)). e ∷ l) (staying_by is_dead answer marked es a)
     ]) a

@@ -1,19 +1,6 @@
 -- Callbacks that are asked in turn, seen through another state or with other details.
-use Rattle.std.proofs.Common.{◌≡◌, ℕ, Bool, List, [], ◌∷◌, map, refl, ◌∙◌, ap, subst, inl, inr}
-use Rattle.std.specs.Prelude.{not, ◌&&◌}
-use Rattle.std.proofs.lemmas.Simd.{map-map}
-use Rattle.std.proofs.lemmas.List.{length-map, map-id}
-use Rattle.std.proofs.lemmas.List.Elements.{filter_agree}
-use Rattle.iox2_texts.specs.Attribute.{Visits}
-use Rattle.iox2_texts.specs.declared.bounded.callback_progression.CallbackProgression.{CallbackProgression}
-use Rattle.iox2_texts.specs.declared.bounded.callback_progression.CallbackProgression.TheVariants.{Continue, Stop}
-use Rattle.iox2_container.specs.declared.container.release.ReleaseMode.{ReleaseMode}
-use Rattle.iox2_container.specs.declared.container.release.ReleaseState.{ReleaseState}
-use Rattle.iox2_container.specs.Changes.{RecoversBy}
-use Rattle.iox2_container.specs.ContainerState.{ContainerState}
-use Rattle.iox2_container.specs.State.{Entry, RegistryState}
-use Rattle.iox2_container.specs.Steps.{Asked, Visit, RecoverStep, marks_of, asked_about, candidates, is_leaving, staying}
-use Rattle.iox2_container.specs.Mapped.{entry_as, registry_as}
+use Rattle.iox2_container.proofs.Prelude.{[], ◌&&◌, ◌∙◌, ◌∷◌, ◌≡◌, Bool, List, ℕ, ap, filter_agree, inl, inr, length-map, map, map-id, map-map, not, refl}
+use Rattle.iox2_container.specs.Prelude.{Asked, CallbackProgression, ContainerState, Continue, Entry, RecoverStep, RecoversBy, RegistryState, ReleaseMode, ReleaseState, Stop, Visit, Visits, asked_about, candidates, entry_as, is_leaving, marks_of, registry_as, staying}
 use Rattle.iox2_container.proofs.Callable.{Asked-keeps}
 use Rattle.iox2_container.proofs.ListEdits.{filter-map}
 use Rattle.iox2_container.proofs.Mapped.{candidates-as, listed-as}
@@ -41,13 +28,12 @@ pub RecoversBy-through : {F G T : Type 0} (calls : F → T → Bool → F → Ty
     → RecoversBy others is_dead old (k f) mode state new (k h) × I h
 RecoversBy-through calls others k I step is_dead old f mode state new h i r =
     let s = r.step in
-    let items = asked_about is_dead old.registry in
-    let answers = marks_of is_dead s.marked old.registry.entries in
-    let a = Asked-as calls others k (λ x. x) I step f items answers h i s.asked in (
+    let a = Asked-as calls others k (λ x. x) I step f (asked_about is_dead old.registry)
+    (marks_of is_dead s.marked old.registry.entries) h i s.asked in (
       record {
         step = record {
           marked = s.marked;
-          asked = subst (λ l. Asked others (k f) l answers (k h)) (map-id items) a.0;
+          asked = rw map-id at a.0;
           recovers = s.recovers;
         };
         kept = r.kept;
@@ -93,11 +79,13 @@ module _ {T U : Type 0} (g : T → U) (is_dead : T → Bool) (is_dead' : U → B
       (marks_of is_dead r.marked old.entries) h tt r.asked in
       record {
         marked = r.marked;
-        asked = rw (asked-as old.entries) (rw (marks-as r.marked old.entries) a.0);
+        asked = rw (asked-as old.entries, marks-as r.marked old.entries) a.0;
         recovers = (
-          rw (staying-as r.marked old.entries)
-              (rw (length-map old.entries (entry_as g)) (rw (length-map new.entries (entry_as g))
-              (ap (registry_as g) r.recovers.0))),
+          rw (
+            staying-as r.marked old.entries,
+            length-map old.entries (entry_as g),
+            length-map new.entries (entry_as g),
+          ) (ap (registry_as g) r.recovers.0),
           r.recovers.1,
         );
       }

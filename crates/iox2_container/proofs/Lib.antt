@@ -1,4 +1,5 @@
 mod Walks
+pub mod Prelude
 pub mod ListEdits
 pub mod Gaining
 pub mod CellEntries

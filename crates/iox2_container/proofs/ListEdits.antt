@@ -1,9 +1,5 @@
 -- Lists in which one element was written, and lists that were mapped and filtered.
-use Rattle.std.proofs.Common.{◌≡◌, ◌≢◌, ℕ, zero, suc, ◌<◌, Bool, true, false, Some, List, [], ◌∷◌, length, map, refl, sym, ap}
-use Rattle.std.specs.Prelude.{filter, if◌then◌else◌, slice_get, slice_set}
-use Rattle.std.proofs.Math.ListN.{length-set}
-use Rattle.std.proofs.lemmas.List.{get_or-set_same}
-use Rattle.std.proofs.lemmas.Option.{slice_get_read}
+use Rattle.iox2_container.proofs.Prelude.{[], ◌<◌, ◌∷◌, ◌≡◌, ◌≢◌, Bool, List, Some, ℕ, ap, false, filter, get_or-set_same, if◌then◌else◌, length, length-set, map, refl, slice_get, slice_get_read, slice_set, suc, sym, true, zero}
 
 -- the others are as they were
 pub get_set_other : {A : Type 0} (xs : List A) (i j : ℕ) (a : A) → j ≢ i

@@ -1,23 +1,8 @@
 -- What a call does, it does with other details too.
-use Rattle.std.proofs.Common.{◌≡◌, ◌≢◌, ℕ, ◌<◌, Bool, length, Result, Ok, Err, List, [], ◌∷◌, map, refl, sym, ◌∙◌, ap, arith}
-use Rattle.std.specs.Prelude.{◌==◌, AllPairs}
-use Rattle.std.proofs.lemmas.List.{map-append, length-map}
-use Rattle.std.proofs.lemmas.List.Elements.{All-map, filter_agree}
-use Rattle.std.proofs.lemmas.Simd.{map-map}
-use Rattle.std.proofs.lemmas.List.Kept.{AllPairs-cons}
-use Rattle.iox2_container.specs.declared.container.refusal.ContainerAddFailure.{ContainerAddFailure}
-use Rattle.iox2_container.specs.declared.container.refusal.ContainerAddFailure.TheVariants.{IsLocked, OutOfSpace}
-use Rattle.iox2_container.specs.declared.container.refusal.ContainerRemoveError.{ContainerRemoveError}
-use Rattle.iox2_container.specs.declared.container.release.ReleaseMode.{ReleaseMode}
-use Rattle.iox2_container.specs.declared.container.release.ReleaseState.{ReleaseState}
-use Rattle.iox2_container.specs.Handle.{Handle}
-use Rattle.iox2_container.specs.ContainerState.{ContainerState, Reads}
-use Rattle.iox2_container.specs.State.{Entry, RegistryState, IsRegistry, handle_of}
-use Rattle.iox2_container.specs.Steps.{AddStep, RemoveStep, InsertsOne, IsUnknownHandle, HasEntry, candidates, entries_of, is_of}
+use Rattle.iox2_container.proofs.Prelude.{[], ◌<◌, ◌==◌, ◌∙◌, ◌∷◌, ◌≡◌, ◌≢◌, All-map, AllPairs, AllPairs-cons, Bool, Err, List, Ok, Result, ℕ, ap, arith, filter_agree, length, length-map, map, map-append, map-map, refl}
+use Rattle.iox2_container.specs.Prelude.{AddStep, Adds, Changes, ContainerAddFailure, ContainerRemoveError, ContainerState, Entry, Handle, HasEntry, InsertsOne, IsLocked, IsRegistry, IsUnknownHandle, OutOfSpace, Reads, RegistryState, ReleaseMode, ReleaseState, RemoveStep, Removes, candidates, container_as, entries_of, entry_as, handle_of, is_of, registry_as}
 use Rattle.iox2_container.proofs.ListEdits.{filter-map}
 use Rattle.iox2_container.proofs.Gaining.{AllPairs-head, AllPairs-tail}
-use Rattle.iox2_container.specs.Changes.{Changes, Adds, Removes}
-use Rattle.iox2_container.specs.Mapped.{entry_as, registry_as, container_as}
 
 AllPairs-map : {A B : Type 0} (R : B → B → Type 0) (g : A → B) (xs : List A)
     → AllPairs (λ x y. R (g x) (g y)) xs → AllPairs R (map g xs)
@@ -27,135 +12,129 @@ AllPairs-map R g (x ∷ xs) p =
     (All-map (R (g x)) g xs (AllPairs-head (λ x y. R (g x) (g y)) x xs p))
     (AllPairs-map R g xs (AllPairs-tail (λ x y. R (g x) (g y)) x xs p))
 
-pub IsRegistry-as : {T U : Type 0} (g : T → U) (r : RegistryState T) → IsRegistry r
-    → IsRegistry (registry_as g r)
-IsRegistry-as {T} {U} g r h = record {
-  slots_rise =
-      AllPairs-map (λ (a b : Entry U). a.slot < b.slot) (entry_as g) r.entries h.slots_rise;
-  slots_below = All-map (λ (e : Entry U). e.slot < r.capacity) (entry_as g) r.entries h.slots_below;
-  tickets_differ =
-      AllPairs-map (λ (a b : Entry U). a.ticket ≢ b.ticket) (entry_as g) r.entries h.tickets_differ;
-  tickets_used = All-map (λ (e : Entry U). e.ticket < r.used) (entry_as g) r.entries h.tickets_used;
-  budget_kept = h.budget_kept;
-  locked_is_empty = λ t. ap (map (entry_as g)) (h.locked_is_empty t);
-}
+-- an entry, a registry or a container with other details
+module _ {T U : Type 0} (g : T → U) where
+  IsRegistry-as : (r : RegistryState T) → IsRegistry r → IsRegistry (registry_as g r)
+  IsRegistry-as r h = record {
+    slots_rise = AllPairs-map (λ (a b : Entry U). a.slot < b.slot) (entry_as g) _ h.slots_rise;
+    slots_below = All-map (λ (e : Entry U). e.slot < r.capacity) (entry_as g) _ h.slots_below;
+    tickets_differ =
+        AllPairs-map (λ (a b : Entry U). a.ticket ≢ b.ticket) (entry_as g) _ h.tickets_differ;
+    tickets_used = All-map (λ (e : Entry U). e.ticket < r.used) (entry_as g) _ h.tickets_used;
+    budget_kept = h.budget_kept;
+    locked_is_empty = λ t. ap (map (entry_as g)) (h.locked_is_empty t);
+  }
 
--- a change of which the step is one with other details too
-pub Changes-as : {T U : Type 0} {Step : RegistryState T → RegistryState T
-    → Type 0} {Step' : RegistryState U → RegistryState U → Type 0} (g : T → U)
-    (old new : ContainerState T)
-    → (Step old.registry new.registry
-    → Step' (registry_as g old.registry) (registry_as g new.registry))
-    → Changes Step old new → Changes Step' (container_as g old) (container_as g new)
-Changes-as g old new step c = record {
-  step = step c.step;
-  kept = IsRegistry-as g new.registry c.kept;
-  touched = c.touched;
-}
+  -- a change of which the step is one with other details too
+  pub Changes-as : {Step : RegistryState T → RegistryState T → Type 0}
+      {Step' : RegistryState U → RegistryState U → Type 0} (old new : ContainerState T)
+      → (Step old.registry new.registry
+      → Step' (registry_as g old.registry) (registry_as g new.registry))
+      → Changes Step old new → Changes Step' (container_as g old) (container_as g new)
+  Changes-as old new step c = record {
+    step = step c.step;
+    kept = IsRegistry-as new.registry c.kept;
+    touched = c.touched;
+  }
 
-InsertsOne-as : {T U : Type 0} (g : T → U) (old new : List (Entry T)) (x : Entry T)
-    → InsertsOne old new x → InsertsOne (map (entry_as g) old) (map (entry_as g) new) (entry_as g x)
-InsertsOne-as g old new x h = record {
-  before = map (entry_as g) h.before;
-  after = map (entry_as g) h.after;
-  old_is = ap (map (entry_as g)) h.old_is ∙ map-append (entry_as g) h.before h.after;
-  new_is = ap (map (entry_as g)) h.new_is ∙ map-append (entry_as g) h.before (x ∷ h.after);
-}
+  InsertsOne-as : (old new : List (Entry T)) (x : Entry T) → InsertsOne old new x
+      → InsertsOne (map (entry_as g) old) (map (entry_as g) new) (entry_as g x)
+  InsertsOne-as old new x h = record {
+    before = map (entry_as g) h.before;
+    after = map (entry_as g) h.after;
+    old_is = ap (map (entry_as g)) h.old_is ∙ map-append (entry_as g) h.before h.after;
+    new_is = ap (map (entry_as g)) h.new_is ∙ map-append (entry_as g) h.before (x ∷ h.after);
+  }
 
-AddStep-as : {T U : Type 0} (g : T → U) (old : RegistryState T) (details : T)
-    (answer : Result Handle ContainerAddFailure) (new : RegistryState T)
-    → AddStep old details answer new
-    → AddStep (registry_as g old) (g details) answer (registry_as g new)
-AddStep-as g old details (Err IsLocked) new h = (h.0, ap (registry_as g) h.1)
-AddStep-as g old details (Err OutOfSpace) new h =
-    (h.0, rw (length-map old.entries (entry_as g)) h.1, ap (registry_as g) h.2)
-AddStep-as {T} g old details (Ok handle) new h =
-    let x : Entry T = record { slot = handle.slot; ticket = old.used; details = details } in (
-      h.0,
-      rw (length-map old.entries (entry_as g)) h.1,
-      (
-        h.2.0,
-        All-map (λ e. e.slot ≢ handle.slot) (entry_as g) old.entries h.2.1,
-        InsertsOne-as g old.entries new.entries x h.2.2,
-        ap (registry_as g) h.2.3,
-      ),
-    )
+  AddStep-as : (old : RegistryState T) (details : T) (answer : Result Handle ContainerAddFailure)
+      (new : RegistryState T) → AddStep old details answer new
+      → AddStep (registry_as g old) (g details) answer (registry_as g new)
+  AddStep-as old details (Err IsLocked) new h = (h.0, ap (registry_as g) h.1)
+  AddStep-as old details (Err OutOfSpace) new h =
+      (h.0, rw (length-map old.entries (entry_as g)) h.1, ap (registry_as g) h.2)
+  AddStep-as old details (Ok handle) new h = (
+    h.0,
+    rw (length-map old.entries (entry_as g)) h.1,
+    (
+      h.2.0,
+      All-map (λ e. e.slot ≢ handle.slot) (entry_as g) old.entries h.2.1,
+      InsertsOne-as old.entries new.entries _ h.2.2,
+      ap (registry_as g) h.2.3,
+    ),
+  )
 
-RemoveStep-as : {T U : Type 0} (g : T → U) (old : RegistryState T) (handle : Handle)
-    (mode : ReleaseMode) (answer : Result ReleaseState ContainerRemoveError)
-    (new : RegistryState T) → RemoveStep old handle mode answer new
-    → RemoveStep (registry_as g old) handle mode answer (registry_as g new)
-RemoveStep-as g old handle mode (Err e) new h = (
-  All-map (λ x. handle ≢ handle_of (registry_as g old) x) (entry_as g) old.entries h.0,
-  ap (registry_as g) h.1,
-)
-RemoveStep-as g old handle mode (Ok state) new h = (
-  (
-    entry_as g h.0.0,
-    h.0.1,
-    InsertsOne-as g new.entries old.entries h.0.0 h.0.2,
-    rw (length-map old.entries (entry_as g))
-        (rw (length-map new.entries (entry_as g)) (ap (registry_as g) h.0.3)),
-  ),
-  h.1,
-)
+  -- who has a handle
+  pub IsUnknownHandle-as : (r : RegistryState T) (handle : Handle) → IsUnknownHandle r handle
+      → IsUnknownHandle (registry_as g r) handle
+  IsUnknownHandle-as r handle h =
+      All-map (λ x. handle ≢ handle_of (registry_as g r) x) (entry_as g) r.entries h
 
-pub Adds-as : {T U : Type 0} (g : T → U) (old : ContainerState T) (details : T)
-    (answer : Result Handle ContainerAddFailure) (new : ContainerState T)
-    → Adds old details answer new
-    → Adds (container_as g old) (g details) answer (container_as g new)
-Adds-as g old details answer new =
-    Changes-as g old new (AddStep-as g old.registry details answer new.registry)
+  pub HasEntry-as : (r : RegistryState T) (handle : Handle) (details : T)
+      → HasEntry r handle details → HasEntry (registry_as g r) handle (g details)
+  HasEntry-as r handle details h = (
+    entry_as g h.0,
+    h.1,
+    ap g h.2,
+    (map (entry_as g) h.3.0, InsertsOne-as h.3.0 r.entries h.0 h.3.1),
+  )
 
-pub Removes-as : {T U : Type 0} (g : T → U) (old : ContainerState T) (handle : Handle)
-    (mode : ReleaseMode) (answer : Result ReleaseState ContainerRemoveError)
-    (new : ContainerState T) → Removes old handle mode answer new
-    → Removes (container_as g old) handle mode answer (container_as g new)
-Removes-as g old handle mode answer new =
-    Changes-as g old new (RemoveStep-as g old.registry handle mode answer new.registry)
+  RemoveStep-as : (old : RegistryState T) (handle : Handle) (mode : ReleaseMode)
+      (answer : Result ReleaseState ContainerRemoveError) (new : RegistryState T)
+      → RemoveStep old handle mode answer new
+      → RemoveStep (registry_as g old) handle mode answer (registry_as g new)
+  RemoveStep-as old handle mode (Err e) new h =
+      (IsUnknownHandle-as old handle h.0, ap (registry_as g) h.1)
+  RemoveStep-as old handle mode (Ok state) new h = (
+    (
+      entry_as g h.0.0,
+      h.0.1,
+      InsertsOne-as new.entries old.entries h.0.0 h.0.2,
+      rw (length-map old.entries (entry_as g), length-map new.entries (entry_as g))
+          (ap (registry_as g) h.0.3),
+    ),
+    h.1,
+  )
 
-pub listed-as : {T U : Type 0} (g : T → U) (es : List (Entry T))
-    → map (λ e. e.details) (map (entry_as g) es) ≡ map g (map (λ e. e.details) es)
-listed-as g es = map-map (λ e. e.details) (entry_as g) es ∙ sym (map-map g (λ e. e.details) es)
+  pub Adds-as : (old : ContainerState T) (details : T) (answer : Result Handle ContainerAddFailure)
+      (new : ContainerState T) → Adds old details answer new
+      → Adds (container_as g old) (g details) answer (container_as g new)
+  Adds-as old details answer new =
+      Changes-as old new (AddStep-as old.registry details answer new.registry)
 
--- the candidates, with other details
-pub candidates-as : {T U : Type 0} (g : T → U) (is_dead : T → Bool) (is_dead' : U → Bool)
-    → ((x : T) → is_dead' (g x) ≡ is_dead x) → (es : List (Entry T))
-    → candidates is_dead' (map (entry_as g) es) ≡ map (entry_as g) (candidates is_dead es)
-candidates-as g is_dead is_dead' same es =
-    filter-map (λ e. is_dead' e.details) (entry_as g) es
-    ∙ ap (map (entry_as g))
-    (filter_agree (λ e. is_dead' (g e.details)) (λ e. is_dead e.details)
-    (λ e. same e.details) es)
+  pub Removes-as : (old : ContainerState T) (handle : Handle) (mode : ReleaseMode)
+      (answer : Result ReleaseState ContainerRemoveError) (new : ContainerState T)
+      → Removes old handle mode answer new
+      → Removes (container_as g old) handle mode answer (container_as g new)
+  Removes-as old handle mode answer new =
+      Changes-as old new (RemoveStep-as old.registry handle mode answer new.registry)
 
-pub entries_of-as : {T U : Type 0} (g : T → U) (node : T → ℕ) (node' : U → ℕ)
-    → ((x : T) → node' (g x) ≡ node x) → (id : ℕ) (r : RegistryState T)
-    → entries_of node' id (registry_as g r) ≡ entries_of node id r
-entries_of-as g node node' same id r =
-    ap length
-    (candidates-as g (is_of node id) (is_of node' id) (λ x. ap (λ n. n == id) (same x)) r.entries)
-    ∙ length-map (candidates (is_of node id) r.entries) (entry_as g)
+  pub listed-as : (es : List (Entry T))
+      → map (λ e. e.details) (map (entry_as g) es) ≡ map g (map (λ e. e.details) es)
+  listed-as es = simp map-map
 
--- slots that were read
-pub Reads-as : {T U : Type 0} (g : T → U) (old new : ContainerState T) → Reads old new
-    → Reads (container_as g old) (container_as g new)
-Reads-as g old new reads = (ap (registry_as g) reads.0, reads.1, reads.2)
+  -- the candidates
+  pub candidates-as : (is_dead : T → Bool) (is_dead' : U → Bool)
+      → ((x : T) → is_dead' (g x) ≡ is_dead x) → (es : List (Entry T))
+      → candidates is_dead' (map (entry_as g) es) ≡ map (entry_as g) (candidates is_dead es)
+  candidates-as is_dead is_dead' same es =
+      filter-map (λ e. is_dead' e.details) (entry_as g) es
+      ∙ ap (map (entry_as g))
+      (filter_agree (λ e. is_dead' (g e.details)) (λ e. is_dead e.details)
+      (λ e. same e.details) es)
+
+  pub entries_of-as : (node : T → ℕ) (node' : U → ℕ) → ((x : T) → node' (g x) ≡ node x)
+      → (id : ℕ) (r : RegistryState T)
+      → entries_of node' id (registry_as g r) ≡ entries_of node id r
+  entries_of-as node node' same id r =
+      ap length
+      (candidates-as (is_of node id) (is_of node' id) (λ x. ap (λ n. n == id) (same x)) r.entries)
+      ∙ length-map (candidates (is_of node id) r.entries) (entry_as g)
+
+  -- slots that were read
+  pub Reads-as : (old new : ContainerState T) → Reads old new
+      → Reads (container_as g old) (container_as g new)
+  Reads-as old new reads = (ap (registry_as g) reads.0, reads.1, reads.2)
 
 -- slots that were not
 pub no_reads : {T : Type 0} (c : ContainerState T) → Reads c c
 no_reads c = (refl, omega arith, omega arith)
-
--- who has a handle, and whether there is room, with other details
-pub IsUnknownHandle-as : {T U : Type 0} (g : T → U) (r : RegistryState T) (handle : Handle)
-    → IsUnknownHandle r handle → IsUnknownHandle (registry_as g r) handle
-IsUnknownHandle-as g r handle h =
-    All-map (λ x. handle ≢ handle_of (registry_as g r) x) (entry_as g) r.entries h
-
-pub HasEntry-as : {T U : Type 0} (g : T → U) (r : RegistryState T) (handle : Handle) (details : T)
-    → HasEntry r handle details → HasEntry (registry_as g r) handle (g details)
-HasEntry-as g r handle details h = (
-  entry_as g h.0,
-  h.1,
-  ap g h.2,
-  (map (entry_as g) h.3.0, InsertsOne-as g h.3.0 r.entries h.0 h.3.1),
-)

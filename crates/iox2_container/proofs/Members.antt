@@ -1,9 +1,6 @@
 -- Members of lists, and what they say of lists of entries that gain one.
-use Rattle.std.proofs.Common.{◌≡◌, ◌≢◌, ℕ, zero, suc, Bool, true, false, cond, List, [], ◌∷◌, ◌++◌, refl, sym, ◌∙◌, ap, subst, arith, inl, inr, ◌⊎◌, Contains, Any}
-use Rattle.std.specs.Prelude.{All, AllPairs, filter}
-use Rattle.std.proofs.lemmas.List.Elements.{All-head, All-tail}
-use Rattle.iox2_container.specs.State.{Entry}
-use Rattle.iox2_container.specs.Steps.{InsertsOne}
+use Rattle.iox2_container.proofs.Prelude.{[], ◌++◌, ◌∙◌, ◌∷◌, ◌≡◌, ◌≢◌, ◌⊎◌, All, All-head, All-tail, AllPairs, Any, Bool, Contains, List, ℕ, ap, arith, cond, false, filter, inl, inr, refl, subst, suc, sym, true, zero}
+use Rattle.iox2_container.specs.Prelude.{Entry, InsertsOne}
 use Rattle.iox2_container.proofs.CellEntries.{gains_later}
 use Rattle.iox2_container.proofs.Gaining.{AllPairs-head, AllPairs-tail}
 
@@ -36,7 +33,7 @@ of_all P (y ∷ ys) x h (inl e) = subst P (sym e) (All-head P y ys h)
 of_all P (y ∷ ys) x h (inr a) = of_all P ys x (All-tail P y ys h) a
 
 pub moved : {X : Type 0} (x : X) (xs ys : List X) → xs ≡ ys → Among x xs → Among x ys
-moved {X} x xs ys e h = subst (λ (l : List X). Among x l) e h
+moved x xs ys e h = rw e at h
 
 among_put : {X : Type 0} (b a : List X) (x y : X) → Among y (b ++ a) → Among y (b ++ x ∷ a)
 among_put [] a x y h = inr h
@@ -77,16 +74,10 @@ pub record Without {T : Type 0} (es : List (Entry T)) (x : Entry T) : Type 0 whe
 
 pub without : {T : Type 0} (es : List (Entry T)) (x : Entry T) → Among x es → Without es x
 without [] x h = absurd h
-without {T} (e ∷ es) x (inl p) =
-    record {
-      rest = es;
-      gains = record {
-        before = [];
-        after = es;
-        old_is = refl;
-        new_is = ap (λ (y : Entry T). y ∷ es) (sym p);
-      };
-    }
+without (e ∷ es) x (inl p) = record {
+  rest = es;
+  gains = record { before = []; after = es; old_is = refl; new_is = rw p refl };
+}
 without (e ∷ es) x (inr h) =
     let w = without es x h in
     record { rest = e ∷ w.rest; gains = gains_later w.rest es x e w.gains }

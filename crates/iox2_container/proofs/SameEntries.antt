@@ -1,11 +1,6 @@
 -- Lists of entries that hold the same details with the same tickets, whatever their slots are.
-use Rattle.std.proofs.Common.{◌≡◌, ◌≢◌, ℕ, Bool, List, [], ◌∷◌, ◌++◌, refl, sym, ◌∙◌, ap, subst, inl, inr}
-use Rattle.std.specs.Prelude.{filter}
-use Rattle.std.specs.List.Sorted.{IsPermutation}
-use Rattle.std.proofs.lemmas.List.{map-append}
-use Rattle.std.proofs.lemmas.List.Sorted.{IsPermutation-refl, IsPermutation-sym, IsPermutation-trans, IsPermutation-cons, IsPermutation-middle}
-use Rattle.iox2_container.specs.State.{Entry}
-use Rattle.iox2_container.specs.Steps.{InsertsOne}
+use Rattle.iox2_container.proofs.Prelude.{[], ◌++◌, ◌∙◌, ◌∷◌, ◌≡◌, ◌≢◌, Bool, IsPermutation, IsPermutation-cons, IsPermutation-middle, IsPermutation-refl, IsPermutation-sym, IsPermutation-trans, List, ℕ, ap, filter, inl, inr, map-append, refl, subst, sym}
+use Rattle.iox2_container.specs.Prelude.{Entry, InsertsOne}
 use Rattle.iox2_container.proofs.Keeping.{AllPairs-loss}
 use Rattle.iox2_container.proofs.AskedInTurn.{details_of}
 use Rattle.iox2_container.proofs.Members.{Among, gained, among_more, among_less, without, DifferBy, head_differs, rest_differ, other_differs, filter_from, filter_to}
@@ -25,17 +20,17 @@ AreAmong {T} es fs = (ticket : ℕ) (details : T) → HoldsEntry es ticket detai
 
 details_without : {T : Type 0} (rest es : List (Entry T)) (x : Entry T) → InsertsOne rest es x
     → IsPermutation (x.details ∷ details_of rest) (details_of es)
-details_without {T} rest es x g =
+details_without rest es x g =
     let b = details_of g.before in
     let a = details_of g.after in
-    let rest_is : details_of rest ≡ b ++ a = ap details_of g.old_is
-    ∙ map-append (λ e. e.details) g.before g.after in
-    let es_is : details_of es ≡ b ++ x.details ∷ a = ap details_of g.new_is
-    ∙ map-append (λ e. e.details) g.before (x ∷ g.after) in
-    subst (λ (l : List T). IsPermutation (x.details ∷ l) (details_of es)) (sym rest_is)
-    (subst (λ (l : List T). IsPermutation (x.details ∷ (b ++ a)) l) (sym es_is)
+    rw (
+      g.old_is,
+      g.new_is,
+      map-append (λ e. e.details) g.before g.after,
+      map-append (λ e. e.details) g.before (x ∷ g.after),
+    )
     (IsPermutation-sym (b ++ x.details ∷ a) (x.details ∷ (b ++ a))
-    (IsPermutation-middle b x.details a)))
+    (IsPermutation-middle b x.details a))
 
 -- lists that hold the same are the same but for the order
 pub same_members : {T : Type 0} (xs ys : List (Entry T)) → DifferBy ticket_in xs
@@ -71,7 +66,7 @@ same_members {T} (x ∷ xs) ys p q f g =
     (details_without w.rest ys h.0 w.gains))
 
 pub nothing_within : {T : Type 0} (es fs : List (Entry T)) → es ≡ [] → AreAmong es fs
-nothing_within {T} es fs e t d k = absurd (subst (λ (l : List (Entry T)). Among k.0 l) e k.1)
+nothing_within es fs e t d k = absurd (rw e at k.1)
 
 pub within_after_add : {T : Type 0} (es fs es' fs' : List (Entry T)) (x y : Entry T)
     → InsertsOne es es' x → InsertsOne fs fs' y → x.ticket ≡ y.ticket → x.details ≡ y.details
@@ -84,8 +79,7 @@ within_after_add es fs es' fs' x y ge gf same_ticket same_details f t d k =
         y,
         gained fs fs' y gf,
         k.2 ∙ (ap ticket_in e ∙ same_ticket),
-        k.3
-            ∙ (ap (λ v. v.details) e ∙ same_details),
+        k.3 ∙ (ap (λ v. v.details) e ∙ same_details),
       )
     ]
 

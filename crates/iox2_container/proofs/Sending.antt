@@ -11,14 +11,14 @@ use Rattle.std.specs.contracts.prelude.OptionDebug.TheImpl as OptionDebug
 use Rattle.std.specs.contracts.prelude.UsizeDebug.TheImpl as UsizeDebug
 use Rattle.std.specs.declared.clone.Clone.{Ghosts as CloneGhosts}
 use Rattle.std.specs.declared.fmt.Debug.{Ghosts as DebugGhosts}
-use Rattle.iox2_container.specs.contracts.container.slots.cell.Cell as Cell
+use Rattle.iox2_container.specs.contracts.container.slots.Cell as Cell
 use Rattle.iox2_container.specs.contracts.container.free.free_list.FreeList as FreeList
 use Rattle.iox2_container.specs.contracts.container.free.free_list.FreeListSlotAllocator.TheImpl as FreeListSlotAllocator
-use Rattle.iox2_container.specs.contracts.container.registry_header.RegistryHeader as RegistryHeader
+use Rattle.iox2_container.specs.contracts.container.slot_map.RegistryHeader as RegistryHeader
 use Rattle.iox2_container.specs.contracts.container.slot_map.SlotMap as SlotMap
 use Rattle.iox2_container.specs.contracts.container.slot_map.SlotMap.TheInside as Inside
 use Rattle.iox2_container.specs.contracts.container.slots.Slots as Slots
-use Rattle.iox2_container.specs.contracts.container.slots.touches.Touches as Touches
+use Rattle.iox2_container.specs.contracts.container.slots.Touches as Touches
 use Rattle.iox2_container.specs.declared.container.free.slot_allocator.SlotAllocator.{Ghosts as SlotAllocatorGhosts}
 
 Touches-send : IsSend Touches.the_row

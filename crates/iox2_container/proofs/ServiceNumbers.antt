@@ -1,8 +1,5 @@
 -- Numbers of services rise.
-use Rattle.std.proofs.Common.{ℕ, ◌<◌, ◌≤◌, List, [], ◌∷◌, arith}
-use Rattle.std.specs.Prelude.{All}
-use Rattle.std.proofs.lemmas.List.Elements.{All-nil, All-cons}
-use Rattle.std.proofs.lemmas.List.Kept.{AllPairs-cons}
+use Rattle.iox2_container.proofs.Prelude.{[], ◌<◌, ◌∷◌, ◌≤◌, All, All-cons, All-nil, AllPairs-cons, List, ℕ, arith}
 use Rattle.iox2_container.specs.ServiceNumbers.{ReturnInTurn, NumbersRise}
 
 -- each is greater than the last one before them

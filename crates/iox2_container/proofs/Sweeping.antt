@@ -1,19 +1,6 @@
 -- What a sweep leaves.
-use Rattle.std.proofs.Common.{◌≡◌, ℕ, zero, suc, ◌+◌, ◌<◌, ◌≤◌, Bool, true, false, Option, Some, None, List, [], ◌∷◌, ◌++◌, length, take, map, refl, sym, ◌∙◌, ap, subst, arith, length-append, add-one, inl, inr}
-use Rattle.std.proofs.Math.ListN.{length-set}
-use Rattle.std.specs.Prelude.{All, IsTrue, filter, not, slice_get, slice_set, if◌then◌else◌, ◌&&◌, ◌==◌}
-use Rattle.std.specs.Bool.{MatchBool}
-use Rattle.std.proofs.lemmas.List.Elements.{All-filter, All-head, All-tail, All-weaker, filter-append}
-use Rattle.std.proofs.lemmas.List.{append-nil, length-take, map-append}
-use Rattle.std.proofs.lemmas.Bool.{eq-eqb, ne_eqb}
-use Rattle.std.proofs.lemmas.Bool.Decides.{leb_tells}
-use Rattle.std.proofs.lemmas.Option.{slice_get_within}
-use Rattle.iox2_container.specs.declared.container.slots.cell.Occupant.{Occupant}
-use Rattle.iox2_container.specs.Cells.{occupant}
-use Rattle.iox2_container.specs.State.{Entry}
-use Rattle.iox2_container.specs.Places.{entries_from}
-use Rattle.iox2_container.specs.Passes.{AreOthers, PlaceIsOf, Swept, SweptCell, cell_is_of}
-use Rattle.iox2_container.specs.Steps.{Asked, candidates, is_leaving, is_of, staying}
+use Rattle.iox2_container.proofs.Prelude.{[], ◌++◌, ◌+◌, ◌<◌, ◌==◌, ◌∙◌, ◌∷◌, ◌≡◌, ◌≤◌, All, All-filter, All-head, All-tail, All-weaker, Bool, IsTrue, List, None, Option, Some, ℕ, add-one, ap, append-nil, arith, eq-eqb, false, filter-append, if◌then◌else◌, inl, inr, leb_tells, length, length-append, length-set, length-take, map, map-append, ne_eqb, not, refl, slice_get, slice_get_within, slice_set, subst, suc, sym, take, true, zero}
+use Rattle.iox2_container.specs.Prelude.{AreOthers, Entry, Occupant, PlaceIsOf, Swept, candidates, cell_is_of, entries_from, is_leaving, is_of, occupant, staying}
 use Rattle.iox2_container.proofs.AskedInTurn.{Asked-push, details_of, taken_more, taken_free}
 use Rattle.iox2_container.proofs.CellEntries.{below_from}
 use Rattle.iox2_container.proofs.ListEdits.{get_set_other}
@@ -31,109 +18,92 @@ module _ {T : Type 0} (is_dead : T → Bool) (marked : ℕ → Bool) (slot : ℕ
       → map (λ e. mark_at marked slot b e.slot) es ≡ map (λ e. marked e.slot) es
   answers_before [] h = refl
   answers_before (e ∷ es) h =
-      rw (mark_before e.slot (All-head (λ (v : Entry T). v.slot < slot) e es h))
-      (ap (λ l. marked e.slot ∷ l)
-      (answers_before es (All-tail (λ (v : Entry T). v.slot < slot) e es h)))
+      rw (
+        mark_before e.slot (All-head (λ (v : Entry T). v.slot < slot) e es h),
+        answers_before es (All-tail (λ (v : Entry T). v.slot < slot) e es h),
+      ) refl
 
   staying_before : (es : List (Entry T)) → All (λ e. e.slot < slot) es
       → staying is_dead (mark_at marked slot b) es ≡ staying is_dead marked es
   staying_before [] h = refl
   staying_before (e ∷ es) h =
-      rw (mark_before e.slot (All-head (λ (v : Entry T). v.slot < slot) e es h))
-      (ap (λ (l : List (Entry T)). if not (is_leaving is_dead marked e) then e ∷ l else l)
-      (staying_before es (All-tail (λ (v : Entry T). v.slot < slot) e es h)))
-
--- one more was asked about, if it is a candidate
-asked_more : {F T : Type 0} (calls : F → T → Bool → F → Type 0) (f g h : F)
-    (asked : List (Entry T)) (answers : List Bool) (x : Entry T) (goes b : Bool)
-    → MatchBool b (calls g x.details goes h) ((goes ≡ false) × (h ≡ g))
-    → Asked calls f (details_of asked) answers g
-    → Asked calls f (details_of (asked ++ (if b then x ∷ [] else [])))
-    (answers ++ (if b then goes ∷ [] else [])) h
-asked_more calls f g h asked answers x goes true s a =
-    rw (map-append (λ e. e.details) asked (x ∷ []))
-    (Asked-push calls f (details_of asked) answers g x.details goes h a s)
-asked_more calls f g h asked answers x goes false s a =
-    rw (append-nil asked) (rw (append-nil answers) (rw s.1 a))
-
-only_candidates : (A B : Type 0) (b goes : Bool) → MatchBool b A ((goes ≡ false) × B)
-    → (b && goes) ≡ goes
-only_candidates A B true goes s = refl
-only_candidates A B false goes s = sym s.0
+      rw (
+        mark_before e.slot (All-head (λ (v : Entry T). v.slot < slot) e es h),
+        staying_before es (All-tail (λ (v : Entry T). v.slot < slot) e es h),
+      ) refl
 
 one_place : {X : Type 0} (x : X) (goes : Bool)
     → length (if goes then [] else x ∷ []) + (if goes then 1 else 0) ≡ 1
 one_place x true = refl
 one_place x false = refl
 
--- one entry more, after those swept
-swept_more : {F T : Type 0} (calls : F → T → Bool → F → Type 0) (is_dead : T → Bool) (f g h : F)
-    (old new : List (Entry T)) (gone : ℕ) (x : Entry T) (goes : Bool)
-    → All (λ e. e.slot < x.slot) old
-    → MatchBool (is_dead x.details) (calls g x.details goes h) ((goes ≡ false) × (h ≡ g))
-    → Swept calls is_dead f old g new gone
-    → Swept calls is_dead f (old ++ x ∷ []) h (new ++ (if goes then [] else x ∷ []))
-    (gone + (if goes then 1 else 0))
-swept_more {F} {T} calls is_dead f g h old new gone x goes below s w =
-    let b = is_dead x.details in
-    let marks : ℕ → Bool = mark_at w.marked x.slot goes in
-    let asked : List (Entry T) = candidates is_dead old in
-    let answers : List Bool = map (λ e. w.marked e.slot) asked in
-    let stays : Entry T → Bool = λ e. not (is_leaving is_dead marks e) in
-    let its : marks x.slot ≡ goes =
-    ap (λ c. if c then goes else w.marked x.slot) (eq-eqb x.slot x.slot refl) in
-    let answers_are : map (λ e. marks e.slot) (asked ++ (if b then x ∷ [] else []))
-    ≡ answers ++ (if b then goes ∷ [] else []) =
-    map-append (λ e. marks e.slot) asked (if b then x ∷ [] else [])
-    ∙ (ap (λ l. l ++ map (λ e. marks e.slot) (if b then x ∷ [] else []))
-    (answers_before is_dead w.marked x.slot goes asked
-    (All-filter (λ e. is_dead e.details) (λ (e : Entry T). e.slot < x.slot) old below))
-    ∙ elim b as (λ c. answers ++ map (λ e. marks e.slot) (if c then x ∷ [] else [])
-    ≡ answers ++ (if c then goes ∷ [] else [])) [
-      | true ↦ ap (λ a. answers ++ a ∷ []) its
-      | false ↦ refl
-    ]) in
-    let left_are : filter stays (x ∷ []) ≡ (if goes then [] else x ∷ []) =
-    ap (λ a. if not (b && a) then x ∷ [] else []) its
-    ∙ (ap (λ a. if not a then x ∷ [] else []) (only_candidates _ _ b goes s)
-    ∙ elim goes as (λ a. (if not a then x ∷ [] else []) ≡ (if a then [] else x ∷ [])) [
-      | true ↦ refl
-      | false ↦ refl
-    ]) in
-    record {
-      marked = marks;
-      asked = rw (filter-append (λ (e : Entry T). is_dead e.details) old (x ∷ []))
-          (rw answers_are (asked_more calls f g h asked answers x goes b s w.asked));
-      left_is = ap (λ (l : List (Entry T)). l ++ (if goes then [] else x ∷ [])) w.left_is
-          ∙ sym (filter-append stays old (x ∷ [])
-          ∙ (ap (λ l. l ++ filter stays (x ∷ []))
-          (staying_before is_dead w.marked x.slot goes old below)
-          ∙ ap (λ l. staying is_dead w.marked old ++ l) left_are));
-      gone_is = omega (
-        arith,
-        w.gone_is,
-        length-append new (if goes then [] else x ∷ []),
-        length-append old (x ∷ []),
-        one_place x goes,
-      );
+unless : {X : Type 0} (x : X) (goes : Bool)
+    → (if not goes then x ∷ [] else []) ≡ (if goes then [] else x ∷ [])
+unless x true = refl
+unless x false = refl
+
+-- one entry more, after those swept: another one, or one that the callback is asked about
+module _ {F T : Type 0} (calls : F → T → Bool → F → Type 0) (is_dead : T → Bool) (f g : F)
+    (old new : List (Entry T)) (gone : ℕ) (x : Entry T) (w : Swept calls is_dead f old g new gone)
+  where
+    swept_other : is_dead x.details ≡ false
+        → Swept calls is_dead f (old ++ x ∷ []) g (new ++ x ∷ []) gone
+    swept_other e = record {
+      marked = w.marked;
+      asked = rw (filter-append (λ (v : Entry T). is_dead v.details) old (x ∷ []), e, append-nil)
+          w.asked;
+      left_is =
+          rw (filter-append (λ (v : Entry T). not (is_leaving is_dead w.marked v)) old (x ∷ []), e)
+          (ap (λ l. l ++ x ∷ []) w.left_is);
+      gone_is = omega (arith, w.gone_is, length-append new (x ∷ []), length-append old (x ∷ []));
     }
 
-pub add_zero : (n : ℕ) → n ≡ n + 0
-add_zero n = omega arith
-
-abbrev Sweeps : {F T : Type 0} → (F → T → Bool → F → Type 0) → (T → Bool) → F
-    → List (Option (Occupant T)) → ℕ → F → List (Option (Occupant T)) → ℕ → Type 0
-Sweeps calls is_dead f cells i g left gone =
-    Swept calls is_dead f (entries_from 0 (take i cells)) g (entries_from 0 (take i left)) gone
+    swept_one : (h : F) (goes : Bool) → All (λ v. v.slot < x.slot) old → is_dead x.details ≡ true
+        → calls g x.details goes h
+        → Swept calls is_dead f (old ++ x ∷ []) h (new ++ (if goes then [] else x ∷ []))
+        (gone + (if goes then 1 else 0))
+    swept_one h goes below e called =
+        let marks : ℕ → Bool = mark_at w.marked x.slot goes in
+        let asked : List (Entry T) = candidates is_dead old in
+        let its : marks x.slot ≡ goes =
+        ap (λ c. if c then goes else w.marked x.slot) (eq-eqb x.slot x.slot refl) in
+        record {
+          marked = marks;
+          asked = rw (
+            filter-append (λ (v : Entry T). is_dead v.details) old (x ∷ []),
+            e,
+            map-append (λ v. v.details) asked (x ∷ []),
+            map-append (λ v. marks v.slot) asked (x ∷ []),
+            answers_before is_dead w.marked x.slot goes asked
+                (All-filter (λ v. is_dead v.details) (λ (v : Entry T). v.slot < x.slot) old below),
+            its,
+          )
+              (Asked-push calls f (details_of asked) (map (λ v. w.marked v.slot) asked) g x.details
+              goes h w.asked called);
+          left_is =
+              rw (
+                filter-append (λ (v : Entry T). not (is_leaving is_dead marks v)) old (x ∷ []),
+                staying_before is_dead w.marked x.slot goes old below,
+                e,
+                its,
+                unless x goes,
+              )
+              (ap (λ l. l ++ (if goes then [] else x ∷ [])) w.left_is);
+          gone_is = omega (
+            arith,
+            w.gone_is,
+            length-append new (if goes then [] else x ∷ []),
+            length-append old (x ∷ []),
+            one_place x goes,
+          );
+        }
 
 cleared : {T : Type 0} (low i : ℕ) (cells : List (Option (Occupant T))) → i < length cells
     → entries_from low (take (suc i) (slice_set cells i None)) ≡ entries_from low (take i cells)
 cleared low i [] h = absurd (omega arith)
 cleared low zero (c ∷ cells) h = refl
 cleared low (suc i) (None ∷ cells) h = cleared (low + 1) i cells (omega arith)
-cleared {T} low (suc i) (Some o ∷ cells) h =
-    let y : Entry T = record { slot = low; ticket = o.ticket; details = o.details } in
-    ap (λ (l : List (Entry T)). y ∷ l) (cleared (low + 1) i cells (omega arith))
+cleared low (suc i) (Some o ∷ cells) h = rw (cleared (low + 1) i cells (omega arith)) refl
 
 below_taken : {T : Type 0} (i : ℕ) (cells : List (Option (Occupant T)))
     → All (λ (e : Entry T). e.slot < i) (entries_from 0 (take i cells))
@@ -152,27 +122,33 @@ left_more m i x true im e =
     ∙ sym (cleared 0 i m (slice_get_within m i (Some (occupant x.ticket x.details)) im))
 left_more m i x false im e = sym (taken_more 0 i m x im (omega arith))
 
-pub swept_cell : {F T : Type 0} (calls : F → T → Bool → F → Type 0) (is_dead : T → Bool) (f g h : F)
-    (cs m : List (Option (Occupant T))) (i gone : ℕ) (cell : Option (Occupant T)) (goes : Bool)
-    → slice_get cs i ≡ Some cell → slice_get m i ≡ Some cell → SweptCell calls is_dead g cell goes h
-    → Sweeps calls is_dead f cs i g m gone
-    → Sweeps calls is_dead f cs (suc i) h (if goes then slice_set m i None else m)
-    (gone + (if goes then 1 else 0))
-swept_cell {F} {T} calls is_dead f g h cs m i gone (Some o) goes is im a w =
-    let x : Entry T = record { slot = i; ticket = o.ticket; details = o.details } in
-    rw (taken_more 0 i cs x is (omega arith))
-    (rw (sym (left_more m i x goes im refl))
-    (swept_more calls is_dead f g h (entries_from 0 (take i cs)) (entries_from 0 (take i m)) gone x
-    goes (below_taken i cs) a w))
-swept_cell {F} {T} calls is_dead f g h cs m i gone None goes is im a w =
-    rw a.0
-    (rw a.1 (rw (taken_free 0 i cs is) (rw (taken_free 0 i m im) (rw (sym (add_zero gone)) w))))
+-- one cell more is swept
+module _ {F T : Type 0} (calls : F → T → Bool → F → Type 0) (node : T → ℕ) (id : ℕ) (f g : F)
+    (cs m : List (Option (Occupant T))) (i gone : ℕ)
+    (w : Swept calls (is_of node id) f (entries_from 0 (take i cs)) g (entries_from 0 (take i m))
+    gone) where
+  pub past_cell : (cell : Option (Occupant T)) → slice_get cs i ≡ Some cell
+      → slice_get m i ≡ Some cell → false ≡ cell_is_of node id cell
+      → Swept calls (is_of node id) f (entries_from 0 (take (suc i) cs)) g
+      (entries_from 0 (take (suc i) m)) gone
+  past_cell None is im e = rw (taken_free 0 i cs is, taken_free 0 i m im) w
+  past_cell (Some o) is im e =
+      let x : Entry T = record { slot = i; ticket = o.ticket; details = o.details } in
+      rw (taken_more 0 i cs x is (omega arith), taken_more 0 i m x im (omega arith))
+      (swept_other calls (is_of node id) f g (entries_from 0 (take i cs))
+      (entries_from 0 (take i m)) gone x w (sym e))
 
-pub other_swept : {F T : Type 0} (calls : F → T → Bool → F → Type 0) (node : T → ℕ) (id : ℕ) (g : F)
-    (cell : Option (Occupant T)) → false ≡ cell_is_of node id cell
-    → SweptCell calls (is_of node id) g cell false g
-other_swept calls node id g None e = (refl, refl)
-other_swept calls node id g (Some o) e = rw (sym e) (refl, refl)
+  pub found_cell : (h : F) (goes : Bool) (x : Entry T) → x.slot ≡ i
+      → slice_get cs i ≡ Some (Some (occupant x.ticket x.details))
+      → slice_get m i ≡ Some (Some (occupant x.ticket x.details))
+      → is_of node id x.details ≡ true → calls g x.details goes h
+      → Swept calls (is_of node id) f (entries_from 0 (take (suc i) cs)) h
+      (entries_from 0 (take (suc i) (if goes then slice_set m i None else m)))
+      (gone + (if goes then 1 else 0))
+  found_cell h goes x at is im e called =
+      rw (taken_more 0 i cs x is (omega arith), ← left_more m i x goes im at)
+      (swept_one calls (is_of node id) f g (entries_from 0 (take i cs)) (entries_from 0 (take i m))
+      gone x w h goes (rw at (below_taken i cs)) e called)
 
 -- what holds at a place, and goes on over each place where no entry of the node stands, holds at
 -- the end of such places

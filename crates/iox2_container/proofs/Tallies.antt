@@ -1,10 +1,6 @@
 -- Callbacks that count what they are asked about.
-use Rattle.std.proofs.Common.{◌≡◌, ℕ, ◌+◌, ◌<◌, List, [], ◌∷◌, length, refl, ◌∙◌, ap, arith, inl, inr}
-use Rattle.iox2_texts.specs.Attribute.{Visits}
-use Rattle.iox2_texts.specs.declared.bounded.callback_progression.CallbackProgression.{CallbackProgression}
-use Rattle.iox2_texts.specs.declared.bounded.callback_progression.CallbackProgression.TheVariants.{Continue, Stop}
-use Rattle.iox2_container.specs.Callbacks.{CanBeAsked, CanVisit}
-use Rattle.iox2_container.specs.Steps.{Asked, Visit}
+use Rattle.iox2_container.proofs.Prelude.{[], ◌+◌, ◌<◌, ◌∙◌, ◌∷◌, ◌≡◌, List, ℕ, ap, arith, inl, inr, length, refl}
+use Rattle.iox2_container.specs.Prelude.{Asked, CallbackProgression, CanBeAsked, CanVisit, Continue, Stop, Visit, Visits}
 use Rattle.iox2_container.proofs.Callable.{Asked-keeps, CanBeAsked-by, CanVisit-by}
 
 -- a callback that counts one more at each call, and may be called while the count is below a bound

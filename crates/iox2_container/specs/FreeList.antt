@@ -1,7 +1,7 @@
 -- Free slots in a list that is linked through their cells.
 use Rattle.std.specs.Prelude.{◌≡◌, ◌≢◌, ℕ, ◌+◌, ◌≤◌, ◌<◌, Option, Some, None, List, [], ◌∷◌, length, map, slice_get, All, ⊤}
-use Rattle.iox2_container.specs.declared.container.slots.cell.Cell.{Cell}
-use Rattle.iox2_container.specs.declared.container.slots.cell.Cell.TheVariants.{Taken, Free}
+use Rattle.iox2_container.specs.declared.container.slots.Cell.{Cell}
+use Rattle.iox2_container.specs.declared.container.slots.Cell.TheVariants.{Taken, Free}
 use Rattle.iox2_container.specs.declared.container.free.free_list.FreeList.{FreeList}
 use Rattle.iox2_container.specs.Places.{entries_from}
 use Rattle.iox2_container.specs.Cells.{shown}
@@ -24,11 +24,6 @@ LeadsThrough {T} cells (Some head) (slot ∷ slots) =
 -- the cell is free, and names the next one
 abbrev pub IsFreeAt : {T : Type 0} → List (Linked T) → ℕ → Type 0
 IsFreeAt cells slot = (next : Option ℕ) × (slice_get cells slot ≡ Some (Free next))
-
--- there is a slot to take
-abbrev pub HasFree : {T : Type 0} → List (Linked T) → Option ℕ → ℕ → Type 0
-HasFree cells (Some head) fresh = IsFreeAt cells head
-HasFree cells None fresh = fresh < length cells
 
 -- the first slot of the list was taken, or the first fresh one where the list is empty
 abbrev pub TakesFirst : {T : Type 0} → List (Linked T) → Option ℕ → ℕ → ℕ → Option ℕ → ℕ → Type 0

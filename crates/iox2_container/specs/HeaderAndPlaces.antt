@@ -1,7 +1,7 @@
 -- What a header and slots say together.
 use Rattle.std.specs.Prelude.{◌≡◌, Option, List, length}
-use Rattle.iox2_container.specs.declared.container.registry_header.RegistryHeader.{RegistryHeader}
-use Rattle.iox2_container.specs.declared.container.slots.cell.Occupant.{Occupant}
+use Rattle.iox2_container.specs.declared.container.slot_map.RegistryHeader.{RegistryHeader}
+use Rattle.iox2_container.specs.declared.container.slots.Occupant.{Occupant}
 use Rattle.iox2_container.specs.State.{RegistryState, IsRegistry}
 use Rattle.iox2_container.specs.Places.{entries_from}
 

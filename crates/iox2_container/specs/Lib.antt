@@ -17,3 +17,5 @@ pub mod Places
 pub mod Passes
 pub mod HeaderAndPlaces
 pub mod FreeList
+-- All of them together, for proofs
+pub mod Prelude

@@ -1,10 +1,9 @@
 -- What a pass over all slots does with one of them, and in all.
-use Rattle.std.specs.Prelude.{◌≡◌, ℕ, ◌+◌, ◌-◌, ◌≤◌, ◌<◌, Bool, true, false, IsTrue, Option, Some, None, List, length, map, slice_get, ⊤}
-use Rattle.std.specs.Bool.{MatchBool}
+use Rattle.std.specs.Prelude.{◌≡◌, ℕ, ◌+◌, ◌-◌, ◌≤◌, ◌<◌, Bool, true, false, Option, Some, None, List, length, map, slice_get, ⊤}
 use Rattle.iox2_texts.specs.declared.bounded.callback_progression.CallbackProgression.{CallbackProgression}
 use Rattle.iox2_texts.specs.declared.bounded.callback_progression.CallbackProgression.TheVariants.{Continue}
 use Rattle.iox2_container.specs.declared.container.passes.Found.{Found}
-use Rattle.iox2_container.specs.declared.container.slots.cell.Occupant.{Occupant}
+use Rattle.iox2_container.specs.declared.container.slots.Occupant.{Occupant}
 use Rattle.iox2_container.specs.Cells.{occupant}
 use Rattle.iox2_container.specs.State.{Entry}
 use Rattle.iox2_container.specs.Steps.{Asked, marks_of, candidates, staying, is_of}
@@ -19,12 +18,6 @@ AskedOfCell calls f (Some o) answer f' = calls f o.details answer f'
 abbrev pub TakesCell : {F A : Type 0} → (F → A → Type 0) → F → Option (Occupant A) → Type 0
 TakesCell takes f None = ⊤
 TakesCell takes f (Some o) = takes f o.details
-
--- a callback may be called on the entry of a slot, if it is the dead node's
-abbrev pub TakesDead : {F T : Type 0} → (F → T → Type 0) → (T → Bool) → F → Option (Occupant T)
-    → Type 0
-TakesDead takes is_dead f None = ⊤
-TakesDead takes is_dead f (Some o) = IsTrue (is_dead o.details) → takes f o.details
 
 -- whether what is in a cell is the node's
 abbrev pub cell_is_of : {T : Type 0} → (T → ℕ) → ℕ → Option (Occupant T) → Bool
@@ -74,13 +67,6 @@ pub record IsLastOf {T : Type 0} (node : T → ℕ) (id : ℕ) (cells : List (Op
 abbrev pub looked_at : {T : Type 0} → ℕ → ℕ → Option (Found T) → ℕ
 looked_at from to None = to - from
 looked_at from to (Some found) = found.slot + 1 - from
-
--- whether the entry of a slot is removed, where a callback is called on it if it is the dead node's
-abbrev pub SweptCell : {F T : Type 0} → (F → T → Bool → F → Type 0) → (T → Bool) → F
-    → Option (Occupant T) → Bool → F → Type 0
-SweptCell calls is_dead f None goes f' = (goes ≡ false) × (f' ≡ f)
-SweptCell calls is_dead f (Some o) goes f' =
-    MatchBool (is_dead o.details) (calls f o.details goes f') ((goes ≡ false) × (f' ≡ f))
 
 -- this many entries went, as the callback said of the candidates in turn
 pub record Swept {F T : Type 0} (calls : F → T → Bool → F → Type 0) (is_dead : T → Bool)

@@ -10,7 +10,6 @@ mod passes;
 mod places;
 mod refusal;
 mod registry;
-mod registry_header;
 mod release;
 mod role;
 mod service_numbers;

@@ -26,6 +26,7 @@ pub fn recoveries_are_changes<T, F: FnMut(&T) -> bool>()
 {}
 
 /// A handle that was removed or recovered is refused for good, whatever changes follow.
+#[tactic(auto, using(crate::proofs::Histories::gone_for_good))]
 pub fn gone_handles_are_refused<T>()
     ensures { (start now : RegistryState T) (changes : List (Change T)) (handle : Handle)
         → IsNew start → History start changes now

@@ -47,6 +47,13 @@ impl ContainerHandle {
         }
     }
 
+    /// The parts that [`from_parts`](ContainerHandle::from_parts) makes the handle of.
+    pub fn into_parts(self) -> (u64, Role, usize, u64)
+        ensures { result ≡ (self.service, self.role, self.slot, self.ticket) }
+    {
+        (self.service, self.role, self.slot, self.ticket)
+    }
+
     /// The number of the service.
     pub fn service(&self) -> u64
         ensures { result ≡ self.now.service }

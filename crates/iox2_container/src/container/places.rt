@@ -23,13 +23,14 @@ impl<T: Copy, N: Copy> Places<T, N> {
         self.read(slot).occupant()
     }
 
-    /// The entry of a slot, for calls that change nothing.
+    /// The entry of a slot, for calls that change nothing. This is a look.
     pub(super) fn peek_at(&self, slot: usize, looks: &mut Looks) -> Option<Occupant<T>>
         requires { slot < length self.now.cells }
         ensures cell { slice_get (map shown self.now.cells) slot ≡ Some result }
         ensures looks { looks.new.touches.count ≡ looks.old.touches.count + 1 }
     {
-        self.peek_counted(slot, looks).occupant()
+        looks.count();
+        self.peek(slot).occupant()
     }
 }
 

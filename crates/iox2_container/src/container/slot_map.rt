@@ -1,25 +1,87 @@
 //! The one container, whatever finds its free slots.
-ghost use Rattle.std.specs.Prelude.{◌≡◌, IfOk};
+ghost use Rattle.std.specs.Prelude.{◌≡◌, ◌+◌, ◌-◌, ◌≤◌, ◌<◌, ◌↔◌, IfOk, IsTrue};
 ghost use Rattle.iox2_container.specs.ContainerState.{fresh};
-
-mod looks;
+ghost use Rattle.iox2_container.specs.Steps.{lock_after, release_state};
 
 use super::attached::Attached;
 use super::free::{FreeList, LowestFree, SlotAllocator};
 use super::handle::ContainerHandle;
-use super::passes::{count_of, has_of, sweep, visit};
+use super::passes::{count_of, sweep, visit};
 use super::places::{Places, find, take_out};
 use super::refusal::{ContainerAddFailure, ContainerRemoveError};
 use super::registry::Registry;
-use super::registry_header::RegistryHeader;
 use super::release::{ReleaseMode, ReleaseState};
 use super::role::Role;
-use super::slots::{Cell, Slots};
+use super::slots::{Cell, Slots, Touches};
 use iox2_ids::identifiers::UniqueNodeId;
 use iox2_texts::bounded::CallbackProgression;
-pub(crate) use looks::Looks;
 use std::alloc::{AllocError, Global};
 use std::marker::Model;
+
+/// What a container knows beside its slots: whose it is, how many entries it has, how many tickets
+/// it issued and may issue, and whether it is locked.
+#[derive(Debug, Drop)]
+struct RegistryHeader {
+    service: u64,
+    role: Role,
+    budget: u64,
+    count: usize,
+    locked: bool,
+    used: u64,
+}
+
+impl RegistryHeader {
+    /// Whether an entry of the container may have the handle, by all parts but its ticket.
+    fn may_have(&self, handle: ContainerHandle, capacity: usize) -> bool
+        ensures { IsTrue result ↔
+            ((handle.service ≡ self.now.service) × (handle.role ≡ self.now.role)
+            × (handle.slot < capacity)) }
+    {
+        handle.service() == self.service && handle.role() == self.role && handle.slot() < capacity
+    }
+
+    /// Counts this many entries less, locks where the last one was removed and the mode says so,
+    /// and returns whether the container is locked then.
+    fn leave(&mut self, gone: usize, mode: ReleaseMode) -> ReleaseState
+        requires { gone ≤ self.old.count }
+        ensures left { self.new ≡ record self.old {
+          count = self.old.count - gone;
+          locked = lock_after mode self.old.count (self.old.count - gone) self.old.locked;
+        } }
+        ensures state { result ≡ release_state self.new.locked }
+    {
+        self.count -= gone;
+        if gone > 0 {
+            self.locked = mode.lock_after(self.count, self.locked);
+        }
+        ReleaseState::of(self.locked)
+    }
+}
+
+/// A count for proofs of how often a call that changes nothing read slots. It takes no bytes. The
+/// calls of a registry alone begin a count.
+#[derive(Debug, Drop)]
+pub(crate) struct Looks {
+    touches: Touches,
+}
+
+impl Looks {
+    /// No look so far.
+    fn none() -> Self
+        ensures { result.touches.count ≡ 0 }
+    {
+        Looks {
+            touches: Touches::none(),
+        }
+    }
+
+    /// Counts one look.
+    pub(crate) fn count(&mut self)
+        ensures { self.new.touches.count ≡ self.old.touches.count + 1 }
+    {
+        self.touches = self.touches.one_more();
+    }
+}
 
 /// A registry that puts each entry into the lowest free slot, which it
 /// finds by reading the slots from the first on. Adding touches at most
@@ -85,7 +147,14 @@ impl<T: Copy, S: SlotAllocator<T>> SlotMap<T, S> {
         let (free, next) = S::all_free();
         let places = Slots::new(alloc, capacity, Cell::Free(next))?;
         Ok(SlotMap {
-            header: RegistryHeader::new(service, role, tickets),
+            header: RegistryHeader {
+                service,
+                role,
+                budget: tickets,
+                count: 0,
+                locked: false,
+                used: 0,
+            },
             places,
             free,
             newest_end: 0,
@@ -100,17 +169,20 @@ impl<T: Attached + Copy, S: SlotAllocator<T>> Registry<T> for SlotMap<T, S> {
 
     ghost most_for_remove = { 2 };
 
+    #[tactic(auto, using(crate::proofs::Adding::places_of_add))]
     fn add(&mut self, details: T) -> Result<ContainerHandle, ContainerAddFailure> {
-        if self.header.is_locked() {
+        if self.header.locked {
             return Err(ContainerAddFailure::IsLocked);
         }
-        if !self.header.has_ticket() || self.header.count() == self.places.len() {
+        if self.header.used >= self.header.budget || self.header.count == self.places.len() {
             return Err(ContainerAddFailure::OutOfSpace);
         }
-        let ticket = self.header.enter();
+        let ticket = self.header.used;
+        self.header.used = ticket + 1;
+        self.header.count += 1;
         let slot = self.free.put(&mut self.places, ticket, details);
         self.newest_end = slot + 1;
-        Ok(self.header.handle(slot, ticket))
+        Ok(ContainerHandle::from_parts(self.header.service, self.header.role, slot, ticket))
     }
 
     fn remove(
@@ -134,15 +206,15 @@ impl<T: Attached + Copy, S: SlotAllocator<T>> Registry<T> for SlotMap<T, S> {
         f: &mut F,
         mode: ReleaseMode,
     ) -> ReleaseState {
-        if self.header.count() == 0 {
-            return ReleaseState::of(self.header.is_locked());
+        if self.header.count == 0 {
+            return ReleaseState::of(self.header.locked);
         }
         let gone = sweep(&mut self.places, &mut self.free, dead, f);
         self.header.leave(gone, mode)
     }
 
     fn for_each<F: FnMut(&T) -> CallbackProgression>(&self, f: &mut F) {
-        if self.header.count() > 0 {
+        if self.header.count > 0 {
             let mut looks = Looks::none();
             visit(&self.places, &self.free, f, &mut looks);
         }
@@ -157,7 +229,7 @@ impl<T: Attached + Copy, S: SlotAllocator<T>> Registry<T> for SlotMap<T, S> {
     }
 
     fn entries_of(&self, node: &UniqueNodeId) -> usize {
-        if self.header.count() == 0 {
+        if self.header.count == 0 {
             return 0;
         }
         let mut looks = Looks::none();
@@ -165,24 +237,27 @@ impl<T: Attached + Copy, S: SlotAllocator<T>> Registry<T> for SlotMap<T, S> {
     }
 
     fn has_entry_of(&mut self, node: &UniqueNodeId) -> bool {
-        if self.header.count() == 0 {
+        if self.header.count == 0 {
             return false;
         }
-        has_of(&mut self.places, &self.free, self.newest_end, node)
+        // The newest entries are read first, and the later slots after them.
+        let end = self.free.end(&self.places);
+        let middle = self.newest_end.min(end);
+        self.places.has_between(0, middle, node) || self.places.has_between(middle, end, node)
     }
 
     fn len(&self) -> usize {
-        self.header.count()
+        self.header.count
     }
 
     fn has_room(&self) -> bool {
-        !self.header.is_locked()
-            && self.header.has_ticket()
-            && self.header.count() < self.places.len()
+        !self.header.locked
+            && self.header.used < self.header.budget
+            && self.header.count < self.places.len()
     }
 
     fn service(&self) -> u64 {
-        self.header.service()
+        self.header.service
     }
 
     fn capacity(&self) -> usize {
@@ -190,6 +265,6 @@ impl<T: Attached + Copy, S: SlotAllocator<T>> Registry<T> for SlotMap<T, S> {
     }
 
     fn is_locked(&self) -> bool {
-        self.header.is_locked()
+        self.header.locked
     }
 }

@@ -1,12 +1,11 @@
 //! Slots of which the one that was freed last is taken. The free ones are in a list that is linked
 //! through the slots.
-ghost use Rattle.std.specs.Prelude.{◌≡◌, ◌+◌, ◌*◌, ◌≤◌, ◌<◌, ◌^◌, ℕ, List, [], ◌∷◌, Some, None};
+ghost use Rattle.std.specs.Prelude.{◌≡◌, ◌+◌, ◌*◌, ◌≤◌, ◌<◌, ℕ, List, [], ◌∷◌, Some, None};
 ghost use Rattle.std.specs.Prelude.{length, map, replicate, slice_get, slice_set};
-ghost use Rattle.iox2_container.specs.declared.container.slots.cell.Cell.TheVariants.{Free};
+ghost use Rattle.iox2_container.specs.declared.container.slots.Cell.TheVariants.{Free};
 ghost use Rattle.iox2_container.specs.Cells.{occupant, shown};
 ghost use Rattle.iox2_container.specs.Places.{IsTakenAt, entries_from};
-ghost use Rattle.iox2_container.specs.FreeList.{HasFree, TakesFirst, IsFreeList};
-ghost use Rattle.iox2_container.specs.FreeList.{AreFreed, PutsFirst};
+ghost use Rattle.iox2_container.specs.FreeList.{AreFreed, IsFreeList, PutsFirst};
 
 use super::slot_allocator::SlotAllocator;
 use crate::container::places::Places;
@@ -24,33 +23,6 @@ pub struct FreeList {
     fresh: usize,
 }
 
-impl FreeList {
-    /// Takes the slot that was freed last, or else the first that was never used.
-    fn take_first<T: Copy>(&mut self, places: &mut LinkedPlaces<T>) -> usize
-        requires free { HasFree places.old.cells self.old.head self.old.fresh }
-        requires fits { length places.old.cells < 2 ^ 64 }
-        ensures cells { places.new.cells ≡ places.old.cells }
-        ensures taken { TakesFirst places.old.cells self.old.head self.old.fresh
-            result self.new.head self.new.fresh }
-        ensures touched { places.new.touches ≤ places.old.touches + 1 }
-        ensures counted { places.old.touches ≤ places.new.touches }
-    {
-        match self.head {
-            Some(freed) => {
-                if let Cell::Free(next) = places.read(freed) {
-                    self.head = next;
-                }
-                freed
-            }
-            None => {
-                let slot = self.fresh;
-                self.fresh = slot + 1;
-                slot
-            }
-        }
-    }
-}
-
 impl<T: Copy> SlotAllocator<T> for FreeList {
     type Next = Option<usize>;
 
@@ -58,6 +30,7 @@ impl<T: Copy> SlotAllocator<T> for FreeList {
 
     ghost most_for_put = { λ n. 2 };
 
+    #[tactic(auto, using(crate::proofs::SlotAllocator::threaded_new))]
     fn all_free() -> (Self, Option<usize>)
         ensures fits { (n : ℕ) → IsFreeList {T = T} result.0 (replicate n (Free result.1)) }
         ensures none_freed { (n : ℕ) → AreFreed {T = T} result.0 (replicate n (Free result.1)) [] }
@@ -91,12 +64,26 @@ impl<T: Copy> SlotAllocator<T> for FreeList {
     {
         // For the proof: the number of places fits a `usize`.
         let _fits = places.len();
-        let slot = self.take_first(places);
+        let slot = match self.head {
+            Some(freed) => {
+                let Cell::Free(next) = places.read(freed) else {
+                    unreachable!()
+                };
+                self.head = next;
+                freed
+            }
+            None => {
+                let slot = self.fresh;
+                self.fresh = slot + 1;
+                slot
+            }
+        };
         places.write(slot, Cell::Taken { ticket, details });
         slot
     }
 
     /// Takes the entry out of a slot, which is then the next to be used.
+    #[tactic(auto, using(crate::proofs::ShownCells::writes))]
     fn clear(&mut self, places: &mut LinkedPlaces<T>, slot: usize)
         requires fits { IsFreeList self.old places.old.cells }
         requires taken { IsTakenAt (map shown places.old.cells) slot }

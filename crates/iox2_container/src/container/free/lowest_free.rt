@@ -1,7 +1,6 @@
 //! Slots of which the lowest free one is taken, found by reading them from the first on.
 ghost use Rattle.std.specs.Prelude.{◌≡◌, ◌≢◌, ◌+◌, ◌*◌, ◌≤◌, ◌<◌, ℕ};
-ghost use Rattle.std.specs.Prelude.{Some, None, IfSome, IfNone};
-ghost use Rattle.std.specs.Prelude.{length, map, slice_get, slice_set};
+ghost use Rattle.std.specs.Prelude.{Some, None, length, map, slice_get, slice_set};
 ghost use Rattle.iox2_container.specs.Places.{entries_from};
 ghost use Rattle.iox2_container.specs.Cells.{occupant, shown};
 
@@ -12,25 +11,6 @@ use crate::container::slots::Cell;
 /// Finds free slots by a scan. It keeps nothing, so it fits any slots.
 #[derive(Debug, Drop)]
 pub struct LowestFree;
-
-/// The lowest free slot.
-fn lowest_free<T: Copy>(places: &mut Places<T, ()>) -> Option<usize>
-    ensures cells { places.new.cells ≡ places.old.cells }
-    ensures touched { places.new.touches ≤ places.old.touches + length places.old.cells }
-    ensures counted { places.old.touches ≤ places.new.touches }
-    ensures free { IfSome result (λ i. slice_get (map shown places.old.cells) i ≡ Some None) }
-    ensures lowest { IfSome result (λ i. (k : ℕ) → k < i
-        → slice_get (map shown places.old.cells) k ≢ Some None) }
-    ensures full { IfNone result
-        (length places.old.cells ≤ length (entries_from 0 (map shown places.old.cells))) }
-{
-    for slot in 0..places.len() {
-        if places.look(slot).is_none() {
-            return Some(slot);
-        }
-    }
-    None
-}
 
 impl<T: Copy> SlotAllocator<T> for LowestFree {
     type Next = ();
@@ -48,6 +28,7 @@ impl<T: Copy> SlotAllocator<T> for LowestFree {
     }
 
     /// Puts an entry into the lowest free slot.
+    #[tactic(auto, using(crate::proofs::ShownCells::writes))]
     fn put(&mut self, places: &mut Places<T, ()>, ticket: u64, details: T) -> usize
         requires fits { Unit {0} }
         requires room { length (entries_from 0 (map shown places.old.cells))
@@ -63,15 +44,16 @@ impl<T: Copy> SlotAllocator<T> for LowestFree {
             places.old.touches + (length places.old.cells + 1) }
         ensures counted { places.old.touches ≤ places.new.touches }
     {
-        match lowest_free(places) {
-            Some(slot) => {
+        for slot in 0..places.len() {
+            if places.look(slot).is_none() {
                 places.write(slot, Cell::Taken { ticket, details });
-                slot
+                return slot;
             }
-            None => unreachable!(),
         }
+        unreachable!()
     }
 
+    #[tactic(auto, using(crate::proofs::ShownCells::writes))]
     fn clear(&mut self, places: &mut Places<T, ()>, slot: usize) {
         places.write(slot, Cell::Free(()));
     }

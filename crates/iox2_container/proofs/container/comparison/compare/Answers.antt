@@ -1,6 +1,5 @@
-use Rattle.std.proofs.Common.{◌+◌, ◌<◌, arith, sym, ◌∙◌, ap, length}
-use Rattle.std.specs.List.{AllZip}
-use Rattle.iox2_container.specs.Agreement.{AgreesBy}
+use Rattle.iox2_container.proofs.Prelude.{◌+◌, ◌<◌, ◌∙◌, AllZip, ap, arith, length, sym}
+use Rattle.iox2_container.specs.Prelude.{AgreesBy}
 use Rattle.iox2_container.proofs.Agreeing.{same_kind_agrees}
 use Rattle.iox2_container.proofs.Runs.{one_longer, made_more, made_still, same_made}
 use Rattle.iox2_container.proofs.container.comparison.compare.Goals as goal

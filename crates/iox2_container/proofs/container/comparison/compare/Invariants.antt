@@ -1,6 +1,5 @@
-use Rattle.std.proofs.Common.{◌≡◌, length}
-use Rattle.iox2_container.specs.State.{IsRegistry}
-use Rattle.iox2_container.specs.Calls.{Made}
+use Rattle.iox2_container.proofs.Prelude.{◌≡◌, length}
+use Rattle.iox2_container.specs.Prelude.{IsRegistry, Made}
 use Rattle.iox2_container.proofs.container.comparison.compare.Given as goal
 
 abbrev pub invariant-loop-call : goal.invariant-loop-call

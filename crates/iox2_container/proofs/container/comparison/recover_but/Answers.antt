@@ -1,6 +1,5 @@
-use Rattle.std.proofs.Common.{rules, ◌≡◌, refl}
-use Rattle.iox2_container.specs.Steps.{is_of}
-use Rattle.iox2_container.specs.Calls.{is_outside}
+use Rattle.iox2_container.proofs.Prelude.{◌≡◌, refl, rules}
+use Rattle.iox2_container.specs.Prelude.{is_of, is_outside}
 use Rattle.iox2_container.proofs.LentCallbacks.{RecoversBy-through}
 use Rattle.iox2_container.proofs.container.comparison.recover_but.Goals as goal
 

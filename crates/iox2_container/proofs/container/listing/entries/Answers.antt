@@ -1,7 +1,5 @@
-use Rattle.std.proofs.Common.{rules, ◌≡◌, ◌++◌, ◌∙◌, length, map, true, arith, ap}
-use Rattle.std.specs.Prelude.{filter}
-use Rattle.std.proofs.lemmas.List.{length-map, map-id}
-use Rattle.iox2_container.specs.Steps.{listed}
+use Rattle.iox2_container.proofs.Prelude.{◌++◌, ◌∙◌, ◌≡◌, ap, arith, filter, length, length-map, map, map-id, rules, true}
+use Rattle.iox2_container.specs.Prelude.{listed}
 use Rattle.iox2_container.proofs.Collecting.{CanVisit-collecting, collects, all_pass, passes_all}
 use Rattle.iox2_container.proofs.container.listing.entries.Goals as goal
 

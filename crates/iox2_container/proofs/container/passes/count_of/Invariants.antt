@@ -1,7 +1,5 @@
-use Rattle.std.proofs.Common.{◌≡◌, ◌+◌, ◌≤◌, length, take, map}
-use Rattle.iox2_container.specs.Cells.{shown}
-use Rattle.iox2_container.specs.Places.{entries_from}
-use Rattle.iox2_container.specs.Steps.{candidates, is_of}
+use Rattle.iox2_container.proofs.Prelude.{◌+◌, ◌≡◌, ◌≤◌, length, map, take}
+use Rattle.iox2_container.specs.Prelude.{candidates, entries_from, is_of, shown}
 use Rattle.iox2_container.proofs.container.passes.count_of.Given as goal
 
 abbrev pub invariant-loop-slot : goal.invariant-loop-slot

@@ -1,6 +1,5 @@
-use Rattle.std.proofs.Common.{◌≡◌, ◌+◌, ◌-◌, ◌≤◌, None, map}
-use Rattle.iox2_container.specs.Cells.{shown}
-use Rattle.iox2_container.specs.Passes.{AreOthers}
+use Rattle.iox2_container.proofs.Prelude.{◌+◌, ◌-◌, ◌≡◌, ◌≤◌, None, map}
+use Rattle.iox2_container.specs.Prelude.{AreOthers, shown}
 use Rattle.iox2_container.proofs.container.passes.next_of.Given as goal
 
 abbrev pub invariant-loop-slot : goal.invariant-loop-slot

@@ -1,10 +1,5 @@
-use Rattle.std.proofs.Common.{◌≡◌, ◌+◌, refl, sym, ◌∙◌, ap, subst, arith, map, false}
-use Rattle.std.specs.Prelude.{if◌then◌else◌, slice_get}
-use Rattle.std.specs.Fn.{CalledAt, TakesAt}
-use Rattle.iox2_container.specs.Cells.{occupant, shown}
-use Rattle.iox2_container.specs.Passes.{Swept}
-use Rattle.iox2_container.specs.Places.{entries_from}
-use Rattle.iox2_container.specs.Steps.{is_of}
+use Rattle.iox2_container.proofs.Prelude.{◌+◌, ◌≡◌, CalledAt, TakesAt, arith, false, if◌then◌else◌, map, refl}
+use Rattle.iox2_container.specs.Prelude.{is_of, occupant, shown}
 use Rattle.iox2_container.proofs.Sweeping.{cells_swept}
 use Rattle.iox2_container.proofs.CellsToCome.{sweep_ends, sweep_next, sweep_past, takes_next}
 use Rattle.iox2_container.proofs.container.passes.sweep.Goals as goal
@@ -26,11 +21,8 @@ loop-found-init g c = record {
 
 pub sweep_found-requires-clause-taken : goal.sweep_found-requires-clause-taken
 sweep_found-requires-clause-taken g c =
-    let here = c.in-Some.ensures.found.here in (
-      occupant here.1.0 c.in-Some.found.details,
-      ap (λ m. slice_get m c.in-Some.found.slot) (ap (map shown) c.next_of.ensures.cells)
-          ∙ here.1.1,
-    )
+    let here = c.in-Some.ensures.found.here in
+    (occupant here.1.0 c.in-Some.found.details, rw c.next_of.ensures.cells here.1.1)
 
 pub sweep_found-requires-clause-callable : goal.sweep_found-requires-clause-callable
 sweep_found-requires-clause-callable g c =
@@ -72,18 +64,12 @@ loop-found-preserved g c =
 
 pub returns-clause-swept : goal.returns-clause-swept
 returns-clause-swept g c =
-    let takes = TakesAt g.F.FnMut in
-    let calls = CalledAt g.F.FnMut in
-    let node = g.T.Attached.node in
-    let dead = c.args.dead.now in
-    let f = c.args.f.now in
     let cells = map shown c.args.places.now.cells in
-    let end = c.end-end.result in
     let left = map shown c.loop-found.places.cells in
-    let gone = c.loop-found.gone in
-    subst (λ m. Swept calls (is_of node dead) f (entries_from 0 cells) c.loop-found.f
-    (entries_from 0 m) gone) (sym (ap (map shown) c.next_of.ensures.cells))
-    (sweep_ends takes calls (is_of node dead) f c.loop-found.f cells left end gone
-    c.end-end.ensures.free
-    (sweep_past takes calls node dead f c.loop-found.f cells left c.loop-found.start end gone
+    rw c.next_of.ensures.cells
+    (sweep_ends (TakesAt g.F.FnMut) (CalledAt g.F.FnMut)
+    (is_of g.T.Attached.node c.args.dead.now) c.args.f.now c.loop-found.f cells left
+    c.end-end.result c.loop-found.gone c.end-end.ensures.free
+    (sweep_past (TakesAt g.F.FnMut) (CalledAt g.F.FnMut) g.T.Attached.node c.args.dead.now
+    c.args.f.now c.loop-found.f cells left c.loop-found.start c.end-end.result c.loop-found.gone
     c.loop-found.invariant.within c.in_default.ensures.found c.loop-found.invariant.so_far))

@@ -1,7 +1,5 @@
-use Rattle.std.proofs.Common.{◌≡◌, ◌+◌, ◌-◌, ◌≤◌, map}
-use Rattle.std.specs.Fn.{CalledAt, TakesAt}
-use Rattle.iox2_container.specs.Cells.{shown}
-use Rattle.iox2_container.specs.Steps.{is_of}
+use Rattle.iox2_container.proofs.Prelude.{◌+◌, ◌-◌, ◌≡◌, ◌≤◌, CalledAt, TakesAt, map}
+use Rattle.iox2_container.specs.Prelude.{is_of, shown}
 use Rattle.iox2_container.proofs.CellsToCome.{HasSwept}
 use Rattle.iox2_container.proofs.container.passes.sweep.Given as goal
 

@@ -1,9 +1,7 @@
-use Rattle.std.proofs.Common.{◌≡◌, ℕ, take, arith, add-one, sym, subst, map}
-use Rattle.std.specs.Fn.{CalledAt, TakesAt}
-use Rattle.iox2_container.specs.Cells.{shown}
-use Rattle.iox2_container.specs.Places.{entries_from}
+use Rattle.iox2_container.proofs.Prelude.{CalledAt, TakesAt, add-one, arith, map}
+use Rattle.iox2_container.specs.Prelude.{entries_from, shown}
 use Rattle.iox2_container.proofs.CellEntries.{all_before}
-use Rattle.iox2_container.proofs.AskedInTurn.{details_of, GoesOn, goes_on, stops, ends, not_stop}
+use Rattle.iox2_container.proofs.AskedInTurn.{details_of, goes_on, stops, ends, not_stop}
 use Rattle.iox2_container.proofs.CellsToCome.{visit_at}
 use Rattle.iox2_container.proofs.container.passes.visit.Goals as goal
 
@@ -29,9 +27,7 @@ loop-slot-preserved g c =
           c.peek_at.result c.peek_at.ensures.cell c.loop-slot.invariant.callable).1 c.show.new.f
           (rw goes at c.show.ensures);
       asked =
-          subst (λ (n : ℕ). GoesOn (CalledAt g.F.FnMut) c.args.f.now
-          (details_of (entries_from 0 (take n cells))) c.show.new.f)
-          (sym (add-one c.loop-slot.slot))
+          rw (add-one c.loop-slot.slot)
           (goes_on (CalledAt g.F.FnMut) c.args.f.now c.loop-slot.f c.show.new.f cells
           c.loop-slot.slot c.peek_at.result c.show.result c.peek_at.ensures.cell c.show.ensures
           goes c.loop-slot.invariant.asked);
@@ -41,9 +37,7 @@ loop-slot-preserved g c =
 pub returns-clause-visit : goal.returns-clause-visit
 returns-clause-visit g c =
     let cells = map shown c.args.places.now.cells in
-    let all : entries_from 0 (take c.loop-slot.slot cells) ≡ entries_from 0 cells =
-    all_before 0 c.loop-slot.slot cells
+    let all = all_before 0 c.loop-slot.slot cells
     (λ slot later. c.end-slot-end.ensures.free slot (omega arith)) in
     ends (CalledAt g.F.FnMut) c.args.f.now c.loop-slot.f (details_of (entries_from 0 cells))
-    (subst (λ es. GoesOn (CalledAt g.F.FnMut) c.args.f.now (details_of es) c.loop-slot.f) all
-    c.loop-slot.invariant.asked)
+    (rw all at c.loop-slot.invariant.asked)

@@ -1,8 +1,5 @@
-use Rattle.std.proofs.Common.{◌≡◌, ◌+◌, take, map}
-use Rattle.std.specs.Fn.{CalledAt, TakesAt}
-use Rattle.iox2_container.specs.Callbacks.{MayVisit}
-use Rattle.iox2_container.specs.Cells.{shown}
-use Rattle.iox2_container.specs.Places.{entries_from}
+use Rattle.iox2_container.proofs.Prelude.{◌+◌, ◌≡◌, CalledAt, TakesAt, map, take}
+use Rattle.iox2_container.specs.Prelude.{MayVisit, entries_from, shown}
 use Rattle.iox2_container.proofs.AskedInTurn.{details_of, GoesOn}
 use Rattle.iox2_container.proofs.CellsToCome.{details_from}
 use Rattle.iox2_container.proofs.container.passes.visit.Given as goal

@@ -1,5 +1,5 @@
-use Rattle.std.proofs.Common.{rules}
-use Rattle.iox2_container.specs.Cells.{occupant}
+use Rattle.iox2_container.proofs.Prelude.{rules}
+use Rattle.iox2_container.specs.Prelude.{occupant}
 use Rattle.iox2_container.proofs.container.places.take_out.Goals as goal
 
 pub clear-requires-clause-taken : goal.clear-requires-clause-taken

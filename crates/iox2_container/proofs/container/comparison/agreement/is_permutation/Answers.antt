@@ -1,5 +1,4 @@
-use Rattle.std.proofs.Common.{rules, count_by}
-use Rattle.std.proofs.Math.Dec.{eqb}
+use Rattle.iox2_container.proofs.Prelude.{count_by, eqb, rules}
 use Rattle.std.proofs.lemmas.Iterator.{YieldsList-from_slice}
 use Rattle.std.proofs.lemmas.Iterator.Search.{all_from_yields_List}
 use Rattle.iox2_container.proofs.Agreeing.{tells_equally_many}

@@ -1,6 +1,5 @@
-use Rattle.std.proofs.Common.{◌↔◌, length}
-use Rattle.std.specs.List.{AllZip}
-use Rattle.iox2_container.specs.Agreement.{AgreesBy}
+use Rattle.iox2_container.proofs.Prelude.{◌↔◌, AllZip, length}
+use Rattle.iox2_container.specs.Prelude.{AgreesBy}
 use Rattle.iox2_container.proofs.container.comparison.agreement.is_same_kind.Given as goal
 
 abbrev pub invariant-loop-one : goal.invariant-loop-one

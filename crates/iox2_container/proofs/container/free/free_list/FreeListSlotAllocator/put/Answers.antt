@@ -1,30 +1,32 @@
-use Rattle.std.proofs.Common.{rules, List, ◌∙◌, ap}
-use Rattle.std.specs.Prelude.{slice_set}
-use Rattle.iox2_container.specs.FreeList.{Linked}
-use Rattle.iox2_container.specs.declared.container.slots.cell.Cell.TheVariants.{Taken}
+use Rattle.iox2_container.proofs.Prelude.{◌≡◌, map-set, refl, rules}
+use Rattle.iox2_container.specs.Prelude.{TakesFirst}
 use Rattle.iox2_container.proofs.FreeList.{shown_free}
-use Rattle.iox2_container.proofs.ShownCells.{shown_set}
 use Rattle.iox2_container.proofs.SlotAllocator.{took, threaded_put, puts_first}
 use Rattle.iox2_container.proofs.container.free.free_list.FreeListSlotAllocator.put.Goals as goal
+use Rattle.iox2_container.proofs.container.free.free_list.FreeListSlotAllocator.put.Goals.{in-Some+in-Free, in-None}
 
 pub returns : goal.returns
 returns g c =
     let cells = c.args.places.now.cells in
-    let slot = c.take_first-slot.result in
-    let left = c.take_first-slot.new.self in
-    let taken = c.take_first-slot.ensures.taken in
-    let its = Taken c.args.ticket c.args.details in
+    let old = c.args.self.now in
+    let slot = c.match-self.slot in
+    let left = c.match-self.self in
     let new = c.write.new.self.cells in
-    let w = took cells c.args.self.now slot left c.requires.fits c.requires.room taken in
-    let written = c.write.ensures.cells
-    ∙ ap (λ (cs : List (Linked g.row.T.Denot)). slice_set cs slot its)
-    c.take_first-slot.ensures.cells in
+    let taken : (c.match-self.places.cells ≡ cells)
+    × TakesFirst cells old.head old.fresh slot left.head left.fresh =
+    elim c.match-self.branch [
+      | in-Some+in-Free w ↦ rw (w.places-is, w.in-Some.is, w.self-is, w.slot-is)
+          (w.read.ensures.cells, (refl, rw w.in-Free.is at w.read.ensures.cell, refl))
+      | in-None w ↦ rw (w.places-is, w.in-None.is, w.self-is, w.slot-is)
+          (refl, (refl, w.in-None.is, refl))
+    ] in
+    let w = took cells old slot left taken.1 c.requires.fits c.requires.room in
+    let written = rw taken.0 at c.write.ensures.cells in
     record {
       fits = threaded_put cells new slot left c.args.ticket c.args.details w written;
       free = shown_free cells slot w.at;
-      cells = shown_set cells new slot its written;
-      last_freed =
-          puts_first cells new c.args.self.now slot left c.args.ticket c.args.details taken written;
+      cells = rw (written, map-set) refl;
+      last_freed = puts_first cells old slot left taken.1 new c.args.ticket c.args.details written;
       touched = search rules;
       few = search rules;
       counted = search rules;

@@ -1,5 +1,5 @@
 -- `none` picks the count 0. Assumes `Logic`.
-use Rattle.std.proofs.Common.{[], ◌∷◌, refl}
+use Rattle.iox2_container.proofs.Prelude.{[], ◌∷◌, refl}
 use Rattle.std.proofs.raw_atomic.Walks.{proved_at}
 use types.Kit.{‵, raw, ◌⊛◌, ◌$◌, ◌∵◌, !, qed, move, keep, drop, split, fjoin, suffices, done}
 use types.Part.{agg}
@@ -11,9 +11,9 @@ use denote.Steps.{nothing}
 use denote.Triple.Entry.{alive}
 use denote.Triple.Walked.{says, ends_at}
 use Rattle.iox2_container.proofs.Walks.{none, none_made}
-use Rattle.iox2_container.specs.contracts.container.slots.touches.Touches.none as f
-use Rattle.iox2_container.proofs.container.slots.touches.Touches.none.Statement.{statement}
-use Rattle.iox2_container.proofs.container.slots.touches.Touches.none.Code as code
+use Rattle.iox2_container.specs.contracts.container.slots.Touches.none as f
+use Rattle.iox2_container.proofs.container.slots.Touches.none.Statement.{statement}
+use Rattle.iox2_container.proofs.container.slots.Touches.none.Code as code
 
 pub none_spec : {M : Type 1} → statement M
 none_spec 𝓤 𝓛 𝓜 𝓡 wired =

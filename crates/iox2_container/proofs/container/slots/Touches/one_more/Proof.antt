@@ -1,5 +1,5 @@
 -- `one_more` picks a count that is one more. Assumes `Logic`.
-use Rattle.std.proofs.Common.{List, [], ◌∷◌, ◌++◌, ◌+◌, refl}
+use Rattle.iox2_container.proofs.Prelude.{[], ◌++◌, ◌+◌, ◌∷◌, List, refl}
 use Rattle.std.proofs.raw_atomic.Walks.{proved_at}
 use mir.Val.{Val}
 use prog.Wp.{WpFn}
@@ -16,10 +16,10 @@ use denote.Steps.{nothing}
 use denote.Triple.Entry.{alive}
 use denote.Triple.Walked.{says, Stays, stay_dropped, walk_of, ends_at, Goes-dropped}
 use Rattle.iox2_container.proofs.Walks.{none, none_made}
-use Rattle.iox2_container.specs.contracts.container.slots.touches.Touches.{the_row}
-use Rattle.iox2_container.specs.contracts.container.slots.touches.Touches.one_more as f
-use Rattle.iox2_container.proofs.container.slots.touches.Touches.one_more.Statement.{statement}
-use Rattle.iox2_container.proofs.container.slots.touches.Touches.one_more.Code as code
+use Rattle.iox2_container.specs.contracts.container.slots.Touches.{the_row}
+use Rattle.iox2_container.specs.contracts.container.slots.Touches.one_more as f
+use Rattle.iox2_container.proofs.container.slots.Touches.one_more.Statement.{statement}
+use Rattle.iox2_container.proofs.container.slots.Touches.one_more.Code as code
 
 abbrev stayed : Stays f.ended.signature.params f.ended.kept
 stayed = (stay_dropped _ yes, tt)
