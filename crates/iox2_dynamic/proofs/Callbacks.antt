@@ -3,11 +3,8 @@ use Rattle.std.specs.Fn.{Mut, CalledAt, TakesAt}
 use denote.Ref.{Bor}
 use denote.Param.Always.{always_mut}
 use Rattle.iox2_texts.specs.declared.bounded.callback_progression.CallbackProgression.{CallbackProgression}
-use Rattle.iox2_container.specs.declared.container.role.Role.{Role}
-use Rattle.iox2_container.specs.Steps.{listed}
-use Rattle.iox2_container.proofs.Callable.{callbacks as container_callbacks, CanVisit-from_total, CanVisit-from_always, always_after_Visit}
-use Rattle.iox2_dynamic.specs.declared.dynamic_config.port_details.PortDetails.{PortDetails}
-use Rattle.iox2_dynamic.specs.Ports.{Ports, CanListIn}
+use Rattle.iox2_dynamic.proofs.Names.{Role, listed, PortDetails, Ports, CanListIn}
+use Rattle.iox2_container.proofs.Callable.{callbacks as container_callbacks, CanVisit-from_total, CanVisit-from_always}
 
 pub CanListIn-from_total : {F : Type 0} {takes : F → PortDetails → Type 0} {calls : F → PortDetails
     → CallbackProgression → F → Type 0} {a b : Role} {p : Ports} {role : Role} {f : F}

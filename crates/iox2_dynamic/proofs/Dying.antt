@@ -3,24 +3,10 @@ use Rattle.std.proofs.Common.{◌≡◌, ◌∙◌, ℕ, ◌<◌, Bool, true, fa
 use Rattle.std.specs.Prelude.{All, ◌==◌, not}
 use Rattle.std.proofs.lemmas.List.Elements.{All-filter}
 use Rattle.std.proofs.lemmas.Bool.{eqb-true, eq-eqb, ne_eqb}
-use Rattle.iox2_config.specs.declared.hash.input.PatternKind.{PatternKind}
-use Rattle.iox2_ids.specs.declared.identifiers.port_id.UniquePortId.{UniquePortId}
-use Rattle.iox2_container.specs.declared.container.release.ReleaseState.{ReleaseState}
-use Rattle.iox2_container.specs.declared.container.role.Role.{Role}
-use Rattle.iox2_container.specs.ContainerState.{ContainerState}
-use Rattle.iox2_container.specs.State.{Entry, RegistryState}
-use Rattle.iox2_container.specs.Steps.{is_leaving, is_of, release_state, staying}
+use Rattle.iox2_dynamic.proofs.Names.{PatternKind, UniquePortId, ReleaseState, Role, ContainerState, Entry, RegistryState, is_leaving, is_of, release_state, staying, DeregisterNodeState, PortCleanupAction, PortDetails, RecoversPorts, RecoversNodes, node_of, Ports, RecoversBoth, has_ports_of, Service, IsService, IsPortRegistry, ArePorts, Registered, first_role, second_role, NodesAfter}
 use Rattle.iox2_container.proofs.Counting.{counted, counted-staying, All-other}
-use Rattle.iox2_dynamic.specs.declared.dynamic_config.answers.DeregisterNodeState.{DeregisterNodeState}
 use Rattle.iox2_dynamic.specs.declared.dynamic_config.answers.DeregisterNodeState.TheVariants.{HasOwners}
-use Rattle.iox2_dynamic.specs.declared.dynamic_config.cleanup.PortCleanupAction.{PortCleanupAction}
-use Rattle.iox2_dynamic.specs.declared.dynamic_config.port_details.PortDetails.{PortDetails}
 use Rattle.iox2_dynamic.specs.Answers.{state_of}
-use Rattle.iox2_dynamic.specs.Recoveries.{RecoversPorts, RecoversNodes}
-use Rattle.iox2_dynamic.specs.Details.{node_of}
-use Rattle.iox2_dynamic.specs.Ports.{Ports, RecoversBoth, has_ports_of}
-use Rattle.iox2_dynamic.specs.Service.{Service, IsService, IsPortRegistry, ArePorts, Registered, first_role, second_role}
-use Rattle.iox2_dynamic.specs.Steps.{NodesAfter}
 use Rattle.iox2_dynamic.proofs.Keeping.{both_none, not_false, with_nodes}
 use Rattle.iox2_dynamic.proofs.Moving.{with_ports}
 
@@ -75,17 +61,13 @@ still_there dead nodes marked ports n h k d l =
 -- the nodes stay, where a port of the dead node is left, since then they are not locked
 pub nodes_stay : (dead : ℕ) (b : Bool) (old : ContainerState ℕ) → b ≡ true
     → old.registry.locked ≡ false → NodesAfter dead b old (state_of HasOwners) old
-nodes_stay dead b old e unlocked =
-    subst (λ k. NodesAfter dead k old (state_of HasOwners) old) (sym e)
-    (sym (ap release_state unlocked), refl)
+nodes_stay dead b old e unlocked = rw e (sym (ap release_state unlocked), refl)
 
 pub nodes_after : (dead : ℕ) (b : Bool) (old : ContainerState ℕ) (state : ReleaseState)
     (answer : DeregisterNodeState) (new : ContainerState ℕ) → b ≡ false
     → state ≡ state_of answer → RecoversNodes dead old state new
     → NodesAfter dead b old (state_of answer) new
-nodes_after dead b old state answer new e f r =
-    subst (λ k. NodesAfter dead k old (state_of answer) new) (sym e)
-    (subst (λ t. RecoversNodes dead old t new) f r)
+nodes_after dead b old state answer new e f r = rw e (rw f at r)
 
 -- where a port of the dead node is left
 pub skipped_kept : {F : Type 0} (calls : F → UniquePortId → PortCleanupAction → F → Type 0)
@@ -105,8 +87,7 @@ pub dead_kept : {F : Type 0} (calls : F → UniquePortId → PortCleanupAction �
     → IsService (record s { pattern = kind; ports = ports; nodes = nodes })
 dead_kept calls s f dead kind ports h state nodes k r none n i =
     let a = skipped_kept calls s f dead kind ports h k r i in
-    let z = both_none (counted (is_of node_of dead) ports.first.registry.entries)
-    (counted (is_of node_of dead) ports.second.registry.entries) none in
+    let z = both_none _ _ none in
     let is : nodes.registry.entries
     ≡ staying (is_of (λ i. i) dead) n.step.marked s.nodes.registry.entries =
     ap (λ (r : RegistryState ℕ). r.entries) n.step.recovers.0 in
@@ -120,5 +101,4 @@ dead_kept calls s f dead kind ports h state nodes k r none n i =
     with_nodes (record s { pattern = kind; ports = ports }) nodes n.kept
     (ap (λ (r : RegistryState ℕ). r.service) n.step.recovers.0)
     (ap (λ (r : RegistryState ℕ). r.role) n.step.recovers.0)
-    (stay ports.first.registry.entries z.0 a.ports_are.first.registered)
-    (stay ports.second.registry.entries z.1 a.ports_are.second.registered) a
+    (stay _ z.0 a.ports_are.first.registered) (stay _ z.1 a.ports_are.second.registered) a

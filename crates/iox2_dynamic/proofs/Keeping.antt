@@ -3,23 +3,10 @@ use Rattle.std.proofs.Common.{◌≡◌, ◌≢◌, ◌∙◌, ℕ, zero, suc, �
 use Rattle.std.specs.Prelude.{All, IsTrue, ◌==◌, nat_eq, nat_lt, ◌&&◌, ◌||◌}
 use Rattle.std.proofs.lemmas.List.Elements.{All-head, All-weaker}
 use Rattle.std.proofs.lemmas.Bool.{eq-eqb, lt-ltb, ne_eqb, cases_order}
-use Rattle.iox2_container.specs.declared.container.refusal.ContainerAddFailure.{ContainerAddFailure}
-use Rattle.iox2_container.specs.declared.container.refusal.ContainerAddFailure.TheVariants.{IsLocked, OutOfSpace}
-use Rattle.iox2_container.specs.declared.container.release.ReleaseMode.TheVariants.{LockIfLastIndex}
-use Rattle.iox2_container.specs.declared.container.role.Role.{Role}
-use Rattle.iox2_container.specs.Handle.{Handle}
-use Rattle.iox2_container.specs.Changes.{Adds}
-use Rattle.iox2_container.specs.ContainerState.{ContainerState}
-use Rattle.iox2_container.specs.State.{Entry, RegistryState, IsRegistry}
-use Rattle.iox2_container.specs.Steps.{AddStep, InsertsOne, Leaves, HasEntry, is_of}
+use Rattle.iox2_dynamic.proofs.Names.{ContainerAddFailure, IsLocked, OutOfSpace, LockIfLastIndex, Role, Handle, Adds, ContainerState, Entry, RegistryState, IsRegistry, AddStep, InsertsOne, Leaves, HasEntry, is_of, PortDetails, node_of, Service, IsService, IsPortRegistry, HasNoPort, Registered, entries_of_node, first_role, second_role, has_ports_of, is_last_of_ports}
 use Rattle.iox2_container.proofs.Counting.{counted, counted-InsertsOne, one_if, All-other}
 use Rattle.iox2_container.proofs.Growing.{grows_add}
 use Rattle.iox2_container.proofs.Members.{one_by_ticket}
-use Rattle.iox2_dynamic.specs.declared.dynamic_config.port_details.PortDetails.{PortDetails}
-use Rattle.iox2_dynamic.specs.Details.{node_of}
-use Rattle.iox2_dynamic.specs.Service.{Service, IsService, IsPortRegistry, HasNoPort, Registered, entries_of_node, first_role, second_role}
-use Rattle.iox2_dynamic.specs.Ports.{has_ports_of}
-use Rattle.iox2_dynamic.specs.Steps.{is_last_of_ports}
 
 pub not_false : true ≡ false → ⊥
 not_false e = (cc)
@@ -28,10 +15,8 @@ not_false e = (cc)
 registered_add : (old new : RegistryState ℕ) (d : ℕ) (answer : Result Handle ContainerAddFailure)
     (ports : List (Entry PortDetails)) → AddStep old d answer new → Registered old ports
     → Registered new ports
-registered_add old new d (Err IsLocked) ports a h =
-    subst (λ (r : RegistryState ℕ). Registered r ports) (sym a.1) h
-registered_add old new d (Err OutOfSpace) ports a h =
-    subst (λ (r : RegistryState ℕ). Registered r ports) (sym a.2) h
+registered_add old new d (Err IsLocked) ports a h = rw a.1 h
+registered_add old new d (Err OutOfSpace) ports a h = rw a.2 h
 registered_add old new d (Ok handle) ports a h =
     let x : Entry ℕ = record { slot = handle.slot; ticket = old.used; details = d } in
     All-weaker (λ (e : Entry PortDetails). 0 < entries_of_node (node_of e.details) old)
@@ -78,9 +63,8 @@ register_kept s nodes d answer a i =
     let stay : (ports : List (Entry PortDetails)) → Registered s.nodes.registry ports
     → Registered nodes.registry ports =
     λ ports h. registered_add s.nodes.registry nodes.registry d answer ports a.step h in
-    with_nodes s nodes a.kept g.service g.role
-    (stay s.ports.first.registry.entries i.ports_are.first.registered)
-    (stay s.ports.second.registry.entries i.ports_are.second.registered) i
+    with_nodes s nodes a.kept g.service g.role (stay _ i.ports_are.first.registered)
+    (stay _ i.ports_are.second.registered) i
 
 apart : (a b : ℕ) → (a < b) ⊎ (b < a) → a ≢ b
 apart a b (inl l) = λ e. omega arith
@@ -136,8 +120,7 @@ leaving_kept s nodes handle id stands last gone k i =
     let y : Entry ℕ = stands.0 in
     let tickets : x.ticket ≡ y.ticket = ap (λ (h : Handle). h.ticket) (sym gone.1 ∙ stands.1) in
     let same : y ≡ x =
-    one_by_ticket s.nodes.registry.entries nodes.registry.entries stands.3.0 x y
-    i.nodes_are.tickets_differ gone.2 stands.3.1 tickets in
+    one_by_ticket _ _ _ x y i.nodes_are.tickets_differ gone.2 stands.3.1 tickets in
     let its : id ≡ x.details = sym stands.2 ∙ ap (λ (e : Entry ℕ). e.details) same in
     let none =
     none_of (counted (is_of (λ i. i) x.details) s.nodes.registry.entries)
@@ -146,10 +129,8 @@ leaving_kept s nodes handle id stands last gone k i =
     (subst (λ d. is_last_of_ports d s ≡ false) its last) in
     with_nodes s nodes k (ap (λ (r : RegistryState ℕ). r.service) gone.3)
     (ap (λ (r : RegistryState ℕ). r.role) gone.3)
-    (still s.nodes.registry.entries nodes.registry.entries x gone.2 s.ports.first.registry.entries
-    (λ e. (none e).0) i.ports_are.first.registered)
-    (still s.nodes.registry.entries nodes.registry.entries x gone.2 s.ports.second.registry.entries
-    (λ e. (none e).1) i.ports_are.second.registered) i
+    (still _ _ x gone.2 _ (λ e. (none e).0) i.ports_are.first.registered)
+    (still _ _ x gone.2 _ (λ e. (none e).1) i.ports_are.second.registered) i
 
 -- where no node is left, no port is
 no_port : (nodes : RegistryState ℕ) (ports : List (Entry PortDetails)) → nodes.entries ≡ []
@@ -167,8 +148,8 @@ pub locked_has_no_port : (s : Service) → IsService s → IsTrue s.nodes.regist
     → HasNoPort s.ports
 locked_has_no_port s i t =
     let none = i.nodes_are.locked_is_empty t in (
-      no_port s.nodes.registry s.ports.first.registry.entries none i.ports_are.first.registered,
-      no_port s.nodes.registry s.ports.second.registry.entries none i.ports_are.second.registered,
+      no_port s.nodes.registry _ none i.ports_are.first.registered,
+      no_port s.nodes.registry _ none i.ports_are.second.registered,
     )
 
 unlocked : (b : Bool) → (IsTrue b → ⊥) → b ≡ false
@@ -181,12 +162,4 @@ pub ports_open : (s : Service) (id : ℕ) → IsService s → has_ports_of id s.
 ports_open s id i h =
     unlocked s.nodes.registry.locked (λ t.
     let none = locked_has_no_port s i t in
-    let first : counted (is_of node_of id) s.ports.first.registry.entries ≡ 0 =
-    ap (counted (is_of node_of id)) none.0 in
-    let second : counted (is_of node_of id) s.ports.second.registry.entries ≡ 0 =
-    ap (counted (is_of node_of id)) none.1 in
-    not_false
-    (sym h ∙ (ap
-    (λ n. nat_lt 0 n || nat_lt 0
-    (counted (is_of node_of id) s.ports.second.registry.entries)) first
-    ∙ ap (λ n. nat_lt 0 0 || nat_lt 0 n) second)))
+    not_false (sym (rw none.1 at (rw none.0 at h))))

@@ -1,3 +1,4 @@
+pub mod Names
 pub mod Callbacks
 pub mod Recoveries
 pub mod Counts

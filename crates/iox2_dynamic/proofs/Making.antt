@@ -1,16 +1,9 @@
 -- A new service is one.
 use Rattle.std.proofs.Common.{◌≡◌, ℕ, ◌<◌, refl}
 use Rattle.std.proofs.lemmas.List.Elements.{All-nil}
-use Rattle.iox2_config.specs.declared.hash.input.PatternKind.{PatternKind}
-use Rattle.iox2_container.specs.declared.container.role.Role.{Role}
+use Rattle.iox2_dynamic.proofs.Names.{PatternKind, Role, ContainerState, fresh, Entry, RegistryState, IsRegistry, PortDetails, node_of, Ports, IsService, IsPortRegistry, ArePorts, PatternCapacities, entries_of_node, first_role, second_role, fresh_ports, fresh_service}
 use Rattle.iox2_container.specs.declared.container.role.Role.TheVariants as role
-use Rattle.iox2_container.specs.ContainerState.{ContainerState, fresh}
-use Rattle.iox2_container.specs.State.{Entry, RegistryState, IsRegistry}
 use Rattle.iox2_container.proofs.Keeping.{new_is_registry}
-use Rattle.iox2_dynamic.specs.declared.dynamic_config.port_details.PortDetails.{PortDetails}
-use Rattle.iox2_dynamic.specs.Details.{node_of}
-use Rattle.iox2_dynamic.specs.Ports.{Ports}
-use Rattle.iox2_dynamic.specs.Service.{IsService, IsPortRegistry, ArePorts, PatternCapacities, entries_of_node, first_role, second_role, fresh_ports, fresh_service}
 
 fresh_registry : {T : Type 0} (service : ℕ) (role : Role) (capacity tickets : ℕ)
     → IsRegistry (fresh {T = T} service role capacity tickets).registry

@@ -1,24 +1,8 @@
 -- What keeps a service one when ports come and go.
-use Rattle.std.proofs.Common.{◌≡◌, ◌∙◌, ℕ, ◌<◌, Result, Ok, Err, inl, inr, sym, ap, subst}
-use Rattle.iox2_config.specs.declared.hash.input.PatternKind.{PatternKind}
-use Rattle.iox2_container.specs.declared.container.refusal.ContainerAddFailure.{ContainerAddFailure}
-use Rattle.iox2_container.specs.declared.container.refusal.ContainerAddFailure.TheVariants.{IsLocked, OutOfSpace}
+use Rattle.std.proofs.Common.{◌≡◌, ◌∙◌, ℕ, ◌<◌, Result, Ok, Err, inl, inr, ap}
+use Rattle.iox2_dynamic.proofs.Names.{PatternKind, ContainerAddFailure, IsLocked, OutOfSpace, Default, ReleaseState, Role, Adds, Removes, ContainerState, Reads, Handle, Entry, RegistryState, IsRegistry, AddStep, RemoveStep, PortDetails, node_of, Ports, AddsTo, ReadsPorts, RemovesFrom, Side, of_side, other_side, First, Second, Service, IsService, IsPortRegistry, ArePorts, entries_of_node, first_role, second_role}
 use Rattle.iox2_container.specs.declared.container.refusal.ContainerRemoveError.{ContainerRemoveError}
-use Rattle.iox2_container.specs.declared.container.release.ReleaseMode.TheVariants.{Default}
-use Rattle.iox2_container.specs.declared.container.release.ReleaseState.{ReleaseState}
-use Rattle.iox2_container.specs.declared.container.role.Role.{Role}
-use Rattle.iox2_container.specs.Changes.{Adds, Removes}
-use Rattle.iox2_container.specs.ContainerState.{ContainerState, Reads}
-use Rattle.iox2_container.specs.Handle.{Handle}
-use Rattle.iox2_container.specs.State.{Entry, RegistryState, IsRegistry}
-use Rattle.iox2_container.specs.Steps.{AddStep, RemoveStep}
 use Rattle.iox2_container.proofs.Keeping.{All-gain, All-loss}
-use Rattle.iox2_dynamic.specs.declared.dynamic_config.port_details.PortDetails.{PortDetails}
-use Rattle.iox2_dynamic.specs.Details.{node_of}
-use Rattle.iox2_dynamic.specs.Ports.{Ports, AddsTo, ReadsPorts, RemovesFrom}
-use Rattle.iox2_dynamic.specs.PortsState.{Side, of_side, other_side}
-use Rattle.iox2_dynamic.specs.PortsState.Side.{First, Second}
-use Rattle.iox2_dynamic.specs.Service.{Service, IsService, IsPortRegistry, ArePorts, entries_of_node, first_role, second_role}
 
 module _ (nodes : RegistryState ℕ) (role : Role) where
   added : (old new : RegistryState PortDetails) (d : PortDetails)
@@ -36,10 +20,8 @@ module _ (nodes : RegistryState ℕ) (role : Role) where
             All-gain (λ e. 0 < entries_of_node (node_of e.details) nodes) old.entries new.entries x
             a.2.2 p.registered l;
       }
-  added old new d (Err IsLocked) l a k p =
-      subst (λ (r : RegistryState PortDetails). IsPortRegistry nodes role r) (sym a.1) p
-  added old new d (Err OutOfSpace) l a k p =
-      subst (λ (r : RegistryState PortDetails). IsPortRegistry nodes role r) (sym a.2) p
+  added old new d (Err IsLocked) l a k p = rw a.1 p
+  added old new d (Err OutOfSpace) l a k p = rw a.2 p
 
   removed : (old new : RegistryState PortDetails) (handle : Handle)
       (answer : Result ReleaseState ContainerRemoveError)
@@ -54,8 +36,7 @@ module _ (nodes : RegistryState ℕ) (role : Role) where
         All-loss (λ e. 0 < entries_of_node (node_of e.details) nodes) new.entries old.entries a.0.0
         a.0.2 p.registered;
   }
-  removed old new handle (Err why) a k p =
-      subst (λ (r : RegistryState PortDetails). IsPortRegistry nodes role r) (sym a.1) p
+  removed old new handle (Err why) a k p = rw a.1 p
 
 -- a step of one side that keeps it a registry of ports
 on_side : (side : Side) (nodes : RegistryState ℕ) (kind : PatternKind) (old new : Ports)
@@ -68,12 +49,10 @@ on_side : (side : Side) (nodes : RegistryState ℕ) (kind : PatternKind) (old ne
     → ArePorts nodes kind old → ArePorts nodes kind new
 on_side First nodes kind old new Step keeps step others p = record {
   first = keeps (first_role kind) old.first new.first step p.first;
-  second = subst (λ (c : ContainerState PortDetails).
-      IsPortRegistry nodes (second_role kind) c.registry) (sym others) p.second;
+  second = rw others p.second;
 }
 on_side Second nodes kind old new Step keeps step others p = record {
-  first = subst (λ (c : ContainerState PortDetails).
-      IsPortRegistry nodes (first_role kind) c.registry) (sym others) p.first;
+  first = rw others p.first;
   second = keeps (second_role kind) old.second new.second step p.second;
 }
 
@@ -84,17 +63,16 @@ pub with_ports : (s : Service) (kind : PatternKind) (ports : Ports) → kind ≡
 with_ports s kind ports k i p = record {
   nodes_are = i.nodes_are;
   role_is = i.role_is;
-  ports_are = subst (λ (n : PatternKind). ArePorts s.nodes.registry n ports) (sym k) p;
+  ports_are = rw k p;
 }
 
 -- what a search for a node keeps
 pub nodes_read : (s : Service) (nodes : ContainerState ℕ) → Reads s.nodes nodes → IsService s
     → IsService (record s { nodes = nodes })
 nodes_read s nodes reads i = record {
-  nodes_are = subst IsRegistry (sym reads.0) i.nodes_are;
-  role_is = ap (λ (r : RegistryState ℕ). r.role) reads.0 ∙ i.role_is;
-  ports_are =
-      subst (λ (r : RegistryState ℕ). ArePorts r s.pattern s.ports) (sym reads.0) i.ports_are;
+  nodes_are = rw reads.0 i.nodes_are;
+  role_is = rw reads.0 i.role_is;
+  ports_are = rw reads.0 i.ports_are;
 }
 
 -- what a search for the ports of a node keeps
@@ -104,10 +82,8 @@ pub ports_read : (s : Service) (kind : PatternKind) (ports : Ports) → kind ≡
 ports_read s kind ports k reads i =
     let nodes = s.nodes.registry in
     with_ports s kind ports k i (record {
-      first = subst (IsPortRegistry nodes (first_role s.pattern)) (sym reads.0.0)
-          i.ports_are.first;
-      second = subst (IsPortRegistry nodes (second_role s.pattern)) (sym reads.1.0)
-          i.ports_are.second;
+      first = rw reads.0.0 i.ports_are.first;
+      second = rw reads.1.0 i.ports_are.second;
     })
 
 -- what attaching a port keeps
@@ -135,5 +111,4 @@ release_kept s kind ports handle answer k (inl a) i =
     (λ role o n c p. removed nodes role o.registry n.registry handle answer c.step c.kept p)
     a.step a.others i.ports_are)
 release_kept s kind ports handle answer k (inr a) i =
-    with_ports s kind ports k i
-    (subst (λ (p : Ports). ArePorts s.nodes.registry s.pattern p) (sym a.2) i.ports_are)
+    with_ports s kind ports k i (rw a.2 i.ports_are)

@@ -2,20 +2,7 @@
 use Rattle.std.proofs.Common.{◌≡◌, ℕ, Bool, ap}
 use Rattle.std.specs.Prelude.{◌==◌}
 use Rattle.std.specs.Fn.{Mut, Called}
-use Rattle.iox2_ids.specs.declared.identifiers.port_id.UniquePortId.{UniquePortId}
-use Rattle.iox2_container.specs.declared.container.release.ReleaseMode.TheVariants.{Default}
-use Rattle.iox2_container.specs.declared.container.release.ReleaseState.{ReleaseState}
-use Rattle.iox2_container.specs.Changes.{RecoversBy}
-use Rattle.iox2_container.specs.ContainerState.{ContainerState}
-use Rattle.iox2_container.specs.Steps.{is_of}
-use Rattle.iox2_dynamic.specs.declared.dynamic_config.answers.DeregisterNodeState.{DeregisterNodeState}
-use Rattle.iox2_dynamic.specs.declared.dynamic_config.cleanup.PortCleanupAction.{PortCleanupAction}
-use Rattle.iox2_dynamic.specs.declared.dynamic_config.port_details.PortDetails.{PortDetails}
-use Rattle.iox2_dynamic.specs.Recoveries.{AskedToGo, RecoversPorts}
-use Rattle.iox2_dynamic.specs.Details.{node_of, port_of}
-use Rattle.iox2_container.specs.Mapped.{container_as}
-use Rattle.iox2_dynamic.specs.Service.{Service}
-use Rattle.iox2_dynamic.specs.Steps.{DeadStep}
+use Rattle.iox2_dynamic.proofs.Names.{UniquePortId, Default, ReleaseState, RecoversBy, ContainerState, is_of, DeregisterNodeState, PortCleanupAction, PortDetails, AskedToGo, RecoversPorts, node_of, port_of, container_as, Service, DeadStep}
 use Rattle.iox2_container.proofs.LentCallbacks.{RecoverStep-as, RecoversBy-through}
 use Rattle.iox2_container.proofs.Mapped.{Changes-as}
 

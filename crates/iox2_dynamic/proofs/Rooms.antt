@@ -1,25 +1,12 @@
 -- What is registered or attached is what there is room for.
-use Rattle.std.proofs.Common.{◌≡◌, ◌≢◌, ℕ, ◌<◌, true, false, Result, Ok, Err, refl, sym, ◌∙◌, arith, inl, inr}
+use Rattle.std.proofs.Common.{◌≡◌, ◌≢◌, ℕ, ◌<◌, true≢false, Result, Ok, Err, refl, sym, ◌∙◌, arith, inl, inr}
 use Rattle.std.specs.Prelude.{IsOk}
-use Rattle.iox2_config.specs.declared.hash.input.PatternKind.{PatternKind}
+use Rattle.iox2_dynamic.proofs.Names.{PatternKind, ContainerAddFailure, IsLocked, OutOfSpace, Role, Handle, RegistryState, AddStep, TakesEntry, PortDetails, node_of, role_of, AddsTo, Ports, TakesIn, Side, of_side, First, Second, Service, TakesPort, entries_of_node, first_role, second_role, AttachStep, RegisterStep}
 use Rattle.iox2_config.specs.declared.hash.input.PatternKind.TheVariants as kind
-use Rattle.iox2_container.specs.declared.container.refusal.ContainerAddFailure.{ContainerAddFailure}
-use Rattle.iox2_container.specs.declared.container.refusal.ContainerAddFailure.TheVariants.{IsLocked, OutOfSpace}
-use Rattle.iox2_container.specs.declared.container.role.Role.{Role}
-use Rattle.iox2_container.specs.Handle.{Handle}
-use Rattle.iox2_container.specs.State.{RegistryState}
-use Rattle.iox2_container.specs.Steps.{AddStep, TakesEntry}
 use Rattle.iox2_dynamic.specs.declared.dynamic_config.answers.AttachError.{AttachError}
 use Rattle.iox2_dynamic.specs.declared.dynamic_config.answers.AttachError.TheVariants as attach
 use Rattle.iox2_dynamic.specs.declared.dynamic_config.answers.RegisterNodeResult.{RegisterNodeResult}
 use Rattle.iox2_dynamic.specs.declared.dynamic_config.answers.RegisterNodeResult.TheVariants.{MarkedForDestruction, ExceedsMaxNumberOfNodes}
-use Rattle.iox2_dynamic.specs.declared.dynamic_config.port_details.PortDetails.{PortDetails}
-use Rattle.iox2_dynamic.specs.Details.{node_of, role_of}
-use Rattle.iox2_dynamic.specs.Ports.{AddsTo, Ports, TakesIn}
-use Rattle.iox2_dynamic.specs.PortsState.{Side, of_side}
-use Rattle.iox2_dynamic.specs.PortsState.Side.{First, Second}
-use Rattle.iox2_dynamic.specs.Service.{Service, TakesPort, entries_of_node, first_role, second_role}
-use Rattle.iox2_dynamic.specs.Steps.{AttachStep, RegisterStep}
 
 pub roles_differ : (pattern : PatternKind) → first_role pattern ≢ second_role pattern
 roles_differ kind.PublishSubscribe e = (cc)
@@ -32,12 +19,10 @@ added_where : {T : Type 0} (old : RegistryState T) (details : T)
     → AddStep old details answer new
     → (IsOk answer → TakesEntry old) × (TakesEntry old → IsOk answer)
 added_where old details (Ok handle) new s = (λ _. (s.0, s.1), λ _. refl)
-added_where old details (Err IsLocked) new s = (
-  λ e. (let z : false ≡ true = e in cc),
-  λ t. (let z : false ≡ true = sym t.0 ∙ s.0 in cc),
-)
+added_where old details (Err IsLocked) new s =
+    (λ e. absurd (true≢false (sym e)), λ t. absurd (true≢false (sym s.0 ∙ t.0)))
 added_where old details (Err OutOfSpace) new s = (
-  λ e. (let z : false ≡ true = e in cc),
+  λ e. absurd (true≢false (sym e)),
   λ t. elim s.1 [
     | inl full ↦ absurd (omega (arith, full, t.1.0))
     | inr spent ↦ absurd (omega (arith, spent, t.1.1))
@@ -75,9 +60,9 @@ not_taken : (pattern : PatternKind) (old new : Ports) (details : PortDetails)
     → AddsTo (first_role pattern) (second_role pattern) old details (Err OutOfSpace) new
     → TakesIn (first_role pattern) (second_role pattern) old (role_of details) → ⊥
 not_taken pattern old new details a t =
-    (let z : false ≡ true =
-    (added_where _ details (Err OutOfSpace) _ a.step.step).1
-    (taken_by a.side pattern old (role_of details) a.role_is t) in cc)
+    true≢false
+    (sym ((added_where _ details (Err OutOfSpace) _ a.step.step).1
+    (taken_by a.side pattern old (role_of details) a.role_is t)))
 
 pub attached_where : (old : Service) (details : PortDetails) (answer : Result Handle AttachError)
     (new : Service) → 0 < entries_of_node (node_of details) old.nodes.registry
@@ -92,15 +77,9 @@ attached_where old details (Ok handle) new there s = (
   ),
   λ _. refl,
 )
-attached_where old details (Err attach.ServiceIsLocked) new there s = (
-  λ e. (let z : false ≡ true = e in cc),
-  λ t. (let z : false ≡ true = sym t.0 ∙ s.0 in cc),
-)
-attached_where old details (Err attach.NodeNotRegistered) new there s = (
-  λ e. (let z : false ≡ true = e in cc),
-  λ t. absurd (omega (arith, there, s.1)),
-)
-attached_where old details (Err attach.OutOfSpace) new there s = (
-  λ e. (let z : false ≡ true = e in cc),
-  λ t. absurd (not_taken old.pattern old.ports new.ports details s.1.0 t.1),
-)
+attached_where old details (Err attach.ServiceIsLocked) new there s =
+    (λ e. absurd (true≢false (sym e)), λ t. absurd (true≢false (sym s.0 ∙ t.0)))
+attached_where old details (Err attach.NodeNotRegistered) new there s =
+    (λ e. absurd (true≢false (sym e)), λ t. absurd (omega (arith, there, s.1)))
+attached_where old details (Err attach.OutOfSpace) new there s =
+    (λ e. absurd (true≢false (sym e)), λ t. absurd (not_taken _ _ _ details s.1.0 t.1))

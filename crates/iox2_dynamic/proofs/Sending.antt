@@ -16,8 +16,8 @@ use Rattle.iox2_dynamic.specs.contracts.dynamic_config.details.ServerDetails as 
 use Rattle.iox2_dynamic.specs.contracts.dynamic_config.details.SubscriberDetails as Subscriber
 use Rattle.iox2_dynamic.specs.contracts.dynamic_config.details.WriterDetails as Writer
 use Rattle.iox2_dynamic.specs.contracts.dynamic_config.pattern.MessagingPattern as MessagingPattern
-use Rattle.iox2_dynamic.specs.contracts.dynamic_config.port_registries.PortRegistries as PortRegistries
-use Rattle.iox2_dynamic.specs.contracts.dynamic_config.port_registries.PortRegistries.TheInside as PortsInside
+use Rattle.iox2_dynamic.specs.contracts.dynamic_config.pattern.PortRegistries as PortRegistries
+use Rattle.iox2_dynamic.specs.contracts.dynamic_config.pattern.PortRegistries.TheInside as PortsInside
 use Rattle.iox2_dynamic.specs.contracts.dynamic_config.service.DynamicConfig as DynamicConfig
 use Rattle.iox2_dynamic.specs.contracts.dynamic_config.service.DynamicConfig.TheInside as Inside
 
@@ -55,42 +55,26 @@ writer = search sendable depth 20
 node : IsSend NodeId.the_row
 node = search sendable depth 20
 
-ports_send : (A B : RattleType) (a : CloneGhosts A.Denot) (b : CloneGhosts B.Denot) → IsSend A
-    → IsSend B → IsSend (PortRegistries.the_row A B a b)
-ports_send A B a b s t =
+ports_send : (A B : RattleType) → IsSend A → IsSend B
+    → IsSend (PortRegistries.the_row A B (clones A.Denot) (clones B.Denot))
+ports_send A B s t =
+    let a = clones A.Denot in
+    let b = clones B.Denot in
     view_send (PortsInside.the_row A B a b) _ _ _ _
     (declared_send (PortsInside.the_type A B a b)
     (ListContainer-send A a s, (ListContainer-send B b t, tt)))
 
 pattern : IsSend MessagingPattern.the_row
 pattern =
-    recorded_send (Enum (enum.shape MessagingPattern.the_type)) _ _ MessagingPattern.the_type.to_one
-    (enum_send (enum.shape MessagingPattern.the_type) (
+    let shape = enum.shape MessagingPattern.the_type in
+    recorded_send (Enum shape) _ _ MessagingPattern.the_type.to_one
+    (enum_send shape (
+      (ports_send Server.the_row Client.the_row server client, tt),
       (
-        ports_send Server.the_row Client.the_row (clones (Server.the_row).Denot)
-            (clones (Client.the_row).Denot) server client,
-        tt,
-      ),
-      (
+        (ports_send Publisher.the_row Subscriber.the_row publisher subscriber, tt),
         (
-          ports_send Publisher.the_row Subscriber.the_row (clones (Publisher.the_row).Denot)
-              (clones (Subscriber.the_row).Denot) publisher subscriber,
-          tt,
-        ),
-        (
-          (
-            ports_send Listener.the_row Notifier.the_row (clones (Listener.the_row).Denot)
-                (clones (Notifier.the_row).Denot) listener notifier,
-            tt,
-          ),
-          (
-            (
-              ports_send Reader.the_row Writer.the_row (clones (Reader.the_row).Denot)
-                  (clones (Writer.the_row).Denot) reader writer,
-              tt,
-            ),
-            tt,
-          ),
+          (ports_send Listener.the_row Notifier.the_row listener notifier, tt),
+          ((ports_send Reader.the_row Writer.the_row reader writer, tt), tt),
         ),
       ),
     ))

@@ -1,21 +1,9 @@
 -- The ports of a service, and what the calls on them do.
 use Rattle.std.specs.Prelude.{◌≡◌, ◌≢◌, ℕ, nat_lt, ◌||◌, ◌⊎◌, Bool, true, false, Option, Some, None, Result, Err, List, ◌++◌, length}
 use Rattle.iox2_texts.specs.declared.bounded.callback_progression.CallbackProgression.{CallbackProgression}
-use Rattle.iox2_ids.specs.declared.identifiers.port_id.UniquePortId.{UniquePortId}
-use Rattle.iox2_container.specs.declared.container.refusal.ContainerAddFailure.{ContainerAddFailure}
-use Rattle.iox2_container.specs.declared.container.refusal.ContainerRemoveError.{ContainerRemoveError}
+use Rattle.iox2_dynamic.specs.Prelude.{UniquePortId, ContainerAddFailure, ContainerRemoveError, Default, ReleaseState, Role, Handle, ContainerState, Reads, fresh, RegistryState, Visit, IsUnknownHandle, HasEntry, TakesEntry, asked_about, entries_of, is_of, listed, PortCleanupAction, PortDetails, Adds, Removes}
 use Rattle.iox2_container.specs.declared.container.refusal.ContainerRemoveError.TheVariants.{ContainerHandleNotOwnedByContainer}
-use Rattle.iox2_container.specs.declared.container.release.ReleaseMode.TheVariants.{Default}
-use Rattle.iox2_container.specs.declared.container.release.ReleaseState.{ReleaseState}
-use Rattle.iox2_container.specs.declared.container.role.Role.{Role}
-use Rattle.iox2_container.specs.Handle.{Handle}
-use Rattle.iox2_container.specs.ContainerState.{ContainerState, Reads, fresh}
 use Rattle.iox2_container.specs.Callbacks.{CanVisit}
-use Rattle.iox2_container.specs.State.{RegistryState}
-use Rattle.iox2_container.specs.Steps.{Visit, IsUnknownHandle, HasEntry, TakesEntry, asked_about, entries_of, is_of, listed}
-use Rattle.iox2_dynamic.specs.declared.dynamic_config.cleanup.PortCleanupAction.{PortCleanupAction}
-use Rattle.iox2_dynamic.specs.declared.dynamic_config.port_details.PortDetails.{PortDetails}
-use Rattle.iox2_container.specs.Changes.{Adds, Removes}
 use Rattle.iox2_dynamic.specs.Recoveries.{RecoversPorts, ids_asked_about}
 use Rattle.iox2_dynamic.specs.Details.{role_of, node_of}
 use Rattle.iox2_container.specs.Mapped.{container_as}

@@ -1,14 +1,7 @@
 -- What becomes of the ports and the nodes of a dead node.
 use Rattle.std.specs.Prelude.{Bool, true, false, ◌≡◌, ℕ, List, map}
-use Rattle.iox2_ids.specs.declared.identifiers.port_id.UniquePortId.{UniquePortId}
-use Rattle.iox2_container.specs.declared.container.release.ReleaseMode.TheVariants.{Default, LockIfLastIndex}
-use Rattle.iox2_container.specs.declared.container.release.ReleaseState.{ReleaseState}
-use Rattle.iox2_container.specs.Changes.{RecoversBy}
-use Rattle.iox2_container.specs.ContainerState.{ContainerState}
-use Rattle.iox2_container.specs.Steps.{asked_about, is_of}
-use Rattle.iox2_dynamic.specs.declared.dynamic_config.cleanup.PortCleanupAction.{PortCleanupAction}
+use Rattle.iox2_dynamic.specs.Prelude.{UniquePortId, Default, LockIfLastIndex, ReleaseState, RecoversBy, ContainerState, asked_about, is_of, PortCleanupAction, PortDetails}
 use Rattle.iox2_dynamic.specs.declared.dynamic_config.cleanup.PortCleanupAction.TheVariants.{RemovePort, SkipPort}
-use Rattle.iox2_dynamic.specs.declared.dynamic_config.port_details.PortDetails.{PortDetails}
 use Rattle.iox2_dynamic.specs.Details.{node_of, port_of}
 
 -- whether a port goes

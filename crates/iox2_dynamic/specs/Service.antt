@@ -1,13 +1,8 @@
 -- What a service is.
 use Rattle.std.specs.Prelude.{◌≡◌, ◌<◌, ℕ, false, List, [], All}
-use Rattle.iox2_config.specs.declared.hash.input.PatternKind.{PatternKind}
+use Rattle.iox2_dynamic.specs.Prelude.{PatternKind, Role, ContainerState, fresh, Entry, RegistryState, IsRegistry, entries_of, PortDetails}
 use Rattle.iox2_config.specs.declared.hash.input.PatternKind.TheVariants as kind
-use Rattle.iox2_container.specs.declared.container.role.Role.{Role}
 use Rattle.iox2_container.specs.declared.container.role.Role.TheVariants as role
-use Rattle.iox2_container.specs.ContainerState.{ContainerState, fresh}
-use Rattle.iox2_container.specs.State.{Entry, RegistryState, IsRegistry}
-use Rattle.iox2_container.specs.Steps.{entries_of}
-use Rattle.iox2_dynamic.specs.declared.dynamic_config.port_details.PortDetails.{PortDetails}
 use Rattle.iox2_dynamic.specs.declared.dynamic_config.settings.MessagingPatternSettings.{MessagingPatternSettings}
 use Rattle.iox2_dynamic.specs.declared.dynamic_config.settings.MessagingPatternSettings.TheVariants as settings
 use Rattle.iox2_dynamic.specs.Details.{node_of}

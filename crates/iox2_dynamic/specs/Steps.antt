@@ -1,24 +1,12 @@
 -- What the calls on a service do.
 use Rattle.std.specs.Prelude.{◌≡◌, ◌<◌, ℕ, nat_eq, ◌&&◌, Bool, true, false, Result, Ok, Err}
-use Rattle.iox2_ids.specs.declared.identifiers.port_id.UniquePortId.{UniquePortId}
+use Rattle.iox2_dynamic.specs.Prelude.{UniquePortId, ContainerAddFailure, ContainerRemoveError, LockIfLastIndex, ReleaseState, Handle, ContainerState, Reads, IsUnknownHandle, HasEntry, release_state, DeregisterNodeState, RegisterNodeResult, PortCleanupAction, PortDetails, Adds, Removes}
 use Rattle.iox2_container.specs.declared.container.refusal.ContainerAddFailure.TheVariants as container
-use Rattle.iox2_container.specs.declared.container.refusal.ContainerAddFailure.{ContainerAddFailure}
-use Rattle.iox2_container.specs.declared.container.refusal.ContainerRemoveError.{ContainerRemoveError}
-use Rattle.iox2_container.specs.declared.container.release.ReleaseMode.TheVariants.{LockIfLastIndex}
-use Rattle.iox2_container.specs.declared.container.release.ReleaseState.{ReleaseState}
-use Rattle.iox2_container.specs.Handle.{Handle}
-use Rattle.iox2_container.specs.ContainerState.{ContainerState, Reads}
-use Rattle.iox2_container.specs.Steps.{IsUnknownHandle, HasEntry, release_state}
 use Rattle.iox2_dynamic.specs.declared.dynamic_config.answers.AttachError.{AttachError}
 use Rattle.iox2_dynamic.specs.declared.dynamic_config.answers.AttachError.TheVariants.{ServiceIsLocked, NodeNotRegistered, OutOfSpace}
 use Rattle.iox2_dynamic.specs.declared.dynamic_config.answers.DeregisterError.{DeregisterError}
 use Rattle.iox2_dynamic.specs.declared.dynamic_config.answers.DeregisterError.TheVariants.{ContainerHandleNotOwnedByContainer, PortsStillAttached}
-use Rattle.iox2_dynamic.specs.declared.dynamic_config.answers.DeregisterNodeState.{DeregisterNodeState}
-use Rattle.iox2_dynamic.specs.declared.dynamic_config.answers.RegisterNodeResult.{RegisterNodeResult}
-use Rattle.iox2_dynamic.specs.declared.dynamic_config.cleanup.PortCleanupAction.{PortCleanupAction}
-use Rattle.iox2_dynamic.specs.declared.dynamic_config.port_details.PortDetails.{PortDetails}
 use Rattle.iox2_dynamic.specs.Answers.{answer_of, state_of}
-use Rattle.iox2_container.specs.Changes.{Adds, Removes}
 use Rattle.iox2_dynamic.specs.Recoveries.{RecoversNodes}
 use Rattle.iox2_dynamic.specs.Details.{node_of}
 use Rattle.iox2_dynamic.specs.Ports.{AddsTo, RemovesFrom, RecoversBoth, ReadsPorts, has_ports_of}

@@ -10,11 +10,9 @@ mod listing;
 mod pattern;
 mod port_details;
 mod port_kind;
-mod port_registries;
 pub mod publish_subscribe;
 mod questions;
 mod recovery;
-mod registry;
 pub mod request_response;
 mod roles;
 mod service;
@@ -26,10 +24,9 @@ pub use details::{
     ClientDetails, ListenerDetails, NotifierDetails, PublisherDetails, ReaderDetails,
     ServerDetails, SubscriberDetails, WriterDetails,
 };
-pub use pattern::MessagingPattern;
+pub use pattern::{MessagingPattern, PortRegistries};
 pub use port_details::PortDetails;
 pub use port_kind::PortKind;
-pub use port_registries::PortRegistries;
 pub use roles::PortRoles;
 pub use service::DynamicConfig;
 pub use settings::MessagingPatternSettings;

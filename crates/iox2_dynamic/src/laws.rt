@@ -22,6 +22,7 @@ use crate::dynamic_config::{
 use std::alloc::AllocError;
 
 /// A service that is locked has no port.
+#[tactic(auto, using(crate::proofs::Keeping::locked_has_no_port))]
 pub fn locked_services_have_no_port()
     ensures { (s : Service) → IsService s → IsTrue s.nodes.registry.locked → HasNoPort s.ports }
 {}
@@ -37,12 +38,14 @@ pub fn skipped_ports_are_left()
 {}
 
 /// A node is registered exactly where `has_room_for_node` says yes.
+#[tactic(auto, using(crate::proofs::Rooms::registered_where))]
 pub fn nodes_are_registered_where_there_is_room()
     ensures { (old new : Service) (id : ℕ) (answer : Result Handle RegisterNodeResult)
         → RegisterStep old id answer new → IsOk answer ↔ TakesEntry old.nodes.registry }
 {}
 
 /// A port of a registered node is attached exactly where `has_room` says yes.
+#[tactic(auto, using(crate::proofs::Rooms::attached_where))]
 pub fn ports_are_attached_where_there_is_room()
     ensures { (old new : Service) (details : PortDetails) (answer : Result Handle AttachError)
         → 0 < entries_of_node (node_of details) old.nodes.registry

@@ -1,21 +1,14 @@
 -- No port comes by a death.
-use Rattle.std.proofs.Common.{◌≡◌, ◌≤◌, ◌-◌, ℕ, Bool, List, length, ap, arith}
+use Rattle.std.proofs.Common.{◌≡◌, ◌≤◌, ◌-◌, ℕ, Bool, List, length, sym, ap, arith}
 use Rattle.std.specs.Prelude.{not}
 use Rattle.std.proofs.lemmas.List.Sums.{count_by-le-length, length-filter}
 use Rattle.iox2_ids.specs.declared.identifiers.port_id.UniquePortId.{UniquePortId}
-use Rattle.iox2_container.specs.State.{Entry}
-use Rattle.iox2_container.specs.ContainerState.{ContainerState}
-use Rattle.iox2_container.specs.Steps.{is_leaving, is_of}
+use Rattle.iox2sd.proofs.Names.{Entry, ContainerState, is_leaving, is_of, PortDetails, node_of, Service, Keeps, Went, Id}
 use Rattle.iox2_dynamic.specs.declared.dynamic_config.answers.DeregisterNodeState.{DeregisterNodeState}
 use Rattle.iox2_dynamic.specs.declared.dynamic_config.cleanup.PortCleanupAction.{PortCleanupAction}
-use Rattle.iox2_dynamic.specs.declared.dynamic_config.port_details.PortDetails.{PortDetails}
-use Rattle.iox2_dynamic.specs.Details.{node_of}
 use Rattle.iox2_dynamic.specs.Recoveries.{RecoversPorts}
-use Rattle.iox2_dynamic.specs.Service.{Service}
 use Rattle.iox2_dynamic.specs.Steps.{DeadStep}
 use Rattle.iox2sd.specs.Counts.{counted}
-use Rattle.iox2sd.specs.Deaths.{Keeps, Went}
-use Rattle.iox2sd_common.specs.declared.id.Id.{Id}
 use Rattle.iox2sd.specs.declared.service.roles.Counts.{Counts}
 
 recovered_fewer : {F : Type 0} (calls : F → UniquePortId → PortCleanupAction → F → Type 0)
@@ -39,20 +32,11 @@ pub fewer : (kept : List Id) (old new : Service) (dead : ℕ) (answer : Deregist
     (before after : Counts) → before ≡ counted old → after ≡ counted new
     → DeadStep (Keeps kept) old tt dead answer new tt
     → (after.first ≤ before.first) × (after.second ≤ before.second)
-fewer kept old new dead answer before after b a s = (
-  omega (
-    arith,
-    ap (λ (k : Counts). k.first) b,
-    ap (λ (k : Counts). k.first) a,
-    recovered_fewer (Keeps kept) dead old.ports.first tt new.ports.first s.ports.0 s.ports.1,
-  ),
-  omega (
-    arith,
-    ap (λ (k : Counts). k.second) b,
-    ap (λ (k : Counts). k.second) a,
-    recovered_fewer (Keeps kept) dead old.ports.second s.ports.0 new.ports.second tt s.ports.2,
-  ),
-)
+fewer kept old new dead answer before after b a s =
+    rw (b, a) (
+      recovered_fewer (Keeps kept) dead old.ports.first tt new.ports.first s.ports.0 s.ports.1,
+      recovered_fewer (Keeps kept) dead old.ports.second s.ports.0 new.ports.second tt s.ports.2,
+    )
 
 pub so_many_went : (kept : List Id) (old new : Service) (dead : ℕ) (answer : DeregisterNodeState)
     (before after : Counts) → before ≡ counted old → after ≡ counted new
@@ -61,17 +45,5 @@ pub so_many_went : (kept : List Id) (old new : Service) (dead : ℕ) (answer : D
     (record { first = before.first - after.first; second = before.second - after.second })
     (counted new)
 so_many_went kept old new dead answer before after b a s =
-    let less = fewer kept old new dead answer before after b a s in record {
-      first = omega (
-        arith,
-        ap (λ (k : Counts). k.first) b,
-        ap (λ (k : Counts). k.first) a,
-        less.0,
-      );
-      second = omega (
-        arith,
-        ap (λ (k : Counts). k.second) b,
-        ap (λ (k : Counts). k.second) a,
-        less.1,
-      );
-    }
+    let less = fewer kept old new dead answer before after b a s in
+    rw (sym b, sym a) (record { first = omega (arith, less.0); second = omega (arith, less.1) })

@@ -9,9 +9,7 @@ use Rattle.std.proofs.lemmas.Cmp.{ranked}
 use Rattle.std.proofs.lemmas.List.Elements.{All-from_get_or}
 use Rattle.std.proofs.lemmas.List.Folds.{list_any_at, list_any_none}
 use Rattle.std.proofs.lemmas.List.Sorted.{IsNonDecreasingBy-from_all_adjacent}
-use Rattle.iox2sd.specs.Deaths.{is_kept}
-use Rattle.iox2sd_common.specs.Ids.{number_of, id_of}
-use Rattle.iox2sd_common.specs.declared.id.Id.{Id}
+use Rattle.iox2sd.proofs.Names.{is_kept, number_of, id_of, Id}
 
 -- ids of which no one is above the next are sorted
 pub sorted_from_adjacent : (kept : List Id) (r : Bool)

@@ -1,3 +1,4 @@
+pub mod Names
 pub mod Heap
 pub mod Steps
 pub mod There

@@ -3,23 +3,9 @@ use Rattle.std.proofs.Common.{◌≡◌, ◌↔◌, ◌∙◌, true≢false, IsT
 use Rattle.std.specs.Prelude.{drop}
 use Rattle.std.proofs.lemmas.List.{append-nil, append_assoc, length-append, length-map}
 use Rattle.std.proofs.Math.Seq.{set-append_seam}
-use Rattle.iox2_texts.specs.Attribute.{Visits}
-use Rattle.iox2_texts.specs.declared.bounded.callback_progression.CallbackProgression.{CallbackProgression}
-use Rattle.iox2_texts.specs.declared.bounded.callback_progression.CallbackProgression.TheVariants.{Continue, Stop}
-use Rattle.iox2_container.specs.ContainerState.{ContainerState}
+use Rattle.iox2sd.proofs.Names.{Visits, CallbackProgression, Continue, Stop, ContainerState, Entry, Role, Visit, listed, PortDetails, CountsIn, Service, first_role, second_role, id_of, Puts, PutsAll, ListsAll, NeedsMore, ports_in, ports_of_kind, nodes_in, PortsOf, Id, told_port, Port}
 use Rattle.iox2_container.specs.Mapped.{entry_as, container_as}
-use Rattle.iox2_container.specs.State.{Entry}
-use Rattle.iox2_container.specs.declared.container.role.Role.{Role}
-use Rattle.iox2_container.specs.Steps.{Visit, listed}
-use Rattle.iox2_dynamic.specs.declared.dynamic_config.port_details.PortDetails.{PortDetails}
-use Rattle.iox2_dynamic.specs.Ports.{CountsIn}
-use Rattle.iox2_dynamic.specs.Service.{Service, first_role, second_role}
 use Rattle.iox2_dynamic.proofs.Rooms.{roles_differ}
-use Rattle.iox2sd_common.specs.Ids.{id_of}
-use Rattle.iox2sd.specs.Listings.{Puts, PutsAll, ListsAll, NeedsMore, ports_in, ports_of_kind, nodes_in, PortsOf}
-use Rattle.iox2sd_common.specs.declared.id.Id.{Id}
-use Rattle.iox2sd.specs.Ports.{told_port}
-use Rattle.iox2sd.specs.declared.port.Port.{Port}
 
 puts_all : {A : Type 0} (before : List A × ℕ) (items : List A) (after : List A × ℕ)
     → Visits Puts before items after → PutsAll items before after
@@ -95,15 +81,13 @@ pub at_front : (s : Service) (role : Role) (is_first : Bool)
     → (ports : List Port) → PortsOf s role ports → length ports ≤ length before → after ≡ ports
     ++ drop (length ports) before
 at_front s role true same before after used puts ports (inl is) fits =
-    subst (λ (l : List Port). length l ≤ length before → after ≡ l ++ drop (length l) before)
-    (sym is.1) (puts [] before refl refl) fits
+    rw is.1 (puts [] before refl refl (rw is.1 at fits))
 at_front s role false same before after used puts ports (inl is) fits =
     absurd (true≢false (sym (same.1 is.0)))
 at_front s role true same before after used puts ports (inr is) fits =
     absurd (roles_differ s.pattern (sym (same.0 refl) ∙ is.0))
 at_front s role false same before after used puts ports (inr is) fits =
-    subst (λ (l : List Port). length l ≤ length before → after ≡ l ++ drop (length l) before)
-    (sym is.1) (puts [] before refl refl) fits
+    rw is.1 (puts [] before refl refl (rw is.1 at fits))
 
 length_nodes : (nodes : ContainerState ℕ) → length (nodes_in nodes) ≡ length nodes.registry.entries
 length_nodes nodes = length-map (listed nodes.registry) id_of

@@ -4,22 +4,10 @@ use Rattle.std.specs.Prelude.{◌^◌, drop, filter, if◌then◌else◌}
 use Rattle.std.proofs.lemmas.List.{append-nil, append_assoc, length-append, length-map, length-set, map-append}
 use Rattle.std.proofs.lemmas.List.Sums.{count_by-le-length, length-filter}
 use Rattle.std.proofs.Math.Seq.{drop-cons, set-append_seam}
-use Rattle.iox2_texts.specs.Attribute.{Visits}
-use Rattle.iox2_texts.specs.declared.bounded.callback_progression.CallbackProgression.{CallbackProgression}
-use Rattle.iox2_texts.specs.declared.bounded.callback_progression.CallbackProgression.TheVariants.{Continue, Stop}
+use Rattle.iox2sd.proofs.Names.{Visits, CallbackProgression, Continue, Stop, ContainerState, asked_about, is_of, listed, Role, node_of, ListsIn, Ports, ports_of_node, Service, first_role, second_role, PortDetails, ListsAll, told_port, Port}
 use Rattle.iox2_container.proofs.ListEdits.{filter-map}
-use Rattle.iox2_container.specs.ContainerState.{ContainerState}
-use Rattle.iox2_container.specs.Steps.{asked_about, is_of, listed}
-use Rattle.iox2_container.specs.declared.container.role.Role.{Role}
-use Rattle.iox2_dynamic.specs.Details.{node_of}
-use Rattle.iox2_dynamic.specs.Ports.{ListsIn, Ports, ports_of_node}
-use Rattle.iox2_dynamic.specs.Service.{Service, first_role, second_role}
-use Rattle.iox2_dynamic.specs.declared.dynamic_config.port_details.PortDetails.{PortDetails}
 use Rattle.iox2_dynamic.proofs.Rooms.{roles_differ}
-use Rattle.iox2sd.specs.Listings.{ListsAll}
 use Rattle.iox2sd.specs.NodeListings.{Counts, PutsAt, Stand, Notes, NotesAll, NotesOfRole}
-use Rattle.iox2sd.specs.Ports.{told_port}
-use Rattle.iox2sd.specs.declared.port.Port.{Port}
 
 -- the array with one more item
 put_behind : {A : Type 0} (before done old new : List A) (item : A) → old ≡ done

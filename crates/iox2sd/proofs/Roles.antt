@@ -1,9 +1,7 @@
 -- How many ports of each of a pattern's two kinds there are.
 use Rattle.std.proofs.Common.{◌≡◌, ◌∙◌, ℕ, Some, length, sym, inl, inr}
 use Rattle.iox2_config.specs.declared.hash.input.PatternKind.{PatternKind}
-use Rattle.iox2_container.specs.declared.container.role.Role.{Role}
-use Rattle.iox2_dynamic.specs.Ports.{Ports, CountsIn}
-use Rattle.iox2_dynamic.specs.Service.{first_role, second_role}
+use Rattle.iox2sd.proofs.Names.{Role, Ports, CountsIn, first_role, second_role}
 use Rattle.iox2_dynamic.proofs.Rooms.{roles_differ}
 
 pub first_count : (pattern : PatternKind) (p : Ports) (role : Role) (n : ℕ)

@@ -1,9 +1,7 @@
 -- What the library is, and what its statuses say.
 use Rattle.std.specs.Prelude.{◌≡◌, ℕ, Option, Some, None, List}
-use Rattle.iox2sd_common.specs.Answers.{text_answer, Written}
-use Rattle.iox2sd_common.specs.Status.{ReadsStatus, status_text}
+use Rattle.iox2sd.specs.Prelude.{text_answer, Written, ReadsStatus, status_text, Status}
 use Rattle.iox2sd_common.specs.declared.answers.TextAnswer.{TextAnswer}
-use Rattle.iox2sd_common.specs.declared.status.Status.{Status}
 use Rattle.iox2sd_common.specs.declared.status.Status.TheVariants as status
 
 -- the number of the structs and exports of today

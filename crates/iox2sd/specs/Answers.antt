@@ -2,22 +2,10 @@
 use Rattle.std.specs.Prelude.{ℕ, Result, Ok, Err}
 use Rattle.iox2sd.specs.Handles.{no_handle}
 use Rattle.iox2sd.specs.Ports.{no_port}
-use Rattle.iox2sd.specs.declared.answers.Death.{Death}
-use Rattle.iox2sd.specs.declared.answers.Death.TheVariants.{Open, Locked, Refused}
-use Rattle.iox2sd.specs.declared.answers.DeathAnswer.{DeathAnswer}
-use Rattle.iox2sd.specs.declared.answers.HandleAnswer.{HandleAnswer}
-use Rattle.iox2sd.specs.declared.answers.IdAnswer.{IdAnswer}
-use Rattle.iox2sd.specs.declared.answers.NumberAnswer.{NumberAnswer}
-use Rattle.iox2sd.specs.declared.answers.PortAnswer.{PortAnswer}
-use Rattle.iox2sd.specs.declared.answers.Roles.{Roles}
-use Rattle.iox2sd.specs.declared.answers.RolesAnswer.{RolesAnswer}
-use Rattle.iox2sd.specs.declared.handle.Handle.{Handle}
-use Rattle.iox2sd.specs.declared.port.Port.{Port}
-use Rattle.iox2sd.specs.declared.service.roles.Counts.{Counts}
-use Rattle.iox2sd_common.specs.Ids.{id_of}
-use Rattle.iox2sd_common.specs.Status.{code}
-use Rattle.iox2sd_common.specs.declared.id.Id.{Id}
-use Rattle.iox2sd_common.specs.declared.status.Status.{Status}
+use Rattle.iox2sd.specs.Prelude.{Death, Open, Locked, Refused, HandleAnswer, IdAnswer, NumberAnswer, Roles, Handle, Port, Counts, id_of, code, Id, Status}
+use Rattle.iox2sd.specs.declared.values.DeathAnswer.{DeathAnswer}
+use Rattle.iox2sd.specs.declared.values.PortAnswer.{PortAnswer}
+use Rattle.iox2sd.specs.declared.values.RolesAnswer.{RolesAnswer}
 use Rattle.iox2sd_common.specs.declared.status.Status.TheVariants as status
 
 -- a handle, or the status of a refusal with the handle that stands for nothing

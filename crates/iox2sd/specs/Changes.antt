@@ -1,23 +1,16 @@
 -- Calls that change a service, and what they answer.
 use Rattle.std.specs.Prelude.{◌≡◌, ℕ, Some, None, Result, Ok, Err, List, [], ◌∷◌}
+use Rattle.iox2sd.specs.Prelude.{HasOwners, NoMoreOwners, RegisterStep, DeregisterStep, ReleaseStep, ReadsNode, Handle, Id, Port, HandleAnswer, Status}
 use Rattle.iox2_container.specs.Handle.{Handle as Named}
 use Rattle.iox2_container.specs.declared.container.refusal.ContainerRemoveError.TheVariants as remove
 use Rattle.iox2_dynamic.specs.declared.dynamic_config.answers.DeregisterError.TheVariants as leave
-use Rattle.iox2_dynamic.specs.declared.dynamic_config.answers.DeregisterNodeState.TheVariants.{HasOwners, NoMoreOwners}
 use Rattle.iox2_dynamic.specs.declared.dynamic_config.answers.RegisterNodeResult.TheVariants as enter
 use Rattle.iox2_dynamic.specs.Service.{Service as Held}
-use Rattle.iox2_dynamic.specs.Steps.{RegisterStep, DeregisterStep, ReleaseStep}
 use Rattle.iox2sd.specs.Answers.{handle_answer}
 use Rattle.iox2sd.specs.Handles.{told, ReadsHandle}
-use Rattle.iox2sd_common.specs.Ids.{ReadsNode}
 use Rattle.iox2sd.specs.Places.{At, Nothing}
 use Rattle.iox2sd.specs.Ports.{AttachesPort}
-use Rattle.iox2sd.specs.declared.handle.Handle.{Handle}
-use Rattle.iox2sd_common.specs.declared.id.Id.{Id}
-use Rattle.iox2sd.specs.declared.port.Port.{Port}
 use Rattle.iox2sd.specs.declared.service.Service.{Service}
-use Rattle.iox2sd.specs.declared.answers.HandleAnswer.{HandleAnswer}
-use Rattle.iox2sd_common.specs.declared.status.Status.{Status}
 use Rattle.iox2sd_common.specs.declared.status.Status.TheVariants as status
 
 -- registering a node: the handle that C sees, or the refusal

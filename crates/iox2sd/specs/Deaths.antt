@@ -2,20 +2,12 @@
 use Rattle.std.specs.Prelude.{◌≡◌, ℕ, ◌+◌, ◌==◌, if◌then◌else◌, Bool, List, Some, None}
 use Rattle.std.specs.List.{list_any}
 use Rattle.iox2_ids.specs.declared.identifiers.port_id.UniquePortId.{UniquePortId}
-use Rattle.iox2_ids.specs.PortId.{port_value}
+use Rattle.iox2sd.specs.Prelude.{port_value, HasOwners, NoMoreOwners, DeadStep, number_of, ReadsNode, Id, Counts, Death, Open, Locked, Refused}
 use Rattle.iox2_dynamic.specs.declared.dynamic_config.answers.DeregisterNodeState.{DeregisterNodeState}
-use Rattle.iox2_dynamic.specs.declared.dynamic_config.answers.DeregisterNodeState.TheVariants.{HasOwners, NoMoreOwners}
 use Rattle.iox2_dynamic.specs.declared.dynamic_config.cleanup.PortCleanupAction.{PortCleanupAction}
 use Rattle.iox2_dynamic.specs.declared.dynamic_config.cleanup.PortCleanupAction.TheVariants.{RemovePort, SkipPort}
 use Rattle.iox2_dynamic.specs.Service.{Service as Held}
-use Rattle.iox2_dynamic.specs.Steps.{DeadStep}
 use Rattle.iox2sd.specs.Counts.{counted}
-use Rattle.iox2sd_common.specs.Ids.{number_of, ReadsNode}
-use Rattle.iox2sd_common.specs.declared.id.Id.{Id}
-use Rattle.iox2sd.specs.declared.service.roles.Counts.{Counts}
-use Rattle.iox2sd.specs.declared.answers.Death.{Death}
-use Rattle.iox2sd.specs.declared.answers.Death.TheVariants.{Open, Locked, Refused}
-use Rattle.iox2sd_common.specs.declared.status.Status.{Status}
 use Rattle.iox2sd_common.specs.declared.status.Status.TheVariants as status
 
 -- whether a number is that of one of these ids

@@ -1,19 +1,11 @@
 -- What a handle stands for.
 use Rattle.std.specs.Prelude.{◌≡◌, ℕ, List, Some, None, Result, Ok, Err}
+use Rattle.iox2sd.specs.Prelude.{IsUnknownHandle, HasEntry, PortDetails, IsNoPort, StandsAmong, id_of, ReadsText, Handle, Id, Port, IdAnswer, Status}
 use Rattle.iox2_container.specs.Handle.{Handle as Named}
-use Rattle.iox2_container.specs.Steps.{IsUnknownHandle, HasEntry}
-use Rattle.iox2_dynamic.specs.declared.dynamic_config.port_details.PortDetails.{PortDetails}
-use Rattle.iox2_dynamic.specs.Ports.{IsNoPort, StandsAmong}
 use Rattle.iox2_dynamic.specs.Service.{Service as Held}
 use Rattle.iox2sd.specs.Answers.{id_answer}
 use Rattle.iox2sd.specs.Handles.{ReadsHandle}
-use Rattle.iox2sd_common.specs.Ids.{id_of, ReadsText}
 use Rattle.iox2sd.specs.Ports.{told_port}
-use Rattle.iox2sd.specs.declared.handle.Handle.{Handle}
-use Rattle.iox2sd_common.specs.declared.id.Id.{Id}
-use Rattle.iox2sd.specs.declared.port.Port.{Port}
-use Rattle.iox2sd.specs.declared.answers.IdAnswer.{IdAnswer}
-use Rattle.iox2sd_common.specs.declared.status.Status.{Status}
 use Rattle.iox2sd_common.specs.declared.status.Status.TheVariants as status
 
 -- the id whose text this is

@@ -1,9 +1,8 @@
 -- Handles as C sees them.
 use Rattle.std.specs.Prelude.{◌≡◌, ◌≢◌, ℕ, Option, Some, None}
+use Rattle.iox2sd.specs.Prelude.{Role, Handle}
 use Rattle.iox2_container.specs.Handle.{Handle as ContainerHandle}
-use Rattle.iox2_container.specs.declared.container.role.Role.{Role}
 use Rattle.iox2_container.specs.declared.container.role.Role.TheVariants as role
-use Rattle.iox2sd.specs.declared.handle.Handle.{Handle}
 
 -- the number of a role
 abbrev pub role_number : Role → ℕ

@@ -1,7 +1,6 @@
 -- What is told of ids.
 use Rattle.std.specs.Prelude.{nat_lt, ◌+◌, Bool}
-use Rattle.iox2sd_common.specs.Ids.{number_of}
-use Rattle.iox2sd_common.specs.declared.id.Id.{Id}
+use Rattle.iox2sd.specs.Prelude.{number_of, Id}
 
 -- the parts are those of a node
 abbrev pub is_node : Id → Bool

@@ -14,7 +14,8 @@ pub mod Finding
 pub mod Listings
 pub mod NodeListings
 pub mod ServiceNumbers
--- Inner facts: what a slot owns.
+-- Inner facts: the names that these files share, and what a slot owns.
+pub mod Prelude
 pub mod Slots
 pub mod Heap
 pub mod Lending

@@ -2,21 +2,12 @@
 use Rattle.std.specs.Prelude.{◌≡◌, Bool, true, false, ℕ, ◌+◌, ◌<◌, ◌≤◌, List, ◌++◌, Some, None, map, drop, length, slice_set, ◌⊎◌}
 use Rattle.iox2_texts.specs.declared.bounded.callback_progression.CallbackProgression.{CallbackProgression}
 use Rattle.iox2_texts.specs.declared.bounded.callback_progression.CallbackProgression.TheVariants.{Continue, Stop}
-use Rattle.iox2_container.specs.ContainerState.{ContainerState}
-use Rattle.iox2_container.specs.Steps.{listed}
-use Rattle.iox2_container.specs.declared.container.role.Role.{Role}
-use Rattle.iox2_dynamic.specs.declared.dynamic_config.port_details.PortDetails.{PortDetails}
-use Rattle.iox2_dynamic.specs.Ports.{Ports, IsNeither}
-use Rattle.iox2_dynamic.specs.Service.{Service as Held, first_role, second_role}
-use Rattle.iox2sd_common.specs.Answers.{count_answer}
+use Rattle.iox2sd.specs.Prelude.{ContainerState, listed, Role, PortDetails, Ports, IsNeither, first_role, second_role, count_answer, id_of, Id, Port, Listed, All, TooShort}
+use Rattle.iox2_dynamic.specs.Service.{Service as Held}
 use Rattle.iox2sd.specs.Handles.{ReadsRole}
-use Rattle.iox2sd_common.specs.Ids.{id_of}
 use Rattle.iox2sd.specs.Ports.{told_port}
 use Rattle.iox2sd_common.specs.declared.answers.CountAnswer.{CountAnswer}
-use Rattle.iox2sd_common.specs.declared.id.Id.{Id}
-use Rattle.iox2sd.specs.declared.port.Port.{Port}
-use Rattle.iox2sd.specs.declared.service.listings.Listed.{Listed}
-use Rattle.iox2sd.specs.declared.service.listings.Listed.TheVariants.{All, TooShort, Refused}
+use Rattle.iox2sd.specs.declared.service.listings.Listed.TheVariants.{Refused}
 use Rattle.iox2sd_common.specs.declared.status.Status.TheVariants as status
 
 -- what became of a listing, as C sees it

@@ -1,19 +1,10 @@
 -- Listings of a node's ports into a caller's array.
 use Rattle.std.specs.Prelude.{◌≡◌, ℕ, ◌+◌, ◌^◌, ◌<◌, ◌≤◌, Bool, true, false, Option, List, [], ◌∷◌, ◌++◌, Some, None, map, drop, length, slice_set, ◌⊎◌}
-use Rattle.iox2_container.specs.ContainerState.{ContainerState}
-use Rattle.iox2_container.specs.Steps.{asked_about, is_of}
-use Rattle.iox2_container.specs.declared.container.role.Role.{Role}
-use Rattle.iox2_dynamic.specs.Details.{node_of}
-use Rattle.iox2_dynamic.specs.declared.dynamic_config.port_details.PortDetails.{PortDetails}
-use Rattle.iox2_dynamic.specs.Ports.{ports_of_node}
-use Rattle.iox2_dynamic.specs.Service.{Service as Held, first_role, second_role}
-use Rattle.iox2sd_common.specs.Ids.{ReadsNode}
+use Rattle.iox2sd.specs.Prelude.{ContainerState, asked_about, is_of, Role, node_of, PortDetails, ports_of_node, first_role, second_role, ReadsNode, Id, Port, Listed, All, TooShort}
+use Rattle.iox2_dynamic.specs.Service.{Service as Held}
 use Rattle.iox2sd.specs.Listings.{ListsAll, NeedsMore}
 use Rattle.iox2sd.specs.Ports.{told_port}
-use Rattle.iox2sd_common.specs.declared.id.Id.{Id}
-use Rattle.iox2sd.specs.declared.port.Port.{Port}
-use Rattle.iox2sd.specs.declared.service.listings.Listed.{Listed}
-use Rattle.iox2sd.specs.declared.service.listings.Listed.TheVariants.{All, TooShort, Refused}
+use Rattle.iox2sd.specs.declared.service.listings.Listed.TheVariants.{Refused}
 use Rattle.iox2sd_common.specs.declared.status.Status.TheVariants as status
 
 -- so many were counted, or too many

@@ -1,22 +1,14 @@
 -- Ports as C sees them.
 use Rattle.std.specs.Prelude.{◌≡◌, ℕ, Bool, true, false, Option, Some, None, Result, Ok, Err, ◌⊎◌}
-use Rattle.iox2_ids.specs.PortId.{port_value}
+use Rattle.iox2sd.specs.Prelude.{port_value, Role, PortDetails, role_of, node_of, port_of, HasRole, AttachStep, number_of, id_of, ReadsNode, Handle, Port, Status}
 use Rattle.iox2_config.specs.declared.config.choices.DataSegmentType.{DataSegmentType}
 use Rattle.iox2_config.specs.declared.config.choices.DataSegmentType.TheVariants.{Dynamic, Static}
 use Rattle.iox2_container.specs.Handle.{Handle as Named}
-use Rattle.iox2_container.specs.declared.container.role.Role.{Role}
 use Rattle.iox2_container.specs.declared.container.role.Role.TheVariants as role
 use Rattle.iox2_dynamic.specs.declared.dynamic_config.answers.AttachError.TheVariants as attach
-use Rattle.iox2_dynamic.specs.declared.dynamic_config.port_details.PortDetails.{PortDetails}
 use Rattle.iox2_dynamic.specs.declared.dynamic_config.port_details.PortDetails.TheVariants as of
-use Rattle.iox2_dynamic.specs.Details.{role_of, node_of, port_of}
-use Rattle.iox2_dynamic.specs.Service.{Service as Held, HasRole}
-use Rattle.iox2_dynamic.specs.Steps.{AttachStep}
+use Rattle.iox2_dynamic.specs.Service.{Service as Held}
 use Rattle.iox2sd.specs.Handles.{told, role_number, ReadsRole}
-use Rattle.iox2sd_common.specs.Ids.{number_of, id_of, ReadsNode}
-use Rattle.iox2sd.specs.declared.handle.Handle.{Handle}
-use Rattle.iox2sd.specs.declared.port.Port.{Port}
-use Rattle.iox2sd_common.specs.declared.status.Status.{Status}
 use Rattle.iox2sd_common.specs.declared.status.Status.TheVariants as status
 
 -- the number of a kind of data segment

@@ -1,14 +1,9 @@
 -- Questions to a service, and what they answer.
 use Rattle.std.specs.Prelude.{◌≡◌, ◌↔◌, ℕ, Bool, IsTrue, Some, None, Result, Ok, Err}
 use Rattle.iox2_container.specs.State.{RegistryState}
-use Rattle.iox2_container.specs.Steps.{TakesEntry}
-use Rattle.iox2_container.specs.declared.container.role.Role.{Role}
-use Rattle.iox2_dynamic.specs.declared.dynamic_config.port_details.PortDetails.{PortDetails}
-use Rattle.iox2_dynamic.specs.Ports.{OfRole}
-use Rattle.iox2_dynamic.specs.Service.{Service as Held, HasRole, TakesPort, first_role, second_role}
+use Rattle.iox2sd.specs.Prelude.{TakesEntry, Role, PortDetails, OfRole, HasRole, TakesPort, first_role, second_role, Roles, Status}
+use Rattle.iox2_dynamic.specs.Service.{Service as Held}
 use Rattle.iox2sd.specs.Handles.{role_number, ReadsRole}
-use Rattle.iox2sd.specs.declared.answers.Roles.{Roles}
-use Rattle.iox2sd_common.specs.declared.status.Status.{Status}
 use Rattle.iox2sd_common.specs.declared.status.Status.TheVariants as status
 
 -- a question that is never refused: the answer is this of the service

@@ -2,9 +2,8 @@
 use Rattle.std.specs.Prelude.{◌≡◌, ℕ, List, [], ◌∷◌, Some, None, Result, Ok, Err}
 use Rattle.iox2_container.specs.ServiceNumbers.{ReturnsNumber}
 use Rattle.iox2sd.specs.Answers.{number_answer}
-use Rattle.iox2sd.specs.declared.answers.NumberAnswer.{NumberAnswer}
+use Rattle.iox2sd.specs.Prelude.{NumberAnswer, Status}
 use Rattle.iox2sd.specs.declared.service_numbers.ServiceNumbers.{ServiceNumbers}
-use Rattle.iox2sd_common.specs.declared.status.Status.{Status}
 use Rattle.iox2sd_common.specs.declared.status.Status.TheVariants as status
 
 -- the number after the one that is noted, which is noted in its place, or none after the greatest

@@ -2,12 +2,11 @@
 use Rattle.std.specs.Prelude.{◌≡◌, ℕ, Option, Some, None, List, [], ◌∷◌}
 use Rattle.iox2_config.specs.Hashing.{ReadsPattern}
 use Rattle.iox2_config.specs.declared.hash.input.PatternKind.{PatternKind}
-use Rattle.iox2_dynamic.specs.Service.{Service as Held, PatternCapacities, fresh_service}
+use Rattle.iox2sd.specs.Prelude.{PatternCapacities, fresh_service, code, Status}
+use Rattle.iox2_dynamic.specs.Service.{Service as Held}
 use Rattle.iox2sd.specs.Places.{IsSoundPlace, held}
-use Rattle.iox2sd_common.specs.Status.{code}
 use Rattle.iox2sd.specs.declared.service.Service.{Service}
 use Rattle.iox2sd.specs.declared.service.making.Capacities.{Capacities}
-use Rattle.iox2sd_common.specs.declared.status.Status.{Status}
 use Rattle.iox2sd_common.specs.declared.status.Status.TheVariants as status
 
 -- how many ports of the two kinds of a pattern there may be

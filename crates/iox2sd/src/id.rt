@@ -6,7 +6,7 @@ ghost use Rattle.iox2sd_common.specs.Ids.{number_of};
 ghost use Rattle.iox2sd.specs.Finding.{TellsId};
 ghost use Rattle.iox2sd.specs.Ids.{is_node, is_before};
 
-use crate::answers::IdAnswer;
+use crate::values::IdAnswer;
 use iox2_ids::identifiers::Hexadecimal;
 use iox2sd_common::answers::{TextAnswer, write};
 use iox2sd_common::id::Id;

@@ -5,9 +5,7 @@
 #![tactic(auto, using(iox2_dynamic::proofs::Callbacks::callbacks))]
 
 pub mod about;
-pub mod answers;
-pub mod handle;
 pub mod id;
-pub mod port;
 pub mod service;
 pub mod service_numbers;
+pub mod values;

@@ -4,21 +4,33 @@ ghost use Rattle.std.specs.Borrow.{sem};
 ghost use Rattle.iox2sd.specs.Lending.{LendsHeld};
 ghost use Rattle.iox2sd.specs.Places.{IsSoundPlace, held};
 
+/// The service that the first object holds. Where there is none, the export returns the answer with
+/// the status that says why.
+macro_rules! lent_or_return {
+    ($places:expr, $status:ident => $refused:expr) => {{
+        let [place, ..] = $places else {
+            let $status = Status::Null;
+            return $refused;
+        };
+        let Some(service) = place.lend() else {
+            let $status = Status::NoService;
+            return $refused;
+        };
+        service
+    }};
+}
+
 pub mod changes;
 pub mod death;
-pub mod finding;
 mod kept;
 pub mod listings;
 pub mod making;
-pub mod ports_of_node;
 pub mod queries;
-mod raw_box;
 pub(crate) mod roles;
 mod slot;
 
 use iox2_dynamic::dynamic_config::DynamicConfig;
-use raw_box::RawBox;
-use slot::Slot;
+use slot::{RawBox, Slot};
 use std::alloc::Global;
 
 /// A service, or none where all bytes are 0.

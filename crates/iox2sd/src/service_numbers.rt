@@ -1,7 +1,7 @@
 //! Numbers for services, for callers who have none.
 ghost use Rattle.iox2sd.specs.ServiceNumbers.{NotesNumber, GivesNumber};
 
-use crate::answers::NumberAnswer;
+use crate::values::NumberAnswer;
 use iox2_container::container::ServiceNumbers as Numbers;
 use iox2sd_common::status::Status;
 
@@ -20,10 +20,7 @@ fn next(place: &mut ServiceNumbers) -> Result<u64, Status>
     let mut numbers = Numbers::after(place.last);
     let number = numbers.next_number();
     place.last = numbers.last();
-    match number {
-        Some(number) => Ok(number),
-        None => Err(Status::OutOfSpace),
-    }
+    number.ok_or(Status::OutOfSpace)
 }
 
 /// Returns the next number for a service: 1, 2, 3, .., each once.

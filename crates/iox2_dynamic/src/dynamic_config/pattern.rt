@@ -1,32 +1,280 @@
-//! The ports of a service, by its pattern.
+//! The ports of a service, by its pattern: a registry for each of two kinds of ports.
 ghost use Rattle.std.specs.Prelude.{◌≡◌, ◌↔◌, IfOk, IfSome, IsTrue, MatchOption, length, vec_capacity};
 ghost use Rattle.std.specs.Fn.{CalledAt, TakesAt};
-ghost use Rattle.iox2_container.specs.Callbacks.{CanBeAsked};
-ghost use Rattle.iox2_container.specs.Steps.{listed};
+ghost use Rattle.iox2_container.specs.Callbacks.{CanBeAsked, CanVisit};
+ghost use Rattle.iox2_container.specs.Steps.{Visit, listed};
 ghost use Rattle.iox2_dynamic.specs.Details.{role_of};
 ghost use Rattle.iox2_dynamic.specs.Patterns.{kind_of_service, ports_of};
-ghost use Rattle.iox2_dynamic.specs.Ports.{AddsTo, RemovesFrom, RecoversBoth, CountsIn, ListsIn};
-ghost use Rattle.iox2_dynamic.specs.Ports.{IsNoPort, OfRole, ReadsPorts, StandsAmong, TakesIn};
-ghost use Rattle.iox2_dynamic.specs.Ports.{ports_of_node};
-ghost use Rattle.iox2_dynamic.specs.Ports.{CanListIn, has_ports_of, ports_asked_about};
-ghost use Rattle.iox2_dynamic.specs.Service.{HasRole, first_role, second_role};
-ghost use Rattle.iox2_dynamic.specs.Service.{capacities_in, fresh_ports};
+ghost use Rattle.iox2_dynamic.specs.Ports.{ports_as, empty_ports, has_ports_of, IsNoPort, OfRole};
+ghost use Rattle.iox2_dynamic.specs.Ports.{AddsTo, RemovesFrom, RecoversBoth, CountsIn, CanListIn, ListsIn};
+ghost use Rattle.iox2_dynamic.specs.Ports.{ReadsPorts, StandsAmong, TakesIn, ports_asked_about, ports_of_node};
+ghost use Rattle.iox2_dynamic.specs.Service.{HasRole, first_role, second_role, capacities_in, fresh_ports};
 
 use super::blackboard::DynamicConfig as BlackboardPorts;
 use super::cleanup::PortCleanupAction;
 use super::event::DynamicConfig as EventPorts;
+use super::listing::{append_details_of, details, list_details};
 use super::port_details::PortDetails;
-use super::port_registries::PortRegistries;
+use super::port_kind::PortKind;
 use super::publish_subscribe::DynamicConfig as PublishSubscribePorts;
+use super::recovery::recover_ports;
 use super::request_response::DynamicConfig as RequestResponsePorts;
 use super::settings::MessagingPatternSettings;
-use iox2_config::hash::PatternKind;
 use iox2_container::container::{
-    ContainerAddFailure, ContainerHandle, ContainerRemoveError, ReleaseState, Role,
+    ContainerAddFailure, ContainerHandle, ContainerRemoveError, ListContainer, Registry,
+    ReleaseMode, ReleaseState, Role,
 };
 use iox2_ids::identifiers::{UniqueNodeId, UniquePortId};
 use iox2_texts::bounded::CallbackProgression;
 use std::alloc::{AllocError, Global};
+use std::marker::Model;
+
+/// A registry of a service's nodes, or of its ports of one kind.
+pub(super) type ServiceRegistry<T> = ListContainer<T>;
+
+/// A registry for each of two kinds of ports, of which the first is recovered first. A port's
+/// removal locks neither.
+#[derive(Debug, Drop)]
+pub struct PortRegistries<A: Copy, B: Copy> {
+    pub(super) first: ServiceRegistry<A>,
+    pub(super) second: ServiceRegistry<B>,
+}
+
+impl<A: Copy, B: Copy> Model for PortRegistries<A, B> {
+    ghost use Rattle.iox2_dynamic.specs.PortsState.{PortsState};
+
+    ghost Value = { PortsState A B };
+
+    ghost view = { λ p. record { first = p.first; second = p.second } };
+}
+
+impl<A: PortKind, B: PortKind> PortRegistries<A, B> {
+    /// No port yet, for this many of each kind at a time, and this many of each kind in all.
+    pub(super) fn with_capacities(
+        alloc: Global,
+        service_number: u64,
+        first: usize,
+        second: usize,
+        tickets: u64,
+    ) -> Result<Self, AllocError>
+        ensures { IfOk result (λ p.
+            p ≡ empty_ports A.ROLE B.ROLE service_number first second tickets) }
+    {
+        Ok(PortRegistries {
+            first: ServiceRegistry::new(alloc, service_number, A::ROLE, first, tickets)?,
+            second: ServiceRegistry::new(alloc, service_number, B::ROLE, second, tickets)?,
+        })
+    }
+
+    /// Calls the callback on the details of the ports that are recovered first by rising slot, up
+    /// to and with the first `Stop`. Code for all patterns lists both kinds so, each with the
+    /// details of its own.
+    pub fn list_first<F: FnMut(&A) -> CallbackProgression>(&self, f: &mut F)
+        requires { CanVisit (TakesAt F.FnMut) (CalledAt F.FnMut) f.old
+            (listed self.now.first.registry) }
+        ensures { Visit (CalledAt F.FnMut) f.old (listed self.now.first.registry) f.new }
+    {
+        self.first.for_each(f);
+    }
+
+    /// Calls the callback on the details of the other ports by rising slot, up to and with the
+    /// first `Stop`.
+    pub fn list_second<F: FnMut(&B) -> CallbackProgression>(&self, f: &mut F)
+        requires { CanVisit (TakesAt F.FnMut) (CalledAt F.FnMut) f.old
+            (listed self.now.second.registry) }
+        ensures { Visit (CalledAt F.FnMut) f.old (listed self.now.second.registry) f.new }
+    {
+        self.second.for_each(f);
+    }
+
+    /// Whether some port has the node.
+    pub(super) fn has_ports_of(&mut self, node: &UniqueNodeId) -> bool
+        ensures has { result ≡ has_ports_of node.now (ports_as A.details B.details self.old) }
+        ensures reads { ReadsPorts (ports_as A.details B.details self.old)
+            (ports_as A.details B.details self.new) }
+    {
+        if self.first.has_entry_of(node) {
+            return true;
+        }
+        self.second.has_entry_of(node)
+    }
+
+    /// Adds a port of the first kind.
+    pub(super) fn add_first(&mut self, port: A) -> Result<ContainerHandle, ContainerAddFailure>
+        ensures { AddsTo A.ROLE B.ROLE (ports_as A.details B.details self.old)
+            (A.details port) result (ports_as A.details B.details self.new) }
+    {
+        self.first.add(port)
+    }
+
+    /// Adds a port of the second kind.
+    pub(super) fn add_second(&mut self, port: B) -> Result<ContainerHandle, ContainerAddFailure>
+        ensures { AddsTo A.ROLE B.ROLE (ports_as A.details B.details self.old)
+            (B.details port) result (ports_as A.details B.details self.new) }
+    {
+        self.second.add(port)
+    }
+
+    /// Removes the port with this handle.
+    pub(super) fn remove(
+        &mut self,
+        handle: ContainerHandle,
+    ) -> Result<ReleaseState, ContainerRemoveError>
+        ensures { RemovesFrom A.ROLE B.ROLE (ports_as A.details B.details self.old)
+            handle result (ports_as A.details B.details self.new) }
+    {
+        if handle.role() == A::ROLE {
+            return self.first.remove(handle, ReleaseMode::Default);
+        }
+        if handle.role() == B::ROLE {
+            return self.second.remove(handle, ReleaseMode::Default);
+        }
+        let of_neither_kind = ContainerRemoveError::ContainerHandleNotOwnedByContainer;
+        Err(of_neither_kind)
+    }
+
+    /// Calls the callback for each port of a dead node, first for those of the first kind, and
+    /// returns whether one is left.
+    pub(super) fn recover<F>(&mut self, dead: &UniqueNodeId, f: &mut F) -> bool
+    where
+        F: FnMut(UniquePortId) -> PortCleanupAction,
+        requires { CanBeAsked F.pre F.step f.old
+            (ports_asked_about dead.now (ports_as A.details B.details self.old)) }
+        ensures recovered { RecoversBoth F.step dead.now
+            (ports_as A.details B.details self.old) f.old
+            (ports_as A.details B.details self.new) f.new }
+        ensures left { result ≡ has_ports_of dead.now (ports_as A.details B.details self.new) }
+    {
+        let first = recover_ports(&mut self.first, dead, f);
+        let second = recover_ports(&mut self.second, dead, f);
+        first || second
+    }
+
+    /// How many ports of the role there are; `None` for a role of neither kind.
+    pub(super) fn count(&self, role: Role) -> Option<usize>
+        ensures { CountsIn A.ROLE B.ROLE (ports_as A.details B.details self.now) role result }
+    {
+        if role == A::ROLE {
+            return Some(self.first.len());
+        }
+        if role == B::ROLE {
+            return Some(self.second.len());
+        }
+        None
+    }
+
+    /// How many ports of the role there may be; `None` for a role of neither kind.
+    pub(super) fn capacity(&self, role: Role) -> Option<usize>
+        ensures { OfRole (λ r n. n ≡ r.capacity) A.ROLE B.ROLE
+            (ports_as A.details B.details self.now) role result }
+    {
+        if role == A::ROLE {
+            return Some(self.first.capacity());
+        }
+        if role == B::ROLE {
+            return Some(self.second.capacity());
+        }
+        None
+    }
+
+    /// Whether a port of the role would be added.
+    pub(super) fn has_room(&self, role: Role) -> bool
+        ensures { IsTrue result
+            ↔ TakesIn A.ROLE B.ROLE (ports_as A.details B.details self.now) role }
+    {
+        (role == A::ROLE && self.first.has_room()) || (role == B::ROLE && self.second.has_room())
+    }
+
+    /// The port with this handle.
+    pub(super) fn get(&self, handle: ContainerHandle) -> Option<PortDetails>
+        ensures { MatchOption result (IsNoPort (ports_as A.details B.details self.now) handle)
+            (StandsAmong (ports_as A.details B.details self.now) handle) }
+    {
+        match self.first.get(handle) {
+            Some(port) => Some(port.into_details()),
+            None => match self.second.get(handle) {
+                Some(port) => Some(port.into_details()),
+                None => None,
+            },
+        }
+    }
+
+    /// The ports of the role; `None` for a role of neither kind.
+    pub(super) fn ports(
+        &self,
+        alloc: Global,
+        role: Role,
+    ) -> Result<Option<Vec<PortDetails>>, AllocError>
+        ensures listed { IfOk result (OfRole (λ r list. list.items ≡ listed r) A.ROLE B.ROLE
+            (ports_as A.details B.details self.now) role) }
+        ensures exact { IfOk result (λ found.
+            IfSome found (λ list. vec_capacity list ≡ length list.items)) }
+    {
+        if role == A::ROLE {
+            return Ok(Some(details(alloc, &self.first)?));
+        }
+        if role == B::ROLE {
+            return Ok(Some(details(alloc, &self.second)?));
+        }
+        Ok(None)
+    }
+
+    /// The ports of the node, those of the first kind before those of the second.
+    pub(super) fn ports_of(
+        &self,
+        alloc: Global,
+        node: &UniqueNodeId,
+    ) -> Result<Vec<PortDetails>, AllocError>
+        ensures listed { IfOk result (λ list.
+            list.items ≡ ports_of_node node.now (ports_as A.details B.details self.now)) }
+        ensures exact { IfOk result (λ list. vec_capacity list ≡ length list.items) }
+    {
+        let first = self.first.entries_of(node);
+        let Some(count) = first.checked_add(self.second.entries_of(node)) else {
+            return Err(AllocError);
+        };
+        let mut list = Vec::with_capacity(alloc, count)?;
+        append_details_of(&self.first, node, &mut list);
+        append_details_of(&self.second, node, &mut list);
+        Ok(list)
+    }
+
+    /// Shows the ports of the role; `false` for a role of neither kind.
+    pub(super) fn list<F: FnMut(&PortDetails) -> CallbackProgression>(
+        &self,
+        role: Role,
+        f: &mut F,
+    ) -> bool
+        requires { CanListIn (TakesAt F.FnMut) (CalledAt F.FnMut) A.ROLE B.ROLE
+            (ports_as A.details B.details self.now) role f.old }
+        ensures { ListsIn (CalledAt F.FnMut) A.ROLE B.ROLE
+            (ports_as A.details B.details self.now) role f.old result f.new }
+    {
+        if role == A::ROLE {
+            list_details(&self.first, f);
+            return true;
+        }
+        if role == B::ROLE {
+            list_details(&self.second, f);
+            return true;
+        }
+        false
+    }
+}
+
+/// Matches on a pattern, with the same expression for the ports of each.
+macro_rules! of_any_pattern {
+    ($pattern:expr, $ports:ident => $value:expr) => {
+        match $pattern {
+            MessagingPattern::RequestResponse($ports) => $value,
+            MessagingPattern::PublishSubscribe($ports) => $value,
+            MessagingPattern::Event($ports) => $value,
+            MessagingPattern::Blackboard($ports) => $value,
+        }
+    };
+}
+
+pub(super) use of_any_pattern;
 
 /// The messaging pattern of a service, with its ports.
 #[derive(Debug, Drop)]
@@ -94,42 +342,13 @@ impl MessagingPattern {
         }
     }
 
-    /// Which pattern it is.
-    pub(super) fn kind(&self) -> PatternKind
-        ensures { result ≡ kind_of_service self.now }
-    {
-        match self {
-            MessagingPattern::RequestResponse(_) => PatternKind::RequestResponse,
-            MessagingPattern::PublishSubscribe(_) => PatternKind::PublishSubscribe,
-            MessagingPattern::Event(_) => PatternKind::Event,
-            MessagingPattern::Blackboard(_) => PatternKind::Blackboard,
-        }
-    }
-
-    /// Whether the pattern has ports of the role.
-    pub(super) fn has_role(&self, role: Role) -> bool
-        ensures { IsTrue result ↔ HasRole (kind_of_service self.now) role }
-    {
-        match self {
-            MessagingPattern::RequestResponse(ports) => ports.has_role(role),
-            MessagingPattern::PublishSubscribe(ports) => ports.has_role(role),
-            MessagingPattern::Event(ports) => ports.has_role(role),
-            MessagingPattern::Blackboard(ports) => ports.has_role(role),
-        }
-    }
-
     /// Whether some port has the node.
     pub(super) fn has_ports_of(&mut self, id: &UniqueNodeId) -> bool
         ensures has { result ≡ has_ports_of id.now (ports_of self.old) }
         ensures reads { ReadsPorts (ports_of self.old) (ports_of self.new) }
         ensures kind { kind_of_service self.new ≡ kind_of_service self.old }
     {
-        match self {
-            MessagingPattern::RequestResponse(ports) => ports.has_ports_of(id),
-            MessagingPattern::PublishSubscribe(ports) => ports.has_ports_of(id),
-            MessagingPattern::Event(ports) => ports.has_ports_of(id),
-            MessagingPattern::Blackboard(ports) => ports.has_ports_of(id),
-        }
+        of_any_pattern!(self, ports => ports.has_ports_of(id))
     }
 
     /// Adds a port of one of the pattern's roles.
@@ -174,12 +393,7 @@ impl MessagingPattern {
             (ports_of self.old) handle result (ports_of self.new) }
         ensures kind { kind_of_service self.new ≡ kind_of_service self.old }
     {
-        match self {
-            MessagingPattern::RequestResponse(ports) => ports.remove(handle),
-            MessagingPattern::PublishSubscribe(ports) => ports.remove(handle),
-            MessagingPattern::Event(ports) => ports.remove(handle),
-            MessagingPattern::Blackboard(ports) => ports.remove(handle),
-        }
+        of_any_pattern!(self, ports => ports.remove(handle))
     }
 
     /// Calls the callback for each port of a dead node, and returns whether one is left.
@@ -194,122 +408,6 @@ impl MessagingPattern {
         ensures left { result ≡ has_ports_of dead.now (ports_of self.new) }
         ensures kind { kind_of_service self.new ≡ kind_of_service self.old }
     {
-        match self {
-            MessagingPattern::RequestResponse(ports) => ports.recover(dead, f),
-            MessagingPattern::PublishSubscribe(ports) => ports.recover(dead, f),
-            MessagingPattern::Event(ports) => ports.recover(dead, f),
-            MessagingPattern::Blackboard(ports) => ports.recover(dead, f),
-        }
-    }
-
-    /// How many ports of the role there are; `None` where the pattern has no such ports.
-    pub(super) fn count(&self, role: Role) -> Option<usize>
-        ensures { CountsIn (first_role (kind_of_service self.now))
-            (second_role (kind_of_service self.now))
-            (ports_of self.now) role result }
-    {
-        match self {
-            MessagingPattern::RequestResponse(ports) => ports.count(role),
-            MessagingPattern::PublishSubscribe(ports) => ports.count(role),
-            MessagingPattern::Event(ports) => ports.count(role),
-            MessagingPattern::Blackboard(ports) => ports.count(role),
-        }
-    }
-
-    /// Shows the ports of the role; `false` where the pattern has no such ports.
-    pub(super) fn list<F: FnMut(&PortDetails) -> CallbackProgression>(
-        &self,
-        role: Role,
-        f: &mut F,
-    ) -> bool
-        requires { CanListIn (TakesAt F.FnMut) (CalledAt F.FnMut)
-            (first_role (kind_of_service self.now)) (second_role (kind_of_service self.now))
-            (ports_of self.now) role f.old }
-        ensures { ListsIn (CalledAt F.FnMut) (first_role (kind_of_service self.now))
-            (second_role (kind_of_service self.now)) (ports_of self.now) role f.old result f.new }
-    {
-        match self {
-            MessagingPattern::RequestResponse(ports) => ports.list(role, f),
-            MessagingPattern::PublishSubscribe(ports) => ports.list(role, f),
-            MessagingPattern::Event(ports) => ports.list(role, f),
-            MessagingPattern::Blackboard(ports) => ports.list(role, f),
-        }
-    }
-
-    /// How many ports of the role there may be; `None` where the pattern has no such ports.
-    pub(super) fn capacity(&self, role: Role) -> Option<usize>
-        ensures { OfRole (λ r n. n ≡ r.capacity) (first_role (kind_of_service self.now))
-            (second_role (kind_of_service self.now)) (ports_of self.now) role result }
-    {
-        match self {
-            MessagingPattern::RequestResponse(ports) => ports.capacity(role),
-            MessagingPattern::PublishSubscribe(ports) => ports.capacity(role),
-            MessagingPattern::Event(ports) => ports.capacity(role),
-            MessagingPattern::Blackboard(ports) => ports.capacity(role),
-        }
-    }
-
-    /// Whether a port of the role would be added.
-    pub(super) fn has_room(&self, role: Role) -> bool
-        ensures { IsTrue result ↔ TakesIn (first_role (kind_of_service self.now))
-            (second_role (kind_of_service self.now)) (ports_of self.now) role }
-    {
-        match self {
-            MessagingPattern::RequestResponse(ports) => ports.has_room(role),
-            MessagingPattern::PublishSubscribe(ports) => ports.has_room(role),
-            MessagingPattern::Event(ports) => ports.has_room(role),
-            MessagingPattern::Blackboard(ports) => ports.has_room(role),
-        }
-    }
-
-    /// The port with this handle.
-    pub(super) fn get(&self, handle: ContainerHandle) -> Option<PortDetails>
-        ensures { MatchOption result (IsNoPort (ports_of self.now) handle)
-            (StandsAmong (ports_of self.now) handle) }
-    {
-        match self {
-            MessagingPattern::RequestResponse(ports) => ports.get(handle),
-            MessagingPattern::PublishSubscribe(ports) => ports.get(handle),
-            MessagingPattern::Event(ports) => ports.get(handle),
-            MessagingPattern::Blackboard(ports) => ports.get(handle),
-        }
-    }
-
-    /// The ports of the role; `None` where the pattern has no such ports.
-    pub(super) fn ports(
-        &self,
-        alloc: Global,
-        role: Role,
-    ) -> Result<Option<Vec<PortDetails>>, AllocError>
-        ensures listed { IfOk result (OfRole (λ r list. list.items ≡ listed r)
-            (first_role (kind_of_service self.now)) (second_role (kind_of_service self.now))
-            (ports_of self.now) role) }
-        ensures exact { IfOk result (λ found.
-            IfSome found (λ list. vec_capacity list ≡ length list.items)) }
-    {
-        match self {
-            MessagingPattern::RequestResponse(ports) => ports.ports(alloc, role),
-            MessagingPattern::PublishSubscribe(ports) => ports.ports(alloc, role),
-            MessagingPattern::Event(ports) => ports.ports(alloc, role),
-            MessagingPattern::Blackboard(ports) => ports.ports(alloc, role),
-        }
-    }
-
-    /// The ports of the node, those of the first kind before those of the second.
-    pub(super) fn ports_of(
-        &self,
-        alloc: Global,
-        node: &UniqueNodeId,
-    ) -> Result<Vec<PortDetails>, AllocError>
-        ensures listed { IfOk result (λ list.
-            list.items ≡ ports_of_node node.now (ports_of self.now)) }
-        ensures exact { IfOk result (λ list. vec_capacity list ≡ length list.items) }
-    {
-        match self {
-            MessagingPattern::RequestResponse(ports) => ports.ports_of(alloc, node),
-            MessagingPattern::PublishSubscribe(ports) => ports.ports_of(alloc, node),
-            MessagingPattern::Event(ports) => ports.ports_of(alloc, node),
-            MessagingPattern::Blackboard(ports) => ports.ports_of(alloc, node),
-        }
+        of_any_pattern!(self, ports => ports.recover(dead, f))
     }
 }

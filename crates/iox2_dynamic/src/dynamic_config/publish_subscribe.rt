@@ -7,7 +7,7 @@ ghost use Rattle.iox2_container.specs.Steps.{Visit, listed};
 ghost use Rattle.iox2_dynamic.specs.Ports.{empty_ports};
 
 use super::details::{PublisherDetails, SubscriberDetails};
-use super::port_registries::PortRegistries;
+use super::pattern::PortRegistries;
 use iox2_container::container::Registry;
 use iox2_texts::bounded::CallbackProgression;
 use std::alloc::{AllocError, Global};

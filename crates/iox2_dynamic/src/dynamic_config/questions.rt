@@ -7,6 +7,7 @@ ghost use Rattle.iox2_dynamic.specs.Ports.{ports_asked_about, ports_of_node};
 ghost use Rattle.iox2_dynamic.specs.Service.{HasRole, IsService, TakesPort};
 ghost use Rattle.iox2_dynamic.specs.Service.{first_role, second_role};
 
+use super::pattern::{MessagingPattern, of_any_pattern};
 use super::port_details::PortDetails;
 use super::service::DynamicConfig;
 use iox2_container::container::{ContainerHandle, Registry, Role, entries};
@@ -53,7 +54,7 @@ impl DynamicConfig {
             (second_role self.now.pattern) self.now.ports role result }
         ensures kept { IsService self.now }
     {
-        self.pattern.capacity(role)
+        of_any_pattern!(&self.pattern, ports => ports.capacity(role))
     }
 
     /// Whether `register_node_id` would register a node: the service is not locked, and a slot and
@@ -73,7 +74,10 @@ impl DynamicConfig {
         ensures room { IsTrue result ↔ TakesPort self.now role }
         ensures kept { IsService self.now }
     {
-        !self.nodes.is_locked() && self.pattern.has_room(role)
+        if self.nodes.is_locked() {
+            return false;
+        }
+        of_any_pattern!(&self.pattern, ports => ports.has_room(role))
     }
 
     /// The node that was registered with this handle and
@@ -93,7 +97,7 @@ impl DynamicConfig {
             (StandsAmong self.now.ports handle) }
         ensures kept { IsService self.now }
     {
-        self.pattern.get(handle)
+        of_any_pattern!(&self.pattern, ports => ports.get(handle))
     }
 
     /// The ids of the nodes by rising slot, one for each handle. The list takes memory for exactly
@@ -115,7 +119,7 @@ impl DynamicConfig {
             IfSome found (λ list. vec_capacity list ≡ length list.items)) }
         ensures kept { IsService self.now }
     {
-        self.pattern.ports(alloc, role)
+        of_any_pattern!(&self.pattern, ports => ports.ports(alloc, role))
     }
 
     /// The ports of the node, by its whole id, in the order of `remove_dead_node_id`: those of the
@@ -133,6 +137,6 @@ impl DynamicConfig {
         ensures exact { IfOk result (λ ports. vec_capacity ports ≡ length ports.items) }
         ensures kept { IsService self.now }
     {
-        self.pattern.ports_of(alloc, node)
+        of_any_pattern!(&self.pattern, ports => ports.ports_of(alloc, node))
     }
 }

@@ -1,9 +1,8 @@
 //! A service: its nodes and the ports of its pattern.
-ghost use Rattle.std.specs.Prelude.{◌≡◌, ◌<◌, ◌↔◌, IfOk, IsTrue};
+ghost use Rattle.std.specs.Prelude.{◌≡◌, ◌↔◌, IfOk, IsTrue};
 ghost use Rattle.std.specs.Fn.{CalledAt, TakesAt};
 ghost use Rattle.iox2_config.specs.declared.hash.input.PatternKind.TheVariants as kind;
 ghost use Rattle.iox2_container.specs.Callbacks.{CanBeAsked, CanVisit};
-ghost use Rattle.iox2_container.specs.ContainerState.{Reads};
 ghost use Rattle.iox2_container.specs.Steps.{Visit, listed, release_state};
 ghost use Rattle.iox2_dynamic.specs.declared.dynamic_config.port_details.PortDetails.TheVariants as of;
 ghost use Rattle.iox2_dynamic.specs.Answers.{state_of};
@@ -12,16 +11,15 @@ ghost use Rattle.iox2_dynamic.specs.Patterns.{kind_of_service, ports_of};
 ghost use Rattle.iox2_dynamic.specs.Ports.{ports_as, ports_asked_about, CountsIn, CanListIn, ListsIn};
 ghost use Rattle.iox2_dynamic.specs.Ports.{ReadsPorts};
 ghost use Rattle.iox2_dynamic.specs.Service.{IsService, HasRole, first_role, second_role};
-ghost use Rattle.iox2_dynamic.specs.Service.{capacities_in, entries_of_node, fresh_service};
+ghost use Rattle.iox2_dynamic.specs.Service.{capacities_in, fresh_service};
 ghost use Rattle.iox2_dynamic.specs.Steps.{RegisterStep, DeregisterStep, AttachStep, ReleaseStep};
 ghost use Rattle.iox2_dynamic.specs.Steps.{DeadStep, is_last_of_ports};
 
 use super::answers::{AttachError, DeregisterError, DeregisterNodeState, RegisterNodeResult};
 use super::cleanup::PortCleanupAction;
-use super::pattern::MessagingPattern;
+use super::pattern::{MessagingPattern, ServiceRegistry, of_any_pattern};
 use super::port_details::PortDetails;
 use super::recovery::recover_nodes;
-use super::registry::ServiceRegistry;
 use super::settings::MessagingPatternSettings;
 use super::{blackboard, event, publish_subscribe, request_response};
 use iox2_config::hash::PatternKind;
@@ -79,14 +77,6 @@ fn is_last_of_ports(
     ensures kind { kind_of_service pattern.new ≡ kind_of_service pattern.old }
 {
     pattern.has_ports_of(id) && nodes.entries_of(id) == 1
-}
-
-/// Whether the node is registered.
-fn is_registered(nodes: &mut ServiceRegistry<UniqueNodeId>, id: &UniqueNodeId) -> bool
-    ensures registered { IsTrue result ↔ (0 < entries_of_node id.now nodes.old.registry) }
-    ensures reads { Reads nodes.old nodes.new }
-{
-    nodes.has_entry_of(id)
 }
 
 impl DynamicConfig {
@@ -180,7 +170,14 @@ impl DynamicConfig {
         ensures role { IsTrue result ↔ HasRole self.now.pattern role }
         ensures kept { IsService self.now }
     {
-        self.pattern.has_role(role)
+        match &self.pattern {
+            MessagingPattern::RequestResponse(_) => matches!(role, Role::Server | Role::Client),
+            MessagingPattern::PublishSubscribe(_) => {
+                matches!(role, Role::Publisher | Role::Subscriber)
+            }
+            MessagingPattern::Event(_) => matches!(role, Role::Listener | Role::Notifier),
+            MessagingPattern::Blackboard(_) => matches!(role, Role::Reader | Role::Writer),
+        }
     }
 
     /// Attaches a port of one of the pattern's roles, as `has_role` says. Errors, in this order:
@@ -194,7 +191,7 @@ impl DynamicConfig {
         if self.nodes.is_locked() {
             return Err(AttachError::ServiceIsLocked);
         }
-        if !is_registered(&mut self.nodes, &details.node_id()) {
+        if !self.nodes.has_entry_of(&details.node_id()) {
             return Err(AttachError::NodeNotRegistered);
         }
         let Ok(handle) = self.pattern.add(details) else {
@@ -250,7 +247,12 @@ impl DynamicConfig {
         ensures kind { result ≡ self.now.pattern }
         ensures kept { IsService self.now }
     {
-        self.pattern.kind()
+        match &self.pattern {
+            MessagingPattern::RequestResponse(_) => PatternKind::RequestResponse,
+            MessagingPattern::PublishSubscribe(_) => PatternKind::PublishSubscribe,
+            MessagingPattern::Event(_) => PatternKind::Event,
+            MessagingPattern::Blackboard(_) => PatternKind::Blackboard,
+        }
     }
 
     /// How many ports of the role there are; `None` where the pattern has no such ports.
@@ -259,7 +261,7 @@ impl DynamicConfig {
             self.now.ports role result }
         ensures kept { IsService self.now }
     {
-        self.pattern.count(role)
+        of_any_pattern!(&self.pattern, ports => ports.count(role))
     }
 
     /// Calls the callback on the details of the ports of the role by rising slot, up to and with
@@ -275,7 +277,7 @@ impl DynamicConfig {
             (second_role self.now.pattern) self.now.ports role f.old result f.new }
         ensures kept { IsService self.now }
     {
-        self.pattern.list(role, f)
+        of_any_pattern!(&self.pattern, ports => ports.list(role, f))
     }
 
     /// Whether the pattern is request-response.

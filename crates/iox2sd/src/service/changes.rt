@@ -7,9 +7,7 @@ ghost use Rattle.iox2sd.specs.Ports.{AttachesPort};
 ghost use Rattle.iox2sd_common.specs.Status.{code};
 
 use super::Service;
-use crate::answers::HandleAnswer;
-use crate::handle::Handle;
-use crate::port::Port;
+use crate::values::{Handle, HandleAnswer, Port};
 use iox2_dynamic::dynamic_config::{
     AttachError, DeregisterError, DeregisterNodeState, DynamicConfig, RegisterNodeResult,
 };
@@ -20,9 +18,7 @@ use iox2sd_common::status::Status;
 fn register(service: &mut DynamicConfig, node: Id) -> Result<Handle, Status>
     ensures { Registers node service.old result service.new }
 {
-    let Some(node) = node.of_node() else {
-        return Err(Status::NoNode);
-    };
+    let node = node.of_node().ok_or(Status::NoNode)?;
     match service.register_node_id(node) {
         Ok(made) => Ok(Handle::of(made)),
         Err(RegisterNodeResult::MarkedForDestruction) => Err(Status::IsLocked),
@@ -39,12 +35,7 @@ pub extern "C" fn iox2sd_register_node_id_at(places: &mut [Service], node: Id) -
     requires { All IsSoundPlace places.old }
     ensures { At handle_answer Err Nothing (Registers node) places.old result places.new }
 {
-    let [place, ..] = places else {
-        return HandleAnswer::of(Err(Status::Null));
-    };
-    let Some(service) = place.lend() else {
-        return HandleAnswer::of(Err(Status::NoService));
-    };
+    let service = lent_or_return!(places, status => HandleAnswer::of(Err(status)));
     HandleAnswer::of(register(service, node))
 }
 
@@ -73,12 +64,7 @@ pub extern "C" fn iox2sd_deregister_node_id_at(places: &mut [Service], handle: H
     requires { All IsSoundPlace places.old }
     ensures { At code (λ s. s) Nothing (Deregisters handle) places.old result places.new }
 {
-    let [place, ..] = places else {
-        return Status::Null.code();
-    };
-    let Some(service) = place.lend() else {
-        return Status::NoService.code();
-    };
+    let service = lent_or_return!(places, status => status.code());
     deregister(service, handle).code()
 }
 
@@ -86,10 +72,7 @@ pub extern "C" fn iox2sd_deregister_node_id_at(places: &mut [Service], handle: H
 fn attach(service: &mut DynamicConfig, port: &Port) -> Result<Handle, Status>
     ensures { AttachesPort port.now service.old result service.new }
 {
-    let details = match port.read() {
-        Ok(details) => details,
-        Err(status) => return Err(status),
-    };
+    let details = port.read()?;
     if !service.has_role(details.role()) {
         return Err(Status::RoleNotInPattern);
     }
@@ -115,12 +98,7 @@ pub extern "C" fn iox2sd_attach_at(places: &mut [Service], ports: &[Port]) -> Ha
     let [port, ..] = ports else {
         return HandleAnswer::of(Err(Status::Null));
     };
-    let [place, ..] = places else {
-        return HandleAnswer::of(Err(Status::Null));
-    };
-    let Some(service) = place.lend() else {
-        return HandleAnswer::of(Err(Status::NoService));
-    };
+    let service = lent_or_return!(places, status => HandleAnswer::of(Err(status)));
     HandleAnswer::of(attach(service, port))
 }
 
@@ -146,11 +124,6 @@ pub extern "C" fn iox2sd_release_port_at(places: &mut [Service], handle: Handle)
     requires { All IsSoundPlace places.old }
     ensures { At code (λ s. s) Nothing (Releases handle) places.old result places.new }
 {
-    let [place, ..] = places else {
-        return Status::Null.code();
-    };
-    let Some(service) = place.lend() else {
-        return Status::NoService.code();
-    };
+    let service = lent_or_return!(places, status => status.code());
     release(service, handle).code()
 }

@@ -5,12 +5,12 @@ ghost use Rattle.iox2sd.specs.Answers.{death_answer};
 ghost use Rattle.iox2sd.specs.Counts.{counted};
 ghost use Rattle.iox2sd.specs.Deaths.{action_for, Keeps, Dies, Went};
 ghost use Rattle.iox2sd.specs.Places.{IsSoundPlace, At, Nothing};
-ghost use Rattle.iox2sd.specs.declared.answers.Death.TheVariants as death;
+ghost use Rattle.iox2sd.specs.declared.values.Death.TheVariants as death;
 
 use super::Service;
 use super::kept::Kept;
 use super::roles::Counts;
-use crate::answers::{Death, DeathAnswer};
+use crate::values::{Death, DeathAnswer};
 use iox2_dynamic::dynamic_config::{DeregisterNodeState, DynamicConfig, PortCleanupAction};
 use iox2_ids::identifiers::{UniqueNodeId, UniquePortId};
 use iox2sd_common::id::Id;
@@ -88,11 +88,6 @@ pub extern "C" fn iox2sd_remove_dead_node_id_at(
     ensures { At death_answer death.Refused Nothing (Dies dead kept.now)
         places.old result places.new }
 {
-    let [place, ..] = places else {
-        return DeathAnswer::of(Death::Refused(Status::Null));
-    };
-    let Some(service) = place.lend() else {
-        return DeathAnswer::of(Death::Refused(Status::NoService));
-    };
+    let service = lent_or_return!(places, status => DeathAnswer::of(Death::Refused(status)));
     DeathAnswer::of(die(service, dead, kept))
 }

@@ -1,19 +1,22 @@
 //! Questions to a service: its pattern, its number, its lock, its roles, how many nodes and ports
-//! there are and may be, and whether one more may join.
+//! there are and may be, whether one more may join, and what a handle stands for.
 #![tactic(auto, using(crate::proofs::Lending::same_places))]
 
 ghost use Rattle.std.specs.Prelude.{◌≡◌, All, Err, length};
 ghost use Rattle.iox2_config.specs.Hashing.{pattern_number};
-ghost use Rattle.iox2sd.specs.Answers.{number_answer, roles_answer};
+ghost use Rattle.iox2sd.specs.Answers.{id_answer, number_answer, port_answer, roles_answer};
+ghost use Rattle.iox2sd.specs.Finding.{FindsNode, FindsPort};
 ghost use Rattle.iox2sd.specs.Places.{IsSoundPlace, Asked, Nothing};
 ghost use Rattle.iox2sd.specs.Queries.{Gives, AsksRole, roles_in, AsksPorts, AsksRoom, AsksNodeRoom};
 ghost use Rattle.iox2sd_common.specs.Answers.{flag_answer, told_count};
 
 use super::Service;
-use crate::answers::{NumberAnswer, Roles, RolesAnswer};
-use crate::handle::{role_number, role_of};
+use crate::values::{
+    Handle, IdAnswer, NumberAnswer, Port, PortAnswer, Roles, RolesAnswer, role_number, role_of,
+};
 use iox2_dynamic::dynamic_config::{DynamicConfig, PortRoles};
 use iox2sd_common::answers::{CountAnswer, FlagAnswer};
+use iox2sd_common::id::Id;
 use iox2sd_common::status::Status;
 
 /// The roles of the pattern's ports.
@@ -31,10 +34,8 @@ fn roles_of(service: &DynamicConfig) -> Roles
 fn has_role(service: &DynamicConfig, role: u64) -> Result<bool, Status>
     ensures { AsksRole role service.now result }
 {
-    match role_of(role) {
-        Some(role) => Ok(service.has_role(role)),
-        None => Err(Status::UnknownRole),
-    }
+    let role = role_of(role).ok_or(Status::UnknownRole)?;
+    Ok(service.has_role(role))
 }
 
 /// The number of the pattern. Errors, in this order: NULL, an object without a service.
@@ -45,12 +46,7 @@ pub extern "C" fn iox2sd_messaging_pattern_at(places: &mut [Service]) -> NumberA
         places.old result }
     ensures unchanged { places.new ≡ places.old }
 {
-    let [place, ..] = places else {
-        return NumberAnswer::of(Err(Status::Null));
-    };
-    let Some(service) = place.lend() else {
-        return NumberAnswer::of(Err(Status::NoService));
-    };
+    let service = lent_or_return!(places, status => NumberAnswer::of(Err(status)));
     NumberAnswer::of(Ok(service.kind() as u64))
 }
 
@@ -62,12 +58,7 @@ pub extern "C" fn iox2sd_port_roles_at(places: &mut [Service]) -> RolesAnswer
     ensures answer { Asked roles_answer Err Nothing (Gives roles_in) places.old result }
     ensures unchanged { places.new ≡ places.old }
 {
-    let [place, ..] = places else {
-        return RolesAnswer::of(Err(Status::Null));
-    };
-    let Some(service) = place.lend() else {
-        return RolesAnswer::of(Err(Status::NoService));
-    };
+    let service = lent_or_return!(places, status => RolesAnswer::of(Err(status)));
     RolesAnswer::of(Ok(roles_of(service)))
 }
 
@@ -80,12 +71,7 @@ pub extern "C" fn iox2sd_service_number_at(places: &mut [Service]) -> NumberAnsw
         places.old result }
     ensures unchanged { places.new ≡ places.old }
 {
-    let [place, ..] = places else {
-        return NumberAnswer::of(Err(Status::Null));
-    };
-    let Some(service) = place.lend() else {
-        return NumberAnswer::of(Err(Status::NoService));
-    };
+    let service = lent_or_return!(places, status => NumberAnswer::of(Err(status)));
     NumberAnswer::of(Ok(service.service_number()))
 }
 
@@ -98,12 +84,7 @@ pub extern "C" fn iox2sd_is_locked_at(places: &mut [Service]) -> FlagAnswer
         places.old result }
     ensures unchanged { places.new ≡ places.old }
 {
-    let [place, ..] = places else {
-        return FlagAnswer::of(Err(Status::Null));
-    };
-    let Some(service) = place.lend() else {
-        return FlagAnswer::of(Err(Status::NoService));
-    };
+    let service = lent_or_return!(places, status => FlagAnswer::of(Err(status)));
     FlagAnswer::of(Ok(service.is_locked()))
 }
 
@@ -115,12 +96,7 @@ pub extern "C" fn iox2sd_has_role_at(places: &mut [Service], role: u64) -> FlagA
     ensures answer { Asked flag_answer Err Nothing (AsksRole role) places.old result }
     ensures unchanged { places.new ≡ places.old }
 {
-    let [place, ..] = places else {
-        return FlagAnswer::of(Err(Status::Null));
-    };
-    let Some(service) = place.lend() else {
-        return FlagAnswer::of(Err(Status::NoService));
-    };
+    let service = lent_or_return!(places, status => FlagAnswer::of(Err(status)));
     FlagAnswer::of(has_role(service, role))
 }
 
@@ -128,35 +104,23 @@ pub extern "C" fn iox2sd_has_role_at(places: &mut [Service], role: u64) -> FlagA
 fn count_ports(service: &DynamicConfig, role: u64) -> Result<usize, Status>
     ensures { AsksPorts (λ r n. n ≡ length r.entries) role service.now result }
 {
-    let Some(role) = role_of(role) else {
-        return Err(Status::UnknownRole);
-    };
-    match service.count_ports(role) {
-        Some(number) => Ok(number),
-        None => Err(Status::RoleNotInPattern),
-    }
+    let role = role_of(role).ok_or(Status::UnknownRole)?;
+    service.count_ports(role).ok_or(Status::RoleNotInPattern)
 }
 
 /// How many ports of the role of this number there may be.
 fn max_ports(service: &DynamicConfig, role: u64) -> Result<usize, Status>
     ensures { AsksPorts (λ r n. n ≡ r.capacity) role service.now result }
 {
-    let Some(role) = role_of(role) else {
-        return Err(Status::UnknownRole);
-    };
-    match service.max_ports(role) {
-        Some(number) => Ok(number),
-        None => Err(Status::RoleNotInPattern),
-    }
+    let role = role_of(role).ok_or(Status::UnknownRole)?;
+    service.max_ports(role).ok_or(Status::RoleNotInPattern)
 }
 
 /// Whether a port of the role of this number can be attached.
 fn has_room(service: &DynamicConfig, role: u64) -> Result<bool, Status>
     ensures { AsksRoom role service.now result }
 {
-    let Some(role) = role_of(role) else {
-        return Err(Status::UnknownRole);
-    };
+    let role = role_of(role).ok_or(Status::UnknownRole)?;
     if !service.has_role(role) {
         return Err(Status::RoleNotInPattern);
     }
@@ -178,12 +142,7 @@ pub extern "C" fn iox2sd_number_of_nodes_at(places: &mut [Service]) -> CountAnsw
         places.old result }
     ensures unchanged { places.new ≡ places.old }
 {
-    let [place, ..] = places else {
-        return CountAnswer::of(Err(Status::Null));
-    };
-    let Some(service) = place.lend() else {
-        return CountAnswer::of(Err(Status::NoService));
-    };
+    let service = lent_or_return!(places, status => CountAnswer::of(Err(status)));
     CountAnswer::of(Ok(service.number_of_nodes()))
 }
 
@@ -196,12 +155,7 @@ pub extern "C" fn iox2sd_max_nodes_at(places: &mut [Service]) -> CountAnswer
         places.old result }
     ensures unchanged { places.new ≡ places.old }
 {
-    let [place, ..] = places else {
-        return CountAnswer::of(Err(Status::Null));
-    };
-    let Some(service) = place.lend() else {
-        return CountAnswer::of(Err(Status::NoService));
-    };
+    let service = lent_or_return!(places, status => CountAnswer::of(Err(status)));
     CountAnswer::of(Ok(service.max_nodes()))
 }
 
@@ -213,12 +167,7 @@ pub extern "C" fn iox2sd_has_room_for_node_at(places: &mut [Service]) -> FlagAns
     ensures answer { Asked flag_answer Err Nothing AsksNodeRoom places.old result }
     ensures unchanged { places.new ≡ places.old }
 {
-    let [place, ..] = places else {
-        return FlagAnswer::of(Err(Status::Null));
-    };
-    let Some(service) = place.lend() else {
-        return FlagAnswer::of(Err(Status::NoService));
-    };
+    let service = lent_or_return!(places, status => FlagAnswer::of(Err(status)));
     FlagAnswer::of(has_room_for_node(service))
 }
 
@@ -231,12 +180,7 @@ pub extern "C" fn iox2sd_count_ports_at(places: &mut [Service], role: u64) -> Co
         places.old result }
     ensures unchanged { places.new ≡ places.old }
 {
-    let [place, ..] = places else {
-        return CountAnswer::of(Err(Status::Null));
-    };
-    let Some(service) = place.lend() else {
-        return CountAnswer::of(Err(Status::NoService));
-    };
+    let service = lent_or_return!(places, status => CountAnswer::of(Err(status)));
     CountAnswer::of(count_ports(service, role))
 }
 
@@ -248,12 +192,7 @@ pub extern "C" fn iox2sd_max_ports_at(places: &mut [Service], role: u64) -> Coun
         places.old result }
     ensures unchanged { places.new ≡ places.old }
 {
-    let [place, ..] = places else {
-        return CountAnswer::of(Err(Status::Null));
-    };
-    let Some(service) = place.lend() else {
-        return CountAnswer::of(Err(Status::NoService));
-    };
+    let service = lent_or_return!(places, status => CountAnswer::of(Err(status)));
     CountAnswer::of(max_ports(service, role))
 }
 
@@ -265,11 +204,48 @@ pub extern "C" fn iox2sd_has_room_at(places: &mut [Service], role: u64) -> FlagA
     ensures answer { Asked flag_answer Err Nothing (AsksRoom role) places.old result }
     ensures unchanged { places.new ≡ places.old }
 {
-    let [place, ..] = places else {
-        return FlagAnswer::of(Err(Status::Null));
-    };
-    let Some(service) = place.lend() else {
-        return FlagAnswer::of(Err(Status::NoService));
-    };
+    let service = lent_or_return!(places, status => FlagAnswer::of(Err(status)));
     FlagAnswer::of(has_room(service, role))
+}
+
+/// The node of the handle.
+fn find_node(service: &DynamicConfig, handle: Handle) -> Result<Id, Status>
+    ensures { FindsNode handle service.now result }
+{
+    let handle = handle.read().ok_or(Status::UnknownRole)?;
+    let node = service.node(handle).ok_or(Status::ForeignHandle)?;
+    Ok(Id::of_number(node.value()))
+}
+
+/// The port of the handle.
+fn find_port(service: &DynamicConfig, handle: Handle) -> Result<Port, Status>
+    ensures { FindsPort handle service.now result }
+{
+    let handle = handle.read().ok_or(Status::UnknownRole)?;
+    let details = service.port(handle).ok_or(Status::ForeignHandle)?;
+    Ok(Port::of(&details))
+}
+
+/// The node that was registered with this handle. Errors, in this order: NULL, an object without a
+/// service, a number of no role, and each handle that is not that of a node here.
+#[unsafe(no_mangle)]
+pub extern "C" fn iox2sd_node_at(places: &mut [Service], handle: Handle) -> IdAnswer
+    requires { All IsSoundPlace places.old }
+    ensures answer { Asked id_answer Err Nothing (FindsNode handle) places.old result }
+    ensures unchanged { places.new ≡ places.old }
+{
+    let service = lent_or_return!(places, status => IdAnswer::of(Err(status)));
+    IdAnswer::of(find_node(service, handle))
+}
+
+/// The port that was attached with this handle. Errors, in this order: NULL, an object without a
+/// service, a number of no role, and each handle that is not that of a port here.
+#[unsafe(no_mangle)]
+pub extern "C" fn iox2sd_port_at(places: &mut [Service], handle: Handle) -> PortAnswer
+    requires { All IsSoundPlace places.old }
+    ensures answer { Asked port_answer Err Nothing (FindsPort handle) places.old result }
+    ensures unchanged { places.new ≡ places.old }
+{
+    let service = lent_or_return!(places, status => PortAnswer::of(Err(status)));
+    PortAnswer::of(find_port(service, handle))
 }

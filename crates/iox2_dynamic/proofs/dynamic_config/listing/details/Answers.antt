@@ -1,8 +1,7 @@
 use Rattle.std.proofs.Common.{rules, ◌≡◌, ◌++◌, ◌∙◌, sym, length, map, true, arith, ap}
 use Rattle.std.specs.Prelude.{filter}
 use Rattle.std.proofs.lemmas.List.{length-map}
-use Rattle.iox2_container.specs.Mapped.{entry_as, registry_as}
-use Rattle.iox2_container.specs.Steps.{listed}
+use Rattle.iox2_dynamic.proofs.Names.{entry_as, registry_as, listed}
 use Rattle.iox2_container.proofs.Collecting.{CanVisit-collecting, collects, all_pass, passes_all}
 use Rattle.iox2_container.proofs.Mapped.{listed-as}
 use Rattle.iox2_dynamic.proofs.dynamic_config.listing.details.Goals as goal

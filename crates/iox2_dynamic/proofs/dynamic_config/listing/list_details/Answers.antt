@@ -1,7 +1,6 @@
 use Rattle.std.proofs.Common.{sym, subst}
 use Rattle.std.specs.Fn.{CalledAt, TakesAt}
-use Rattle.iox2_container.specs.Callbacks.{CanVisit}
-use Rattle.iox2_container.specs.Steps.{Visit, listed}
+use Rattle.iox2_dynamic.proofs.Names.{CanVisit, Visit, listed}
 use Rattle.iox2_container.proofs.Callable.{CanVisit-lent}
 use Rattle.iox2_container.proofs.LentCallbacks.{Visit-lent}
 use Rattle.iox2_container.proofs.Mapped.{listed-as}

@@ -2,13 +2,9 @@ use Rattle.std.proofs.Common.{map, rules, refl, sym, ◌∙◌, ap, subst}
 use Rattle.std.proofs.lemmas.Simd.{map-map}
 use Rattle.std.specs.Prelude.{◌==◌}
 use Rattle.std.specs.Fn.{Called, Takes}
-use Rattle.iox2_container.specs.declared.container.release.ReleaseMode.TheVariants.{Default}
-use Rattle.iox2_container.specs.Callbacks.{CanBeAsked}
-use Rattle.iox2_container.specs.Steps.{asked_about, is_of}
+use Rattle.iox2_dynamic.proofs.Names.{CanBeAsked, asked_about, is_of, AskedToGo, node_of, port_of}
 use Rattle.iox2_container.proofs.Callable.{CanBeAsked-lent}
 use Rattle.iox2_container.proofs.LentCallbacks.{RecoversBy-lent, asked-as}
-use Rattle.iox2_dynamic.specs.Recoveries.{AskedToGo}
-use Rattle.iox2_dynamic.specs.Details.{node_of, port_of}
 use Rattle.iox2_dynamic.proofs.Recoveries.{RecoversPorts-as}
 use Rattle.iox2_dynamic.proofs.Skipping.{left_noted}
 use Rattle.iox2_dynamic.proofs.dynamic_config.recovery.recover_ports.Goals as goal
@@ -43,17 +39,12 @@ returns g c =
     let t = RecoversBy-lent _ asks (λ s. s.0.now) (λ s. s.0.ghost_name)
     (λ s x b u e.
     (e.called.met.0.0, subst (λ d. asks s.0.now d b u.0.now) e.shows e.called.met.1.0))
-    (is_of g.T.Attached.node c.args.dead.now) c.args.ports.now _ Default
-    c.recover.result c.recover.new.self c.recover.new.f c.recover.ensures.recovers in
+    _ _ _ _ _ _ _ c.recover.ensures.recovers in
     let n = left_noted _ (λ s. s.1.ghost_name) (λ s. s.1.now)
-    (λ s x b u e. (e.called.met.0.1, e.called.met.1.1.0)) g.T.PortKind.details
-    g.T.Attached.node g.met.T.PortKind.same_node c.args.dead.now c.args.ports.now.registry _
-    Default c.recover.result c.recover.new.self.registry c.recover.new.f refl
-    c.recover.ensures.recovers.step in
+    (λ s x b u e. (e.called.met.0.1, e.called.met.1.1.0)) g.T.PortKind.details _
+    g.met.T.PortKind.same_node _ _ _ _ _ _ _ refl c.recover.ensures.recovers.step in
     rw (c.f-1.given.1 (sym t.0)) (record {
       recovered =
-          RecoversPorts-as calls g.T.PortKind.details g.T.Attached.node g.met.T.PortKind.same_node
-          c.args.dead.now c.args.ports.now c.args.f.now c.recover.result c.recover.new.self
-          c.recover.new.f.0.now t.1;
+          RecoversPorts-as calls g.T.PortKind.details _ g.met.T.PortKind.same_node _ _ _ _ _ _ t.1;
       left = search (rules, n.0, n.1);
     })

@@ -3,18 +3,12 @@ use Rattle.iox2sd.proofs.service.death.count_gone.Goals as goal
 
 pub overflow_sub-gone : goal.overflow_sub-gone
 overflow_sub-gone c =
-    (fewer c.args.kept.now c.args.service.now c.clean_up-state.new.service c.args.dead.now
-    c.clean_up-state.result c.of-before.result c.of-after.result c.of-before.ensures
-    c.of-after.ensures c.clean_up-state.ensures).0
+    (fewer _ _ _ _ _ _ _ c.of-before.ensures c.of-after.ensures c.clean_up-state.ensures).0
 
 pub overflow_sub-gone-2 : goal.overflow_sub-gone-2
 overflow_sub-gone-2 c =
-    (fewer c.args.kept.now c.args.service.now c.clean_up-state.new.service c.args.dead.now
-    c.clean_up-state.result c.of-before.result c.of-after.result c.of-before.ensures
-    c.of-after.ensures c.clean_up-state.ensures).1
+    (fewer _ _ _ _ _ _ _ c.of-before.ensures c.of-after.ensures c.clean_up-state.ensures).1
 
 pub returns-clause-went : goal.returns-clause-went
 returns-clause-went c =
-    so_many_went c.args.kept.now c.args.service.now c.clean_up-state.new.service c.args.dead.now
-    c.clean_up-state.result c.of-before.result c.of-after.result c.of-before.ensures
-    c.of-after.ensures c.clean_up-state.ensures
+    so_many_went _ _ _ _ _ _ _ c.of-before.ensures c.of-after.ensures c.clean_up-state.ensures

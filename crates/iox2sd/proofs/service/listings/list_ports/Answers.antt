@@ -4,9 +4,7 @@ use Rattle.iox2sd.proofs.service.listings.list_ports.Goals as goal
 
 pub returns-then-number-out : goal.returns-then-number-out
 returns-then-number-out c =
-    let found =
-    counted c.args.service.now c.in-Some.role c.in-Some-count_ports.number
-    c.in-Some-count_ports.ensures.count in (
+    let found = counted c.args.service.now _ _ c.in-Some-count_ports.ensures.count in (
       c.in-Some.role,
       c.in-Some.ensures,
       found.0,
@@ -16,9 +14,7 @@ returns-then-number-out c =
 
 pub returns : goal.returns
 returns c =
-    let found =
-    counted c.args.service.now c.in-Some.role c.in-Some-count_ports.number
-    c.in-Some-count_ports.ensures.count in
+    let found = counted c.args.service.now _ _ c.in-Some-count_ports.ensures.count in
     let fits : length found.0 ≤ length c.args.out.now =
     subst (λ n. n ≤ length c.args.out.now) found.2 c.if-number-out.false in (
       c.in-Some.role,
@@ -27,9 +23,8 @@ returns c =
       found.1,
       (
         fits,
-        at_front c.args.service.now c.in-Some.role c.is_first.result c.is_first.ensures
-            c.args.out.now c.put_ports.new.out c.put_ports.new.used c.put_ports.ensures found.0
-            found.1 fits,
+        at_front c.args.service.now _ _ c.is_first.ensures _ _ c.put_ports.new.used
+            c.put_ports.ensures found.0 found.1 fits,
         found.2,
       ),
     )

@@ -1,6 +1,5 @@
 use Rattle.std.proofs.Common.{◌≡◌, refl, sym, rules}
-use Rattle.iox2_container.specs.Steps.{listed}
-use Rattle.iox2sd_common.specs.Ids.{id_of}
+use Rattle.iox2sd.proofs.Names.{listed, id_of}
 use Rattle.iox2sd.proofs.Listings.{all_put}
 use Rattle.iox2sd.proofs.service.listings.put_nodes.Goals as goal
 

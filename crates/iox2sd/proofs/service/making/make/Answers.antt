@@ -1,4 +1,4 @@
-use Rattle.std.proofs.Common.{◌≡◌, ◌∙◌, ℕ, Option, Some, None, sym, ap, subst}
+use Rattle.std.proofs.Common.{◌≡◌, ◌∙◌, ℕ, Option, Some, None, ap}
 use Rattle.iox2_dynamic.specs.Service.{Service as Held, PatternCapacities, fresh_service}
 use Rattle.iox2sd.specs.Services.{Makes, MakesNew}
 use Rattle.iox2sd.specs.declared.service.making.Capacities.{Capacities}
@@ -11,9 +11,7 @@ use Rattle.iox2sd.proofs.service.making.make.Goals as goal
 makes : (pattern number : ℕ) (c : Capacities) (tickets : ℕ) (s : Status) (old new : Option Held)
     (answer : ℕ) → old ≡ None → answer ≡ code s → MakesNew pattern number c tickets s new
     → Makes pattern number c tickets old answer new
-makes pattern number c tickets s old new answer none is made =
-    subst (λ (o : Option Held). Makes pattern number c tickets o answer new) (sym none)
-    (s, is, made)
+makes pattern number c tickets s old new answer none is made = rw none (s, is, made)
 
 pub returns-in_default-of_number-clause-made : goal.returns-in_default-of_number-clause-made
 returns-in_default-of_number-clause-made c =

@@ -1,6 +1,4 @@
 use Rattle.std.proofs.Common.{sym, ◌∙◌}
-use Rattle.iox2_dynamic.specs.Fields.{service_in}
-use Rattle.iox2_dynamic.specs.Service.{Service}
 use Rattle.iox2_container.proofs.Handles.{not_foreign}
 use Rattle.iox2_dynamic.proofs.Keeping.{leaving_kept}
 use Rattle.iox2_dynamic.proofs.Moving.{ports_read}
@@ -13,23 +11,16 @@ unreachable-requires c =
 
 pub invariant_of-self : goal.invariant_of-self
 invariant_of-self c =
-    let new : Service =
-    service_in (record c.self.inside { pattern = c.is_last_of_ports.new.pattern }) in
-    ports_read (service_in c.self.inside) new.pattern new.ports c.is_last_of_ports.ensures.kind
-    c.is_last_of_ports.ensures.reads c.self.invariant
+    ports_read _ _ _ c.is_last_of_ports.ensures.kind c.is_last_of_ports.ensures.reads
+    c.self.invariant
 
 pub returns-then-is_last_of_ports-clause-kept : goal.returns-then-is_last_of_ports-clause-kept
 returns-then-is_last_of_ports-clause-kept c = invariant_of-self c
 
 pub invariant_of-self-2 : goal.invariant_of-self-2
 invariant_of-self-2 c =
-    let new : Service =
-    service_in (record c.self.inside { pattern = c.is_last_of_ports.new.pattern }) in
-    ports_read (service_in (record c.self.inside { nodes = c.remove.new.self })) new.pattern
-    new.ports c.is_last_of_ports.ensures.kind c.is_last_of_ports.ensures.reads
-    (leaving_kept
-    (service_in c.self.inside) c.remove.new.self c.args.handle c.in-Some.id
-    c.in-Some.ensures.details
+    ports_read _ _ _ c.is_last_of_ports.ensures.kind c.is_last_of_ports.ensures.reads
+    (leaving_kept _ _ c.args.handle c.in-Some.id c.in-Some.ensures.details
     (sym c.is_last_of_ports.ensures.last ∙ c.if-is_last_of_ports.false)
     c.in-Ok.ensures.removes.step.0 c.in-Ok.ensures.removes.kept c.self.invariant)
 

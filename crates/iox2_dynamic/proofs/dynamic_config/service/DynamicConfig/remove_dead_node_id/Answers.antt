@@ -1,10 +1,6 @@
 use Rattle.std.proofs.Common.{rules, ◌≡◌, true, false, sym, ap}
 use Rattle.std.specs.Fn.{Called}
-use Rattle.iox2_config.specs.declared.hash.input.PatternKind.{PatternKind}
-use Rattle.iox2_container.specs.Steps.{release_state}
-use Rattle.iox2_dynamic.specs.Fields.{service_in}
-use Rattle.iox2_dynamic.specs.Ports.{has_ports_of}
-use Rattle.iox2_dynamic.specs.Service.{Service}
+use Rattle.iox2_dynamic.proofs.Names.{PatternKind, release_state, service_in, has_ports_of, Service}
 use Rattle.iox2_dynamic.proofs.Keeping.{ports_open}
 use Rattle.iox2_dynamic.proofs.Dying.{skipped_kept, dead_kept, nodes_stay, nodes_after}
 use Rattle.iox2_dynamic.proofs.dynamic_config.service.DynamicConfig.remove_dead_node_id.Goals as goal
@@ -16,10 +12,8 @@ pub invariant_of-self : goal.invariant_of-self
 invariant_of-self g c =
     let calls : g.row.F.Denot → _ → _ → g.row.F.Denot → Type 0 =
     λ f x r h. Called g.F.FnMut f (x, tt) r h in
-    let new : Service = service_in (record c.self.inside { pattern = c.recover.new.self }) in
-    skipped_kept calls
-    (service_in c.self.inside) c.args.f.now c.args.dead.now new.pattern new.ports
-    c.recover.new.f c.recover.ensures.kind c.recover.ensures.recovered c.self.invariant
+    skipped_kept calls _ _ _ _ _ _ c.recover.ensures.kind c.recover.ensures.recovered
+    c.self.invariant
 
 pub returns-then-recover-clause-kept : goal.returns-then-recover-clause-kept
 returns-then-recover-clause-kept g c = invariant_of-self g c
@@ -32,14 +26,12 @@ returns-then-recover-clause-lock g c =
 
 pub returns-then-recover-clause-step : goal.returns-then-recover-clause-step
 returns-then-recover-clause-step g c =
-    let calls : g.row.F.Denot → _ → _ → g.row.F.Denot → Type 0 =
-    λ f x r h. Called g.F.FnMut f (x, tt) r h in
     let old : Service = service_in c.self.inside in
     let new : Service = service_in (record c.self.inside { pattern = c.recover.new.self }) in
     let some : has_ports_of c.args.dead.now new.ports ≡ true = search rules in
     rw (sym c.self.view_is) (record {
       ports = c.recover.ensures.recovered;
-      nodes = nodes_stay c.args.dead.now (has_ports_of c.args.dead.now new.ports) old.nodes some
+      nodes = nodes_stay _ _ _ some
           (ports_open new c.args.dead.now (invariant_of-self g c) some);
       others = ap (λ (k : PatternKind). record old { pattern = k; ports = new.ports })
           c.recover.ensures.kind;
@@ -49,24 +41,14 @@ pub invariant_of-self-2 : goal.invariant_of-self-2
 invariant_of-self-2 g c =
     let calls : g.row.F.Denot → _ → _ → g.row.F.Denot → Type 0 =
     λ f x r h. Called g.F.FnMut f (x, tt) r h in
-    let new : Service =
-    service_in
-    (record c.self.inside {
-      pattern = c.recover.new.self;
-      nodes = c.recover_nodes.new.nodes;
-    }) in
-    dead_kept calls
-    (service_in c.self.inside) c.args.f.now c.args.dead.now new.pattern new.ports
-    c.recover.new.f c.recover_nodes.result c.recover_nodes.new.nodes c.recover.ensures.kind
-    c.recover.ensures.recovered (search rules) c.recover_nodes.ensures c.self.invariant
+    dead_kept calls _ _ _ _ _ _ _ _ c.recover.ensures.kind c.recover.ensures.recovered
+    (search rules) c.recover_nodes.ensures c.self.invariant
 
 pub returns-clause-kept : goal.returns-clause-kept
 returns-clause-kept g c = invariant_of-self-2 g c
 
 pub returns-clause-step : goal.returns-clause-step
 returns-clause-step g c =
-    let calls : g.row.F.Denot → _ → _ → g.row.F.Denot → Type 0 =
-    λ f x r h. Called g.F.FnMut f (x, tt) r h in
     let old : Service = service_in c.self.inside in
     let new : Service =
     service_in
@@ -77,9 +59,7 @@ returns-clause-step g c =
     let none : has_ports_of c.args.dead.now new.ports ≡ false = search rules in
     rw (sym c.self.view_is) (record {
       ports = c.recover.ensures.recovered;
-      nodes = nodes_after c.args.dead.now
-          (has_ports_of c.args.dead.now new.ports) old.nodes c.recover_nodes.result c.of.result
-          new.nodes none c.of.ensures c.recover_nodes.ensures;
+      nodes = nodes_after _ _ _ _ _ _ none c.of.ensures c.recover_nodes.ensures;
       others =
           ap (λ (k : PatternKind). record old { pattern = k; ports = new.ports; nodes = new.nodes })
           c.recover.ensures.kind;

@@ -1,0 +1,25 @@
+use Rattle.std.proofs.Common.{rules, refl, sym, inl}
+use Rattle.iox2_dynamic.proofs.Names.{Default, First, Second}
+use Rattle.iox2_container.proofs.Mapped.{Removes-as}
+use Rattle.iox2_dynamic.proofs.dynamic_config.pattern.PortRegistries.remove.Goals as goal
+
+pub returns-then-eq : goal.returns-then-eq
+returns-then-eq g c =
+    rw (sym c.self.view_is)
+    (inl (record {
+      side = First;
+      role_is = search rules;
+      step = Removes-as g.A.PortKind.details _ c.args.handle Default _ _ c.remove.ensures.removes;
+      others = refl;
+    }))
+
+pub returns-then-eq-2 : goal.returns-then-eq-2
+returns-then-eq-2 g c =
+    rw (sym c.self.view_is)
+    (inl (record {
+      side = Second;
+      role_is = search rules;
+      step = Removes-as g.B.PortKind.details _ c.args.handle Default _ _
+          c.remove-then-eq-2.ensures.removes;
+      others = refl;
+    }))
