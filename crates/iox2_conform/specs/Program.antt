@@ -9,7 +9,7 @@ use Rattle.line_streams.specs.declared.request.RequestError.{RequestError}
 use Rattle.line_streams.specs.declared.request.RequestError.TheVariants.{BadArgument, NoMemory}
 use Rattle.line_streams.specs.Requests.{Printed, Requests}
 use Rattle.service_logs.specs.Reports.{Reported}
-use Rattle.iox2_conform.specs.declared.program.TheConstants.{BAD_ARGUMENT, HELP, VERSION}
+use Rattle.iox2_conform.specs.declared.TheConstants.{BAD_ARGUMENT, HELP, VERSION}
 
 -- a check is requested
 abbrev pub RequestsCheck : Result (IntoIter (String Global) Global) Error → Type 0

@@ -1,11 +1,77 @@
 //! Judges the log on standard input, and writes the verdict to standard output.
 #![tactic(auto)]
 
-mod program;
+ghost use Rattle.std.specs.Prelude.{◌<◌};
+ghost use Rattle.std.specs.Io.KnownBytes.{IsAtEnd};
+ghost use Rattle.line_streams.specs.Streams.{IsFlushed};
+ghost use Rattle.iox2_conform.specs.Program.{Ran, RequestsCheck};
 
-use program::conform_streams;
-use std::env;
+use line_streams::{Request, RequestError, Sink, Source, print, request_of};
+use service_logs::logs::check_streams;
+use std::alloc::Global;
+use std::env::Args;
 use std::process::ExitCode;
+use std::{env, io};
+
+/// How the program is used.
+const HELP: &str = "usage: iox2-conform [--help | --version] < LOG
+
+Reads the log of services from standard input: the line of a service, and then commands of scripts,
+each followed by a line that begins with `= ` and has the reply that was seen. Where there are
+several services, `7: ` before a command names the one with the number 7. Writes whether the replies
+are those of runs of the proved machine. If not, it writes the first reply that no run gives, every
+reply that a run gives in its place, and who was attached then.
+
+  --help     write this text and read nothing
+  --version  write the version and read nothing
+
+docs/CONFORM.md has the lines of logs, docs/SCRIPT.md has commands and replies. Lines that are empty
+or begin with # are comments. The status is 0 where the log conforms, 1 where it does not, 2 after a
+bad argument or line, 3 where memory was refused or reading or writing failed.
+";
+
+/// The version of the program, and that of the iceoryx2 whose layer it checks.
+const VERSION: &str = "iox2-conform 0.1.0 (iceoryx2 0.9.3)\n";
+
+/// What is reported of arguments that the program does not know.
+const BAD_ARGUMENT: &str = "bad argument: iox2-conform --help says how it is used\n";
+
+/// Judges the log that the reader gives, or writes how the program is used or its version, and
+/// returns its status. The first argument is the program's name.
+///
+/// - 0: the log conforms, or the text was written.
+/// - 1: the log does not conform.
+/// - 2: an argument or a line is bad.
+/// - 3: memory was refused, or a read, a write or a flush failed.
+fn conform_streams<R: Source, W: Sink, E: Sink>(
+    alloc: Global,
+    arguments: io::Result<Args>,
+    input: &mut R,
+    output: &mut W,
+    errors: &mut E,
+) -> u8
+    ensures range { result < 4 }
+    ensures ran { result < 3 → Ran arguments result (R.remaining input.old)
+        (W.contents output.old) (W.contents output.new)
+        (E.contents errors.old) (E.contents errors.new) }
+    // After a verdict both writers were flushed last.
+    ensures flushed { result < 3 → RequestsCheck arguments
+        → IsFlushed W.Flushes output.new × IsFlushed E.Flushes errors.new }
+    // All of a log was read.
+    ensures read { result < 3 → RequestsCheck arguments → IsAtEnd (R.remaining input.new) }
+{
+    match request_of(arguments) {
+        Ok(Request::Work) => check_streams(alloc, input, output, errors),
+        Ok(Request::Help) => print(output, HELP, 0),
+        Ok(Request::Version) => print(output, VERSION, 0),
+        Err(RequestError::BadArgument) => print(errors, BAD_ARGUMENT, 2),
+        Err(RequestError::NoMemory) => {
+            // The status is 3 whether this is written or not.
+            let _written = print(errors, "no memory\n", 2);
+            3
+        }
+    }
+}
 
 fn main(rt: HostRuntime) -> ExitCode {
     ExitCode::from(conform_streams(

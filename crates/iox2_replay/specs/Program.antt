@@ -9,7 +9,7 @@ use Rattle.line_streams.specs.declared.request.RequestError.{RequestError}
 use Rattle.line_streams.specs.declared.request.RequestError.TheVariants.{BadArgument, NoMemory}
 use Rattle.line_streams.specs.Requests.{Printed, Requests}
 use Rattle.service_descriptions.specs.Streams.{Reported}
-use Rattle.iox2_replay.specs.declared.program.TheConstants.{BAD_ARGUMENT, HELP, NO_MEMORY, VERSION}
+use Rattle.iox2_replay.specs.declared.TheConstants.{BAD_ARGUMENT, HELP, NO_MEMORY, VERSION}
 
 -- a script is requested
 abbrev pub RequestsScript : Result (IntoIter (String Global) Global) Error → Type 0

@@ -2,7 +2,7 @@
 use Rattle.std.proofs.Common.{◌≡◌, ◌≢◌, ℕ, zero, suc, ◌<◌, ◌≤◌, ◌^◌, ◌+◌, List, [], ◌∷◌, ◌++◌, length, get_or, take, drop, ◌-◌, ◌*◌, ◌⊎◌, inl, inr, arith, sym, ◌∙◌, refl, ap}
 use Rattle.std.specs.Fmt.{decimal}
 use Rattle.std.specs.Str.Parse.{AllDigits, digits_value}
-use Rattle.std.proofs.lemmas.Fmt.{digits_value-decimal, decimal_nonempty, decimal-digits_value}
+use Rattle.std.proofs.lemmas.Fmt.{digits_value-decimal, decimal_digit, decimal_nonempty, decimal-digits_value}
 use Rattle.std.proofs.lemmas.Str.Parse.{digit_from_value, digits_value-take-le}
 use Rattle.std.proofs.lemmas.Str.{digit_value_digit}
 use Rattle.std.proofs.lemmas.Int.Digits.{digits_more, digits_value_more}
@@ -47,6 +47,12 @@ pub no_spare_zero : (n : ℕ) (rest bytes : List ℕ) → n < 2 ^ 64 → EndsNum
 no_spare_zero n rest bytes h u e naught digit =
     spare (decimal n) rest (decimal_nonempty n h) (decimal_no_zero n h) u (rw e at naught)
     (rw e at digit)
+
+-- a zero before what is not a digit is 0
+pub zero_found : (b most : ℕ) (rest bytes : List ℕ) → bytes ≡ b ∷ rest → b ≡ 48 → EndsNumber rest
+    → ((0 ≤ most) × (0 < 2 ^ 64) × EndsNumber rest) × (bytes ≡ decimal 0 ++ rest)
+zero_found b most rest bytes e naught ends =
+    ((omega arith, omega arith, ends), rw (decimal_digit 0 (omega arith)) (rw naught at e))
 
 starts : (ds rest : List ℕ) → 0 < length ds → IsDigit (get_or ds 0 0)
     → IsDigit (get_or (ds ++ rest) 0 0)

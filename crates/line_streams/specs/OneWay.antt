@@ -2,9 +2,9 @@
 use Rattle.std.proofs.Common.{◌≡◌, ◌≢◌, ℕ, List, [], ◌∷◌, ◌++◌, sym, refl, ◌∙◌, ap}
 use Rattle.std.proofs.lemmas.List.{append_cancel_left}
 use Rattle.std.proofs.lemmas.List.Elements.{All-head, All-tail}
-use Rattle.line_streams.specs.declared.end.LineEnd.{LineEnd}
-use Rattle.line_streams.specs.declared.end.LineEnd.TheVariants.{Newline, Bytes}
-use Rattle.line_streams.specs.Spelling.{Spelling, OneWay, OthersFit, others_text, number, HasNo, before, line_end, ended, sequence, after, listed}
+use Rattle.line_streams.specs.declared.phrase.LineEnd.{LineEnd}
+use Rattle.line_streams.specs.declared.phrase.LineEnd.TheVariants.{Newline, Bytes}
+use Rattle.line_streams.specs.Spelling.{Spelling, OneWay, OthersFit, others_text, number, HasNo, before, line_end, sequence, after, listed}
 use Rattle.line_streams.specs.Numerals.{cons_same, same_number}
 
 pub number_one : (most : ℕ) → OneWay (number most)
@@ -28,14 +28,6 @@ before_one byte = record { same = λ a b p q e. same a.0 b.0 a.1 b.1 p q e }
 pub line_end_one : (end : LineEnd) → OneWay (line_end end)
 line_end_one Newline = record { same = λ a b p q e. (refl, (cons_same e).1) }
 line_end_one Bytes = record { same = λ a b p q e. (refl, e) }
-
-pub ended_one : {A : Type 0} {P : Spelling A} → OneWay P → (end : LineEnd) → OneWay (ended P end)
-ended_one one end = record {
-  same = λ a b p q e.
-      let over = line_end end in
-      let first = one.same (a.0, over.text (tt, a.1)) (b.0, over.text (tt, b.1)) p.0 q.0 e in
-      (first.0, ((line_end_one end).same (tt, a.1) (tt, b.1) p.1 q.1 first.1).1);
-}
 
 pub sequence_one : {A B : Type 0} {P : Spelling A} {Q : Spelling B} → OneWay P → OneWay Q
     → OneWay (sequence P Q)

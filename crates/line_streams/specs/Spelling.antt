@@ -3,8 +3,8 @@ use Rattle.std.specs.Prelude.{◌≡◌, ◌≢◌, ℕ, ◌≤◌, ◌<◌, ◌
 use Rattle.std.specs.List.{All}
 use Rattle.std.specs.Fmt.{decimal}
 use Rattle.std.specs.Int.{IsInRange}
-use Rattle.line_streams.specs.declared.end.LineEnd.{LineEnd}
-use Rattle.line_streams.specs.declared.end.LineEnd.TheVariants.{Newline, Bytes}
+use Rattle.line_streams.specs.declared.phrase.LineEnd.{LineEnd}
+use Rattle.line_streams.specs.declared.phrase.LineEnd.TheVariants.{Newline, Bytes}
 
 -- The texts of values at the front of a text: which values can be there, each with what follows it,
 -- and the whole text.
@@ -53,14 +53,6 @@ before byte = record {
 abbrev pub line_end : LineEnd → Spelling (Unit {0})
 line_end Newline = record { Fits = λ front. Unit {0}; text = λ front. 10 ∷ front.1 }
 line_end Bytes = record { Fits = λ front. front.1 ≡ []; text = λ front. front.1 }
-
--- one at the end of a line
-abbrev pub ended : {A : Type 0} → Spelling A → LineEnd → Spelling A
-ended P end = record {
-  Fits = λ front. P.Fits (front.0, (line_end end).text (tt, front.1))
-      × (line_end end).Fits (tt, front.1);
-  text = λ front. P.text (front.0, (line_end end).text (tt, front.1));
-}
 
 -- one, and then the other
 abbrev pub sequence : {A B : Type 0} → Spelling A → Spelling B → Spelling (A × B)

@@ -1,22 +1,12 @@
 //! How phrases are copied.
 ghost use Rattle.std.specs.Prelude.{◌≡◌, IsOkAnd};
 
-use crate::end::{Line, LineEnd};
-use crate::list::Listed;
 use crate::number::Number;
-use crate::phrase::Then;
-use crate::word::After;
+use crate::phrase::{After, LineEnd, Then};
 use std::alloc::AllocError;
 
 /// A phrase of each kind.
-pub type Phrases<'w> = (
-    Number,
-    LineEnd,
-    Line<Number>,
-    Then<Number, Number>,
-    After<'w, Number>,
-    Listed<'w, Number>,
-);
+pub type Phrases<'w> = (Number, LineEnd, Then<Number, Number>, After<'w, Number>);
 
 /// A clone of a phrase is the same phrase and takes no memory.
 pub fn phrases_are_cloned<'w>(phrases: &Phrases<'w>) -> Result<Phrases<'w>, AllocError>

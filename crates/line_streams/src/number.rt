@@ -1,12 +1,10 @@
 //! Decimal numbers without leading zeros.
-ghost use Rattle.std.specs.Prelude.{◌≡◌, ◌≢◌, ◌↔◌, ◌+◌, ◌-◌, ◌*◌, ◌<◌, ◌≤◌, ℕ, false};
-ghost use Rattle.std.specs.Prelude.{IfSome, IfNone, IsTrue, get_or, length};
+ghost use Rattle.std.specs.Prelude.{◌≡◌, ◌≢◌, ◌-◌, ◌<◌, ◌≤◌, ℕ, get_or, length};
 ghost use Rattle.std.specs.Option.{option_map};
 ghost use Rattle.line_streams.specs.Spelling.{IsDigit, Reads, number};
 ghost use Rattle.line_streams.specs.OneWay.{number_one};
 
 use super::phrase::Phrase;
-use std::alloc::{AllocError, Global};
 
 /// The digit that a byte is the code of; above 9 where it is none.
 #[inline(always)]
@@ -15,30 +13,6 @@ fn digit_of(byte: u8) -> u64
     ensures none { 9 < result → ¬ (IsDigit byte) }
 {
     (byte as u64).wrapping_sub(48)
-}
-
-/// Whether a digit comes first.
-#[inline(always)]
-fn has_digit(bytes: &[u8]) -> bool
-    ensures { IsTrue result ↔ IsDigit (get_or bytes.now 0 0) }
-{
-    match bytes {
-        [first, ..] => digit_of(*first) <= 9,
-        _ => false,
-    }
-}
-
-/// The number with one more digit, unless it is greater than `most`.
-#[inline(always)]
-fn with_digit(value: u64, digit: u64, most: u64) -> Option<u64>
-    requires { digit ≤ 9 }
-    ensures some { IfSome result (λ n. (n ≡ value * 10 + digit) × (n ≤ most)) }
-    ensures none { IfNone result (most < value * 10 + digit) }
-{
-    if value >= most / 10 && (value > most / 10 || digit > most % 10) {
-        return None;
-    }
-    Some(value * 10 + digit)
 }
 
 /// The number that all the digits at the front are the text of, unless it is greater than `most`,
@@ -51,6 +25,7 @@ fn digits_before(bytes: &[u8], first: u64, most: u64) -> Option<(u64, &[u8])>
     ensures { Reads (number most).Fits (number most).text
         (option_map (λ found. (found.0, found.1.now)) result) bytes.now }
 {
+    let (tens, ones) = (most / 10, most % 10);
     let mut rest = &bytes[1..];
     let mut value = first;
     while let Some((b, tail)) = rest.split_first() {
@@ -58,40 +33,13 @@ fn digits_before(bytes: &[u8], first: u64, most: u64) -> Option<(u64, &[u8])>
         if digit > 9 {
             return Some((value, rest));
         }
-        let Some(more) = with_digit(value, digit, most) else {
+        if value >= tens && (value > tens || digit > ones) {
             return None;
-        };
-        value = more;
+        }
+        value = value * 10 + digit;
         rest = tail;
     }
     Some((value, rest))
-}
-
-/// The number that all the digits at the front are the text of, unless it is greater than `most`,
-/// and what follows them.
-#[inline(always)]
-pub fn number_before(bytes: &[u8], most: u64) -> Option<(u64, &[u8])>
-    ensures { Reads (number most).Fits (number most).text
-        (option_map (λ found. (found.0, found.1.now)) result) bytes.now }
-{
-    let Some((b, rest)) = bytes.split_first() else {
-        return None;
-    };
-    let first = digit_of(*b);
-    if first > 9 {
-        return None;
-    }
-    if first > most {
-        return None;
-    }
-    if first != 0 {
-        return digits_before(bytes, first, most);
-    }
-    // A zero stands alone.
-    if has_digit(rest) {
-        return None;
-    }
-    Some((0, rest))
 }
 
 /// A number of at most so much, in decimal digits without a leading zero.
@@ -107,11 +55,30 @@ impl<'a> Phrase<'a> for Number {
 
     ghost spelling = { λ s. number s.0 };
 
-    ghost takes_memory = { false };
-
     #[inline(always)]
-    fn read(&self, _alloc: Global, bytes: &'a [u8]) -> Result<Option<(u64, &'a [u8])>, AllocError> {
-        Ok(number_before(bytes, self.0))
+    fn read(&self, bytes: &'a [u8]) -> Option<(u64, &'a [u8])> {
+        let most = self.0;
+        let Some((b, rest)) = bytes.split_first() else {
+            return None;
+        };
+        let first = digit_of(*b);
+        if first > 9 {
+            return None;
+        }
+        if first > most {
+            return None;
+        }
+        if first != 0 {
+            return digits_before(bytes, first, most);
+        }
+        // A zero stands alone.
+        let [next, ..] = rest else {
+            return Some((0, rest));
+        };
+        if digit_of(*next) <= 9 {
+            return None;
+        }
+        Some((0, rest))
     }
 
     ghost one_way = { λ s. number_one s.0 };

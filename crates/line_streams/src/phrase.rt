@@ -1,15 +1,18 @@
-//! What a phrase is, and one phrase after another.
-ghost use Rattle.std.specs.Prelude.{◌≡◌, ◌≤◌, ◌||◌, Bool, true, length, IfOk, IfErr, IfSome};
+//! Phrases: kinds of text that can begin the bytes of a line.
+ghost use Rattle.std.specs.Prelude.{◌≡◌, ◌≢◌, ◌==◌, ◌≤◌, ◌∷◌, ◌++◌, ℕ, List, map, length};
+ghost use Rattle.std.specs.Prelude.{IfNone, IfOk, IfSome, MatchOption};
+ghost use Rattle.std.specs.List.{before_first, position};
 ghost use Rattle.std.specs.Option.{option_map};
-ghost use Rattle.line_streams.specs.Spelling.{OneWay, Reads, Spelling, sequence};
-ghost use Rattle.line_streams.specs.OneWay.{sequence_one};
+ghost use Rattle.line_streams.specs.Spelling.{HasNo, OneWay, Reads, Spelling, after as after_it};
+ghost use Rattle.line_streams.specs.Spelling.{before, line_end, listed, sequence};
+ghost use Rattle.line_streams.specs.OneWay.{after_one, line_end_one, sequence_one};
 
 use std::alloc::{AllocError, Global};
 
 /// A kind of text that can begin the bytes of a line.
 pub trait Phrase<'a> {
     /// What is read.
-    type Value: Drop;
+    type Value: Copy;
 
     /// What the definition of the text sees of a value.
     ghost Seen: { Type 0 };
@@ -19,24 +22,44 @@ pub trait Phrase<'a> {
     /// The texts of values, with what follows them.
     ghost spelling: { Self → Spelling Seen };
 
-    /// Whether a value takes memory.
-    ghost takes_memory: { Bool };
-
-    /// The value that begins the bytes, and what follows it. `None` where no value begins them, and
-    /// an error where memory for the value is refused.
-    fn read(
-        &self,
-        alloc: Global,
-        bytes: &'a [u8],
-    ) -> Result<Option<(Self::Value, &'a [u8])>, AllocError>
-        ensures read { IfOk result (λ found. Reads (spelling self.now).Fits (spelling self.now).text
-            (option_map (λ found. (view found.0, found.1.now)) found) bytes.now) }
-        ensures refused { IfErr result (λ refused. takes_memory ≡ true) }
-        ensures shorter { IfOk result (λ found. IfSome found
-            (λ found. length found.1.now ≤ length bytes.now)) };
+    /// The value that begins the bytes, and what follows it. `None` where no value begins them.
+    fn read(&self, bytes: &'a [u8]) -> Option<(Self::Value, &'a [u8])>
+        ensures read { Reads (spelling self.now).Fits (spelling self.now).text
+            (option_map (λ found. (view found.0, found.1.now)) result) bytes.now }
+        ensures shorter { IfSome result (λ found. length found.1.now ≤ length bytes.now) };
 
     /// No two values have one text.
     ghost one_way: { (phrase : Self) → OneWay (spelling phrase) };
+}
+
+/// What ends a line.
+#[derive(Clone, Copy)]
+pub enum LineEnd {
+    /// A newline.
+    Newline,
+    /// The end of the bytes.
+    Bytes,
+}
+
+impl<'a> Phrase<'a> for LineEnd {
+    type Value = ();
+
+    ghost Seen = { Unit {0} };
+
+    ghost view = { λ v. v };
+
+    ghost spelling = { line_end };
+
+    #[inline(always)]
+    fn read(&self, bytes: &'a [u8]) -> Option<((), &'a [u8])> {
+        match (self, bytes) {
+            (LineEnd::Newline, [b'\n', rest @ ..]) => Some(((), rest)),
+            (LineEnd::Bytes, []) => Some(((), bytes)),
+            _ => None,
+        }
+    }
+
+    ghost one_way = { line_end_one };
 }
 
 /// A phrase, and then another.
@@ -52,22 +75,119 @@ impl<'a, P: Phrase<'a>, Q: Phrase<'a>> Phrase<'a> for Then<P, Q> {
 
     ghost spelling = { λ s. sequence (P.spelling s.0) (Q.spelling s.1) };
 
-    ghost takes_memory = { P.takes_memory || Q.takes_memory };
-
     #[inline(always)]
-    fn read(
-        &self,
-        alloc: Global,
-        bytes: &'a [u8],
-    ) -> Result<Option<((P::Value, Q::Value), &'a [u8])>, AllocError> {
-        let Some((first, rest)) = self.0.read(alloc, bytes)? else {
-            return Ok(None);
-        };
-        let Some((second, rest)) = self.1.read(alloc, rest)? else {
-            return Ok(None);
-        };
-        Ok(Some(((first, second), rest)))
+    fn read(&self, bytes: &'a [u8]) -> Option<((P::Value, Q::Value), &'a [u8])> {
+        let (first, rest) = self.0.read(bytes)?;
+        let (second, rest) = self.1.read(rest)?;
+        Some(((first, second), rest))
     }
 
     ghost one_way = { λ s. sequence_one (P.one_way s.0) (Q.one_way s.1) };
+}
+
+/// A phrase after a word.
+#[derive(Clone, Copy)]
+pub struct After<'w, P>(pub &'w [u8], pub P);
+
+impl<'a, 'w, P: Phrase<'a>> Phrase<'a> for After<'w, P> {
+    type Value = P::Value;
+
+    ghost Seen = { P.Seen };
+
+    ghost view = { P.view };
+
+    ghost spelling = { λ s. after_it s.0.now (P.spelling s.1) };
+
+    #[inline(always)]
+    fn read(&self, bytes: &'a [u8]) -> Option<(P::Value, &'a [u8])> {
+        self.1.read(after_word(bytes, self.0)?)
+    }
+
+    ghost one_way = { λ s. after_one s.0.now (P.one_way s.1) };
+}
+
+/// The list of a phrase that begins the bytes after a word, with a byte between two, and what
+/// follows it. Where the word does not begin the bytes, the list is empty.
+#[inline(always)]
+pub fn list_before<'a, P: Phrase<'a>>(
+    alloc: Global,
+    bytes: &'a [u8],
+    word: &[u8],
+    byte: u8,
+    phrase: &P,
+) -> Result<Option<(Vec<P::Value>, &'a [u8])>, AllocError>
+    ensures { IfOk result (λ found. Reads (listed word.now byte (P.spelling phrase.now)).Fits
+        (listed word.now byte (P.spelling phrase.now)).text
+        (option_map (λ found. (map P.view found.0.items, found.1.now)) found) bytes.now) }
+{
+    let mut items = Vec::new(alloc);
+    let Some(mut tail) = after_word(bytes, word) else {
+        return Ok(Some((items, bytes)));
+    };
+    'items: loop {
+        let Some((item, rest)) = phrase.read(tail) else {
+            return Ok(None);
+        };
+        items.push(item)?;
+        match rest.split_first() {
+            Some((first, next)) if *first == byte => tail = next,
+            _ => return Ok(Some((items, rest))),
+        }
+    }
+}
+
+/// What follows this word, which is compared byte by byte.
+#[inline(always)]
+fn after_bytes<'a>(bytes: &'a [u8], word: &[u8]) -> Option<&'a [u8]>
+    ensures some { IfSome result (λ rest. bytes.now ≡ word.now ++ rest.now) }
+    ensures none { IfNone result ((rest : List ℕ) → bytes.now ≢ word.now ++ rest) }
+{
+    if bytes.len() < word.len() {
+        return None;
+    }
+    for i in 0..word.len() {
+        if bytes[i] != word[i] {
+            return None;
+        }
+    }
+    Some(&bytes[word.len()..])
+}
+
+/// What follows this word. Its first eight bytes, where it has so many, are compared as one number.
+#[inline(always)]
+pub fn after_word<'a>(bytes: &'a [u8], word: &[u8]) -> Option<&'a [u8]>
+    ensures some { IfSome result (λ rest. bytes.now ≡ word.now ++ rest.now) }
+    ensures none { IfNone result ((rest : List ℕ) → bytes.now ≢ word.now ++ rest) }
+{
+    let Some((wanted, more)) = word.split_first_chunk::<8>() else {
+        return after_bytes(bytes, word);
+    };
+    let Some((front, rest)) = bytes.split_first_chunk::<8>() else {
+        return None;
+    };
+    if u64::from_le_bytes(*front) != u64::from_le_bytes(*wanted) {
+        return None;
+    }
+    after_bytes(rest, more)
+}
+
+/// The first index of this byte.
+fn place_of(bytes: &[u8], byte: u8) -> Option<usize>
+    ensures { result ≡ position (λ b. b == byte) bytes.now }
+{
+    bytes.iter().position(|b| *b == byte)
+}
+
+/// What comes before the first such byte, and what follows it.
+pub fn before_byte(bytes: &[u8], byte: u8) -> Option<(&[u8], &[u8])>
+    ensures read { Reads (before byte).Fits (before byte).text
+        (option_map (λ found. (found.0.now, found.1.now)) result) bytes.now }
+    ensures none { IfNone result (HasNo byte bytes.now) }
+    ensures first { MatchOption result (before_first (λ b. b == byte) bytes.now ≡ bytes.now)
+        (λ found. found.0.now ≡ before_first (λ b. b == byte) bytes.now) }
+{
+    match place_of(bytes, byte) {
+        Some(end) => Some((&bytes[..end], &bytes[end + 1..])),
+        None => None,
+    }
 }

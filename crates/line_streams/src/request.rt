@@ -4,8 +4,7 @@ ghost use Rattle.std.specs.Io.KnownBytes.{Appends};
 ghost use Rattle.line_streams.specs.Requests.{Printed, Requests, RequestsIn, words_of};
 ghost use Rattle.line_streams.specs.Streams.{Fails, IsFlushed};
 
-use crate::stream::Sink;
-use crate::streams::write_whole;
+use crate::streams::{Sink, write_whole};
 use std::env::Args;
 use std::io;
 use std::io::{Error, ErrorKind};
@@ -30,7 +29,7 @@ pub enum RequestError {
 
 /// What the arguments request: no word, `--help` or `--version`. The first is the program's name.
 ///
-/// From `crates/iox2_replay/src/program.rt`:
+/// From `crates/iox2_replay/src/main.rt`:
 ///
 /// ```
 /// match request_of(arguments) {
@@ -77,7 +76,7 @@ fn write_text<W: Sink>(out: &mut W, text: &str) -> io::Result<()>
 
 /// Writes a text, flushes its writer, and returns the status, below 3, or 3 where the writer fails.
 ///
-/// From `crates/iox2_replay/src/program.rt`:
+/// From `crates/iox2_replay/src/main.rt`:
 ///
 /// ```
 /// Ok(Request::Version) => print(output, VERSION, 0),

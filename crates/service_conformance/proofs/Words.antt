@@ -11,8 +11,8 @@ use Rattle.iox2_dynamic.specs.declared.dynamic_config.port_details.PortDetails.{
 use Rattle.iox2_dynamic.specs.Service.{Service}
 use Rattle.line_streams.specs.Numerals.{cons_same}
 use Rattle.line_streams.specs.OneWay.{number_one}
-use Rattle.line_streams.specs.declared.end.LineEnd.TheVariants.{Bytes}
-use Rattle.line_streams.specs.Spelling.{EndsNumber, Spelling, after, ended, sequence}
+use Rattle.line_streams.specs.declared.phrase.LineEnd.TheVariants.{Bytes}
+use Rattle.line_streams.specs.Spelling.{EndsNumber, Spelling, after, line_end, sequence}
 use Rattle.service_descriptions.specs.declared.replay.machine.command.Cleanup.TheVariants.{ByPort}
 use Rattle.service_descriptions.specs.declared.replay.machine.command.Command.{Command}
 use Rattle.service_descriptions.specs.declared.replay.machine.command.Command.TheVariants as command
@@ -78,19 +78,19 @@ parts_same s t u v p q p' q' e =
     (sym (spaced s t) ∙ (e ∙ spaced u v))) in
     (parts.0, decimal_injective t v q q' (cons_same parts.1).1)
 
-abbrev pub handle_phrase : Spelling (ℕ × ℕ)
+abbrev pub handle_phrase : Spelling (ℕ × (ℕ × Unit {0}))
 handle_phrase =
     after (codes "handle ")
-    (sequence any_number (after (codes " ") (ended any_number Bytes)))
+    (sequence any_number (after (codes " ") (sequence any_number (line_end Bytes))))
 
 -- where the phrase of a handle is not read, no slot and ticket have the words
-pub unread : (words : List ℕ) → ((a : (ℕ × ℕ) × List ℕ) → handle_phrase.Fits a
+pub unread : (words : List ℕ) → ((a : (ℕ × (ℕ × Unit {0})) × List ℕ) → handle_phrase.Fits a
     → words ≢ handle_phrase.text a) → (slot ticket : ℕ) → slot < 2 ^ 64 → ticket < 2 ^ 64
     → handle_words slot ticket ≢ words
 unread words never slot ticket s t e =
     let space : EndsNumber (32 ∷ (decimal ticket ++ [])) = λ digit. omega arith in
     let nothing : EndsNumber [] = λ digit. omega arith in
-    never ((slot, ticket), [])
+    never ((slot, (ticket, tt)), [])
     (any_fits slot (32 ∷ (decimal ticket ++ [])) s space, (any_fits ticket [] t nothing, refl))
     (sym e ∙ (spaced slot ticket
     ∙ ap (λ (l : List ℕ). codes "handle " ++ (decimal slot ++ 32 ∷ l))

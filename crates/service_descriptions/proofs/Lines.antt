@@ -1,21 +1,21 @@
 -- Command lines, as their phrases spell them.
-use Rattle.std.proofs.Common.{◌≡◌, ◌≢◌, ℕ, ◌<◌, ◌^◌, List, [], ◌∷◌, ◌++◌, Some, Vec, arith, refl, sym, ◌∙◌, ap, subst, append_assoc, codes, map, get_or}
+use Rattle.std.proofs.Common.{◌≡◌, ◌≢◌, ℕ, ◌<◌, ◌^◌, List, [], ◌∷◌, ◌++◌, Some, None, Vec, arith, refl, sym, ◌∙◌, ap, subst, append_assoc, codes, map, get_or}
 use Rattle.std.specs.Prelude.{◌==◌, if◌then◌else◌}
 use Rattle.std.specs.declared.alloc.Global.{Global}
 use Rattle.std.specs.List.{AllByRecursion, join_with_byte}
 use Rattle.iox2_dynamic.specs.declared.dynamic_config.port_details.PortDetails.{PortDetails}
-use Rattle.line_streams.specs.declared.end.LineEnd.{LineEnd}
-use Rattle.line_streams.specs.declared.end.LineEnd.TheVariants.{Newline, Bytes}
-use Rattle.line_streams.proofs.Words.{Nowhere, no_after}
+use Rattle.line_streams.specs.declared.phrase.LineEnd.{LineEnd}
+use Rattle.line_streams.specs.declared.phrase.LineEnd.TheVariants.{Newline, Bytes}
+use Rattle.line_streams.proofs.Words.{Nowhere, reads_after, reads_then}
 use Rattle.line_streams.specs.Numerals.{cons_same}
-use Rattle.line_streams.specs.OneWay.{number_one, line_end_one, ended_one, after_one}
-use Rattle.line_streams.specs.Spelling.{Spelling, OneWay, Reads, Lacks, EndsNumber, OthersFit, others_text, number, line_end, ended, after, listed}
+use Rattle.line_streams.specs.OneWay.{number_one, line_end_one, sequence_one, after_one}
+use Rattle.line_streams.specs.Spelling.{Spelling, OneWay, Reads, Lacks, EndsNumber, OthersFit, others_text, number, line_end, sequence, after, listed}
 use Rattle.service_descriptions.specs.declared.replay.machine.command.Cleanup.TheVariants.{ByPort}
 use Rattle.service_descriptions.specs.declared.replay.machine.command.Command.{Command}
 use Rattle.service_descriptions.specs.declared.replay.machine.command.Command.TheVariants as command
 use Rattle.service_descriptions.specs.Lines.{id_text, IsId, line_of, line_text, HasLine, IsLine, SameCommand, skip_words}
 use Rattle.service_descriptions.specs.OneWay.{dead_one, node_id_one, role_one, port_one}
-use Rattle.service_descriptions.specs.Phrases.{id_phrase, dead_phrase, three_phrase, spelled_of}
+use Rattle.service_descriptions.specs.Phrases.{id_phrase, node_id_phrase, dead_phrase, three_phrase, spelled_of}
 
 -- a number of 64 bits
 abbrev pub any_number : Spelling ℕ
@@ -47,10 +47,10 @@ pub record Form : Type 1 where
 
 abbrev of : {A : Type 0} {P : Spelling A} → List ℕ → OneWay P → Form
 of {A} {P} word one = record {
-  Seen = A;
+  Seen = A × Unit {0};
   word = word;
-  phrase = ended P;
-  one = ended_one one;
+  phrase = λ end. sequence P (line_end end);
+  one = λ end. sequence_one one (line_end_one end);
 }
 
 abbrev pub form : Kind → Form
@@ -81,20 +81,20 @@ kind_of _ = NodesLine
 
 -- what its phrase sees of it
 abbrev seen : (c : Command) → (form (kind_of c)).Seen
-seen (command.Register id) = id
-seen (command.Deregister k) = k
-seen (command.Add d) = d
-seen (command.Release k) = k
-seen (command.List r) = r
-seen (command.Count r) = r
-seen (command.Dead id (ByPort kept)) = (id, kept.items)
+seen (command.Register id) = (id, tt)
+seen (command.Deregister k) = (k, tt)
+seen (command.Add d) = (d, tt)
+seen (command.Release k) = (k, tt)
+seen (command.List r) = (r, tt)
+seen (command.Count r) = (r, tt)
+seen (command.Dead id (ByPort kept)) = ((id, kept.items), tt)
 seen _ = tt
 
 -- a line of a kind: its word, and what follows it
 abbrev line : LineEnd → (k : Kind) → Spelling (form k).Seen
 line end k = after (form k).word ((form k).phrase end)
 
-abbrev kept_phrase : Spelling (List ℕ)
+abbrev pub kept_phrase : Spelling (List ℕ)
 kept_phrase = listed (codes " skip ") 32 id_phrase
 
 -- what follows the name of a port
@@ -209,7 +209,7 @@ no_line k end rest bytes is none a fits e =
     let same : k ≡ kind_of a.0 = one_kind k (kind_of a.0) rest _ (sym is ∙ there) in
     let nowhere =
     subst (λ (l : Kind). Nowhere (line end l) bytes) same
-    (no_after (form k).word ((form k).phrase end) rest bytes is none) in
+    (reads_after (form k).word ((form k).phrase end) rest bytes None is none) in
     nowhere (seen a.0, a.1) (fit end a.0 a.1 fits) there
 
 -- what was read as the words of a dead node is its line
@@ -221,20 +221,24 @@ all_kept : (ports rest : List ℕ) → kept_phrase.Fits (ports, rest) → AllByR
 all_kept [] rest p = tt
 all_kept (port ∷ ports) rest p = all_others (port ∷ ports) rest p
 
-pub dead_found : (end : LineEnd) (node : ℕ) (kept : Vec ℕ Global) (ports tail rest bytes : List ℕ)
-    → ports ≡ kept.items → bytes ≡ codes "dead " ++ tail
-    → Reads (ended dead_phrase end).Fits (ended dead_phrase end).text (Some ((node, ports), rest))
-    tail
+pub dead_found : (end : LineEnd) (node : ℕ) (kept : Vec ℕ Global)
+    (ports bytes mid tail rest : List ℕ) → ports ≡ kept.items
+    → Reads node_id_phrase.Fits node_id_phrase.text (Some (node, mid)) bytes
+    → Reads kept_phrase.Fits kept_phrase.text (Some (ports, tail)) mid
+    → Reads (line_end end).Fits (line_end end).text (Some (tt, rest)) tail
     → IsLine end (command.Dead node (ByPort kept), rest)
-    × (bytes ≡ line_text end (command.Dead node (ByPort kept), rest))
-dead_found end node kept ports tail rest bytes e is read =
-    let over = ended dead_phrase end in
-    let now : Reads over.Fits over.text (Some ((node, kept.items), rest)) tail =
-    subst (λ l. Reads over.Fits over.text (Some ((node, l), rest)) tail) e read in
+    × (codes "dead " ++ bytes ≡ line_text end (command.Dead node (ByPort kept), rest))
+dead_found end node kept ports bytes mid tail rest e first list last =
+    let P = node_id_phrase in
+    let read =
+    subst (λ l. Reads (sequence dead_phrase (line_end end)).Fits
+    (sequence dead_phrase (line_end end)).text (Some (((node, l), tt), rest)) bytes) e
+    (reads_then dead_phrase (line_end end) (node, ports) tt bytes tail rest
+    (reads_then P kept_phrase node ports bytes mid tail first list) last) in
     let has : HasLine (command.Dead node (ByPort kept)) =
-    (now.0.0.0.0, all_kept kept.items _ now.0.0.1) in (
-      (has, now.0.1),
-      is ∙ ap (λ l. codes "dead " ++ l) now.1
+    (read.0.0.0.0, all_kept kept.items _ read.0.0.1) in (
+      (has, read.0.1),
+      ap (λ l. codes "dead " ++ l) read.1
           ∙ sym (is_line_text end (command.Dead node (ByPort kept)) rest has),
     )
 
@@ -247,28 +251,29 @@ same_kind : (end : LineEnd) (c d : Command) (x y : List ℕ) → HasLine c → H
     → (line end (kind_of c)).text (seen c, x) ≡ (line end (kind_of d)).text (seen d, y)
     → SameCommand c d × (x ≡ y)
 same_kind end (command.Register a) (command.Register b) x y f g k p q e =
-    let both = (one end RegisterLine).same (a, x) (b, y) p q e in
-    (ap command.Register both.0, both.1)
+    let both = (one end RegisterLine).same ((a, tt), x) ((b, tt), y) p q e in
+    (ap (λ p. command.Register p.0) both.0, both.1)
 same_kind end (command.Deregister a) (command.Deregister b) x y f g k p q e =
-    let both = (one end DeregisterLine).same (a, x) (b, y) p q e in
-    (ap command.Deregister both.0, both.1)
+    let both = (one end DeregisterLine).same ((a, tt), x) ((b, tt), y) p q e in
+    (ap (λ p. command.Deregister p.0) both.0, both.1)
 same_kind end command.Nodes command.Nodes x y f g k p q e =
     (refl, ((one end NodesLine).same (tt, x) (tt, y) p q e).1)
 same_kind end (command.Add a) (command.Add b) x y f g k p q e =
-    let both = (one end AddLine).same (a, x) (b, y) p q e in
-    (ap command.Add both.0, both.1)
+    let both = (one end AddLine).same ((a, tt), x) ((b, tt), y) p q e in
+    (ap (λ p. command.Add p.0) both.0, both.1)
 same_kind end (command.Release a) (command.Release b) x y f g k p q e =
-    let both = (one end ReleaseLine).same (a, x) (b, y) p q e in
-    (ap command.Release both.0, both.1)
+    let both = (one end ReleaseLine).same ((a, tt), x) ((b, tt), y) p q e in
+    (ap (λ p. command.Release p.0) both.0, both.1)
 same_kind end (command.List a) (command.List b) x y f g k p q e =
-    let both = (one end ListLine).same (a, x) (b, y) p q e in
-    (ap command.List both.0, both.1)
+    let both = (one end ListLine).same ((a, tt), x) ((b, tt), y) p q e in
+    (ap (λ p. command.List p.0) both.0, both.1)
 same_kind end (command.Count a) (command.Count b) x y f g k p q e =
-    let both = (one end CountLine).same (a, x) (b, y) p q e in
-    (ap command.Count both.0, both.1)
+    let both = (one end CountLine).same ((a, tt), x) ((b, tt), y) p q e in
+    (ap (λ p. command.Count p.0) both.0, both.1)
 same_kind end (command.Dead a (ByPort kept)) (command.Dead b (ByPort other)) x y f g k p q e =
-    let both = (one end DeadLine).same ((a, kept.items), x) ((b, other.items), y) p q e in
-    ((ap (λ p. p.0) both.0, ap (λ p. p.1) both.0), both.1)
+    let both =
+    (one end DeadLine).same (((a, kept.items), tt), x) (((b, other.items), tt), y) p q e in
+    ((ap (λ p. p.0.0) both.0, ap (λ p. p.0.1) both.0), both.1)
 same_kind end _ _ x y f g k p q e = absurd (grind (arith, f, g, k))
 
 -- commands at the front of one text are the same, and so is what follows them

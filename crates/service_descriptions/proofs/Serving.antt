@@ -10,11 +10,11 @@ use Rattle.iox2_container.specs.Handle.{Handle}
 use Rattle.iox2_dynamic.specs.Service.{Service, IsService}
 use Rattle.iox2_static.specs.Description.{Description}
 use Rattle.service_descriptions.specs.declared.replay.machine.command.Command.{Command}
-use Rattle.service_descriptions.specs.declared.replay.machine.line_answer.LineAnswer.{LineAnswer}
-use Rattle.service_descriptions.specs.declared.replay.machine.line_answer.LineAnswer.TheVariants as answer
+use Rattle.service_descriptions.specs.declared.replay.machine.reply.LineAnswer.{LineAnswer}
+use Rattle.service_descriptions.specs.declared.replay.machine.reply.LineAnswer.TheVariants as answer
 use Rattle.service_descriptions.specs.declared.replay.machine.reply.Reply.{Reply}
 use Rattle.service_descriptions.specs.declared.replay.machine.reply.Reply.TheVariants as reply
-use Rattle.service_descriptions.specs.declared.replay.machine.earlier.Earlier.{Earlier}
+use Rattle.service_descriptions.specs.declared.replay.machine.session.Earlier.{Earlier}
 use Rattle.service_descriptions.specs.Handles.{Differ, IsGiven, KeepsHandles, handle_at, handles_in, tickets_of}
 use Rattle.service_descriptions.specs.declared.replay.machine.session.Session.TheInside.{Inside}
 use Rattle.service_descriptions.specs.Fields.{IsSound, described, session_of}

@@ -4,8 +4,8 @@ use Rattle.iox2_container.specs.declared.container.role.Role.{Role}
 use Rattle.iox2_container.specs.declared.container.role.Role.TheVariants as role
 use Rattle.iox2_container.specs.Handle.{Handle}
 use Rattle.iox2_dynamic.specs.Service.{Service}
-use Rattle.service_descriptions.specs.declared.replay.machine.earlier.Earlier.{Earlier}
-use Rattle.service_descriptions.specs.declared.replay.machine.earlier.Earlier.TheVariants as earlier
+use Rattle.service_descriptions.specs.declared.replay.machine.session.Earlier.{Earlier}
+use Rattle.service_descriptions.specs.declared.replay.machine.session.Earlier.TheVariants as earlier
 
 -- the handle that the earlier command k was answered with; none where
 -- there is no such command, or it was answered with no handle

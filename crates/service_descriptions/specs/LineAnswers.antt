@@ -15,8 +15,8 @@ use Rattle.iox2_dynamic.specs.Service.{Service, first_role, second_role}
 use Rattle.iox2_static.specs.Description.{Description}
 use Rattle.service_descriptions.specs.declared.replay.machine.command.Command.{Command}
 use Rattle.service_descriptions.specs.declared.replay.machine.command.Command.TheVariants as command
-use Rattle.service_descriptions.specs.declared.replay.machine.line_answer.LineAnswer.{LineAnswer}
-use Rattle.service_descriptions.specs.declared.replay.machine.line_answer.LineAnswer.TheVariants as answer
+use Rattle.service_descriptions.specs.declared.replay.machine.reply.LineAnswer.{LineAnswer}
+use Rattle.service_descriptions.specs.declared.replay.machine.reply.LineAnswer.TheVariants as answer
 use Rattle.service_descriptions.specs.declared.replay.machine.reply.Reply.{Reply}
 use Rattle.service_descriptions.specs.Listings.{ServesNodes, ServesList}
 use Rattle.service_descriptions.specs.Replies.{port_word, reply_line, reply_of}

@@ -15,9 +15,9 @@ use Rattle.service_descriptions.specs.declared.replay.machine.command.Command.{C
 use Rattle.service_descriptions.specs.declared.replay.machine.command.Command.TheVariants as command
 use Rattle.service_descriptions.specs.declared.replay.lines.id.Parts.{Parts}
 use Rattle.service_descriptions.specs.declared.replay.lines.port.ScriptPort.{ScriptPort}
-use Rattle.service_descriptions.specs.declared.replay.machine.line_command.LineCommand.{LineCommand}
-use Rattle.service_descriptions.specs.declared.replay.machine.line_command.LineCommand.TheVariants as spelled
-use Rattle.line_streams.specs.declared.end.LineEnd.{LineEnd}
+use Rattle.service_descriptions.specs.declared.replay.machine.command.LineCommand.{LineCommand}
+use Rattle.service_descriptions.specs.declared.replay.machine.command.LineCommand.TheVariants as spelled
+use Rattle.line_streams.specs.declared.phrase.LineEnd.{LineEnd}
 use Rattle.line_streams.specs.Spelling.{line_end}
 
 -- the four parts of an id, joined by dots

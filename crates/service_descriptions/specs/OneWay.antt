@@ -1,6 +1,6 @@
 -- No two values have one word.
 use Rattle.std.proofs.Common.{◌≡◌, ◌≢◌, ℕ, List, ◌∷◌, ◌++◌, codes, get_or, arith, refl, sym, ◌∙◌, ap, subst, append_assoc}
-use Rattle.std.specs.Prelude.{◌==◌, if◌then◌else◌}
+use Rattle.std.specs.Prelude.{◌==◌, if◌then◌else◌, Some}
 use Rattle.iox2_config.specs.declared.hash.input.PatternKind.{PatternKind}
 use Rattle.iox2_config.specs.declared.hash.input.PatternKind.TheVariants as pattern
 use Rattle.iox2_config.specs.Hashing.{pattern_word}
@@ -10,7 +10,7 @@ use Rattle.iox2_dynamic.specs.declared.dynamic_config.port_details.PortDetails.{
 use Rattle.iox2_dynamic.specs.declared.dynamic_config.port_details.PortDetails.TheVariants as of
 use Rattle.iox2_dynamic.specs.Details.{role_of}
 use Rattle.iox2_ids.specs.Packing.{packed, process_of, seconds_of, nanoseconds_of, counter_of}
-use Rattle.line_streams.specs.Spelling.{OneWay, EndsNumber}
+use Rattle.line_streams.specs.Spelling.{OneWay, EndsNumber, Reads}
 use Rattle.std.proofs.lemmas.List.{append_cancel_left}
 use Rattle.line_streams.specs.Numerals.{cons_same}
 use Rattle.line_streams.specs.OneWay.{number_one, sequence_one, after_one, listed_one}
@@ -40,6 +40,26 @@ parts_fit id rest fits ends = (
     ((omega arith, omega arith, (λ digit. omega arith)), (omega arith, omega arith, ends)),
   ),
 )
+
+-- parts that were read are those of an id
+pub id_found : (p s n c : ℕ) (rest bytes : List ℕ)
+    → Reads parts_phrase.Fits parts_phrase.text (Some ((p, (s, (n, c))), rest)) bytes
+    → Reads id_phrase.Fits id_phrase.text (Some (packed p s n c, rest)) bytes
+id_found p s n c rest bytes read =
+    let id = packed p s n c in
+    let a = read.0.0.0 in
+    let b = read.0.1.0.0 in
+    let d = read.0.1.1.0.0 in
+    let e = read.0.1.1.1.0 in
+    let process : process_of id ≡ p = omega (arith, a, b, d, e) in
+    let seconds : seconds_of id ≡ s = omega (arith, a, b, d, e) in
+    let nanoseconds : nanoseconds_of id ≡ n = omega (arith, a, b, d, e) in
+    let counter : counter_of id ≡ c = omega (arith, a, b, d, e) in
+    let same : parts_of id ≡ (p, (s, (n, c))) =
+    rw (process, seconds, nanoseconds, counter) refl in (
+      (omega (arith, a, b, d, e), read.0.1.1.1.2),
+      read.1 ∙ sym (id_then id rest ∙ ap (λ v. parts_phrase.text (v, rest)) same),
+    )
 
 parts_one : OneWay parts_phrase
 parts_one =

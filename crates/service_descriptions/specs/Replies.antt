@@ -7,8 +7,8 @@ use Rattle.iox2_ids.specs.PortId.{port_value}
 use Rattle.iox2_texts.specs.VerifyErrors.{verification_error_text}
 use Rattle.iox2_dynamic.specs.declared.dynamic_config.port_details.PortDetails.{PortDetails}
 use Rattle.iox2_dynamic.specs.Details.{port_of}
-use Rattle.service_descriptions.specs.declared.replay.machine.line_answer.LineReply.{LineReply}
-use Rattle.service_descriptions.specs.declared.replay.machine.line_answer.LineReply.TheVariants as line
+use Rattle.service_descriptions.specs.declared.replay.machine.reply.LineReply.{LineReply}
+use Rattle.service_descriptions.specs.declared.replay.machine.reply.LineReply.TheVariants as line
 use Rattle.service_descriptions.specs.declared.replay.machine.reply.Reply.{Reply}
 use Rattle.service_descriptions.specs.declared.replay.machine.reply.Reply.TheVariants as reply
 

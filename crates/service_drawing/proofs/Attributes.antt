@@ -38,21 +38,13 @@ pub stops_at_attribute : (set : List Pair) (at bytes text tail : List ℕ)
     → StopsAt HasAttributes at bytes
 stops_at_attribute set at bytes text tail r l bad =
     many_stops (codes "attribute ") GivesPair AreAttributes (λ s. s) no_key (λ x y t p q. refl) set
-    at bytes text tail r l
-    (λ ys other made one. elim bad [
-      | inl full ↦ omega (
-        arith,
-        longer_by_one GivesPair no_key r.each ys text one,
-        full,
-        length_permutation r.each set r.make.1.0,
-        made.0,
-      )
+    at bytes text tail r l (λ ys other made one. elim bad [
+      | inl full ↦
+          let longer = longer_by_one GivesPair no_key r.each ys text one in
+          omega (arith, full, length_permutation r.each set r.make.1.0, made.0)
       | inr none ↦ none one.one one.spelled.legal one.spelled.spelled
     ])
 
-unequal : false ≡ true → ⊥
-unequal e = cc
-
 -- where there is no room, there are 16
 pub many : (n : ℕ) → (n < 16 → false ≡ true) → 16 ≤ n
-many n h = let full : n < 16 → ⊥ = λ few. unequal (h few) in omega (arith, full)
+many n h = grind arith

@@ -1,13 +1,11 @@
 -- The parts of a description in turn, and where reading them stops.
-use Rattle.std.proofs.Common.{◌≡◌, ◌≢◌, ◌==◌, ℕ, List, [], ◌∷◌, ◌++◌, ◌⊎◌, true, false, length, codes, inl, inr, refl, sym, ap, ◌∙◌, subst, arith, length-append}
+use Rattle.std.proofs.Common.{◌≡◌, ◌≢◌, ◌==◌, ℕ, List, [], ◌∷◌, ◌++◌, ◌⊎◌, true, false, length, codes, inl, inr, refl, sym, ap, ◌∙◌, arith, length-append}
 use Rattle.std.specs.List.{IsDistinct}
-use Rattle.std.proofs.lemmas.Bool.{eqb-true}
 use Rattle.std.proofs.lemmas.List.Sorted.{IsPermutation-refl}
 use Rattle.iox2_texts.specs.Attribute.{IsListing}
 use Rattle.iox2_config.specs.Hashing.{hash_input, pattern_word, sha1_text}
 use Rattle.iox2_config.specs.declared.config.Config.{Config}
 use Rattle.iox2_config.specs.declared.hash.input.PatternKind.{PatternKind}
-use Rattle.iox2_config.specs.declared.hash.input.PatternKind.TheVariants.{PublishSubscribe, Event, RequestResponse, Blackboard}
 use Rattle.service_drawing.specs.Descriptions.{StopsReading, after_settings, after_service}
 use Rattle.service_drawing.specs.Lines.{IsLine, HasSameLine, Whole, Stops, Form, line_by_line, HasService, HasAttributes, HasRequirements, AreAttributes, AreRequired, GivesPair, GivesRequirement}
 use Rattle.service_drawing.specs.Settings.{HasConfiguration, GivesSetting, AreSettings, section}
@@ -26,10 +24,7 @@ service_same j k m n x y bytes p q =
 
 same_base : (base : Config) (k : PatternKind)
     → record base { defaults = (section k).reset base.defaults base.defaults } ≡ base
-same_base base PublishSubscribe = refl
-same_base base Event = refl
-same_base base RequestResponse = refl
-same_base base Blackboard = refl
+same_base base k = grind arith
 
 configuration_lawful : (base : Config) (k : PatternKind)
     → Lawful (codes "set " ∷ []) [] (line_by_line (HasConfiguration base k))
@@ -68,8 +63,7 @@ none_listed : IsListing [] []
 none_listed = (IsPermutation-refl [], λ k d low high. absurd (omega arith))
 
 attributes_lawful : Lawful (codes "attribute " ∷ []) [] (line_by_line HasAttributes)
-attributes_lawful =
-    many_lawful (codes "attribute ") GivesPair AreAttributes [] (omega arith, none_listed)
+attributes_lawful = many_lawful _ GivesPair AreAttributes [] (omega arith, none_listed)
 
 required_lawful : Lawful (codes "require" ∷ []) [] (line_by_line HasRequirements)
 required_lawful =
@@ -106,9 +100,8 @@ no_service_here base bytes none = record {
   begun = inr refl;
   stops = λ other whole k same good.
       let h = good.1.service in
-      let back = subst (λ (b : List ℕ). HasSameLine b bytes) k (same_back bytes other same) in
-      let l = line_like whole bytes (pattern_word good.0.kind ++ 32 ∷ good.0.name) good.1.rest back
-      h.line in
+      let l = line_like whole bytes (pattern_word good.0.kind ++ 32 ∷ good.0.name) good.1.rest
+      (rw k at (same_back bytes other same)) h.line in
       none good.0.kind good.0.name l.0 (record { line = l.1; named = h.named });
 }
 
@@ -180,12 +173,10 @@ stops_behind_service base k name left mid bytes h bad =
       stops = λ other whole l same good.
           let one = service_same good.0.kind k good.0.name name good.1.rest l.0 whole
           good.1.service (record { line = l.1; named = h.named }) in
-          s.stops other l.0 l.2 same
-          (subst (λ (j : PatternKind). Whole (after_service base j).Has l.0) one.0
-          (subst (λ (b : List ℕ). Whole (after_service base good.0.kind).Has b) one.1
-          (_, good.1.lines)));
+          let rest : Whole (after_service base good.0.kind).Has good.1.rest = (_, good.1.lines) in
+          s.stops other l.0 l.2 same (rw (one.0, one.1) at rest);
     }
 
 pub no_more : (xs : List ℕ) → true ≡ (length xs == 0) → xs ≡ []
 no_more [] e = refl
-no_more (y ∷ ys) e = absurd (omega (arith, eqb-true (length (y ∷ ys)) 0 (sym e)))
+no_more (y ∷ ys) e = grind arith

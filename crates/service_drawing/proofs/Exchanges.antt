@@ -12,9 +12,8 @@ use Rattle.iox2_config.specs.declared.hash.input.PatternKind.TheVariants.{Publis
 use Rattle.iox2_config.specs.declared.types.message_details.MessageTypeDetails.{MessageTypeDetails}
 use Rattle.iox2_config.specs.declared.types.type_detail.TypeVariant.{TypeVariant}
 use Rattle.iox2_config.specs.declared.types.type_detail.TypeVariant.TheVariants.{FixedSize, Dynamic}
-use Rattle.iox2_texts.specs.Text.{IsTextByte}
 use Rattle.service_drawing.specs.Causes.{is_plain}
-use Rattle.service_drawing.specs.Lines.{IsLine, IsPlain, HasNoLine, HasSameLine, Begins, no_lines, IsDescribed, IsFixed, type_text, payload_text, alignments_text, type_line, payload_line, elements_line, HasOpener, opener_line, message_of, message, exchange}
+use Rattle.service_drawing.specs.Lines.{IsPlain, HasNoLine, HasSameLine, Begins, no_lines, IsDescribed, IsFixed, type_text, payload_text, alignments_text, type_line, payload_line, elements_line, HasOpener, opener_line, message_of, message, exchange}
 use Rattle.service_drawing.specs.declared.description.Exchange.TheVariants as exchanged
 use Rattle.service_drawing.specs.declared.description.Message.{Message}
 use Rattle.service_drawing.proofs.Forms.{Lawful, IsPart, line_like, none_like, none_begins, stops_at_once, line_lawful, then_lawful, sequence_lawful, made_lawful}
@@ -40,15 +39,7 @@ some_type = record { variant = FixedSize; type_name = codes "a"; size = 0; align
 
 some_described : IsDescribed some_type
 unfolding ones
-some_described = record {
-  size = omega arith;
-  alignment = (omega arith, refl);
-  named = omega arith;
-  type_name = (
-    omega arith,
-    All-cons IsTextByte 97 [] (omega arith, omega arith) (All-nil IsTextByte),
-  );
-}
+some_described = grind (arith, All-cons, All-nil)
 
 plain : (text : List ℕ) → list_all is_plain text ≡ true → IsPlain text
 plain text e = AllPass-from_list_all is_plain text e
@@ -100,23 +91,17 @@ opener_lawful prefix = record {
     moves None r bytes h = record {
       texts = [];
       lines = h.0;
-      moved = λ other whole l follows. (
-        l,
-        subst (λ (b : List ℕ). HasNoLine begin b) l
-            (elim follows [
-              | inl same ↦ none_like r other begin same
-                  (subst (λ (b : List ℕ). HasNoLine begin b) (sym h.0) h.1)
-              | inr none ↦ none.0
-            ]),
-      );
+      moved = λ other whole l follows.
+          let none : HasNoLine begin other = elim follows [
+            | inl same ↦ none_like r other begin same (rw h.0 h.1)
+            | inr none ↦ none.0
+          ] in
+          (l, rw l at none);
     }
     moves (Some d) r bytes h = record {
       texts = (begin ++ alignments_text d) ∷ [];
       lines = (r, h.line, refl);
-      moved = λ other whole l follows. record {
-        line = subst (λ (b : List ℕ). IsLine (begin ++ alignments_text d) b whole) (sym l.2) l.1;
-        legal = h.legal;
-      };
+      moved = λ other whole l follows. record { line = rw l.2 l.1; legal = h.legal };
     }
 
     like : (o : Option MessageTypeDetails) (r one other : List ℕ) → HasSameLine one other

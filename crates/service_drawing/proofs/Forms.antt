@@ -1,25 +1,18 @@
 -- Forms of lines: what is true of each, and where reading one stops.
-use Rattle.std.proofs.Common.{◌≡◌, ℕ, List, [], ◌∷◌, ◌++◌, ◌⊎◌, inl, inr, refl, sym, ◌∙◌, ap, subst, append_assoc, length, length-append, arith}
+use Rattle.std.proofs.Common.{◌≡◌, ℕ, List, [], ◌∷◌, ◌++◌, ◌⊎◌, inl, inr, refl, sym, ap, subst, append_assoc, length, length-append, arith}
 use Rattle.service_drawing.specs.Lines.{IsLine, IsPlain, AreLines, HasNoLine, HasSameLine, Begins, Whole, Stops, StopsAt, Form, HasLine, at_once, line, then, sequence, made}
 use Rattle.service_drawing.proofs.Words.{line_one}
 
 pub same_back : (one other : List ℕ) → HasSameLine one other → HasSameLine other one
-same_back one other (inl e) = inl (sym e)
-same_back one other (inr s) = inr (record {
-  line = s.line;
-  rest = s.other_rest;
-  other_rest = s.rest;
-  first = s.second;
-  second = s.first;
-})
+same_back one other same = grind arith
 
 -- where both begin with the same line, they begin with the same lines
 pub line_like : (one other text rest : List ℕ) → HasSameLine one other → IsLine text rest one
     → (q : List ℕ) × IsLine text q other
-line_like one other text rest (inl e) l = (rest, subst (λ (b : List ℕ). IsLine text rest b) e l)
+line_like one other text rest (inl e) l = (rest, rw e at l)
 line_like one other text rest (inr s) l =
-    let same : s.line ≡ text = (line_one s.line text s.rest rest one s.first l).0 in
-    (s.other_rest, subst (λ (t : List ℕ). IsLine t s.other_rest other) same s.second)
+    let same = (line_one s.line text s.rest rest one s.first l).0 in
+    (s.other_rest, rw same at s.second)
 
 pub none_like : (one other begin : List ℕ) → HasSameLine one other → HasNoLine begin one
     → HasNoLine begin other
@@ -35,7 +28,7 @@ none_begins begin text rest l =
 -- lines, and then others
 pub lines_then : (ts us : List (List ℕ)) (mid rest bytes : List ℕ) → AreLines ts mid bytes
     → AreLines us rest mid → AreLines (ts ++ us) rest bytes
-lines_then [] us mid rest bytes e k = subst (λ (b : List ℕ). AreLines us rest b) e k
+lines_then [] us mid rest bytes e k = rw e at k
 lines_then (t ∷ ts) us mid rest bytes l k = (l.0, l.1, lines_then ts us mid rest l.0 l.2 k)
 
 lines_split : (ts us : List (List ℕ)) (rest bytes : List ℕ) → AreLines (ts ++ us) rest bytes
@@ -52,15 +45,12 @@ pub lines_before : (ts : List (List ℕ)) (rest bytes : List ℕ) → AreLines t
 lines_before [] rest bytes e = ([], sym e, λ other. refl)
 lines_before (t ∷ ts) rest bytes l =
     let more = lines_before ts rest l.0 l.2 in
-    let spelled : (other : List ℕ) → (t ++ 10 ∷ more.0) ++ other ≡ t ++ 10 ∷ (more.0 ++ other) =
-    λ other. append_assoc t (10 ∷ more.0) other in (
+    let spelled = append_assoc t (10 ∷ more.0) in
+    let line = l.1.spelled in (
       t ++ 10 ∷ more.0,
-      l.1.spelled ∙ ap (λ (m : List ℕ). t ++ 10 ∷ m) more.1 ∙ sym (spelled rest),
-      λ other. (
-        more.0 ++ other,
-        record { spelled = spelled other; plain = l.1.plain },
-        more.2 other,
-      ),
+      cc (more.1, spelled rest),
+      λ other.
+          (more.0 ++ other, record { spelled = spelled other; plain = l.1.plain }, more.2 other),
     )
 
 -- no line begins in one of these ways
@@ -86,16 +76,9 @@ MayFollow ends rest other = HasSameLine rest other ⊎ NoneOf ends other
 follow_through : (ts ends : List (List ℕ)) (rest other bytes whole : List ℕ)
     → AreLines ts rest bytes → AreLines ts other whole → MayFollow ends rest other
     → MayFollow ends bytes whole
-follow_through [] ends rest other bytes whole e k follows =
-    subst (λ (b : List ℕ). MayFollow ends b whole) e
-    (subst (λ (b : List ℕ). MayFollow ends rest b) k follows)
-follow_through (t ∷ ts) ends rest other bytes whole l k follows = inl (inr (record {
-  line = t;
-  rest = l.0;
-  other_rest = k.0;
-  first = l.1;
-  second = k.1;
-}))
+follow_through [] ends rest other bytes whole e k follows = rw (e, k) at follows
+follow_through (t ∷ ts) ends rest other bytes whole l k follows =
+    inl (inr (record { line = t; rest = l.0; other_rest = k.0; first = l.1; second = k.1 }))
 
 -- lines stand before the rest, and would stand so before other bytes that may follow
 pub record IsPart (ends : List (List ℕ)) (Has : List ℕ → List ℕ → Type 0)
@@ -128,9 +111,8 @@ stops_at_once Has example left bytes some like bad = record {
   goes_on = refl;
   begun = some;
   stops = λ other whole e same good.
-      let back = subst (λ (b : List ℕ). HasSameLine b bytes) e
-      (same_back bytes other (subst (λ (b : List ℕ). HasSameLine b other) bad.0 same)) in
-      let here = like good.0 good.1 whole bytes back good.2 in
+      let back = same_back bytes other (rw bad.0 at same) in
+      let here = like good.0 good.1 whole bytes (rw e at back) good.2 in
       bad.1 here.0 here.1 here.2;
 }
 
@@ -164,15 +146,7 @@ line_lawful begin IsLegal text x legal plain = record {
 pub stops_as : (IsWhole IsGood WholeToo GoodToo : List ℕ → Type 0) (left bytes : List ℕ)
     → ((b : List ℕ) → IsWhole b → WholeToo b) → ((b : List ℕ) → GoodToo b → IsGood b)
     → Stops IsWhole IsGood left bytes → Stops WholeToo GoodToo left bytes
-stops_as IsWhole IsGood WholeToo GoodToo left bytes whole good s = record {
-  read = s.read;
-  lines = s.lines;
-  more = s.more;
-  example = s.example;
-  goes_on = s.goes_on;
-  begun = whole s.example s.begun;
-  stops = λ other b l same g. s.stops other b l same (good b g);
-}
+stops_as IsWhole IsGood WholeToo GoodToo left bytes whole good s = grind arith
 
 pub made_lawful : {A B : Type 0} {ends : List (List ℕ)} {example : List ℕ} {F : Form A}
     (make : A → B) → Lawful ends example F → Lawful ends example (made F make)
@@ -196,9 +170,7 @@ lines_append : (ts : List (List ℕ)) (rest bytes end : List ℕ) → AreLines t
     → AreLines ts (rest ++ end) (bytes ++ end)
 lines_append ts rest bytes end l =
     let before = lines_before ts rest bytes l in
-    subst (λ (b : List ℕ). AreLines ts (rest ++ end) b)
-    (sym (ap (λ (b : List ℕ). b ++ end) before.1 ∙ append_assoc before.0 rest end))
-    (before.2 (rest ++ end))
+    rw (before.1, append_assoc) (before.2 (rest ++ end))
 
 -- one, and then another: what may end the first does not begin the example of the other
 pub then_lawful : {A K B : Type 0} {ps qs : List (List ℕ)} {first : List ℕ} {next : K → List ℕ}
@@ -242,8 +214,7 @@ then_lawful {A} {K} {B} {ps} {qs} {first} {next} {F} {key} {G} j f g tells known
     again : (x y : A) (b : B) (r mid at whole : List ℕ) → F.Has x mid whole → F.Has y at whole
         → (G (key x)).Has b r mid → (G (key y)).Has b r at
     again x y b r mid at whole h k has =
-        subst (λ (i : K). (G i).Has b r at) (tells x y mid at whole h k)
-        (subst (λ (m : List ℕ). (G (key x)).Has b r m) (f.rest x y mid at whole h k) has)
+        rw (f.rest x y mid at whole h k, tells x y mid at whole h k) at has
 
     one : (p q : A × B) (r s bytes : List ℕ) → (then F key G).Has p r bytes
         → (then F key G).Has q s bytes → r ≡ s

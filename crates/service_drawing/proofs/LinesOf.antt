@@ -1,5 +1,5 @@
 -- Lines of one kind that were read, and what no further line may be.
-use Rattle.std.proofs.Common.{◌≡◌, ◌<◌, ℕ, List, [], ◌∷◌, ◌++◌, inl, inr, length, map, refl, sym, ap, ◌∙◌, subst, arith, length-append}
+use Rattle.std.proofs.Common.{◌≡◌, ◌<◌, ℕ, List, [], ◌∷◌, ◌++◌, inl, inr, length, map, refl, sym, ◌∙◌, arith, length-append}
 use Rattle.std.proofs.lemmas.List.{length-map}
 use Rattle.service_drawing.specs.Lines.{IsLine, AreLines, HasNoLine, StopsAt, HasMany, UpTo, line_by_line}
 use Rattle.service_drawing.proofs.Forms.{Lawful, lines_before, line_like, none_like, none_begins}
@@ -10,8 +10,7 @@ use Rattle.service_drawing.proofs.Words.{line_one}
 pub more_lines : {A : Type 0} (begin : List ℕ) (Spells : A → List ℕ → Type 0) (xs : List A) (x : A)
     (text at next bytes : List ℕ) → UpTo begin Spells xs at bytes → IsLine (begin ++ text) next at
     → Spells x text → UpTo begin Spells (xs ++ x ∷ []) next bytes
-more_lines begin Spells [] x text at next bytes e l spelled =
-    (next, text, subst (λ (b : List ℕ). IsLine (begin ++ text) next b) (sym e) l, spelled, refl)
+more_lines begin Spells [] x text at next bytes e l spelled = (next, text, rw e l, spelled, refl)
 more_lines begin Spells (y ∷ xs) x text at next bytes u l spelled =
     (u.0, u.1, u.2, u.3, more_lines begin Spells xs x text at next u.0 u.4 l spelled)
 
@@ -30,39 +29,32 @@ goes_on : {A K : Type 0} (begin : List ℕ) (Spells : A → List ℕ → Type 0)
     → IsLine (begin ++ text) tail at → UpTo begin Spells ys rest bytes → HasNoLine begin rest
     → GoesOn Spells key xs ys text
 goes_on begin Spells key same [] [] at rest bytes text tail e l h none =
-    absurd (none text tail (subst (λ (b : List ℕ). IsLine (begin ++ text) tail b) (sym e ∙ h) l))
+    absurd (none text tail (rw (sym e ∙ h) at l))
 goes_on begin Spells key same [] (y ∷ ys) at rest bytes text tail e l h none = record {
   one = y;
   more = ys;
-  spelled = subst (λ (t : List ℕ). Spells y t)
-      (same_text begin h.1 h.0 bytes h.2 text tail
-      (subst (λ (b : List ℕ). IsLine (begin ++ text) tail b) (sym e) l)) h.3;
+  spelled = rw (same_text begin h.1 h.0 bytes h.2 text tail (rw e l)) at h.3;
   keys = refl;
 }
 goes_on begin Spells key same (x ∷ xs) [] at rest bytes text tail u l h none =
-    absurd (none u.1 u.0
-    (subst (λ (b : List ℕ). IsLine (begin ++ u.1) u.0 b) h u.2))
-goes_on {K = K} begin Spells key same (x ∷ xs) (y ∷ ys) at rest bytes text tail u l h none =
-    let texts : h.1 ≡ u.1 =
-    same_text begin h.1 h.0 bytes h.2 u.1 u.0 u.2 in
-    let mids : h.0 ≡ u.0 = (line_one _ _ h.0 u.0 bytes h.2 u.2).1 in
-    let more = goes_on begin Spells key same xs ys at rest u.0 text tail u.4 l
-    (subst (λ (b : List ℕ). UpTo begin Spells ys rest b) mids h.4) none in
-    let keys : key y ≡ key x =
-    same y x u.1 (subst (λ (t : List ℕ). Spells y t) texts h.3) u.3 in
+    absurd (none u.1 u.0 (rw h at u.2))
+goes_on begin Spells key same (x ∷ xs) (y ∷ ys) at rest bytes text tail u l h none =
+    let texts = same_text begin h.1 h.0 bytes h.2 u.1 u.0 u.2 in
+    let mids = (line_one _ _ h.0 u.0 bytes h.2 u.2).1 in
+    let more =
+    goes_on begin Spells key same xs ys at rest u.0 text tail u.4 l (rw mids at h.4) none in
+    let keys = same y x u.1 (rw texts at h.3) u.3 in
     record {
       one = more.one;
       more = more.more;
       spelled = more.spelled;
-      keys = ap (λ k. k ∷ map key ys) keys ∙ ap (λ (l : List K). key x ∷ l) more.keys;
+      keys = rw (keys, more.keys) refl;
     }
 
 -- how many there are where one goes on
 pub longer_by_one : {A K : Type 0} (Spells : A → List ℕ → Type 0) (key : A → K) (xs ys : List A)
     (text : List ℕ) → GoesOn Spells key xs ys text → length xs < length ys
-longer_by_one Spells key xs ys text g =
-    let all = ap length g.keys in
-    omega (arith, simp (length-map, length-append) at all)
+longer_by_one Spells key xs ys text g = grind (arith, length-map, length-append, g.keys)
 
 -- the key of lines that are only counted
 abbrev pub no_key : {A : Type 0} → A → Unit {0}
@@ -73,14 +65,11 @@ lines_rest : {A : Type 0} (begin : List ℕ) (Spells : A → List ℕ → Type 0
     (r s bytes : List ℕ) → UpTo begin Spells xs r bytes → HasNoLine begin r
     → UpTo begin Spells ys s bytes → HasNoLine begin s → r ≡ s
 lines_rest begin Spells [] [] r s bytes h p k q = sym h ∙ k
-lines_rest begin Spells [] (y ∷ ys) r s bytes h p k q =
-    absurd (p k.1 k.0 (subst (λ (b : List ℕ). IsLine (begin ++ k.1) k.0 b) h k.2))
-lines_rest begin Spells (x ∷ xs) [] r s bytes h p k q =
-    absurd (q h.1 h.0 (subst (λ (b : List ℕ). IsLine (begin ++ h.1) h.0 b) k h.2))
+lines_rest begin Spells [] (y ∷ ys) r s bytes h p k q = absurd (p k.1 k.0 (rw h at k.2))
+lines_rest begin Spells (x ∷ xs) [] r s bytes h p k q = absurd (q h.1 h.0 (rw k at h.2))
 lines_rest begin Spells (x ∷ xs) (y ∷ ys) r s bytes h p k q =
-    let mids : k.0 ≡ h.0 = (line_one _ _ k.0 h.0 bytes k.2 h.2).1 in
-    lines_rest begin Spells xs ys r s h.0 h.4 p
-    (subst (λ (b : List ℕ). UpTo begin Spells ys s b) mids k.4) q
+    let mids = (line_one _ _ k.0 h.0 bytes k.2 h.2).1 in
+    lines_rest begin Spells xs ys r s h.0 h.4 p (rw mids at k.4) q
 
 -- the lines up to a place, as they would stand before other bytes too
 pub up_lines : {A : Type 0} (begin : List ℕ) (Spells : A → List ℕ → Type 0) (xs : List A)
@@ -144,8 +133,7 @@ pub all_read : {A B : Type 0} (begin : List ℕ) (Spells : A → List ℕ → Ty
     (Make : List A → B → Type 0) (x : B) (at bytes : List ℕ)
     → ReadMany begin Spells Make x at bytes → HasNoLine begin at
     → HasMany begin Spells Make x at bytes
-all_read begin Spells Make x at bytes r none =
-    record { each = r.each; lines = r.lines; ends = none; make = r.make }
+all_read begin Spells Make x at bytes r none = search
 
 -- where no value is made of lines that go on with the next one, they stop
 pub many_stops : {A B K S : Type 0} (begin : List ℕ) (Spells : A → List ℕ → Type 0)

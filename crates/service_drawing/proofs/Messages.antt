@@ -1,16 +1,14 @@
 -- The lines of a message, in one way.
-use Rattle.std.proofs.Common.{◌≡◌, ℕ, ◌<◌, ◌≤◌, ◌^◌, List, [], ◌∷◌, ◌++◌, cond, codes, length, Option, Some, None, Err, refl, sym, ◌∙◌, ap, subst, arith, IsTrue}
+use Rattle.std.proofs.Common.{◌≡◌, ℕ, ◌<◌, ◌≤◌, ◌^◌, List, [], ◌∷◌, ◌++◌, cond, codes, length, Option, Some, None, Err, refl, sym, ◌∙◌, ap, arith, IsTrue}
 use Rattle.std.specs.Prelude.{◌==◌}
 use Rattle.std.specs.Fmt.{decimal}
 use Rattle.std.specs.Int.{is_power_of_two}
 use Rattle.std.proofs.lemmas.Fmt.{decimal_injective}
 use Rattle.std.proofs.lemmas.List.{append_cancel_left}
-use Rattle.iox2_texts.specs.declared.bounded.StringModificationError.TheVariants.{InsertWouldExceedCapacity, InvalidCharacter}
 use Rattle.iox2_config.specs.TypeDetailParts.{TypeDetailParts}
 use Rattle.iox2_config.specs.TypeDetails.{IsTypeName, MakesDetail}
 use Rattle.iox2_config.specs.declared.types.message_details.MessageTypeDetails.{MessageTypeDetails}
 use Rattle.iox2_config.specs.declared.types.type_detail.TypeDetailError.{TypeDetailError}
-use Rattle.iox2_config.specs.declared.types.type_detail.TypeDetailError.TheVariants.{Name, AlignmentNotPowerOfTwo}
 use Rattle.iox2_config.specs.declared.types.type_detail.TypeVariant.{TypeVariant}
 use Rattle.iox2_config.specs.declared.types.type_detail.TypeVariant.TheVariants.{FixedSize, Dynamic}
 use Rattle.service_drawing.specs.Lines.{IsLine, HasLine, HasOpener, IsDescribed, AreAlignments, type_text, alignments_text, variant_word}
@@ -38,28 +36,21 @@ pub no_type : (text name : List ℕ) (a b : ℕ) → a < 2 ^ 64 → b < 2 ^ 64
     → ¬ ((1 ≤ length name) × IsTypeName name × IsTrue (is_power_of_two b))
     → (t : TypeDetailParts) → IsDescribed t → ¬ (text ≡ type_text t)
 no_type text name a b pa pb e bad t d is =
-    let same = same_numbers text a b t.size t.alignment name t.type_name pa pb d.size d.alignment.0
-    e is in
-    bad (
-      subst (λ (n : List ℕ). 1 ≤ length n) (sym same.2) d.named,
-      subst IsTypeName (sym same.2) d.type_name,
-      subst (λ n. IsTrue (is_power_of_two n)) (sym same.1) d.alignment.1,
-    )
+    let same =
+    same_numbers text a b t.size t.alignment name t.type_name pa pb d.size d.alignment.0 e is in
+    bad (rw (same.1, same.2) (d.named, d.type_name, d.alignment.1))
 
 -- the parts of a type that is refused
 pub not_made : (parts : TypeDetailParts) (why : TypeDetailError) → MakesDetail parts (Err why)
     → ¬ (IsTypeName parts.type_name × IsTrue (is_power_of_two parts.alignment))
-not_made parts (Name InsertWouldExceedCapacity) h legal = omega (arith, h, legal.0.0)
-not_made parts (Name InvalidCharacter) h legal = h.1 legal.0.1
-not_made parts AlignmentNotPowerOfTwo h legal = h.1 legal.1
+not_made parts why h legal = grind arith
 
 abbrev variant_at : List ℕ → TypeVariant
 variant_at [] = FixedSize
 variant_at (b ∷ bs) = cond (b == 102) FixedSize Dynamic
 
 variant_front : (v : TypeVariant) (x : List ℕ) → variant_at (variant_word v ++ x) ≡ v
-variant_front FixedSize x = refl
-variant_front Dynamic x = refl
+variant_front v x = grind arith
 
 -- the variant, of one text
 pub same_variant : (v w : TypeVariant) (x y : List ℕ) → variant_word v ++ x ≡ variant_word w ++ y
@@ -84,13 +75,8 @@ pub no_alignments : (text payload : List ℕ) (a b k : ℕ) → a < 2 ^ 64 → b
 no_alignments text payload a b k pa pb pk e third bad d are is =
     let same = same_numbers text a b d.header.alignment d.user_header.alignment payload _ pa pb
     are.header.0 are.user_header.0 e is in
-    let last : k ≡ d.payload.alignment =
-    decimal_injective k d.payload.alignment pk are.payload.0 (sym third ∙ same.2) in
-    bad (
-      subst (λ n. IsTrue (is_power_of_two n)) (sym same.0) are.header.1,
-      subst (λ n. IsTrue (is_power_of_two n)) (sym same.1) are.user_header.1,
-      subst (λ n. IsTrue (is_power_of_two n)) (sym last) are.payload.1,
-    )
+    let last = decimal_injective k d.payload.alignment pk are.payload.0 (sym third ∙ same.2) in
+    bad (rw (same.0, same.1, last) (are.header.1, are.user_header.1, are.payload.1))
 
 -- what one line says after the same beginning
 pub same_text : (begin text rest bytes : List ℕ) → IsLine (begin ++ text) rest bytes

@@ -1,5 +1,5 @@
 -- Settings that are found by their names.
-use Rattle.std.proofs.Common.{◌≡◌, ◌≢◌, ℕ, ◌<◌, ◌≤◌, ◌∷◌, ◌++◌, List, Bool, false, length, get_or, ap, Some, None, slice_get, inl, inr, subst, sym, ◌∙◌, arith}
+use Rattle.std.proofs.Common.{◌≡◌, ◌≢◌, ℕ, ◌<◌, ◌≤◌, ◌∷◌, ◌++◌, List, Bool, false, length, get_or, ap, Some, None, slice_get, subst, sym, ◌∙◌, arith}
 use Rattle.std.proofs.lemmas.Option.{none-some, slice_get_within, slice_get_cases, slice_get-get_or}
 use Rattle.service_drawing.specs.Settings.{HasName, IsSetting, IsNamed, word_of}
 use Rattle.service_drawing.proofs.Words.{longer}
@@ -7,13 +7,10 @@ use Rattle.service_drawing.proofs.Words.{longer}
 -- the setting of this number has another name
 pub not_named : (names : List (List ℕ)) (i : ℕ) (word name : List ℕ) → Some name ≡ slice_get names i
     → (IsNamed word name → ⊥) → HasName names i word → ⊥
-not_named names i word name there other h =
-    let e : h.name ≡ name = cc (there, h.stands) in
-    other (subst (λ (n : List ℕ). IsNamed word n) e h.named)
+not_named names i word name there other h = grind (arith, h.stands, h.named)
 
 past_end : (names : List (List ℕ)) (i : ℕ) → slice_get names i ≡ None → length names ≤ i
-past_end names i e =
-    elim (slice_get_cases names i).1 [ inl w ↦ absurd (none-some w.0 (sym e ∙ w.2)) | inr w ↦ w.0 ]
+past_end names i e = grind (arith, slice_get_cases, none-some)
 
 -- there is no setting from this number on
 pub none_named : (names : List (List ℕ)) (i : ℕ) (word : List ℕ) → None ≡ slice_get names i

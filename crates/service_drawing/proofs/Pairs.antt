@@ -1,9 +1,8 @@
 -- Keys and values of attributes, of one text.
-use Rattle.std.proofs.Common.{◌≡◌, ℕ, List, ◌∷◌, ◌++◌, Ok, Err, sym, ◌∙◌, subst, arith}
+use Rattle.std.proofs.Common.{◌≡◌, ℕ, List, ◌∷◌, ◌++◌, Ok, Err, sym, ◌∙◌, arith}
 use Rattle.iox2_texts.specs.Pair.{Pair}
 use Rattle.iox2_texts.specs.Name.{IsName, MakesName}
 use Rattle.iox2_texts.specs.declared.bounded.SemanticStringError.{SemanticStringError}
-use Rattle.iox2_texts.specs.declared.bounded.SemanticStringError.TheVariants.{InvalidContent, ExceedsMaximumLength}
 use Rattle.line_streams.specs.OneWay.{before_one}
 use Rattle.line_streams.specs.Spelling.{HasNo}
 use Rattle.line_streams.proofs.Places.{has_one}
@@ -19,27 +18,24 @@ same_pair text key value word spelled pair is other =
 -- a text that no name can be
 pub no_name_of : (n : ℕ) (bytes : List ℕ) (why : SemanticStringError) → MakesName n bytes (Err why)
     → ¬ IsName n bytes
-no_name_of n bytes InvalidContent h legal = h.1 legal
-no_name_of n bytes ExceedsMaximumLength h legal = omega (arith, h, legal.0.0)
+no_name_of n bytes why h legal = grind arith
 
 -- a key that is refused
 pub no_key_of : (text key value : List ℕ) → HasNo 32 key → text ≡ key ++ 32 ∷ value
     → ¬ IsName 64 key → (pair : Pair) → IsPair pair → ¬ (text ≡ pair_text pair)
 no_key_of text key value word spelled bad pair is other =
-    bad (subst (IsName 64) (sym (same_pair text key value word spelled pair is other).0)
-    is.key.name)
+    bad (rw (same_pair text key value word spelled pair is other).0 is.key.name)
 
 -- a value that is refused
 pub no_value_of : (text key value : List ℕ) → HasNo 32 key → text ≡ key ++ 32 ∷ value
     → ¬ IsName 256 value → (pair : Pair) → IsPair pair → ¬ (text ≡ pair_text pair)
 no_value_of text key value word spelled bad pair is other =
-    bad (subst (IsName 256) (sym (same_pair text key value word spelled pair is other).1) is.value)
+    bad (rw (same_pair text key value word spelled pair is other).1 is.value)
 
 -- a text with a space is no key
 pub no_key_in : (text word rest : List ℕ) → text ≡ word ++ 32 ∷ rest → (key : List ℕ) → IsKey key
     → ¬ (text ≡ key)
-no_key_in text word rest e key is same =
-    has_one 32 word rest (subst (HasNo 32) (sym same ∙ e) is.word)
+no_key_in text word rest e key is same = has_one 32 word rest (rw (sym same ∙ e) at is.word)
 
 abbrev of : List ℕ → List ℕ → Pair
 of k v = record { key = k; value = v }
@@ -48,9 +44,4 @@ of k v = record { key = k; value = v }
 pub found_pair : (text key value k v : List ℕ) → MakesName 64 key (Ok k)
     → MakesName 256 value (Ok v) → HasNo 32 key → text ≡ key ++ 32 ∷ value
     → IsPair (of k v) × (text ≡ pair_text (of k v))
-found_pair text key value k v first second word spelled =
-    let is : IsKey key = record { name = first.2; word = word } in
-    let found : IsKey k = subst IsKey (sym first.0) is in
-    let named : IsName 256 v = subst (IsName 256) (sym second.0) second.2 in
-    let pair : IsPair (of k v) = record { key = found; value = named } in
-    (pair, rw (first.0, second.0) spelled)
+found_pair text key value k v first second word spelled = grind arith

@@ -1,14 +1,12 @@
 -- The reason for which a line is bad.
-use Rattle.std.proofs.Common.{◌≡◌, ◌≢◌, ℕ, ◌≤◌, ◌<◌, true, false, Bool, List, [], ◌∷◌, ◌++◌, inl, inr, codes, map, length, nat_eq, IsTrue, refl, sym, ◌∙◌, ap, subst, arith, length-append}
-use Rattle.std.specs.List.{list_any, starts_with}
-use Rattle.std.proofs.lemmas.Bool.{false≢true}
+use Rattle.std.proofs.Common.{◌≡◌, ◌≢◌, ℕ, ◌≤◌, ◌<◌, true, false, Bool, List, [], ◌∷◌, ◌++◌, inl, inr, codes, map, length, refl, sym, ◌∙◌, ap, subst, arith, length-append}
 use Rattle.iox2_config.specs.Hashing.{pattern_word}
 use Rattle.iox2_config.specs.declared.config.Config.{Config}
 use Rattle.iox2_config.specs.declared.hash.input.PatternKind.{PatternKind}
 use Rattle.service_drawing.specs.Descriptions.{StopsReading, after_settings}
 use Rattle.service_drawing.specs.Lines.{IsLine, AreLines, HasNoLine, UpTo, HasService, IsInternal, IsNoService}
 use Rattle.service_drawing.specs.Reasons.{BeginsInternal, IsServiceReason, AtSetting, IsUnknown, WasSet, IsSettingReason, AmongSettings, IsReason}
-use Rattle.service_drawing.specs.Settings.{HasName, IsSetting, GivesSetting, HasConfiguration, IsNotSet, NamesMarked, section, word_of}
+use Rattle.service_drawing.specs.Settings.{GivesSetting, HasConfiguration, IsNotSet, NamesMarked, section, word_of}
 use Rattle.service_drawing.specs.declared.reading.cause.Reason.{Reason}
 use Rattle.service_drawing.specs.declared.reading.cause.Reason.TheVariants.{InternalName, UnknownSetting, SetTwice, OtherForm}
 use Rattle.service_drawing.specs.declared.settings.value.Value.{Value}
@@ -16,12 +14,11 @@ use Rattle.service_drawing.proofs.Descriptions.{Breaks, broken, service_same, af
 use Rattle.service_drawing.proofs.LinesOf.{up_lines}
 use Rattle.service_drawing.proofs.Messages.{same_text}
 use Rattle.service_drawing.proofs.ServiceNames.{same_pattern}
-use Rattle.service_drawing.proofs.SettingLines.{Setting, numbers, one_setting, same_setting}
+use Rattle.service_drawing.proofs.SettingLines.{Setting, one_setting, same_setting}
 use Rattle.service_drawing.proofs.Words.{line_one}
 
 line_within : (text rest bytes : List ℕ) → IsLine text rest bytes → length rest < length bytes
-line_within text rest bytes l =
-    omega (arith, ap length l.spelled, length-append text (10 ∷ rest))
+line_within text rest bytes l = grind (arith, length-append, l.spelled)
 
 texts_within : (texts : List (List ℕ)) (at bytes : List ℕ) → AreLines texts at bytes
     → length at ≤ length bytes
@@ -41,29 +38,15 @@ same_keys : {A K : Type 0} (begin : List ℕ) (Spells : A → List ℕ → Type 
     → map key xs ≡ map key ys
 same_keys begin Spells key same [] [] at bytes u v = refl
 same_keys begin Spells key same [] (y ∷ ys) at bytes u v =
-    absurd (omega (
-      arith,
-      ap length u,
-      line_within _ v.0 bytes v.2,
-      up_within begin Spells ys at v.0 v.4,
-    ))
+    absurd (grind (arith, line_within, up_within))
 same_keys begin Spells key same (x ∷ xs) [] at bytes u v =
-    absurd (omega (
-      arith,
-      ap length v,
-      line_within _ u.0 bytes u.2,
-      up_within begin Spells xs at u.0 u.4,
-    ))
-same_keys {K = K} begin Spells key same (x ∷ xs) (y ∷ ys) at bytes u v =
-    let texts : u.1 ≡ v.1 =
-    same_text begin u.1 u.0 bytes u.2 v.1 v.0 v.2 in
-    let mids : v.0 ≡ u.0 = (line_one _ _ v.0 u.0 bytes v.2 u.2).1 in
-    let keys : key x ≡ key y =
-    same x y v.1 (subst (λ (t : List ℕ). Spells x t) texts u.3) v.3 in
-    let more : map key xs ≡ map key ys =
-    same_keys begin Spells key same xs ys at u.0 u.4
-    (subst (λ (b : List ℕ). UpTo begin Spells ys at b) mids v.4) in
-    ap (λ k. k ∷ map key xs) keys ∙ ap (λ (l : List K). key y ∷ l) more
+    absurd (grind (arith, line_within, up_within))
+same_keys begin Spells key same (x ∷ xs) (y ∷ ys) at bytes u v =
+    let texts = same_text begin u.1 u.0 bytes u.2 v.1 v.0 v.2 in
+    let mids = (line_one _ _ v.0 u.0 bytes v.2 u.2).1 in
+    let keys = same x y v.1 (rw texts at u.3) v.3 in
+    let more = same_keys begin Spells key same xs ys at u.0 u.4 (rw mids at v.4) in
+    cc
 
 -- behind all lines of a kind there is no place for one more
 no_further : {A : Type 0} (begin : List ℕ) (Spells : A → List ℕ → Type 0) (xs ys : List A)
@@ -71,21 +54,15 @@ no_further : {A : Type 0} (begin : List ℕ) (Spells : A → List ℕ → Type 0
     → length left ≤ length rest → UpTo begin Spells ys left bytes
     → IsLine (begin ++ text) tail left → ⊥
 no_further begin Spells [] [] left rest text tail bytes h none p u l =
-    none text tail (subst (λ (b : List ℕ). IsLine (begin ++ text) tail b) (sym u ∙ h) l)
+    none text tail (rw (sym u ∙ h) at l)
 no_further begin Spells [] (y ∷ ys) left rest text tail bytes h none p u l =
-    none u.1 u.0 (subst (λ (b : List ℕ). IsLine (begin ++ u.1) u.0 b) h u.2)
+    none u.1 u.0 (rw h at u.2)
 no_further begin Spells (x ∷ xs) [] left rest text tail bytes h none p u l =
-    omega (
-      arith,
-      ap length u,
-      p,
-      line_within _ h.0 bytes h.2,
-      up_within begin Spells xs rest h.0 h.4,
-    )
+    let near = line_within _ h.0 bytes h.2 in
+    omega (arith, ap length u, p, up_within begin Spells xs rest h.0 h.4)
 no_further begin Spells (x ∷ xs) (y ∷ ys) left rest text tail bytes h none p u l =
-    let mids : u.0 ≡ h.0 = (line_one _ _ u.0 h.0 bytes u.2 h.2).1 in
-    no_further begin Spells xs ys left rest text tail h.0 h.4 none p
-    (subst (λ (b : List ℕ). UpTo begin Spells ys left b) mids u.4) l
+    let mids = (line_one _ _ u.0 h.0 bytes u.2 h.2).1 in
+    no_further begin Spells xs ys left rest text tail h.0 h.4 none p (rw mids at u.4) l
 
 -- the reason why the next line sets nothing
 pub setting_reason : (names : List (List ℕ)) (defaults values : List Value) (given : List Bool)
@@ -95,41 +72,27 @@ pub setting_reason : (names : List (List ℕ)) (defaults values : List Value) (g
 setting_reason names defaults values given reason at bytes text tail r l bad = go reason bad
   where
     here : word_of text ≢ text → AtSetting names defaults at bytes
-    here spaced = record {
-      sets = r.read.each;
-      before = r.read.lines;
-      text = text;
-      rest = tail;
-      line = l;
-      spaced = spaced;
-    }
+    here spaced = grind arith
 
     one : (a : AtSetting names defaults at bytes) → a.text ≡ text
     one a = same_text (codes "set ") a.text a.rest at a.line text tail l
 
     without_space : (a : AtSetting names defaults at bytes) → ¬ (word_of text ≡ text)
-    without_space a none = a.spaced (subst (λ (t : List ℕ). word_of t ≡ t) (sym (one a)) none)
+    without_space a none = a.spaced (rw (one a) none)
 
     unknown : NamesMarked names given text false → ¬ IsUnknown names defaults at bytes
-    unknown m u =
-        u.none m.index
-        (subst (λ (t : List ℕ). HasName names m.index (word_of t)) (sym (one u.at))
-        m.setting.named)
+    unknown m u = u.none m.index (rw (one u.at) m.setting.named)
 
     was_set : NamesMarked names given text false → ¬ WasSet names defaults at bytes
     was_set m w =
-        let same : w.index ≡ m.index =
-        one_setting names w.index m.index (word_of text)
-        (subst (λ (t : List ℕ). IsSetting names w.index (word_of t)) (one w.at) w.setting)
-        m.setting in
-        let keys : numbers w.at.sets ≡ numbers r.read.each =
+        let same =
+        one_setting names w.index m.index (word_of text) (rw (one w.at) at w.setting) m.setting in
+        let keys =
         same_keys (codes "set ") (GivesSetting names defaults) (λ set. set.index)
         (same_setting names defaults) w.at.sets r.read.each at bytes w.at.before r.read.lines in
-        let fresh : false ≡ list_any (nat_eq w.index) (numbers w.at.sets) =
-        r.marks m.index false m.marked
-        ∙ ap (λ i. list_any (nat_eq i) (numbers r.read.each)) (sym same)
-        ∙ ap (λ (k : List ℕ). list_any (nat_eq w.index) k) (sym keys) in
-        false≢true (fresh ∙ w.before)
+        let fresh = r.marks m.index false m.marked in
+        let before = w.before in
+        cc
 
     go : (why : Reason) → IsNotSet names values given text why
         → IsSettingReason names defaults why at bytes
@@ -168,14 +131,7 @@ service_reason OtherForm line rest bytes l b =
 pub no_service_reason : (base : Config) (reason : Reason) (left bytes : List ℕ)
     → ((k : PatternKind) (name rest : List ℕ) → ¬ HasService k name rest bytes)
     → IsServiceReason reason bytes → IsReason base reason left bytes
-no_service_reason base InternalName left bytes none b = b
-no_service_reason base UnknownSetting left bytes none b = absurd b
-no_service_reason base SetTwice left bytes none b = absurd b
-no_service_reason base OtherForm left bytes none b = (
-  b,
-  λ a. none a.kind a.name a.at_settings a.service,
-  λ a. none a.kind a.name a.at_settings a.service,
-)
+no_service_reason base reason left bytes none b = grind arith
 
 -- a service that is read has no internal name
 from_outside : (k : PatternKind) (name rest bytes : List ℕ) → HasService k name rest bytes
@@ -183,8 +139,7 @@ from_outside : (k : PatternKind) (name rest bytes : List ℕ) → HasService k n
 from_outside k name rest bytes h i =
     let lines = line_one i.text (pattern_word k ++ 32 ∷ name) i.rest rest bytes i.line h.line in
     let same = same_pattern i.internal.0 k i.internal.1 name (sym i.internal.2 ∙ lines.0) in
-    h.named.from_outside
-    (subst (λ (n : List ℕ). IsTrue (starts_with nat_eq n (codes "iox2://"))) same.1 i.internal.3)
+    h.named.from_outside (rw same.1 at i.internal.3)
 
 -- the settings are those of the pattern of the first line
 of_the_pattern : (base : Config) (Holds : List (List ℕ) → List Value → List ℕ → List ℕ → Type 0)
@@ -193,9 +148,7 @@ of_the_pattern : (base : Config) (Holds : List (List ℕ) → List Value → Lis
     → Holds (section k).names ((section k).values base.defaults) left rest
 of_the_pattern base Holds k name left rest bytes h a =
     let same = service_same a.kind k a.name name a.at_settings rest bytes a.service h in
-    subst (λ j. Holds (section j).names ((section j).values base.defaults) left rest) same.0
-    (subst (λ (r : List ℕ). Holds (section a.kind).names
-    ((section a.kind).values base.defaults) left r) same.1 a.holds)
+    rw (same.0, same.1) at a.holds
 
 pub reason_in_settings : (base : Config) (reason : Reason) (k : PatternKind)
     (name left rest bytes : List ℕ)
@@ -250,10 +203,9 @@ stops_behind_settings base reason k name c left rest mid bytes e h g bad =
 known : (names : List (List ℕ)) (defaults : List Value) (left bytes : List ℕ)
     → IsUnknown names defaults left bytes → ¬ WasSet names defaults left bytes
 known names defaults left bytes u w =
-    let texts : w.at.text ≡ u.at.text =
+    let texts =
     same_text (codes "set ") w.at.text w.at.rest left w.at.line u.at.text u.at.rest u.at.line in
-    u.none w.index
-    (subst (λ (t : List ℕ). HasName names w.index (word_of t)) texts w.setting.named)
+    u.none w.index (rw texts at w.setting.named)
 
 unknown_or_set : (base : Config) (left bytes : List ℕ) → AmongSettings base IsUnknown left bytes
     → ¬ AmongSettings base WasSet left bytes
@@ -264,23 +216,4 @@ unknown_or_set base left bytes u w =
 -- where one reason holds, no other does
 pub one_reason : (base : Config) (one other : Reason) (left bytes : List ℕ)
     → IsReason base one left bytes → IsReason base other left bytes → other ≡ one
-one_reason base InternalName InternalName left bytes p q = refl
-one_reason base InternalName UnknownSetting left bytes p q =
-    absurd (from_outside q.kind q.name q.at_settings bytes q.service p)
-one_reason base InternalName SetTwice left bytes p q =
-    absurd (from_outside q.kind q.name q.at_settings bytes q.service p)
-one_reason base InternalName OtherForm left bytes p q = absurd (q.0 p)
-one_reason base UnknownSetting InternalName left bytes p q =
-    absurd (from_outside p.kind p.name p.at_settings bytes p.service q)
-one_reason base UnknownSetting UnknownSetting left bytes p q = refl
-one_reason base UnknownSetting SetTwice left bytes p q = absurd (unknown_or_set base left bytes p q)
-one_reason base UnknownSetting OtherForm left bytes p q = absurd (q.1 p)
-one_reason base SetTwice InternalName left bytes p q =
-    absurd (from_outside p.kind p.name p.at_settings bytes p.service q)
-one_reason base SetTwice UnknownSetting left bytes p q = absurd (unknown_or_set base left bytes q p)
-one_reason base SetTwice SetTwice left bytes p q = refl
-one_reason base SetTwice OtherForm left bytes p q = absurd (q.2 p)
-one_reason base OtherForm InternalName left bytes p q = absurd (p.0 q)
-one_reason base OtherForm UnknownSetting left bytes p q = absurd (p.1 q)
-one_reason base OtherForm SetTwice left bytes p q = absurd (p.2 q)
-one_reason base OtherForm OtherForm left bytes p q = refl
+one_reason base one other left bytes p q = grind (arith, from_outside, unknown_or_set)

@@ -1,5 +1,5 @@
 -- What an opener requires, as far as it was read, and what no further line may be.
-use Rattle.std.proofs.Common.{◌≡◌, ℕ, ◌+◌, List, [], ◌∷◌, ◌++◌, inl, inr, codes, length, filter_map, refl, sym, ◌∙◌, ap, arith, length-append}
+use Rattle.std.proofs.Common.{◌≡◌, ℕ, ◌+◌, List, [], ◌∷◌, ◌++◌, inl, inr, codes, length, filter_map, refl, arith, length-append}
 use Rattle.std.proofs.lemmas.List.{append-nil}
 use Rattle.std.proofs.lemmas.List.Elements.{filter_map-append}
 use Rattle.std.proofs.lemmas.List.Sorted.{length_permutation}
@@ -22,13 +22,7 @@ each_counts (OfKey key ∷ each) = omega (arith, each_counts each)
 -- as many were read as are required
 as_many : (each : List Requirement) (required : Requirements) → AreRequired each required
     → length each ≡ number_required required
-as_many each required made =
-    omega (
-      arith,
-      each_counts each,
-      length_permutation (filter_map pair_of each) required.pairs made.1.0,
-      ap length made.2,
-    )
+as_many each required made = grind (arith, each_counts, length_permutation)
 
 -- one more was read
 pub one_more_required : (old new : Requirements) (at next bytes text : List ℕ)
@@ -37,12 +31,7 @@ pub one_more_required : (old new : Requirements) (at next bytes text : List ℕ)
 one_more_required old new at next bytes text r l more =
     one_read (codes "require") GivesRequirement AreRequired old new at next bytes text more.each r l
     more.gives (
-      omega (
-        arith,
-        length-append r.each (more.each ∷ []),
-        as_many r.each old r.make,
-        more.room,
-      ),
+      grind (arith, length-append, as_many r.each old r.make, more.room),
       rw (filter_map-append pair_of r.each (more.each ∷ [])) (pairs more.each more.added),
       rw (filter_map-append key_of r.each (more.each ∷ [])) (keys more.each more.added),
     )
@@ -50,13 +39,11 @@ one_more_required old new at next bytes text r l more =
     pairs : (one : Requirement) → RequiresToo old one new
         → IsListing (filter_map pair_of r.each ++ filter_map pair_of (one ∷ [])) new.pairs
     pairs (OfPair pair) a = listed_more _ old.pairs new.pairs pair r.make.1 a.0
-    pairs (OfKey key) a =
-        rw (append-nil (filter_map pair_of r.each), a) r.make.1
+    pairs (OfKey key) a = rw (append-nil (filter_map pair_of r.each), a) r.make.1
 
     keys : (one : Requirement) → RequiresToo old one new
         → filter_map key_of r.each ++ filter_map key_of (one ∷ []) ≡ new.keys
-    keys (OfPair pair) a = append-nil (filter_map key_of r.each) ∙ r.make.2 ∙ sym a.1
-    keys (OfKey key) a = rw (r.make.2, a) refl
+    keys one a = grind (arith, append-nil, r.make.2)
 
 -- the next line is one too many, or requires nothing
 pub stops_at_required : (required : Requirements) (at bytes text tail : List ℕ)
@@ -64,14 +51,9 @@ pub stops_at_required : (required : Requirements) (at bytes text tail : List ℕ
     → RequiresNoMore required text → StopsAt HasRequirements at bytes
 stops_at_required required at bytes text tail r l bad =
     many_stops (codes "require") GivesRequirement AreRequired (λ s. s) no_key
-    (λ x y t p q. refl) required at bytes text tail r l
-    (λ ys other made one. elim bad [
-      | inl full ↦ omega (
-        arith,
-        longer_by_one GivesRequirement no_key r.each ys text one,
-        full,
-        as_many r.each required r.make,
-        made.0,
-      )
+    (λ x y t p q. refl) required at bytes text tail r l (λ ys other made one. elim bad [
+      | inl full ↦
+          let longer = longer_by_one GivesRequirement no_key r.each ys text one in
+          omega (arith, full, as_many r.each required r.make, made.0)
       | inr none ↦ none one.one one.spelled
     ])

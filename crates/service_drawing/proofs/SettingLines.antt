@@ -1,8 +1,8 @@
 -- Settings that were read, and what no further line may be.
-use Rattle.std.proofs.Common.{◌≡◌, ◌≢◌, ℕ, zero, suc, ◌<◌, replicate, true, false, Bool, ◌||◌, List, [], ◌∷◌, ◌++◌, inl, inr, Some, codes, map, nat_eq, slice_get, slice_set, refl, sym, ◌∙◌, ap, subst, arith}
+use Rattle.std.proofs.Common.{◌≡◌, ◌≢◌, ℕ, zero, suc, replicate, true, false, Bool, List, [], ◌∷◌, ◌++◌, inl, inr, Some, codes, map, nat_eq, slice_get, slice_set, refl, sym, ◌∙◌, ap, subst, arith}
 use Rattle.std.specs.List.{AllByRecursion, IsDistinct, list_any}
 use Rattle.std.proofs.Math.Bool.{or-false, or-true}
-use Rattle.std.proofs.lemmas.Bool.{eqb-false, eqb-true, ne_eqb, or_parts}
+use Rattle.std.proofs.lemmas.Bool.{eqb-false, eqb-true, ne_eqb}
 use Rattle.std.proofs.lemmas.Cmp.{nat_eq_equiv}
 use Rattle.std.proofs.lemmas.List.{append_cancel_left, map-append}
 use Rattle.std.proofs.lemmas.List.Folds.{list_any-append}
@@ -22,10 +22,7 @@ numbers sets = map (λ set. set.index) sets
 -- one setting has the name
 pub one_setting : (names : List (List ℕ)) (i j : ℕ) (word : List ℕ) → IsSetting names i word
     → IsSetting names j word → i ≡ j
-one_setting names i j word p q =
-    let below : i < j → ⊥ = λ less. q.first i less p.named in
-    let above : j < i → ⊥ = λ less. p.first j less q.named in
-    omega (arith, below, above)
+one_setting names i j word p q = grind arith
 
 -- a text sets one setting
 pub same_setting : (names : List (List ℕ)) (values : List Value) (x y : Assignment) (t : List ℕ)
@@ -83,9 +80,8 @@ kept : (defaults : List Value) (sets : List Assignment) (i : ℕ)
     → slice_get (assigned defaults sets) i ≡ slice_get defaults i
 kept defaults [] i e = refl
 kept defaults (set ∷ sets) i e =
-    let apart = or_parts (nat_eq i set.index) (list_any (nat_eq i) (numbers sets)) e in
-    kept (slice_set defaults set.index set.value) sets i apart.1
-    ∙ set_other defaults i set.index set.value (eqb-false i set.index apart.0)
+    let more = kept (slice_set defaults set.index set.value) sets i in
+    grind (arith, set_other, eqb-false)
 
 -- one more setting was set
 assigned_more : (defaults : List Value) (sets : List Assignment) (set : Assignment)
@@ -112,13 +108,7 @@ earlier_differ (x ∷ xs) ys y d =
 gives_at : (names : List (List ℕ)) (one other : List Value) (set : Assignment) (text : List ℕ)
     → slice_get one set.index ≡ slice_get other set.index → GivesSetting names one set text
     → GivesSetting names other set text
-gives_at names one other set text e g = record {
-  old = g.old;
-  setting = g.setting;
-  spelled = g.spelled;
-  stands = sym e ∙ g.stands;
-  legal = g.legal;
-}
+gives_at names one other set text e g = grind arith
 
 none_marked : (n i : ℕ) (mark : Bool) → slice_get (replicate n false) i ≡ Some mark → mark ≡ false
 none_marked zero i mark e = cc
@@ -139,16 +129,8 @@ mark_more : (given : List Bool) (xs : List ℕ) (y : ℕ)
     → (i : ℕ) (mark : Bool) → slice_get (slice_set given y true) i ≡ Some mark
     → mark ≡ list_any (nat_eq i) (xs ++ y ∷ [])
 mark_more given xs y marks i mark e =
-    rw (list_any-append (nat_eq i) xs (y ∷ [])) (go (nat_eq i y) refl)
-  where
-    go : (b : Bool) → nat_eq i y ≡ b → mark ≡ (list_any (nat_eq i) xs || (b || false))
-    go true same =
-        let here : slice_get (slice_set given y true) y ≡ Some mark =
-        subst (λ k. slice_get (slice_set given y true) k ≡ Some mark) (eqb-true i y same) e in
-        set_here given y true mark here ∙ sym (or-true (list_any (nat_eq i) xs))
-    go false differ =
-        marks i mark (sym (set_other given i y true (eqb-false i y differ)) ∙ e)
-        ∙ sym (or-false (list_any (nat_eq i) xs))
+    rw (list_any-append (nat_eq i) xs (y ∷ []))
+    (grind (arith, set_here, set_other, eqb-true, eqb-false, or-true, or-false))
 
 -- one more was read
 pub one_more_setting : (names : List (List ℕ)) (defaults old new : List Value)
@@ -157,20 +139,17 @@ pub one_more_setting : (names : List (List ℕ)) (defaults old new : List Value)
     → Sets names old given text new marked → Setting names defaults new marked next bytes
 one_more_setting names defaults old new given marked at next bytes text r l s =
     let sets = r.read.each in
-    let fresh : list_any (nat_eq s.set.index) (numbers sets) ≡ false =
-    sym (r.marks s.set.index false s.first) in
-    let same : slice_get old s.set.index ≡ slice_get defaults s.set.index =
-    ap (λ (l : List Value). slice_get l s.set.index) r.read.make.1
-    ∙ kept defaults sets s.set.index fresh in
-    let long : numbers (sets ++ s.set ∷ []) ≡ numbers sets ++ s.set.index ∷ [] =
-    map-append (λ (set : Assignment). set.index) sets (s.set ∷ []) in
+    let made = r.read.make.1 in
+    let fresh = sym (r.marks s.set.index false s.first) in
+    let kept_there = kept defaults sets s.set.index fresh in
+    let same : slice_get old s.set.index ≡ slice_get defaults s.set.index = cc in
+    let long = map-append (λ (set : Assignment). set.index) sets (s.set ∷ []) in
+    let more = assigned_more defaults sets s.set in
     record {
       read = one_read (codes "set ") (GivesSetting names defaults) (AreSettings defaults) old new at
           next bytes text s.set r.read l (gives_at names old defaults s.set text same s.gives) (
             rw long (IsDistinct-push nat_eq_equiv (numbers sets) s.set.index r.read.make.0 fresh),
-            s.changed
-                ∙ ap (λ (l : List Value). slice_set l s.set.index s.set.value) r.read.make.1
-                ∙ sym (assigned_more defaults sets s.set),
+            cc s.changed,
           );
       marks = rw (long, s.noted) (mark_more given (numbers sets) s.set.index r.marks);
     }
@@ -186,13 +165,10 @@ not_set names defaults values given reason at bytes text r bad sets other made n
     same_value : NamesMarked names given text false
         → slice_get defaults next.one.index ≡ slice_get values next.one.index
     same_value m =
-        let same : m.index ≡ next.one.index =
+        let same =
         one_setting names m.index next.one.index (word_of text) m.setting next.spelled.setting in
-        let fresh : list_any (nat_eq next.one.index) (numbers r.read.each) ≡ false =
-        subst (λ i. list_any (nat_eq i) (numbers r.read.each) ≡ false) same
-        (sym (r.marks m.index false m.marked)) in
-        sym (kept defaults r.read.each next.one.index fresh)
-        ∙ sym (ap (λ (l : List Value). slice_get l next.one.index) r.read.make.1)
+        let fresh = sym (rw same at (r.marks m.index false m.marked)) in
+        rw (r.read.make.1, kept defaults r.read.each next.one.index fresh) refl
 
     go : (why : Reason) → ¬ IsNotSet names values given text why
     go InternalName b = b
@@ -203,17 +179,16 @@ not_set names defaults values given reason at bytes text r bad sets other made n
         one_setting names m.index next.one.index (word_of text) m.setting next.spelled.setting in
         let once : IsDistinct nat_eq (numbers r.read.each ++ next.one.index ∷ numbers next.more) =
         subst (IsDistinct nat_eq) next.keys made.0 in
-        let fresh : list_any (nat_eq m.index) (numbers r.read.each) ≡ false =
-        subst (λ i. list_any (nat_eq i) (numbers r.read.each) ≡ false) (sym same)
-        (earlier_differ (numbers r.read.each) (numbers next.more) next.one.index once) in
-        let marked : true ≡ list_any (nat_eq m.index) (numbers r.read.each) =
-        r.marks m.index true m.marked in
+        let fresh =
+        earlier_differ (numbers r.read.each) (numbers next.more) next.one.index once in
+        let marked = r.marks m.index true m.marked in
         cc
     go OtherForm b =
         elim b.0 [
           | inl none ↦ no_value_follows names defaults text none next.one next.spelled
-          | inr marked ↦ b.1 next.one (gives_at names defaults values next.one text (same_value marked)
-              next.spelled)
+          | inr marked ↦
+              let same = same_value marked in
+              b.1 next.one (gives_at names defaults values next.one text same next.spelled)
         ]
 
 -- reading stops at a line that sets nothing

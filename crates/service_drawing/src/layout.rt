@@ -51,9 +51,7 @@ impl MessageLayout {
         if !details.has_alignments() {
             return None;
         }
-        let Some(room) = details.sample_layout(elements) else {
-            return None;
-        };
+        let room = details.sample_layout(elements)?;
         let header_end = details.header.size();
         let user_header = details.user_header_ptr_from_header(0);
         let user_header_end = user_header + details.user_header.size();

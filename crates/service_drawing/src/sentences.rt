@@ -39,9 +39,7 @@ impl fmt::Display for Counted {
 /// Whether the opener of a message may use it, and if not, why. `None` where there is no opener.
 /// Its types are those of the message, so only an alignment can differ.
 pub(crate) fn opener_sentence(message: &Message) -> Option<&'static str> {
-    let Some(opener) = &message.opener else {
-        return None;
-    };
+    let opener = message.opener.as_ref()?;
     Some(match opener.first_incompatibility(&message.details) {
         None => "the opener is compatible",
         Some(Incompatibility::Header(_)) =>

@@ -4,6 +4,17 @@ ghost use Rattle.service_drawing.specs.Settings.{listed, MayBecome};
 ghost use Rattle.std.specs.Option.{option_map};
 ghost use Rattle.service_drawing.specs.declared.settings.value.Value.{Value};
 
+/// The name and the value of the setting of a number, among settings that are listed by their
+/// numbers. The name is that of the field.
+macro_rules! row {
+    ($settings:ident, $index:ident; $($number:literal => $field:ident: $kind:ident;)*) => {
+        match $index {
+            $($number => Some((stringify!($field), Value::$kind($settings.$field))),)*
+            _ => None,
+        }
+    };
+}
+
 mod blackboard;
 mod event;
 mod publish_subscribe;

@@ -42,10 +42,8 @@ fn without_warnings(alloc: Global, text: String) -> Written
 fn drawn(alloc: Global, form: Form, bytes: &[u8]) -> Result<Written, Fault>
     ensures { Draws bytes.now result }
 {
-    match base_of(alloc, bytes) {
-        Ok(over) => drawn_over(alloc, form, bytes, over),
-        Err(fault) => Err(fault),
-    }
+    let over = base_of(alloc, bytes)?;
+    drawn_over(alloc, form, bytes, over)
 }
 
 /// What is left of an input is drawn as, or why it is not drawn.

@@ -190,7 +190,7 @@ fn check_part<'a>(
     ensures counts { IfOk result (λ end. IfOk end (λ part. part.1 ≤ part.0)) }
     ensures none { IfOk result (λ end. IfErr end (LacksPart checks.old.items above lines.now)) }
 {
-    if let Some((service, rest)) = service_before(alloc, lines) {
+    if let Some((service, rest)) = service_before(lines) {
         return match begin_service(alloc, checks, &service, rest)? {
             Some(part) => Ok(Ok(part)),
             None => Ok(Err(Verdict::BadLine(above + 1, Expected::Command))),

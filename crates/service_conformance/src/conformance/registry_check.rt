@@ -153,13 +153,13 @@ impl<T: Copy> RegistryCheck<T> {
     }
 
     /// The handle that the next add may give and that has these words, or `None` where none has.
-    pub(super) fn told(&self, alloc: Global, words: &[u8]) -> Option<ContainerHandle>
+    pub(super) fn told(&self, words: &[u8]) -> Option<ContainerHandle>
         ensures told { TellsHandle (MayGive self.now) words.now result }
         ensures kept { IsRegistry self.now }
     {
         // For the proof: slots and tickets are numbers of 64 bits.
         let (_capacity, _used) = (self.capacity, self.used);
-        let Some((slot, ticket)) = slot_and_ticket(alloc, words) else {
+        let Some((slot, ticket)) = slot_and_ticket(words) else {
             return None;
         };
         let Some(handle) = self.next(slot) else {

@@ -3,7 +3,7 @@ ghost use Rattle.std.specs.Prelude.{◌≡◌, ◌≢◌, ◌<◌, ◌^◌, ◌�
 ghost use Rattle.service_conformance.specs.Words.{handle_words};
 ghost use Rattle.service_descriptions.specs.Replies.{text_of};
 
-use line_streams::{After, Line, LineEnd, Number, Phrase, Then};
+use line_streams::{After, LineEnd, Number, Phrase, Then};
 use service_descriptions::replay::{Reply, write_reply};
 use std::alloc::{AllocError, Global};
 
@@ -11,17 +11,14 @@ use std::alloc::{AllocError, Global};
 const NUMBER: Number = Number(u64::MAX);
 
 /// The slot and the ticket of the handle in the words.
-pub(super) fn slot_and_ticket(alloc: Global, words: &[u8]) -> Option<(usize, u64)>
+pub(super) fn slot_and_ticket(words: &[u8]) -> Option<(usize, u64)>
     ensures some { IfSome result (λ h. handle_words h.0 h.1 ≡ words.now) }
     ensures words { IfSome result (λ h. (h.0 < 2 ^ 64) × (h.1 < 2 ^ 64)) }
     ensures none { IfNone result ((slot ticket : ℕ) → slot < 2 ^ 64 → ticket < 2 ^ 64
         → handle_words slot ticket ≢ words.now) }
 {
-    let ticket = After(b" ", Line(NUMBER, LineEnd::Bytes));
-    let Ok(found) = After(b"handle ", Then(NUMBER, ticket)).read(alloc, words) else {
-        unreachable!();
-    };
-    let Some(((slot, ticket), _)) = found else {
+    let ticket = After(b" ", Then(NUMBER, LineEnd::Bytes));
+    let Some(((slot, (ticket, ())), _)) = After(b"handle ", Then(NUMBER, ticket)).read(words) else {
         return None;
     };
     Some((slot as usize, ticket))

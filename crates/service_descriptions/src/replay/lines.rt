@@ -1,6 +1,5 @@
 //! The language of scripts: how commands and replies are written, a line each.
 
-mod answer_line;
 mod id;
 mod line;
 mod port;
@@ -11,5 +10,5 @@ mod service_line;
 pub use line::{command_before, read_line};
 pub use port::ScriptPort;
 pub use reply_line::write_reply;
-pub use script::{ScriptError, run_script};
+pub use script::{ScriptError, run_script, run_streams};
 pub use service_line::{ServiceLine, service_before};

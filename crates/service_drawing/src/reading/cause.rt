@@ -79,10 +79,7 @@ fn misspelling(bytes: &[u8]) -> Option<Cause>
     if line.ends_with(b"\r") {
         return Some(Cause::CarriageReturn);
     }
-    match foreign_byte(line) {
-        Some(byte) => Some(Cause::ForeignByte(byte)),
-        None => None,
-    }
+    foreign_byte(line).map(Cause::ForeignByte)
 }
 
 /// Why the line is bad with which what is left begins: first because

@@ -77,15 +77,8 @@ fn aligned(detail: &TypeDetail, alignment: usize) -> Option<TypeDetail>
         (λ other. (other ≡ record detail.now { alignment = alignment })
         × IsTrue (is_power_of_two alignment)) }
 {
-    match TypeDetail::from_parts(
-        detail.variant(),
-        detail.type_name().as_str(),
-        detail.size(),
-        alignment,
-    ) {
-        Ok(detail) => Some(detail),
-        Err(_) => None,
-    }
+    let name = detail.type_name().as_str();
+    TypeDetail::from_parts(detail.variant(), name, detail.size(), alignment).ok()
 }
 
 /// The details of an opener with these alignments for header, user header and payload.

@@ -3,7 +3,7 @@ ghost use Rattle.std.specs.Prelude.{◌≡◌, ◌∷◌, ◌++◌, ◌<◌, ◌
 ghost use Rattle.std.specs.Prelude.{IsTrue, IfSome, MatchOption, decimal};
 ghost use Rattle.service_drawing.specs.Lines.{IsPlain, IsLine, HasNoLine};
 
-use line_streams::{after_word, before_byte, number_before};
+use line_streams::{Number, Phrase, after_word, before_byte};
 
 /// Whether a line may hold the bytes: each is from 32 to 126.
 fn is_plain(bytes: &[u8]) -> bool
@@ -56,7 +56,7 @@ pub(crate) fn number(text: &[u8]) -> Option<usize>
     ensures { MatchOption result ((n : ℕ) → n < 2 ^ 64 → ¬ (text.now ≡ decimal n))
         (λ n. text.now ≡ decimal n) }
 {
-    let Some((n, rest)) = number_before(text, u64::MAX) else {
+    let Some((n, rest)) = Number(u64::MAX).read(text) else {
         return None;
     };
     if rest.len() > 0 {
@@ -71,7 +71,7 @@ pub(super) fn number_word(text: &[u8]) -> Option<(usize, &[u8])>
         ((n : ℕ) (rest : List ℕ) → n < 2 ^ 64 → ¬ (text.now ≡ decimal n ++ 32 ∷ rest))
         (λ found. text.now ≡ decimal found.0 ++ 32 ∷ found.1.now) }
 {
-    let Some((n, rest)) = number_before(text, u64::MAX) else {
+    let Some((n, rest)) = Number(u64::MAX).read(text) else {
         return None;
     };
     match after_word(rest, b" ") {

@@ -15,10 +15,9 @@ impl Settings for Blackboard {
     }
 
     fn row(&self, index: usize) -> Option<(&'static str, Value)> {
-        match index {
-            0 => Some(("max_readers", Value::Number(self.max_readers))),
-            1 => Some(("max_nodes", Value::Number(self.max_nodes))),
-            _ => None,
+        row! {self, index;
+            0 => max_readers: Number;
+            1 => max_nodes: Number;
         }
     }
 

@@ -15,25 +15,15 @@ impl Settings for Event {
     }
 
     fn row(&self, index: usize) -> Option<(&'static str, Value)> {
-        match index {
-            0 => Some(("max_listeners", Value::Number(self.max_listeners))),
-            1 => Some(("max_notifiers", Value::Number(self.max_notifiers))),
-            2 => Some(("max_nodes", Value::Number(self.max_nodes))),
-            3 => Some(("event_id_max_value", Value::Number(self.event_id_max_value))),
-            4 => Some(("deadline", Value::Deadline(self.deadline))),
-            5 => Some((
-                "notifier_created_event",
-                Value::Perhaps(self.notifier_created_event),
-            )),
-            6 => Some((
-                "notifier_dropped_event",
-                Value::Perhaps(self.notifier_dropped_event),
-            )),
-            7 => Some((
-                "notifier_dead_event",
-                Value::Perhaps(self.notifier_dead_event),
-            )),
-            _ => None,
+        row! {self, index;
+            0 => max_listeners: Number;
+            1 => max_notifiers: Number;
+            2 => max_nodes: Number;
+            3 => event_id_max_value: Number;
+            4 => deadline: Deadline;
+            5 => notifier_created_event: Perhaps;
+            6 => notifier_dropped_event: Perhaps;
+            7 => notifier_dead_event: Perhaps;
         }
     }
 

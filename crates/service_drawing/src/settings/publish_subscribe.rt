@@ -16,43 +16,18 @@ impl Settings for PublishSubscribe {
     }
 
     fn row(&self, index: usize) -> Option<(&'static str, Value)> {
-        match index {
-            0 => Some(("max_subscribers", Value::Number(self.max_subscribers))),
-            1 => Some(("max_publishers", Value::Number(self.max_publishers))),
-            2 => Some(("max_nodes", Value::Number(self.max_nodes))),
-            3 => Some((
-                "subscriber_max_buffer_size",
-                Value::Number(self.subscriber_max_buffer_size),
-            )),
-            4 => Some((
-                "subscriber_max_borrowed_samples",
-                Value::Number(self.subscriber_max_borrowed_samples),
-            )),
-            5 => Some((
-                "publisher_max_loaned_samples",
-                Value::Number(self.publisher_max_loaned_samples),
-            )),
-            6 => Some((
-                "publisher_history_size",
-                Value::Number(self.publisher_history_size),
-            )),
-            7 => Some((
-                "enable_safe_overflow",
-                Value::Switch(self.enable_safe_overflow),
-            )),
-            8 => Some((
-                "backpressure_strategy",
-                Value::Backpressure(self.backpressure_strategy),
-            )),
-            9 => Some((
-                "subscriber_expired_connection_buffer",
-                Value::Number(self.subscriber_expired_connection_buffer),
-            )),
-            10 => Some((
-                "publisher_allocation_strategy",
-                Value::Allocation(self.publisher_allocation_strategy),
-            )),
-            _ => None,
+        row! {self, index;
+            0 => max_subscribers: Number;
+            1 => max_publishers: Number;
+            2 => max_nodes: Number;
+            3 => subscriber_max_buffer_size: Number;
+            4 => subscriber_max_borrowed_samples: Number;
+            5 => publisher_max_loaned_samples: Number;
+            6 => publisher_history_size: Number;
+            7 => enable_safe_overflow: Switch;
+            8 => backpressure_strategy: Backpressure;
+            9 => subscriber_expired_connection_buffer: Number;
+            10 => publisher_allocation_strategy: Allocation;
         }
     }
 

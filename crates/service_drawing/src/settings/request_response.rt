@@ -16,67 +16,24 @@ impl Settings for RequestResonse {
     }
 
     fn row(&self, index: usize) -> Option<(&'static str, Value)> {
-        match index {
-            0 => Some((
-                "enable_safe_overflow_for_requests",
-                Value::Switch(self.enable_safe_overflow_for_requests),
-            )),
-            1 => Some((
-                "enable_safe_overflow_for_responses",
-                Value::Switch(self.enable_safe_overflow_for_responses),
-            )),
-            2 => Some((
-                "max_active_requests_per_client",
-                Value::Number(self.max_active_requests_per_client),
-            )),
-            3 => Some((
-                "max_response_buffer_size",
-                Value::Number(self.max_response_buffer_size),
-            )),
-            4 => Some(("max_servers", Value::Number(self.max_servers))),
-            5 => Some(("max_clients", Value::Number(self.max_clients))),
-            6 => Some(("max_nodes", Value::Number(self.max_nodes))),
-            7 => Some((
-                "max_borrowed_responses_per_pending_response",
-                Value::Number(self.max_borrowed_responses_per_pending_response),
-            )),
-            8 => Some((
-                "max_loaned_requests",
-                Value::Number(self.max_loaned_requests),
-            )),
-            9 => Some((
-                "server_max_loaned_responses_per_request",
-                Value::Number(self.server_max_loaned_responses_per_request),
-            )),
-            10 => Some((
-                "client_backpressure_strategy",
-                Value::Backpressure(self.client_backpressure_strategy),
-            )),
-            11 => Some((
-                "server_backpressure_strategy",
-                Value::Backpressure(self.server_backpressure_strategy),
-            )),
-            12 => Some((
-                "client_expired_connection_buffer",
-                Value::Number(self.client_expired_connection_buffer),
-            )),
-            13 => Some((
-                "server_expired_connection_buffer",
-                Value::Number(self.server_expired_connection_buffer),
-            )),
-            14 => Some((
-                "enable_fire_and_forget_requests",
-                Value::Switch(self.enable_fire_and_forget_requests),
-            )),
-            15 => Some((
-                "client_allocation_strategy",
-                Value::Allocation(self.client_allocation_strategy),
-            )),
-            16 => Some((
-                "server_allocation_strategy",
-                Value::Allocation(self.server_allocation_strategy),
-            )),
-            _ => None,
+        row! {self, index;
+            0 => enable_safe_overflow_for_requests: Switch;
+            1 => enable_safe_overflow_for_responses: Switch;
+            2 => max_active_requests_per_client: Number;
+            3 => max_response_buffer_size: Number;
+            4 => max_servers: Number;
+            5 => max_clients: Number;
+            6 => max_nodes: Number;
+            7 => max_borrowed_responses_per_pending_response: Number;
+            8 => max_loaned_requests: Number;
+            9 => server_max_loaned_responses_per_request: Number;
+            10 => client_backpressure_strategy: Backpressure;
+            11 => server_backpressure_strategy: Backpressure;
+            12 => client_expired_connection_buffer: Number;
+            13 => server_expired_connection_buffer: Number;
+            14 => enable_fire_and_forget_requests: Switch;
+            15 => client_allocation_strategy: Allocation;
+            16 => server_allocation_strategy: Allocation;
         }
     }
 

@@ -94,10 +94,7 @@ fn perhaps(text: &[u8]) -> Option<Option<usize>>
     if text == b"none".as_slice() {
         return Some(None);
     }
-    let Some(n) = number(text) else {
-        return None;
-    };
-    Some(Some(n))
+    Some(Some(number(text)?))
 }
 
 fn deadline(text: &[u8]) -> Option<Option<Duration>>
@@ -110,9 +107,7 @@ fn deadline(text: &[u8]) -> Option<Option<Duration>>
     if text == b"none".as_slice() {
         return Some(None);
     }
-    let Some(n) = number(text) else {
-        return None;
-    };
+    let n = number(text)?;
     Some(Some(Duration::from_nanos(n as u64)))
 }
 

@@ -3,7 +3,7 @@ ghost use Rattle.std.specs.Prelude.{◌≡◌, ◌≢◌, ◌<◌, ◌^◌, ◌+
 ghost use Rattle.service_logs.specs.Logs.{number_text};
 ghost use Rattle.service_logs.specs.Services.{HasNumber, LacksName, NamesCheck};
 
-use line_streams::{after_word, number_before};
+use line_streams::{Number, Phrase, after_word};
 use service_conformance::conformance::RunCheck;
 
 /// A service of a log: its number, and a check for each state that it may be in.
@@ -20,7 +20,7 @@ fn number_front(lines: &[u8]) -> Option<(u64, &[u8])>
     ensures none { IfNone result ((number : ℕ) (rest : List ℕ) → number < 2 ^ 64
         → lines.now ≢ number_text number ++ rest) }
 {
-    let Some((number, rest)) = number_before(lines, u64::MAX) else {
+    let Some((number, rest)) = Number(u64::MAX).read(lines) else {
         return None;
     };
     let Some(rest) = after_word(rest, b": ") else {

@@ -17,13 +17,13 @@ use std::alloc::{AllocError, Global};
 
 impl ServiceCheck {
     /// The handle that the registry of the part may give next and that has these words.
-    fn handle_told(&self, alloc: Global, part: Part, words: &[u8]) -> Option<ContainerHandle>
+    fn handle_told(&self, part: Part, words: &[u8]) -> Option<ContainerHandle>
         ensures { TellsHandle (MayGiveIn self.now part) words.now result }
     {
         match part {
-            Part::Nodes => self.nodes.told(alloc, words),
-            Part::First => self.first.told(alloc, words),
-            Part::Second => self.second.told(alloc, words),
+            Part::Nodes => self.nodes.told(words),
+            Part::First => self.first.told(words),
+            Part::Second => self.second.told(words),
         }
     }
 
@@ -41,7 +41,7 @@ impl ServiceCheck {
                 let told = are_words_of(alloc, &one, words)?;
                 Ok(if told { Some(one) } else { None })
             }
-            Possible::Given(part) => match self.handle_told(alloc, part, words) {
+            Possible::Given(part) => match self.handle_told(part, words) {
                 Some(handle) => Ok(Some(Reply::Handle(handle))),
                 None => Ok(None),
             },

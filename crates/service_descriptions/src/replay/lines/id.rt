@@ -1,15 +1,11 @@
 //! Ids.
-ghost use Rattle.std.specs.Prelude.{◌≡◌, ◌<◌, ℕ, List, map, false, true, IfSome, IfNone};
-ghost use Rattle.std.specs.Option.{option_map};
-ghost use Rattle.iox2_ids.specs.Packing.{owner_of};
-ghost use Rattle.line_streams.specs.Spelling.{Reads};
+ghost use Rattle.std.specs.Prelude.{◌≡◌, ℕ};
 ghost use Rattle.service_descriptions.specs.Lines.{value_of};
-ghost use Rattle.service_descriptions.specs.Phrases.{id_phrase, node_id_phrase, dead_phrase};
-ghost use Rattle.service_descriptions.specs.OneWay.{id_one, node_id_one, dead_one};
+ghost use Rattle.service_descriptions.specs.Phrases.{id_phrase, node_id_phrase};
+ghost use Rattle.service_descriptions.specs.OneWay.{id_one, node_id_one};
 
 use iox2_ids::identifiers::{UniqueId, UniqueNodeId, UniqueReaderId};
-use line_streams::{After, Listed, Number, Phrase, Then};
-use std::alloc::{AllocError, Global};
+use line_streams::{After, Number, Phrase, Then};
 
 /// A part of an id.
 const PART: Number = Number(u32::MAX as u64);
@@ -31,14 +27,6 @@ impl Parts {
         UniqueId::new(self.process, self.seconds, self.nanoseconds, self.counter)
     }
 
-    /// The node's id that they make, or `None` where process and counter are both 0.
-    fn node(self) -> Option<UniqueNodeId>
-        ensures some { IfSome result (λ id. (id ≡ value_of self) × (0 < owner_of (value_of self))) }
-        ensures none { IfNone result (owner_of (value_of self) ≡ 0) }
-    {
-        UniqueNodeId::new(self.process, self.seconds, self.nanoseconds, self.counter)
-    }
-
     /// The number that they make.
     fn value(self) -> u128
         ensures { result ≡ value_of self }
@@ -46,31 +34,6 @@ impl Parts {
         let id: UniqueReaderId = self.id();
         id.value()
     }
-}
-
-/// The parts of the id that begins the bytes, and what follows it.
-#[inline]
-fn parts_before(alloc: Global, bytes: &[u8]) -> Option<(Parts, &[u8])>
-    ensures { Reads id_phrase.Fits id_phrase.text
-        (option_map (λ found. (value_of found.0, found.1.now)) result) bytes.now }
-{
-    let four = Then(
-        PART,
-        After(b".", Then(PART, After(b".", Then(PART, After(b".", PART))))),
-    );
-    let Ok(found) = four.read(alloc, bytes) else {
-        unreachable!();
-    };
-    let Some(((process, (seconds, (nanoseconds, counter))), rest)) = found else {
-        return None;
-    };
-    let parts = Parts {
-        process: process as u32,
-        seconds: seconds as u32,
-        nanoseconds: nanoseconds as u32,
-        counter: counter as u32,
-    };
-    Some((parts, rest))
 }
 
 /// An id: four numbers, joined by dots.
@@ -86,15 +49,22 @@ impl<'a> Phrase<'a> for Id {
 
     ghost spelling = { λ s. id_phrase };
 
-    ghost takes_memory = { false };
-
     #[inline(always)]
-    fn read(
-        &self,
-        alloc: Global,
-        bytes: &'a [u8],
-    ) -> Result<Option<(Parts, &'a [u8])>, AllocError> {
-        Ok(parts_before(alloc, bytes))
+    fn read(&self, bytes: &'a [u8]) -> Option<(Parts, &'a [u8])> {
+        let four = Then(
+            PART,
+            After(b".", Then(PART, After(b".", Then(PART, After(b".", PART))))),
+        );
+        let Some(((process, (seconds, (nanoseconds, counter))), rest)) = four.read(bytes) else {
+            return None;
+        };
+        let parts = Parts {
+            process: process as u32,
+            seconds: seconds as u32,
+            nanoseconds: nanoseconds as u32,
+            counter: counter as u32,
+        };
+        Some((parts, rest))
     }
 
     ghost one_way = { λ s. id_one };
@@ -113,14 +83,10 @@ impl<'a> Phrase<'a> for IdNumber {
 
     ghost spelling = { λ s. id_phrase };
 
-    ghost takes_memory = { false };
-
     #[inline(always)]
-    fn read(&self, alloc: Global, bytes: &'a [u8]) -> Result<Option<(u128, &'a [u8])>, AllocError> {
-        let Some((parts, rest)) = Id.read(alloc, bytes)? else {
-            return Ok(None);
-        };
-        Ok(Some((parts.value(), rest)))
+    fn read(&self, bytes: &'a [u8]) -> Option<(u128, &'a [u8])> {
+        let (parts, rest) = Id.read(bytes)?;
+        Some((parts.value(), rest))
     }
 
     ghost one_way = { λ s. id_one };
@@ -139,52 +105,22 @@ impl<'a> Phrase<'a> for NodeId {
 
     ghost spelling = { λ s. node_id_phrase };
 
-    ghost takes_memory = { false };
-
     #[inline(always)]
-    fn read(
-        &self,
-        alloc: Global,
-        bytes: &'a [u8],
-    ) -> Result<Option<(UniqueNodeId, &'a [u8])>, AllocError> {
-        let Some((parts, rest)) = Id.read(alloc, bytes)? else {
-            return Ok(None);
+    fn read(&self, bytes: &'a [u8]) -> Option<(UniqueNodeId, &'a [u8])> {
+        let Some((parts, rest)) = Id.read(bytes) else {
+            return None;
         };
-        let Some(id) = parts.node() else {
-            return Ok(None);
+        let Parts {
+            process,
+            seconds,
+            nanoseconds,
+            counter,
+        } = parts;
+        let Some(id) = UniqueNodeId::new(process, seconds, nanoseconds, counter) else {
+            return None;
         };
-        Ok(Some((id, rest)))
+        Some((id, rest))
     }
 
     ghost one_way = { λ s. node_id_one };
-}
-
-/// A dead node, and the ports that stay.
-#[derive(Clone, Copy)]
-pub(super) struct DeadNode;
-
-impl<'a> Phrase<'a> for DeadNode {
-    type Value = (UniqueNodeId, Vec<u128>);
-
-    ghost Seen = { ℕ × List ℕ };
-
-    ghost view = { λ v. (v.0, map (λ n. n) v.1.items) };
-
-    ghost spelling = { λ s. dead_phrase };
-
-    ghost takes_memory = { true };
-
-    fn read(
-        &self,
-        alloc: Global,
-        bytes: &'a [u8],
-    ) -> Result<Option<((UniqueNodeId, Vec<u128>), &'a [u8])>, AllocError> {
-        match Then(NodeId, Listed(b" skip ", b' ', IdNumber)).read(alloc, bytes) {
-            Ok(Some((dead, rest))) => Ok(Some((dead, rest))),
-            Ok(None) => Ok(None),
-            Err(refused) => Err(refused),
-        }
-    }
-
-    ghost one_way = { λ s. dead_one };
 }

@@ -1,17 +1,40 @@
 //! Command lines.
-ghost use Rattle.std.specs.Prelude.{IfOk};
+ghost use Rattle.std.specs.Prelude.{◌++◌, IfOk, codes};
 ghost use Rattle.std.specs.Option.{option_map};
 ghost use Rattle.line_streams.specs.Spelling.{Reads};
 ghost use Rattle.service_descriptions.specs.Lines.{command_of, line_of, HasLine, IsLine, line_text};
 
-use super::id::{DeadNode, NodeId};
+use super::id::{IdNumber, NodeId};
 use super::port::{Port, RoleName};
 use crate::replay::machine::{Cleanup, Command, LineCommand};
-use line_streams::{Line, LineEnd, Number, Phrase, after_word};
+use line_streams::{LineEnd, Number, Phrase, Then, after_word, list_before};
 use std::alloc::{AllocError, Global};
 
 /// The name of an earlier command: how many commands come before it.
 const EARLIER: Number = Number(u64::MAX);
+
+/// The command whose line is `dead ` and begins these bytes after that, and what follows its end.
+#[inline(always)]
+fn dead_before(
+    alloc: Global,
+    bytes: &[u8],
+    end: LineEnd,
+) -> Result<Option<(LineCommand, &[u8])>, AllocError>
+    ensures { IfOk result (λ found. Reads (IsLine end) (line_text end)
+        (option_map (λ found. (command_of found.0, found.1.now)) found)
+        (codes "dead " ++ bytes.now)) }
+{
+    let Some((node, rest)) = NodeId.read(bytes) else {
+        return Ok(None);
+    };
+    let Some((kept, rest)) = list_before(alloc, rest, b" skip ", b' ', &IdNumber)? else {
+        return Ok(None);
+    };
+    let Some(((), rest)) = end.read(rest) else {
+        return Ok(None);
+    };
+    Ok(Some((LineCommand::Dead(node, Cleanup::ByPort(kept)), rest)))
+}
 
 /// The command whose line begins these bytes, and what follows its end.
 #[inline(always)]
@@ -24,51 +47,42 @@ pub fn command_before(
         (option_map (λ found. (command_of found.0, found.1.now)) found) bytes.now) }
 {
     if let Some(rest) = after_word(bytes, b"register ") {
-        match Line(NodeId, end).read(alloc, rest) {
-            Ok(Some((id, rest))) => Ok(Some((LineCommand::Register(id), rest))),
-            Ok(None) => Ok(None),
-            Err(refused) => Err(refused),
-        }
+        let Some(((node, ()), rest)) = Then(NodeId, end).read(rest) else {
+            return Ok(None);
+        };
+        Ok(Some((LineCommand::Register(node), rest)))
     } else if let Some(rest) = after_word(bytes, b"deregister ") {
-        let Some((k, rest)) = Line(EARLIER, end).read(alloc, rest)? else {
+        let Some(((k, ()), rest)) = Then(EARLIER, end).read(rest) else {
             return Ok(None);
         };
         Ok(Some((LineCommand::Deregister(k as usize), rest)))
     } else if let Some(rest) = after_word(bytes, b"add ") {
-        match Line(Port, end).read(alloc, rest) {
-            Ok(Some((port, rest))) => Ok(Some((LineCommand::Add(port), rest))),
-            Ok(None) => Ok(None),
-            Err(refused) => Err(refused),
-        }
+        let Some(((port, ()), rest)) = Then(Port, end).read(rest) else {
+            return Ok(None);
+        };
+        Ok(Some((LineCommand::Add(port), rest)))
     } else if let Some(rest) = after_word(bytes, b"release ") {
-        let Some((k, rest)) = Line(EARLIER, end).read(alloc, rest)? else {
+        let Some(((k, ()), rest)) = Then(EARLIER, end).read(rest) else {
             return Ok(None);
         };
         Ok(Some((LineCommand::Release(k as usize), rest)))
     } else if let Some(rest) = after_word(bytes, b"list ") {
-        let Some((role, rest)) = Line(RoleName, end).read(alloc, rest)? else {
+        let Some(((role, ()), rest)) = Then(RoleName, end).read(rest) else {
             return Ok(None);
         };
         Ok(Some((LineCommand::List(role), rest)))
     } else if let Some(rest) = after_word(bytes, b"count ") {
-        let Some((role, rest)) = Line(RoleName, end).read(alloc, rest)? else {
+        let Some(((role, ()), rest)) = Then(RoleName, end).read(rest) else {
             return Ok(None);
         };
         Ok(Some((LineCommand::Count(role), rest)))
     } else if let Some(rest) = after_word(bytes, b"nodes") {
-        let Some(((), rest)) = end.read(alloc, rest)? else {
+        let Some(((), rest)) = end.read(rest) else {
             return Ok(None);
         };
         Ok(Some((LineCommand::Nodes, rest)))
     } else if let Some(rest) = after_word(bytes, b"dead ") {
-        match Line(DeadNode, end).read(alloc, rest) {
-            Ok(Some((dead, rest))) => {
-                let (id, kept) = dead;
-                Ok(Some((LineCommand::Dead(id, Cleanup::ByPort(kept)), rest)))
-            }
-            Ok(None) => Ok(None),
-            Err(refused) => Err(refused),
-        }
+        dead_before(alloc, rest, end)
     } else {
         Ok(None)
     }

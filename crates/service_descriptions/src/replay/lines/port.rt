@@ -1,9 +1,7 @@
 //! Roles and ports.
-ghost use Rattle.std.specs.Prelude.{◌≡◌, false};
-ghost use Rattle.std.specs.Option.{option_map};
+ghost use Rattle.std.specs.Prelude.{◌≡◌};
 ghost use Rattle.iox2_container.specs.declared.container.role.Role.{Role as OneRole};
 ghost use Rattle.iox2_dynamic.specs.declared.dynamic_config.port_details.PortDetails.{PortDetails as Details};
-ghost use Rattle.line_streams.specs.Spelling.{Reads};
 ghost use Rattle.service_descriptions.specs.Lines.{plain_of};
 ghost use Rattle.service_descriptions.specs.Phrases.{port_phrase, role_phrase};
 ghost use Rattle.service_descriptions.specs.OneWay.{role_one, port_one};
@@ -17,7 +15,6 @@ use iox2_dynamic::dynamic_config::{
 };
 use iox2_ids::identifiers::UniqueNodeId;
 use line_streams::{After, Phrase, Then, after_word};
-use std::alloc::{AllocError, Global};
 
 /// The name of a role of ports.
 #[derive(Clone, Copy)]
@@ -32,32 +29,26 @@ impl<'a> Phrase<'a> for RoleName {
 
     ghost spelling = { λ s. role_phrase };
 
-    ghost takes_memory = { false };
-
     #[inline(always)]
-    fn read(
-        &self,
-        _alloc: Global,
-        bytes: &'a [u8],
-    ) -> Result<Option<(Role, &'a [u8])>, AllocError> {
+    fn read(&self, bytes: &'a [u8]) -> Option<(Role, &'a [u8])> {
         if let Some(rest) = after_word(bytes, b"publisher") {
-            Ok(Some((Role::Publisher, rest)))
+            Some((Role::Publisher, rest))
         } else if let Some(rest) = after_word(bytes, b"subscriber") {
-            Ok(Some((Role::Subscriber, rest)))
+            Some((Role::Subscriber, rest))
         } else if let Some(rest) = after_word(bytes, b"listener") {
-            Ok(Some((Role::Listener, rest)))
+            Some((Role::Listener, rest))
         } else if let Some(rest) = after_word(bytes, b"notifier") {
-            Ok(Some((Role::Notifier, rest)))
+            Some((Role::Notifier, rest))
         } else if let Some(rest) = after_word(bytes, b"server") {
-            Ok(Some((Role::Server, rest)))
+            Some((Role::Server, rest))
         } else if let Some(rest) = after_word(bytes, b"client") {
-            Ok(Some((Role::Client, rest)))
+            Some((Role::Client, rest))
         } else if let Some(rest) = after_word(bytes, b"reader") {
-            Ok(Some((Role::Reader, rest)))
+            Some((Role::Reader, rest))
         } else if let Some(rest) = after_word(bytes, b"writer") {
-            Ok(Some((Role::Writer, rest)))
+            Some((Role::Writer, rest))
         } else {
-            Ok(None)
+            None
         }
     }
 
@@ -129,19 +120,6 @@ impl ScriptPort {
     }
 }
 
-/// The port that begins the bytes, and what follows it.
-fn port_before(alloc: Global, bytes: &[u8]) -> Option<(ScriptPort, &[u8])>
-    ensures { Reads port_phrase.Fits port_phrase.text
-        (option_map (λ found. (plain_of found.0, found.1.now)) result) bytes.now }
-{
-    let three = Then(RoleName, After(b" ", Then(Id, After(b" ", NodeId))));
-    match three.read(alloc, bytes) {
-        Ok(Some(((role, (port, node)), rest))) => Some((ScriptPort { role, port, node }, rest)),
-        Ok(None) => None,
-        Err(_) => unreachable!(),
-    }
-}
-
 /// A port: its role, its id and its node.
 #[derive(Clone, Copy)]
 pub(super) struct Port;
@@ -155,15 +133,12 @@ impl<'a> Phrase<'a> for Port {
 
     ghost spelling = { λ s. port_phrase };
 
-    ghost takes_memory = { false };
-
-    #[inline(always)]
-    fn read(
-        &self,
-        alloc: Global,
-        bytes: &'a [u8],
-    ) -> Result<Option<(ScriptPort, &'a [u8])>, AllocError> {
-        Ok(port_before(alloc, bytes))
+    fn read(&self, bytes: &'a [u8]) -> Option<(ScriptPort, &'a [u8])> {
+        let three = Then(RoleName, After(b" ", Then(Id, After(b" ", NodeId))));
+        let Some(((role, (port, node)), rest)) = three.read(bytes) else {
+            return None;
+        };
+        Some((ScriptPort { role, port, node }, rest))
     }
 
     ghost one_way = { λ s. port_one };

@@ -1,14 +1,26 @@
-//! Reply lines.
-ghost use Rattle.std.specs.Prelude.{◌≡◌, ◌+◌, ◌≤◌, ◌++◌, ◌∷◌, [], OnOk, OnErr, codes, decimal};
-ghost use Rattle.std.specs.Prelude.{drop, length, take, vec_len};
+//! The lines of replies, and of what answers commands. A list that answers a command is written as
+//! the slots of its items are met.
+ghost use Rattle.std.specs.Prelude.{◌≡◌, ◌+◌, ◌≤◌, ◌++◌, ◌∷◌, [], IfNone, IfSome, OnErr, OnOk};
+ghost use Rattle.std.specs.Prelude.{codes, decimal, drop, length, take, vec_len};
 ghost use Rattle.std.specs.List.{flat_map};
+ghost use Rattle.iox2_container.specs.Steps.{listed};
+ghost use Rattle.iox2_dynamic.specs.Ports.{ports_as};
 ghost use Rattle.iox2_texts.specs.VerifyErrors.{verification_error_text};
+ghost use Rattle.service_descriptions.specs.LineAnswers.{IsRoleOf, PutsText, PutsWord, WritesLine};
+ghost use Rattle.service_descriptions.specs.LineAnswers.{kind_text, ports_text};
+ghost use Rattle.service_descriptions.specs.Listings.{LacksRole};
 ghost use Rattle.service_descriptions.specs.Replies.{id_word, port_word, reply_line, reply_of};
+ghost use Rattle.service_descriptions.specs.declared.replay.machine.reply.LineAnswer.TheVariants as answers;
 
-use crate::replay::machine::{LineReply, Reply};
-use iox2_dynamic::dynamic_config::PortDetails;
+use crate::replay::machine::{LineAnswer, LineReply, Reply};
+use iox2_config::hash::PatternKind;
+use iox2_container::container::Role;
+use iox2_dynamic::dynamic_config::{
+    DynamicConfig, PortDetails, PortKind, PortRegistries, PortRoles,
+};
 use iox2_ids::identifiers::{Hexadecimal, UniqueNodeId};
 use iox2_texts::attribute::AttributeVerificationError;
+use iox2_texts::bounded::CallbackProgression;
 use itoa::write_digits;
 use std::alloc::AllocError;
 
@@ -24,6 +36,7 @@ fn write_word(word: &[u8], line: &mut [u8], end: usize) -> usize
     at
 }
 
+#[tactic(auto, using(crate::proofs::Appending::few_digits))]
 /// Appends a line of a word and a number. The line is written from its end.
 fn append_number(word: &[u8], n: u64, out: &mut Vec<u8>) -> Result<(), AllocError>
     requires { length word.now ≤ 16 }
@@ -37,6 +50,7 @@ fn append_number(word: &[u8], n: u64, out: &mut Vec<u8>) -> Result<(), AllocErro
     out.extend_from_slice(&line[at..])
 }
 
+#[tactic(auto, using(crate::proofs::Appending::few_digits))]
 /// Appends a line of a word and two numbers. The line is written from its end.
 #[inline(always)]
 fn append_numbers(word: &[u8], first: u64, second: u64, out: &mut Vec<u8>) -> Result<(), AllocError>
@@ -56,7 +70,7 @@ fn append_numbers(word: &[u8], first: u64, second: u64, out: &mut Vec<u8>) -> Re
 
 /// Appends a space and an id.
 #[inline(always)]
-pub(super) fn append_id(id: u128, out: &mut Vec<u8>) -> Result<(), AllocError>
+fn append_id(id: u128, out: &mut Vec<u8>) -> Result<(), AllocError>
     ensures ok { OnOk result (out.new.items ≡ out.old.items ++ id_word id) }
     ensures err { OnErr result (take (vec_len out.old) out.new.items ≡ out.old.items) }
 {
@@ -66,7 +80,7 @@ pub(super) fn append_id(id: u128, out: &mut Vec<u8>) -> Result<(), AllocError>
 }
 
 /// Appends the line of a list of nodes.
-fn append_nodes(ids: &[UniqueNodeId], out: &mut Vec<u8>) -> Result<(), AllocError>
+fn append_node_ids(ids: &[UniqueNodeId], out: &mut Vec<u8>) -> Result<(), AllocError>
     ensures ok { OnOk result (out.new.items ≡ out.old.items
         ++ (codes "list" ++ flat_map id_word ids.now ++ 10 ∷ [])) }
     ensures err { OnErr result (take (vec_len out.old) out.new.items ≡ out.old.items) }
@@ -79,7 +93,7 @@ fn append_nodes(ids: &[UniqueNodeId], out: &mut Vec<u8>) -> Result<(), AllocErro
 }
 
 /// Appends the line of a list of ports.
-fn append_ports(ports: &[PortDetails], out: &mut Vec<u8>) -> Result<(), AllocError>
+fn append_port_ids(ports: &[PortDetails], out: &mut Vec<u8>) -> Result<(), AllocError>
     ensures ok { OnOk result (out.new.items ≡ out.old.items
         ++ (codes "list" ++ flat_map port_word ports.now ++ 10 ∷ [])) }
     ensures err { OnErr result (take (vec_len out.old) out.new.items ≡ out.old.items) }
@@ -134,13 +148,14 @@ fn append_fault(fault: &AttributeVerificationError, out: &mut Vec<u8>) -> Result
 /// Appends the line of a reply without a list to a command that
 /// has a line, perhaps a part of it where memory is refused.
 #[inline(always)]
-pub(super) fn append_reply(reply: LineReply, out: &mut Vec<u8>) -> Result<(), AllocError>
+fn append_reply(reply: LineReply, out: &mut Vec<u8>) -> Result<(), AllocError>
     ensures ok { OnOk result (out.new.items ≡ out.old.items ++ reply_line (reply_of reply)) }
     ensures err { OnErr result (take (vec_len out.old) out.new.items ≡ out.old.items) }
 {
     match reply {
         LineReply::Handle(handle) => {
-            append_numbers(b"handle ", handle.slot() as u64, handle.ticket(), out)
+            let (_, _, slot, ticket) = handle.into_parts();
+            append_numbers(b"handle ", slot as u64, ticket, out)
         }
         LineReply::Locked => out.extend_from_slice(b"locked\n"),
         LineReply::Full => out.extend_from_slice(b"full\n"),
@@ -172,8 +187,8 @@ fn append_line(reply: &Reply, out: &mut Vec<u8>) -> Result<(), AllocError>
         Reply::Released => append_reply(LineReply::Released, out),
         Reply::NotOwned => append_reply(LineReply::NotOwned, out),
         Reply::NoHandle => append_reply(LineReply::NoHandle, out),
-        Reply::Nodes(ids) => append_nodes(ids, out),
-        Reply::Ports(ports) => append_ports(ports, out),
+        Reply::Nodes(ids) => append_node_ids(ids, out),
+        Reply::Ports(ports) => append_port_ids(ports, out),
         Reply::Count(n) => append_reply(LineReply::Count(*n), out),
         Reply::Verified => out.extend_from_slice(b"verified\n"),
         Reply::Refused(fault) => append_fault(fault, out),
@@ -209,6 +224,184 @@ pub fn write_reply(reply: &Reply, out: &mut Vec<u8>) -> Result<(), AllocError>
 {
     let before = out.len();
     let done = append_line(reply, out);
+    if done.is_err() {
+        out.truncate(before);
+    }
+    done
+}
+
+/// Appends a space and an id, or stops where memory is refused.
+#[inline(always)]
+fn put_id(id: u128, out: &mut Vec<u8>, done: &mut Result<(), AllocError>) -> CallbackProgression
+    ensures { PutsWord (id_word id) (out.old.items, done.old) result (out.new.items, done.new) }
+{
+    match append_id(id, out) {
+        Ok(()) => CallbackProgression::Continue,
+        Err(refused) => {
+            *done = Err(refused);
+            CallbackProgression::Stop
+        }
+    }
+}
+
+/// Appends the ids of the nodes, up to the first that memory is refused for.
+fn put_nodes(service: &DynamicConfig, out: &mut Vec<u8>, done: &mut Result<(), AllocError>)
+    ensures { PutsText (flat_map id_word (listed service.now.nodes.registry))
+        (out.old.items, done.old) (out.new.items, done.new) }
+{
+    let mut put = |id: &UniqueNodeId| -> CallbackProgression
+        ensures put { PutsWord (id_word id.now) (out.entry.now.items, done.entry.now)
+            result (out.exit.now.items, done.exit.now) }
+        ensures same { out.exit.ghost_name ≡ out.entry.ghost_name }
+        ensures same_done { done.exit.ghost_name ≡ done.entry.ghost_name }
+    { put_id(id.value(), out, done) };
+    service.list_node_ids(&mut put);
+}
+
+/// Appends the ids of the ports of the first kind, up to the first that memory is refused for.
+fn put_first<A: PortKind, B: PortKind>(
+    ports: &PortRegistries<A, B>,
+    out: &mut Vec<u8>,
+    done: &mut Result<(), AllocError>,
+)
+    ensures { PutsText (ports_text (ports_as A.details B.details ports.now).first)
+        (out.old.items, done.old) (out.new.items, done.new) }
+{
+    let mut put = |details: &A| -> CallbackProgression
+        ensures put { PutsWord (port_word (A.details details.now))
+            (out.entry.now.items, done.entry.now) result (out.exit.now.items, done.exit.now) }
+        ensures same { out.exit.ghost_name ≡ out.entry.ghost_name }
+        ensures same_done { done.exit.ghost_name ≡ done.entry.ghost_name }
+    { put_id((*details).into_details().port_id().value(), out, done) };
+    ports.list_first(&mut put);
+}
+
+/// Appends the ids of the ports of the second kind, up to the first that memory is refused for.
+fn put_second<A: PortKind, B: PortKind>(
+    ports: &PortRegistries<A, B>,
+    out: &mut Vec<u8>,
+    done: &mut Result<(), AllocError>,
+)
+    ensures { PutsText (ports_text (ports_as A.details B.details ports.now).second)
+        (out.old.items, done.old) (out.new.items, done.new) }
+{
+    let mut put = |details: &B| -> CallbackProgression
+        ensures put { PutsWord (port_word (B.details details.now))
+            (out.entry.now.items, done.entry.now) result (out.exit.now.items, done.exit.now) }
+        ensures same { out.exit.ghost_name ≡ out.entry.ghost_name }
+        ensures same_done { done.exit.ghost_name ≡ done.entry.ghost_name }
+    { put_id((*details).into_details().port_id().value(), out, done) };
+    ports.list_second(&mut put);
+}
+
+/// Appends the ids of the ports of one of the two kinds, up to the first that memory is refused
+/// for.
+fn put_kind<A: PortKind, B: PortKind>(
+    ports: &PortRegistries<A, B>,
+    is_first: bool,
+    out: &mut Vec<u8>,
+    done: &mut Result<(), AllocError>,
+)
+    ensures { PutsText (kind_text is_first (ports_as A.details B.details ports.now))
+        (out.old.items, done.old) (out.new.items, done.new) }
+{
+    if is_first {
+        put_first(ports, out, done);
+    } else {
+        put_second(ports, out, done);
+    }
+}
+
+/// Appends the ids of the ports of one of the pattern's two kinds, up to the first that memory is
+/// refused for. Each kind has a callback of its own, so that no details are copied.
+fn put_ports(
+    service: &DynamicConfig,
+    is_first: bool,
+    out: &mut Vec<u8>,
+    done: &mut Result<(), AllocError>,
+)
+    ensures { PutsText (kind_text is_first service.now.ports)
+        (out.old.items, done.old) (out.new.items, done.new) }
+{
+    match service.kind() {
+        PatternKind::PublishSubscribe => {
+            put_kind(service.publish_subscribe(), is_first, out, done);
+        }
+        PatternKind::Event => put_kind(service.event(), is_first, out, done),
+        PatternKind::RequestResponse => {
+            put_kind(service.request_response(), is_first, out, done);
+        }
+        PatternKind::Blackboard => put_kind(service.blackboard(), is_first, out, done),
+    }
+}
+
+/// Whether the role is that of the pattern's first kind of ports, and not of its second; `None`
+/// where the pattern has no such ports.
+fn is_first(service: &DynamicConfig, role: Role) -> Option<bool>
+    ensures some { IfSome result (IsRoleOf service.now.pattern role) }
+    ensures none { IfNone result (LacksRole service.now role) }
+{
+    let (first, second) = service.kind().port_roles();
+    if role == first {
+        return Some(true);
+    }
+    if role == second {
+        return Some(false);
+    }
+    None
+}
+
+/// Appends the line that lists the nodes, perhaps a part of it where memory is refused. It is not
+/// inlined, so that its loop has all registers.
+#[inline(never)]
+fn append_nodes(service: &DynamicConfig, out: &mut Vec<u8>) -> Result<(), AllocError>
+    ensures ok { OnOk result
+        (WritesLine service.now answers.Nodes out.old.items out.new.items) }
+    ensures err { OnErr result (take (vec_len out.old) out.new.items ≡ out.old.items) }
+{
+    out.extend_from_slice(b"list")?;
+    let mut done = Ok(());
+    put_nodes(service, out, &mut done);
+    done?;
+    out.extend_from_slice(b"\n")
+}
+
+/// Appends the line that lists the ports of a role, or says that the pattern has no such ports;
+/// perhaps a part of it where memory is refused. It is not inlined, so that its loops have all
+/// registers.
+#[inline(never)]
+fn append_ports(service: &DynamicConfig, role: Role, out: &mut Vec<u8>) -> Result<(), AllocError>
+    ensures ok { OnOk result
+        (WritesLine service.now (answers.Ports role) out.old.items out.new.items) }
+    ensures err { OnErr result (take (vec_len out.old) out.new.items ≡ out.old.items) }
+{
+    let Some(is_first) = is_first(service, role) else {
+        return out.extend_from_slice(b"wrong-pattern\n");
+    };
+    out.extend_from_slice(b"list")?;
+    let mut done = Ok(());
+    put_ports(service, is_first, out, &mut done);
+    done?;
+    out.extend_from_slice(b"\n")
+}
+
+/// Appends the line of what answers a command on the service.
+/// Where memory is refused, the bytes are left as they were.
+#[inline(always)]
+pub(super) fn write_line(
+    answer: LineAnswer,
+    service: &DynamicConfig,
+    out: &mut Vec<u8>,
+) -> Result<(), AllocError>
+    ensures ok { OnOk result (WritesLine service.now answer out.old.items out.new.items) }
+    ensures err { OnErr result (out.new.items ≡ out.old.items) }
+{
+    let before = out.len();
+    let done = match answer {
+        LineAnswer::Reply(reply) => append_reply(reply, out),
+        LineAnswer::Nodes => append_nodes(service, out),
+        LineAnswer::Ports(role) => append_ports(service, role, out),
+    };
     if done.is_err() {
         out.truncate(before);
     }

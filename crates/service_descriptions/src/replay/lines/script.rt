@@ -1,16 +1,23 @@
-//! Scripts.
-ghost use Rattle.std.specs.Prelude.{◌≡◌, ◌++◌, IfOk, List, OnErr, ℕ};
+//! Scripts, whole or from a stream.
+ghost use Rattle.std.specs.Prelude.{◌≡◌, ◌++◌, ◌<◌, ◌⊎◌, Err, List, ℕ};
+ghost use Rattle.std.specs.Prelude.{IfErr, IfOk, IfSome, OnErr, OnOk};
+ghost use Rattle.std.specs.Io.KnownBytes.{Appends, IsAtEnd};
 ghost use Rattle.std.specs.Option.{option_map};
+ghost use Rattle.line_streams.specs.Streams.{Fails, IsFlushed, ReadFails};
 ghost use Rattle.service_descriptions.specs.declared.replay.lines.script.ScriptError.TheVariants.{NoMemory};
 ghost use Rattle.service_descriptions.specs.Script.{LinesEnd, RanLine, Scripted};
+ghost use Rattle.service_descriptions.specs.Streams.{error_text, status_of, Reported};
 
-use super::answer_line::write_line;
 use super::line::command_before;
+use super::reply_line::write_line;
 use super::service_line::service_before;
 use crate::replay::machine::Session;
 use iox2_dynamic::dynamic_config::MessagingPatternSettings;
-use line_streams::LineEnd;
+use itoa::Buffer;
+use line_streams::{LineEnd, Sink, Source, read_all, write_whole};
 use std::alloc::{AllocError, Global};
+use std::io;
+use std::io::Error;
 use thiserror::Error;
 
 /// Why a script was not run to its end.
@@ -38,16 +45,6 @@ const BYTES_OF_LINE: usize = 16;
 
 /// How many bytes of lines there are for a byte of replies, or more.
 const BYTES_FOR_REPLY: usize = 2;
-
-/// Takes at once the memory that the lines and their replies are likely to need, or is refused.
-/// More is taken bit by bit.
-fn make_room(session: &mut Session, lines: &[u8], out: &mut Vec<u8>) -> Result<(), AllocError>
-    ensures session { session.new ≡ session.old }
-    ensures out { out.new.items ≡ out.old.items }
-{
-    session.reserve(lines.len() / BYTES_OF_LINE)?;
-    out.reserve(lines.len() / BYTES_FOR_REPLY)
-}
 
 /// Runs the first line, and gives the lines after it. `None` where it is not a command's line.
 #[inline(always)]
@@ -118,11 +115,118 @@ pub fn run_script(alloc: Global, script: &[u8], out: &mut Vec<u8>) -> Result<(),
     ensures { (text : List ℕ) × (out.new.items ≡ out.old.items ++ text)
         × Scripted script.now result text }
 {
-    let Some((service, lines)) = service_before(alloc, script) else {
+    let Some((service, lines)) = service_before(script) else {
         return Err(ScriptError::BadLine(1));
     };
     let settings = MessagingPatternSettings::new(service.pattern, service.first, service.second);
-    let mut session = Session::new(alloc, &settings, service.max_nodes, service.number)?;
-    make_room(&mut session, lines, out)?;
+    // Memory for what lines and replies are likely to need; more is taken bit by bit.
+    let commands = lines.len() / BYTES_OF_LINE;
+    let mut session = Session::new(
+        alloc,
+        &settings,
+        service.max_nodes,
+        service.number,
+        commands,
+    )?;
+    out.reserve(lines.len() / BYTES_FOR_REPLY)?;
     run_lines(alloc, &mut session, lines, out)
+}
+
+/// Writes the line that says why a script was not run to its end, and returns the status of that.
+fn write_error<E: Sink>(errors: &mut E, why: &ScriptError) -> io::Result<u8>
+    ensures status { IfOk result (λ status. status ≡ status_of (Err why.now)) }
+    ensures errors { OnOk result
+        (Appends (E.contents errors.old) (E.contents errors.new) (error_text (Err why.now))) }
+    ensures failed { IfErr result (Fails E.Writes E.FailsToFlush errors.new) }
+{
+    match why {
+        ScriptError::BadLine(line) => {
+            let mut digits = Buffer::new();
+            write_whole(errors, b"bad line ")?;
+            write_whole(errors, digits.format(*line).as_bytes())?;
+            write_whole(errors, b"\n")?;
+            Ok(1)
+        }
+        ScriptError::NoMemory(_) => {
+            write_whole(errors, b"no memory\n")?;
+            Ok(2)
+        }
+    }
+}
+
+/// Runs the script of the reader, and returns its status unless a stream fails.
+fn run<R: Source, W: Sink, E: Sink>(
+    alloc: Global,
+    input: &mut R,
+    output: &mut W,
+    errors: &mut E,
+) -> io::Result<u8>
+    ensures range { IfOk result (λ status. status < 3) }
+    ensures reported { IfOk result (λ status. IfSome (R.remaining input.old) (λ script.
+        Reported script status
+        (W.contents output.old) (W.contents output.new)
+        (E.contents errors.old) (E.contents errors.new))) }
+    ensures flushed { OnOk result
+        (IsFlushed W.Flushes output.new × IsFlushed E.Flushes errors.new) }
+    ensures failed { IfErr result (λ e. ReadFails R.FailsBy input.new e
+        ⊎ (Fails W.Writes W.FailsToFlush output.new e
+        ⊎ Fails E.Writes E.FailsToFlush errors.new e)) }
+    ensures read { IfOk result (λ status. status < 2 → IsAtEnd (R.remaining input.new)) }
+{
+    let mut text = Vec::new(alloc);
+    let end = match read_all(alloc, input)? {
+        Ok(script) => run_script(alloc, &script, &mut text),
+        Err(why) => Err(ScriptError::NoMemory(why)),
+    };
+    write_whole(output, &text)?;
+    let status = match end {
+        Ok(()) => 0,
+        Err(why) => write_error(errors, &why)?,
+    };
+    output.flush_pieces()?;
+    errors.flush_pieces()?;
+    Ok(status)
+}
+
+/// Runs the script of the reader, writes its reply lines to `output`, and returns the status of the
+/// program.
+///
+/// - 0: the whole input was read and run.
+/// - 1: it is bad at line N. The replies to all commands before it were written, and `bad line N`
+///   to `errors`.
+/// - 2: memory was refused. Nothing was written, or the whole reply lines of some first commands,
+///   and `no memory` to `errors`.
+/// - 3: a read, a write or a flush failed, for any cause. Nothing was written after it.
+///
+/// From `crates/iox2_replay/src/main.rt`:
+///
+/// ```
+/// Ok(Request::Work) => run_streams(alloc, input, output, errors),
+/// ```
+pub fn run_streams<R: Source, W: Sink, E: Sink>(
+    alloc: Global,
+    input: &mut R,
+    output: &mut W,
+    errors: &mut E,
+) -> u8
+    ensures range { result < 4 }
+    // A status below 3 is that of the script's end, and the writers got what fits it.
+    ensures reported { result < 3 → IfSome (R.remaining input.old) (λ script.
+        Reported script result
+        (W.contents output.old) (W.contents output.new)
+        (E.contents errors.old) (E.contents errors.new)) }
+    // Both writers were flushed last.
+    ensures flushed { result < 3
+        → IsFlushed W.Flushes output.new × IsFlushed E.Flushes errors.new }
+    // A read, a write or a flush failed, and that stream was left as it was then.
+    ensures failed { result ≡ 3 → (e : Error) × (ReadFails R.FailsBy input.new e
+        ⊎ (Fails W.Writes W.FailsToFlush output.new e
+        ⊎ Fails E.Writes E.FailsToFlush errors.new e)) }
+    // All input was read, unless memory ran out.
+    ensures read { result < 2 → IsAtEnd (R.remaining input.new) }
+{
+    match run(alloc, input, output, errors) {
+        Ok(status) => status,
+        Err(_) => 3,
+    }
 }

@@ -1,5 +1,4 @@
 //! The first line of a script.
-ghost use Rattle.std.specs.Prelude.{false};
 ghost use Rattle.std.specs.Option.{option_map};
 ghost use Rattle.iox2_config.specs.declared.hash.input.PatternKind.{PatternKind as Kind};
 ghost use Rattle.line_streams.specs.Spelling.{Reads};
@@ -8,8 +7,7 @@ ghost use Rattle.service_descriptions.specs.Phrases.{pattern_phrase};
 ghost use Rattle.service_descriptions.specs.OneWay.{pattern_one};
 
 use iox2_config::hash::PatternKind;
-use line_streams::{After, Line, LineEnd, Number, Phrase, Then, after_word};
-use std::alloc::{AllocError, Global};
+use line_streams::{After, LineEnd, Number, Phrase, Then, after_word};
 
 /// What the first line of a script says of its service.
 #[derive(Clone, Copy)]
@@ -39,21 +37,15 @@ impl<'a> Phrase<'a> for PatternName {
 
     ghost spelling = { λ s. pattern_phrase };
 
-    ghost takes_memory = { false };
-
-    fn read(
-        &self,
-        _alloc: Global,
-        bytes: &'a [u8],
-    ) -> Result<Option<(PatternKind, &'a [u8])>, AllocError> {
+    fn read(&self, bytes: &'a [u8]) -> Option<(PatternKind, &'a [u8])> {
         for kind in PatternKind::ALL {
             if let Some(rest) = after_word(bytes, kind.word().as_bytes())
                 && let Some(rest) = after_word(rest, b" ")
             {
-                return Ok(Some((kind, rest)));
+                return Some((kind, rest));
             }
         }
-        Ok(None)
+        None
     }
 
     ghost one_way = { λ s. pattern_one };
@@ -63,18 +55,16 @@ impl<'a> Phrase<'a> for PatternName {
 const NUMBER: Number = Number(u64::MAX);
 
 /// The service line with its newline that begins these bytes, and what follows the newline.
-pub fn service_before(alloc: Global, bytes: &[u8]) -> Option<(ServiceLine, &[u8])>
+pub fn service_before(bytes: &[u8]) -> Option<(ServiceLine, &[u8])>
     ensures { Reads IsServiceFront service_front
         (option_map (λ found. (found.0, found.1.now)) result) bytes.now }
 {
-    let second = After(b" ", Line(NUMBER, LineEnd::Newline));
+    let second = After(b" ", Then(NUMBER, LineEnd::Newline));
     let first = After(b" ", Then(NUMBER, second));
     let max_nodes = After(b" ", Then(NUMBER, first));
     let service = After(b"service ", Then(PatternName, Then(NUMBER, max_nodes)));
-    let Ok(found) = service.read(alloc, bytes) else {
-        unreachable!();
-    };
-    let Some(((pattern, (number, (max_nodes, (first, second)))), rest)) = found else {
+    let Some(((pattern, (number, (max_nodes, (first, (second, ()))))), rest)) = service.read(bytes)
+    else {
         return None;
     };
     let service = ServiceLine {

@@ -51,7 +51,7 @@ impl ServiceState {
             s ≡ new_state (capacities_in settings.now) max_nodes service_number) }
     {
         Ok(ServiceState {
-            session: Session::new(alloc, settings, max_nodes, service_number)?,
+            session: Session::new(alloc, settings, max_nodes, service_number, 0)?,
             description: None,
         })
     }

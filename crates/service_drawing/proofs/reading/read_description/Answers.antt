@@ -1,6 +1,5 @@
-use Rattle.std.proofs.Common.{List, ℕ, inl, inr, subst}
+use Rattle.std.proofs.Common.{inl, inr}
 use Rattle.service_drawing.specs.Descriptions.{after_settings}
-use Rattle.service_drawing.specs.Lines.{HasRequirements}
 use Rattle.service_drawing.proofs.Descriptions.{Breaks, no_service_here, stops_behind_service, no_more}
 use Rattle.service_drawing.proofs.Answered.{handed_on}
 use Rattle.service_drawing.proofs.Reasons.{no_service_reason, reason_in_settings, stops_behind_settings}
@@ -64,24 +63,13 @@ returns-then-not-is_empty c =
 
 pub returns : goal.returns
 returns c =
-    let required = subst (λ (b : List ℕ). HasRequirements c.in_ok-required.required b
-    c.in_ok-attributes.rest.now) (no_more c.in_ok-required.rest.now c.if-not-is_empty.ensures)
-    c.in_ok-required.ensures in
+    let exchange = c.in_ok-exchange.ensures in
+    let attributes = c.in_ok-attributes.ensures in
+    let required =
+    rw (no_more c.in_ok-required.rest.now c.if-not-is_empty.ensures) at c.in_ok-required.ensures in
     record {
       rest = c.in_ok-service.rest.now;
       service = c.in_ok-service.ensures.spelled;
       hash = c.in_ok-service.ensures.hash;
-      lines = (
-        _,
-        c.in_ok-config.ensures,
-        (
-          _,
-          c.in_ok-exchange.ensures,
-          (
-            _,
-            c.in_ok-attributes.ensures,
-            required,
-          ),
-        ),
-      );
+      lines = (_, c.in_ok-config.ensures, (_, exchange, (_, attributes, required)));
     }

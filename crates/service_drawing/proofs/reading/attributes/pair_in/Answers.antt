@@ -7,18 +7,15 @@ returns-in_default c pair is e =
 
 pub returns-in_default-new : goal.returns-in_default-new
 returns-in_default-new c =
-    no_key_of c.args.text.now c.in-Some.key.now c.in-Some.value.now c.in-Some.ensures.read.0
-    c.in-Some.ensures.read.1
-    (no_name_of 64 c.in-Some.key.now c.in_default-new.field-0 c.in_default-new.ensures)
+    let read = c.in-Some.ensures.read in
+    no_key_of _ _ _ read.0 read.1 (no_name_of 64 _ _ c.in_default-new.ensures)
 
 pub returns-in-Ok-new : goal.returns-in-Ok-new
 returns-in-Ok-new c =
-    found_pair c.args.text.now c.in-Some.key.now c.in-Some.value.now c.in-Ok.key
-    c.in-Ok-new.value c.in-Ok.ensures c.in-Ok-new.ensures c.in-Some.ensures.read.0
-    c.in-Some.ensures.read.1
+    let read = c.in-Some.ensures.read in
+    found_pair _ _ _ _ _ c.in-Ok.ensures c.in-Ok-new.ensures read.0 read.1
 
 pub returns-in-Err : goal.returns-in-Err
 returns-in-Err c =
-    no_value_of c.args.text.now c.in-Some.key.now c.in-Some.value.now c.in-Some.ensures.read.0
-    c.in-Some.ensures.read.1
-    (no_name_of 256 c.in-Some.value.now c.in-Err.field-0 c.in-Err.ensures)
+    let read = c.in-Some.ensures.read in
+    no_value_of _ _ _ read.0 read.1 (no_name_of 256 _ _ c.in-Err.ensures)

@@ -5,19 +5,15 @@ use Rattle.service_drawing.proofs.reading.attributes.required_before.Goals as go
 
 pub loop-text-preserved : goal.loop-text-preserved
 loop-text-preserved c =
-    one_more_required c.loop-text.required c.in-Some-requiring.more c.loop-text.rest.now
-    c.in-Some.tail.now _ c.in-Some.text.now c.loop-text.invariant (search rules)
-    c.in-Some-requiring.ensures
+    one_more_required _ _ _ c.in-Some.tail.now _ c.in-Some.text.now c.loop-text.invariant
+    (search rules) c.in-Some-requiring.ensures
 
 pub returns-in_default-requiring : goal.returns-in_default-requiring
 returns-in_default-requiring c =
     let expected = c.plain-expected.ensures in
-    let stops = stops_at_required c.loop-text.required c.loop-text.rest.now c.args.bytes.now
-    c.in-Some.text.now c.in-Some.tail.now c.loop-text.invariant (search rules)
-    c.in_default-requiring.ensures in
+    let stops = stops_at_required _ _ _ c.in-Some.text.now c.in-Some.tail.now
+    c.loop-text.invariant (search rules) c.in_default-requiring.ensures in
     (rw expected.place stops, expected.reason)
 
 pub returns : goal.returns
-returns c =
-    all_read _ _ _ c.loop-text.required c.loop-text.rest.now c.args.bytes.now
-    c.loop-text.invariant c.in_default.ensures.line
+returns c = all_read _ _ _ _ _ _ c.loop-text.invariant c.in_default.ensures.line

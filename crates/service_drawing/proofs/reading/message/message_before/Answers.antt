@@ -27,20 +27,11 @@ returns-in_err-opener c =
 pub returns : goal.returns
 returns c =
     let opener = c.in_ok-opener.ensures in
+    let header = c.in_ok-header.ensures in
+    let user_header = c.in_ok-user_header.ensures in
+    let payload = c.in_ok-payload.ensures in
     let elements = rw c.variant.ensures at c.in_ok-elements.ensures in (
       (_, (_, (_, (_, _)))),
       same_message _ _ _ _ opener.same,
-      (
-        _,
-        c.in_ok-header.ensures,
-        (
-          _,
-          c.in_ok-user_header.ensures,
-          (
-            _,
-            c.in_ok-payload.ensures,
-            (_, elements, opener.spelled),
-          ),
-        ),
-      ),
+      (_, header, (_, user_header, (_, payload, (_, elements, opener.spelled)))),
     )

@@ -6,14 +6,13 @@ use Rattle.service_drawing.proofs.reading.service.service_in.Goals as goal
 
 pub returns-then-is_internal-clause-none : goal.returns-then-is_internal-clause-none
 returns-then-is_internal-clause-none c =
-    of_the_line MayBeNamed c.args.line.now c.in-Some.kind c.in-Some.name.now c.in-Some.ensures
+    of_the_line MayBeNamed _ _ _ c.in-Some.ensures
     (λ may. may.from_outside (sym c.if-is_internal.ensures))
 
 pub returns-in_default-from_utf8-clause-none : goal.returns-in_default-from_utf8-clause-none
 returns-in_default-from_utf8-clause-none c =
-    of_the_line MayBeNamed c.args.line.now c.in-Some.kind c.in-Some.name.now c.in-Some.ensures
-    (λ may. c.in_default-from_utf8.ensures.cases.0
-    (utf8_of_text c.in-Some.name.now may.name.0.1))
+    of_the_line MayBeNamed _ _ _ c.in-Some.ensures
+    (λ may. c.in_default-from_utf8.ensures.cases.0 (utf8_of_text _ may.name.0.1))
 
 pub returns-in_default-new-clause-none : goal.returns-in_default-new-clause-none
 returns-in_default-new-clause-none c =
@@ -25,8 +24,7 @@ returns-in_default-new-clause-none c =
 
 pub returns-in_default-new-clause-reason : goal.returns-in_default-new-clause-reason
 returns-in_default-new-clause-reason c =
-    not_internal c.args.line.now c.in-Some.kind c.in-Some.name.now c.in-Some.ensures
-    c.if-is_internal.ensures
+    not_internal _ _ _ c.in-Some.ensures c.if-is_internal.ensures
 
 pub returns-in-Err-clause-none : goal.returns-in-Err-clause-none
 returns-in-Err-clause-none c =

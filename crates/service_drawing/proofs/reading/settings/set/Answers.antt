@@ -1,5 +1,5 @@
-use Rattle.std.proofs.Common.{◌≡◌, ℕ, List, false, true, refl, inl, inr, rules, subst}
-use Rattle.service_drawing.specs.Settings.{HasName, word_of}
+use Rattle.std.proofs.Common.{◌≡◌, false, refl, inl, inr, rules}
+use Rattle.service_drawing.specs.Settings.{word_of}
 use Rattle.service_drawing.proofs.Naming.{as_word, marked_at, spaced}
 use Rattle.service_drawing.proofs.SettingLines.{no_value_follows, not_a_value}
 use Rattle.service_drawing.proofs.reading.settings.set.Goals as goal
@@ -13,9 +13,7 @@ pub returns-in_default-find-clause-refused : goal.returns-in_default-find-clause
 returns-in_default-find-clause-refused g c =
     let word : word_of c.args.text.now ≡ c.in-Some.word.now = search rules in (
       spaced c.args.text.now c.in-Some.word.now c.in-Some.text.now word (search rules),
-      λ index h.
-          c.in_default-find.ensures.name index
-          (subst (λ (w : List ℕ). HasName g.S.Settings.names index w) word h),
+      λ index h. c.in_default-find.ensures.name index (rw word at h),
     )
 
 pub returns-then-given-index-clause-refused : goal.returns-then-given-index-clause-refused
@@ -23,10 +21,8 @@ returns-then-given-index-clause-refused g c = (
   spaced c.args.text.now c.in-Some.word.now c.in-Some.text.now (search rules) (search rules),
   record {
     index = c.in-Some-find.index;
-    setting = as_word g.S.Settings.names c.in-Some-find.index c.in-Some.word.now
-        (word_of c.args.text.now) (search rules) (search rules);
-    marked = marked_at c.args.given.now c.in-Some-find.index true
-        (search rules) c.if-given-index.true;
+    setting = search (rules, as_word);
+    marked = search (rules, marked_at);
   },
 )
 
@@ -48,8 +44,7 @@ returns-in-Some-of_kind-clause-set g c = record {
 }
 
 pub returns-in_default-of_kind-clause-refused : goal.returns-in_default-of_kind-clause-refused
-returns-in_default-of_kind-clause-refused g c =
-    absurd (c.if-set.ensures.refused refl c.in-Some-find.value (search rules) (search rules))
+returns-in_default-of_kind-clause-refused g c = absurd (search (rules, c.if-set.ensures.refused))
 
 pub returns-in_default-of_kind-2-clause-refused : goal.returns-in_default-of_kind-2-clause-refused
 returns-in_default-of_kind-2-clause-refused g c =

@@ -5,14 +5,12 @@ use Rattle.service_drawing.proofs.Reasons.{setting_reason}
 use Rattle.service_drawing.proofs.reading.settings.settings_before.Goals as goal
 
 pub loop-text-init : goal.loop-text-init
-loop-text-init g c =
-    none_set g.S.Settings.names (g.S.Settings.values c.args.settings.now) 32 c.args.bytes.now
+loop-text-init g c = none_set _ _ 32 _
 
 pub loop-text-preserved : goal.loop-text-preserved
 loop-text-preserved g c =
-    one_more_setting g.S.Settings.names (g.S.Settings.values c.args.settings.now) _ _
-    c.loop-text.given _ c.loop-text.rest.now c.in-Some.tail.now c.args.bytes.now
-    c.in-Some.text.now c.loop-text.invariant (search rules) c.in-Ok.ensures.set
+    one_more_setting g.S.Settings.names _ _ _ _ _ _ _ _ c.in-Some.text.now c.loop-text.invariant
+    (search rules) c.in-Ok.ensures.set
 
 pub returns-in-Err : goal.returns-in-Err
 returns-in-Err g c =
@@ -29,6 +27,4 @@ returns-in-Err g c =
     )
 
 pub returns : goal.returns
-returns g c =
-    all_read _ _ _ (g.S.Settings.values c.loop-text.settings) c.loop-text.rest.now c.args.bytes.now
-    c.loop-text.invariant.read c.in_default.ensures.line
+returns g c = all_read _ _ _ _ _ _ c.loop-text.invariant.read c.in_default.ensures.line

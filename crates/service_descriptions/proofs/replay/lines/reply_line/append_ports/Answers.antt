@@ -1,13 +1,17 @@
-use Rattle.std.proofs.Common.{◌≡◌, rules, length, take, vec_len}
-use Rattle.service_descriptions.proofs.Appending.{front_stays}
+use Rattle.std.proofs.Common.{rules}
+use Rattle.service_descriptions.proofs.Listings.{lacks_line, ports_line}
 use Rattle.service_descriptions.proofs.replay.lines.reply_line.append_ports.Goals as goal
 
-pub returns-in_err-append_id-clause-err : goal.returns-in_err-append_id-clause-err
-returns-in_err-append_id-clause-err c =
-    let before = c.args.out.now.items in
-    let now = c.append_id.new.out.items in
-    let items = c.loop-details.out.items in
-    let kept : take (length items) now ≡ items = search rules in
-    let front = front_stays before _ items now c.loop-details.invariant kept in
-    let told : take (vec_len c.args.out.now) now ≡ before = search (rules, front) in
-    search (rules, told)
+pub returns-in_default-clause-ok : goal.returns-in_default-clause-ok
+returns-in_default-clause-ok c =
+    lacks_line c.args.service.now c.args.role c.args.out.now.items
+    c.extend_from_slice.new.self.items c.extend_from_slice.result
+    c.in_default.ensures.none c.extend_from_slice.ensures.items
+
+pub returns-clause-ok : goal.returns-clause-ok
+returns-clause-ok c =
+    let line =
+    ports_line c.args.service.now c.args.role c.in-Some.is_first c.in-Some.ensures.some
+    c.args.out.now.items c.extend_from_slice-2.new.self.items c.put_ports.new.out.items
+    c.extend_from_slice-3.new.self in
+    search (rules, line)

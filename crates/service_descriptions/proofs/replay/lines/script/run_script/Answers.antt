@@ -12,6 +12,6 @@ returns-in_default c = (
   ),
 )
 
-pub returns-in_err-make_room : goal.returns-in_err-make_room
-returns-in_err-make_room c =
-    ([], c.in_err-make_room.ensures.out ∙ sym (append-nil _), inl (search rules, refl))
+pub returns-in_err-reserve : goal.returns-in_err-reserve
+returns-in_err-reserve c =
+    ([], c.reserve.ensures.items ∙ sym (append-nil _), inl (search rules, refl))

@@ -1,15 +1,15 @@
-use Rattle.std.proofs.Common.{arith, sym, ◌∙◌, ap}
+use Rattle.std.proofs.Common.{◌≡◌, arith, rules, sym, ◌∙◌, ap}
 use Rattle.iox2_ids.specs.Packing.{owner_of}
 use Rattle.service_descriptions.specs.Lines.{value_of}
 use Rattle.service_descriptions.specs.OneWay.{id_one}
 use Rattle.service_descriptions.proofs.replay.lines.id.NodeIdPhrase.read.Goals as goal
 
-pub returns-in_default-node-clause-read : goal.returns-in_default-node-clause-read
-returns-in_default-node-clause-read c a fits e =
-    let read = rw c.in-Some.is at c.in_ok-parts.ensures.read in
+pub returns-in_default-new-clause-read : goal.returns-in_default-new-clause-read
+returns-in_default-new-clause-read c a fits e =
+    let read = c.in-Some.ensures.read in
     let same =
     id_one.same (value_of c.in-Some.parts, c.in-Some.rest.now) a read.0 (fits.0.0, fits.1)
     (sym read.1 ∙ e) in
-    let none = c.in_default-node.ensures.none in
+    let none : owner_of (value_of c.in-Some.parts) ≡ 0 = search rules in
     let own = fits.0.1 in
     omega (arith, none, own, ap owner_of same.0)

@@ -1,40 +1,52 @@
-use Rattle.std.proofs.Common.{None, subst}
-use Rattle.service_descriptions.specs.Fields.{session_of}
-use Rattle.service_descriptions.specs.LineAnswers.{LineStep}
+use Rattle.std.proofs.Common.{◌≡◌, None, rules, subst}
+use Rattle.iox2_dynamic.specs.Service.{IsService}
+use Rattle.service_descriptions.specs.Fields.{IsSound, session_of}
+use Rattle.service_descriptions.specs.Handles.{handles_in}
+use Rattle.service_descriptions.specs.LineAnswers.{LineStep, ServesLine}
 use Rattle.service_descriptions.specs.Lines.{command_of}
 use Rattle.service_descriptions.proofs.Serving.{after, served_line, sound_state}
 use Rattle.service_descriptions.proofs.replay.machine.session.Session.serve_line.Goals as goal
+use Rattle.service_descriptions.proofs.replay.machine.session.Session.serve_line.Goals.{After-push_reserved, in-Register, in-Deregister, in-Nodes, in-Add, in-Release, in-List, in-Count, in-Dead}
+
+-- what answered the command
+answered : (c : After-push_reserved)
+    → ServesLine c.self.inside.service None
+    (handles_in c.self.inside.number c.self.inside.earlier.items) (command_of c.args.command.now)
+    c.match-command.answer c.match-command.self-inside.service
+    × IsService c.match-command.self-inside.service
+    × (c.match-command.self-inside.number ≡ c.self.inside.number)
+    × (c.match-command.self-inside.earlier.items ≡ c.self.inside.earlier.items)
+answered c = elim c.match-command.branch [
+  | in-Register w ↦ search rules
+  | in-Deregister w ↦ search rules
+  | in-Nodes w ↦ search rules
+  | in-Add w ↦ search rules
+  | in-Release w ↦ search rules
+  | in-List w ↦ search rules
+  | in-Count w ↦ search rules
+  | in-Dead w ↦ search rules
+]
+
+step : (c : After-push_reserved)
+    → IsSound (after c.self.inside c.match-command.self-inside.service c.push_reserved.new.self)
+    × LineStep (session_of c.self.inside) (command_of c.args.command.now) c.match-command.answer
+    (session_of (after c.self.inside c.match-command.self-inside.service c.push_reserved.new.self))
+step c =
+    let told = answered c in
+    served_line c.self.inside c.match-command.self-inside.service c.push_reserved.new.self
+    c.of.result (command_of c.args.command.now) c.match-command.answer c.self.invariant told.1
+    told.0 c.of.ensures (rw told.3 at c.push_reserved.ensures.items)
 
 pub invariant_of-self-2 : goal.invariant_of-self-2
-invariant_of-self-2 c =
-    (served_line c.self.inside c.serve_line-answer.new.service c.push_reserved.new.self c.of.result
-    (command_of c.args.command.now) c.serve_line-answer.result c.self.invariant
-    c.serve_line-answer.ensures.kept
-    (rw (c.deref.ensures.value, c.reserve.ensures.items)
-    at (c.serve_line-answer.ensures.served None))
-    (rw c.handle.ensures at c.of.ensures)
-    (rw c.reserve.ensures.items at c.push_reserved.ensures.items)).0
+invariant_of-self-2 c = rw (answered c).2 (step c).0
 
 pub returns-clause-ok : goal.returns-clause-ok
 returns-clause-ok c =
-    let new = after c.self.inside c.serve_line-answer.new.service c.push_reserved.new.self in
-    subst (λ v. LineStep v (command_of c.args.command.now) c.serve_line-answer.result
-    (session_of new)) c.self.view_is
-    (served_line c.self.inside c.serve_line-answer.new.service c.push_reserved.new.self c.of.result
-    (command_of c.args.command.now) c.serve_line-answer.result c.self.invariant
-    c.serve_line-answer.ensures.kept
-    (rw (c.deref.ensures.value, c.reserve.ensures.items)
-    at (c.serve_line-answer.ensures.served None))
-    (rw c.handle.ensures at c.of.ensures)
-    (rw c.reserve.ensures.items at c.push_reserved.ensures.items)).1
+    let new =
+    after c.self.inside c.match-command.self-inside.service c.push_reserved.new.self in
+    rw (answered c).2
+    (subst (λ v. LineStep v (command_of c.args.command.now) c.match-command.answer
+    (session_of new)) c.self.view_is (step c).1)
 
 pub returns-clause-state : goal.returns-clause-state
-returns-clause-state c =
-    sound_state (after c.self.inside c.serve_line-answer.new.service c.push_reserved.new.self)
-    (served_line c.self.inside c.serve_line-answer.new.service c.push_reserved.new.self c.of.result
-    (command_of c.args.command.now) c.serve_line-answer.result c.self.invariant
-    c.serve_line-answer.ensures.kept
-    (rw (c.deref.ensures.value, c.reserve.ensures.items)
-    at (c.serve_line-answer.ensures.served None))
-    (rw c.handle.ensures at c.of.ensures)
-    (rw c.reserve.ensures.items at c.push_reserved.ensures.items)).0
+returns-clause-state c = rw (answered c).2 (sound_state _ (step c).0)

@@ -1,0 +1,7 @@
+use Rattle.service_descriptions.specs.OneWay.{three_fit}
+use Rattle.service_descriptions.specs.Phrases.{spelled_of}
+use Rattle.service_descriptions.proofs.replay.lines.port.PortPhrase.read.Goals as goal
+
+pub returns-in_default-clause-read : goal.returns-in_default-clause-read
+returns-in_default-clause-read c a fits e =
+    c.in_default.ensures.read (spelled_of a.0, a.1) (three_fit a.0 a.1 fits.0 fits.1) e
