@@ -46,6 +46,7 @@ class Parts:
 
     def target(self, taken):
         """The link and the meaning of a name in a contract, or none for a name of the library."""
+        taken = self.project.origin(taken)
         found = self.project.definition(taken)
         if found:
             return self.definition_link(found), found.comment

@@ -267,11 +267,14 @@ class Project:
             else:
                 shown.implemented.append((trait, block, module))
 
+    def origin(self, taken):
+        """What a name stands for where the files that only hand it on are passed over."""
+        handed_on = self.handed_on.get((taken.crate, taken.path, taken.name))
+        return self.origin(handed_on) if handed_on else taken
+
     def definition(self, taken):
+        taken = self.origin(taken)
         where = (taken.crate, taken.path, taken.name)
-        handed_on = self.handed_on.get(where)
-        if handed_on:
-            return self.definition(handed_on)
         # A constructor stands at the path of its type.
         module, _, name = taken.path.partition(".")
         return self.definitions.get(where) or self.definitions.get((taken.crate, module, name))

@@ -9,7 +9,7 @@ from dataclasses import dataclass, field
 OPENING = {"(": ")", "[": "]", "{": "}"}
 HEAD = re.compile(
     r"(?P<visible>pub(\([a-z: ]+\))? )?(const |unsafe |extern \"C\" )*"
-    r"(?P<kind>fn|struct|enum|trait|impl|mod|use|type|const|static|ghost|macro_rules!)\b"
+    r"(?P<kind>fn|struct|enum|trait|impl|mod|use|type|const|static|ghost)\b"
 )
 CLAUSE = re.compile(
     r"(\s|//[^\n]*\n)*(?P<kind>requires|ensures)\*?(?P<name> [\w ]+?)? \{"
@@ -174,8 +174,6 @@ class Reader:
             item.signature = dedent(self.text[at : stop + 1])
             item.name = self.word(head.end()) if kind != "use" else item.signature
             return item, stop + 1
-        if kind == "macro_rules!":
-            return None, skip_brackets(self.text, self.text.index("{", at))
         return item, self.block(item, at, head.end())
 
     def word(self, at):
@@ -183,12 +181,11 @@ class Reader:
         return word[1] if word else ""
 
     def skip_macro(self, at):
-        stop = find_end(self.text, at, ";") if self.text[at] not in OPENING else at
         opening = re.compile(r"[\w:]+!\s*\w*\s*[({\[]").match(self.text, at)
         if not opening:
             raise Unreadable(f"{self.path}:{self.line(at)}: no item is known here")
         after = skip_brackets(self.text, opening.end() - 1)
-        return stop + 1 if self.text[after : after + 1] == ";" else after
+        return after + 1 if self.text[after : after + 1] == ";" else after
 
     def ghost(self, item, at):
         """`ghost use ..;`, or a ghost member, which is kept as a clause."""
