@@ -1,12 +1,13 @@
 //! Passes of a container over all its slots, one after another.
 ghost use Rattle.std.specs.Prelude.{◌≡◌, ◌+◌, ◌≤◌, ◌<◌, IsSome, IsTrue, None, false};
 ghost use Rattle.std.specs.Prelude.{MatchOption, length, map, slice_set, if◌then◌else◌};
+ghost use Rattle.std.specs.Bool.{MatchBool};
 ghost use Rattle.std.specs.Fn.{CalledAt, TakesAt};
 ghost use Rattle.iox2_container.specs.Cells.{shown};
 ghost use Rattle.iox2_container.specs.Places.{IsTakenAt, details_in, entries_from};
 ghost use Rattle.iox2_container.specs.Callbacks.{CanBeAsked, CanVisit};
 ghost use Rattle.iox2_container.specs.Passes.{AskedOfCell, AreOthers, Swept, cell_is_of};
-ghost use Rattle.iox2_container.specs.Passes.{IsNextOf, TakesCell, looked_at};
+ghost use Rattle.iox2_container.specs.Passes.{IsLastOf, IsNextOf, TakesCell, looked_at};
 ghost use Rattle.iox2_container.specs.Steps.{Visit, candidates, is_of};
 
 use super::attached::Attached;
@@ -177,6 +178,34 @@ fn next_of<T: Attached + Copy, N: Copy>(
         slot += 8;
     }
     next_by_one(places, slot, end, node)
+}
+
+/// Whether some slot from one on and before the end has an entry of the node. It reads them from
+/// the last one down to the first that has, each once, and no other.
+pub(super) fn has_between<T: Attached + Copy, N: Copy>(
+    places: &mut Places<T, N>,
+    start: usize,
+    end: usize,
+    node: &UniqueNodeId,
+) -> bool
+    requires order { start ≤ end }
+    requires within { end ≤ length places.old.cells }
+    ensures cells { places.new.cells ≡ places.old.cells }
+    ensures touched { places.new.touches + start ≤ places.old.touches + end }
+    ensures counted { places.old.touches ≤ places.new.touches }
+    ensures has { MatchBool result
+        (IsLastOf T.node node.now (map shown places.old.cells) start end
+        places.old.touches places.new.touches)
+        (AreOthers T.node node.now (map shown places.old.cells) start end) }
+{
+    let mut slot = end;
+    while slot > start {
+        slot -= 1;
+        if places.has_at(slot, node) {
+            return true;
+        }
+    }
+    false
 }
 
 /// How many entries are those of the node. It reads each slot at most once.

@@ -6,7 +6,7 @@ ghost use Rattle.iox2_container.specs.Steps.{lock_after, release_state};
 use super::attached::Attached;
 use super::free::{FreeList, LowestFree, SlotAllocator};
 use super::handle::ContainerHandle;
-use super::passes::{count_of, sweep, visit};
+use super::passes::{count_of, has_between, sweep, visit};
 use super::places::{Places, find, take_out};
 use super::refusal::{ContainerAddFailure, ContainerRemoveError};
 use super::registry::Registry;
@@ -243,7 +243,8 @@ impl<T: Attached + Copy, S: SlotAllocator<T>> Registry<T> for SlotMap<T, S> {
         // The newest entries are read first, and the later slots after them.
         let end = self.free.end(&self.places);
         let middle = self.newest_end.min(end);
-        self.places.has_between(0, middle, node) || self.places.has_between(middle, end, node)
+        has_between(&mut self.places, 0, middle, node)
+            || has_between(&mut self.places, middle, end, node)
     }
 
     fn len(&self) -> usize {

@@ -1,11 +1,9 @@
 //! Numbered slots, and what is in one of a container.
-ghost use Rattle.std.specs.Prelude.{◌≡◌, ℕ, ◌+◌, ◌≤◌, ◌<◌, ◌==◌, Some, IfOk};
+ghost use Rattle.std.specs.Prelude.{◌≡◌, ℕ, ◌+◌, ◌<◌, ◌==◌, Some, IfOk};
 ghost use Rattle.std.specs.Prelude.{MatchOption, false, length, map, replicate, slice_get, slice_set};
-ghost use Rattle.std.specs.Bool.{MatchBool};
 ghost use Rattle.std.specs.Borrow.{ftrue};
 ghost use Rattle.iox2_container.specs.Cells.{shown};
-ghost use Rattle.iox2_container.specs.Passes.{AreOthers, CellHas, IsAt, IsLastOf, PlaceIsOf};
-ghost use Rattle.iox2_container.specs.Passes.{cell_is_of};
+ghost use Rattle.iox2_container.specs.Passes.{CellHas, IsAt, PlaceIsOf, cell_is_of};
 
 use super::attached::Attached;
 use iox2_ids::identifiers::UniqueNodeId;
@@ -198,28 +196,17 @@ impl<C: Copy> Slots<C> {
 }
 
 impl<T: Attached + Copy, N: Copy> Slots<Cell<T, N>> {
-    /// Whether some slot from one on and before the end has an entry of the node. It touches them
-    /// from the last one down to the first that has, each once, and no other.
-    pub(super) fn has_between(&mut self, start: usize, end: usize, node: &UniqueNodeId) -> bool
-        requires order { start ≤ end }
-        requires within { end ≤ length self.old.cells }
+    /// Whether the entry in a slot is the node's. This is a touch.
+    #[inline(always)]
+    pub(crate) fn has_at(&mut self, slot: usize, node: &UniqueNodeId) -> bool
+        requires { slot < length self.old.cells }
         ensures cells { self.new.cells ≡ self.old.cells }
-        ensures touched { self.new.touches + start ≤ self.old.touches + end }
-        ensures counted { self.old.touches ≤ self.new.touches }
-        ensures has { MatchBool result
-            (IsLastOf T.node node.now (map shown self.old.cells) start end
-            self.old.touches self.new.touches)
-            (AreOthers T.node node.now (map shown self.old.cells) start end) }
+        ensures room { self.new.room ≡ self.old.room }
+        ensures touches { self.new.touches ≡ self.old.touches + 1 }
+        ensures has { PlaceIsOf T.node node.now (map shown self.old.cells) slot result }
     {
-        let mut slot = end;
-        while slot > start {
-            slot -= 1;
-            self.touches = self.touches.one_more();
-            if self.cells[slot].is_of(node) {
-                return true;
-            }
-        }
-        false
+        self.touches = self.touches.one_more();
+        self.cells[slot].is_of(node)
     }
 
     /// The details in a slot, if they are the node's. This is a touch.
