@@ -1,6 +1,8 @@
 #!/usr/bin/env bash
-# Builds into bindings/out the library for C: libiox2sd.a and libiox2sd.so.0, of which iox2sd_* alone can be seen from
-# outside. It needs the C library alone. The first time takes as long as the proof of all crates below.
+# Builds into bindings/out the library for C: libiox2sd.a and libiox2sd.so.0, of which iox2sd_* alone
+# can be seen from outside. It needs the C library alone. The first time takes as long as the proof
+# of all crates below. No link is made, since `rt ci` refuses a checkout that has one: install.sh
+# makes libiox2sd.so.
 # With --after-gate it proves the exports alone, over what `rt ci` left of the crates below, which
 # it has just proved. `rt ci` keeps nothing of the exports that it proves, so they are proved again,
 # but for what checks before the gate kept in out/incremental.
@@ -47,6 +49,5 @@ done
 ar rcs out/libiox2sd.a "${objects[@]}"
 "$CC" -shared -o out/libiox2sd.so.0 "${objects[@]}" \
     -Wl,-soname,libiox2sd.so.0 -Wl,--version-script=c/iox2sd.map -Wl,-z,defs -Wl,-z,now
-ln -s libiox2sd.so.0 out/libiox2sd.so
 rm out/*.o
 ls -l out

@@ -355,5 +355,7 @@ if has python3; then
         --start-directory python/tests --top-level-directory python
     if has mypy; then run "mypy" env -C python mypy --cache-dir "$work/mypy"; fi
 fi
+# Last, so that it sees what all tests left in the checkout.
+if has rt; then run "rt ci starts again in this checkout" ./starts_again; fi
 echo "$passed passed, $failed failed"
 [ "$failed" -eq 0 ]

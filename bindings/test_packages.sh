@@ -84,11 +84,22 @@ if has gcc && has pkg-config; then run "archive: pkg-config" by_pkg_config; fi
 if has make && has g++; then run "archive: make" by_make; fi
 if has cmake && has g++; then run "archive: CMake" by_cmake; fi
 refuses_argument() { ! "$prefix/bin/$1" what < /dev/null; }
+# The program that ignores its arguments, on its stored run.
+ignores() {
+    local argument
+    for argument in --help --version -h -x -- - '' file $'\xff'; do
+        "$prefix/bin/iox2-replay" "$argument" < "$work/replay/stdin" |
+            diff - "$work/replay/stdout" || return 1
+    done
+}
 for program in replay describe conform; do
     run "archive: iox2-$program" repeats $program
+done
+for program in describe conform; do
     run "archive: iox2-$program --version" has_version iox2-$program
     run "archive: iox2-$program with a bad argument" refuses_argument iox2-$program
 done
+run "archive: iox2-replay with any argument" ignores
 if has man; then
     for program in iox2-replay iox2-describe iox2-conform; do
         run "archive: man $program" has_manual $program "usage: $program"

@@ -29,7 +29,7 @@ pub enum RequestError {
 
 /// What the arguments request: no word, `--help` or `--version`. The first is the program's name.
 ///
-/// From `crates/iox2_replay/src/main.rt`:
+/// From `crates/iox2_conform/src/main.rt`:
 ///
 /// ```
 /// match request_of(arguments) {
@@ -76,7 +76,7 @@ fn write_text<W: Sink>(out: &mut W, text: &str) -> io::Result<()>
 
 /// Writes a text, flushes its writer, and returns the status, below 3, or 3 where the writer fails.
 ///
-/// From `crates/iox2_replay/src/main.rt`:
+/// From `crates/iox2_conform/src/main.rt`:
 ///
 /// ```
 /// Ok(Request::Version) => print(output, VERSION, 0),

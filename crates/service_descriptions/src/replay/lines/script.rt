@@ -201,7 +201,12 @@ fn run<R: Source, W: Sink, E: Sink>(
 /// From `crates/iox2_replay/src/main.rt`:
 ///
 /// ```
-/// Ok(Request::Work) => run_streams(alloc, input, output, errors),
+/// ExitCode::from(run_streams(
+///     rt.alloc(),
+///     &mut rt.stdin(),
+///     &mut rt.stdout(),
+///     &mut rt.stderr(),
+/// ))
 /// ```
 pub fn run_streams<R: Source, W: Sink, E: Sink>(
     alloc: Global,

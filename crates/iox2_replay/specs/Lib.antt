@@ -1,2 +1,0 @@
--- Promises: what the program does for its arguments.
-pub mod Program
