@@ -160,7 +160,11 @@ def read_crate(top, line):
     edits = [read_edit(path) for path in sorted((folder / "must-fail").glob("*.edit"))]
     readme = folder / "README.md"
     paragraphs = readme.read_text().split("\n\n") if readme.exists() else []
-    unproved = next((p for p in paragraphs if p.startswith("Not proved: ")), "")
+    at = next((n for n, p in enumerate(paragraphs) if p.startswith(("Not proved", "Only tested"))),
+              len(paragraphs))
+    # A list below it is a paragraph of its own.
+    has_list = "".join(paragraphs[at : at + 1]).endswith(":")
+    unproved = "\n\n".join(paragraphs[at : at + 1 + has_list])
     return Crate(name, uses.split(), module, list(all_below(module)), definitions, handed_on,
                  abouts, edits, unproved)
 
