@@ -139,4 +139,7 @@ def tables(programs_of_calls):
 
 
 if __name__ == "__main__":
-    print("", *marks.summary(tables(calls.built())), sep="\n")
+    found = tables(calls.built())
+    print("", *marks.summary(found), sep="\n")
+    if all(mark.figure is None for mark in found):
+        sys.exit("nothing was measured")

@@ -59,7 +59,7 @@ script() {
 instructions() {
     script "$1" "$2" > "$work/script"
     valgrind --tool=callgrind --callgrind-out-file=/dev/null "$program" < "$work/script" 2> "$work/counts" > /dev/null
-    sed -n 's/.*Collected : //p' "$work/counts"
+    sed -n 's/.*Collected : //p' "$work/counts" | grep . || { cat "$work/counts" >&2; return 1; }
 }
 
 for kind in nodes ports standing; do

@@ -47,6 +47,8 @@ def table(file, begin):
 def texts(source, names=()):
     """The texts of the literals and of the named constants in a piece of source, in order."""
     words = re.findall("|".join([LITERAL.pattern, *names]), source)
+    if not words:
+        raise SystemExit(f"no text was found in: {source[:60]!r}")
     return [names[w] if w in names else ast.literal_eval(w).encode() for w in words]
 
 

@@ -98,6 +98,19 @@ crate() {
 
 documented() { RUSTDOCFLAGS="--deny warnings" crate doc --no-deps; }
 
+# The tests of the package for Python, of which there are some.
+unittests() {
+    PYTHONDONTWRITEBYTECODE=1 python3 -m unittest discover --start-directory python/tests \
+        --top-level-directory python 2>&1 | tee "$work/unittests" &&
+        grep -q '^Ran [1-9]' "$work/unittests"
+}
+
+# The tests of the crate, of which there are some.
+crate_tests() {
+    crate test --quiet 2>&1 | tee "$work/crate_tests" &&
+        grep -q '^test result: ok[.] [1-9]' "$work/crate_tests"
+}
+
 has_cargo() { cargo "$1" --version > "$work/which" 2>&1 || { echo "not found: cargo $1"; return 1; }; }
 
 # Packs the crate, and tests it elsewhere with an installed library. The examples of its pages are
@@ -335,7 +348,7 @@ installed_at() {
 installation
 
 if has cargo; then
-    run "cargo test" crate test --quiet
+    run "cargo test" crate_tests
     for example in first builder monitor discovery factory; do
         run "cargo run --example $example" crate run --quiet --example "$example"
     done
@@ -351,11 +364,10 @@ if has cargo; then
 fi
 if has python3; then
     has cc || echo "so the declarations of Python were not compared with the headers"
-    run "python3 -m unittest" env PYTHONDONTWRITEBYTECODE=1 python3 -m unittest discover \
-        --start-directory python/tests --top-level-directory python
+    run "python3 -m unittest" unittests
     if has mypy; then run "mypy" env -C python mypy --cache-dir "$work/mypy"; fi
 fi
 # Last, so that it sees what all tests left in the checkout.
 if has rt; then run "rt ci starts again in this checkout" ./starts_again; fi
 echo "$passed passed, $failed failed"
-[ "$failed" -eq 0 ]
+[ "$failed" -eq 0 ] && [ "$passed" -gt 0 ]

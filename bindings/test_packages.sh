@@ -100,6 +100,13 @@ for program in describe conform; do
     run "archive: iox2-$program with a bad argument" refuses_argument iox2-$program
 done
 run "archive: iox2-replay with any argument" ignores
+fails_to_write() {
+    "$prefix/bin/iox2-$1" < "$work/$1/stdin" > /dev/full
+    [ $? = 3 ]
+}
+for program in replay describe conform; do
+    run "archive: iox2-$program where nothing can be written" fails_to_write $program
+done
 if has man; then
     for program in iox2-replay iox2-describe iox2-conform; do
         run "archive: man $program" has_manual $program "usage: $program"

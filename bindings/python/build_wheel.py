@@ -70,6 +70,8 @@ def platform_tag(library: bytes) -> str:
     if library[:5] != b"\x7fELF\x02" or int.from_bytes(library[18:20], "little") != 62:
         raise SystemExit("the library is not for x86-64 Linux")
     wanted = re.findall(rb"\0GLIBC_(\d+)\.(\d+)(?:\.\d+)?(?=\0)", library)
+    if not wanted:
+        raise SystemExit("the library wants no version of the C library")
     major, minor = max((2, 5), *((int(major), int(minor)) for major, minor in wanted))
     return f"manylinux_{major}_{minor}_x86_64"
 

@@ -113,6 +113,9 @@ class Parts:
         owner = self.project.type_named(module, owners[-1]) if owners else None
         if owner and any(m.name == name for m, _, _ in owner.methods):
             return self.shown_link(owner, name)
+        if owner and any(re.match(rf"{name}\b", m.signature) for m in owner.item.members):
+            # A variant stands with its type.
+            return self.shown_link(owner)
         shown = self.project.type_named(module, name)
         if not shown:
             found = [s for s in self.project.crates[module.crate].shown.values()

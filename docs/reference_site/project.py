@@ -83,7 +83,7 @@ class Crate:
 
 @dataclass
 class Edit:
-    """A must-fail edit: the function and the mistake that its name says, and its text."""
+    """A must-fail mistake: the function and the mistake that its name says, and its text."""
 
     function: str
     mistake: str
@@ -130,11 +130,14 @@ def read_modules(top, crate, file, path, public, parent):
     return module
 
 
-def read_edit(path):
-    text = path.read_text()
-    function, _, mistake = path.stem.partition("--")
-    files = re.findall(r"^file: (.*)$", text, re.MULTILINE)
-    return Edit(function, mistake.replace("_", " "), path.name, files, text)
+def read_edits(path):
+    """The mistakes of an edit, each below a comment with its name, or the one that it is."""
+    whole = path.read_text()
+    _, *parts = re.split(r"^# (\w+--\w+)$", whole, flags=re.MULTILINE)
+    for name, text in zip(parts[::2], parts[1::2]) if parts else [(path.stem, whole)]:
+        function, _, mistake = name.partition("--")
+        files = re.findall(r"^file: (.*)$", text, re.MULTILINE)
+        yield Edit(function, mistake.replace("_", " "), f"{path.name} {name}", files, text.strip())
 
 
 def all_below(module):
@@ -157,10 +160,15 @@ def read_crate(top, line):
             definitions += found
             handed_on |= handed
     module = read_modules(top, name, root, (), True, None)
-    edits = [read_edit(path) for path in sorted((folder / "must-fail").glob("*.edit"))]
+    edits = [edit for path in sorted((folder / "must-fail").glob("*.edit"))
+             for edit in read_edits(path)]
     readme = folder / "README.md"
     paragraphs = readme.read_text().split("\n\n") if readme.exists() else []
-    unproved = next((p for p in paragraphs if p.startswith("Not proved: ")), "")
+    at = next((n for n, p in enumerate(paragraphs) if p.startswith(("Not proved", "Only tested"))),
+              len(paragraphs))
+    # A list below it is a paragraph of its own.
+    has_list = "".join(paragraphs[at : at + 1]).endswith(":")
+    unproved = "\n\n".join(paragraphs[at : at + 1 + has_list])
     return Crate(name, uses.split(), module, list(all_below(module)), definitions, handed_on,
                  abouts, edits, unproved)
 
@@ -178,6 +186,8 @@ class Project:
             (d.crate, d.module, d.name): d for c in self.crates.values() for d in c.definitions
         }
         self.handed_on = {name: of for c in self.crates.values() for name, of in c.handed_on.items()}
+        # What a `pub use` leads to and no file of the crate has.
+        self.unfound = []
         for crate in self.crates.values():
             for module in crate.modules:
                 if module.public:
@@ -206,10 +216,23 @@ class Project:
         if path[0] in self.crates:
             crate.again.setdefault(module.path, []).append((name, path))
             return
+        found = self.item_at(crate, module, path)
+        if found:
+            crate.shown[module.path + (name,)] = Shown(*found, module.path + (name,))
+        elif not self.module_at(crate, module, path):
+            self.unfound.append(f"{module.file}: `pub use` of {'::'.join(path)}: no such item")
+
+    def item_at(self, crate, module, path):
+        """The item that a path leads to from a module, also by a `pub use` there, and its module."""
         home = self.module_at(crate, module, path[:-1])
         for item in home.items if home else ():
             if item.kind in SHOWN and item.name == path[-1]:
-                crate.shown[module.path + (name,)] = Shown(item, home, module.path + (name,))
+                return item, home
+            if item.kind == "use" and item.signature.startswith("pub use "):
+                further = expand_use(item.signature[8:-1]).get(path[-1])
+                if further:
+                    return self.item_at(crate, home, further)
+        return None
 
     def module_at(self, crate, module, path):
         """The module that a path leads to from another one of the crate."""

@@ -1,17 +1,18 @@
 //! Laws of the definitions that the contracts cite, and of comparisons.
-ghost use Rattle.std.specs.Prelude.{◌≡◌, ◌↔◌, IsTrue, IsOkAnd, fold};
+ghost use Rattle.std.specs.Prelude.{◌≡◌, ◌↔◌, IsTrue, IsOkAnd, fold, map};
 ghost use Rattle.iox2_texts.specs.Pair.{text_cmp, text_writes};
 ghost use Rattle.iox2_config.specs.Compatible.{IsCompatibleToItself, IsCompatibleThrough};
 ghost use Rattle.iox2_config.specs.Compatible.{AreEqualBothWays};
 ghost use Rattle.iox2_config.specs.HashWrites.{variant_writes, detail_writes, details_writes};
 ghost use Rattle.iox2_config.specs.Hashing.{HashInputsDiffer, hash_input, sha1_text};
+ghost use Rattle.iox2_config.specs.PlainTypes.{plain, plain_types};
 ghost use Rattle.iox2_texts.specs.Path.{IsRestrictedName};
 
 use crate::config::{AllocationStrategy, BackpressureStrategy, Config, DataSegmentType, EventId};
 use crate::hash::{HashError, PatternKind, ServiceHash, ServiceHashError, Sha1Hasher, hash_input};
 use crate::types::{
     Incompatibility, MessageTypeDetails, Places, SampleLayout, TypeDetail, TypeDetailError,
-    TypeVariant,
+    TypeVariant, ZeroCopySend,
 };
 use iox2_texts::service_name::ServiceName;
 use sha1::Sha1;
@@ -40,6 +41,37 @@ pub fn sha1_refuses_nothing(
 {
     sha1_texts_are_file_names(hash_input(kind, name).as_bytes());
     ServiceHash::new::<Sha1Hasher>(name, kind)
+}
+
+/// The name of a type, its size and its alignment.
+pub type PlainType = (&'static str, usize, usize);
+
+/// What an implementation states of a type.
+fn plain_type<T: ZeroCopySend>() -> PlainType
+    ensures { plain result.0.now result.1 result.2 ≡ plain T.type_name T.SIZE T.ALIGNMENT }
+{
+    (T::type_name(), T::SIZE, T::ALIGNMENT)
+}
+
+/// The types of the language that may be sent without a copy have the names, sizes and alignments
+/// of one table.
+pub fn plain_types_are_those_of_the_table() -> [PlainType; 12]
+    ensures { map (λ t. plain t.0.now t.1 t.2) result ≡ plain_types }
+{
+    [
+        plain_type::<()>(),
+        plain_type::<bool>(),
+        plain_type::<i8>(),
+        plain_type::<i16>(),
+        plain_type::<i32>(),
+        plain_type::<i64>(),
+        plain_type::<u8>(),
+        plain_type::<u16>(),
+        plain_type::<u32>(),
+        plain_type::<u64>(),
+        plain_type::<isize>(),
+        plain_type::<usize>(),
+    ]
 }
 
 /// Details are compatible to themselves.
