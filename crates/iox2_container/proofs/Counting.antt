@@ -172,12 +172,12 @@ module _ {T : Type 0} (node : T → ℕ) (id : ℕ) (cells : List (Option (Occup
       → ⊥
   not_both slot has others =
       let same : Some has.0 ≡ Some others.0 = sym has.1 ∙ others.1 in
-      let e : true ≡ false = has.2 ∙ (ap (cell_is_of node id) (same_Some has.0 others.0 same) ∙ sym others.2)
-      in cc
+      let e : true ≡ false =
+      has.2 ∙ (ap (cell_is_of node id) (same_Some has.0 others.0 same) ∙ sym others.2) in cc
 
   -- a search that begins at an entry of the node looks at no other place
-  module _ (end middle slot : ℕ) (free : NoneFrom cells end) (first : slot < end → middle ≡ slot + 1)
-      (has : PlaceIsOf node id cells slot true) where
+  module _ (end middle slot : ℕ) (free : NoneFrom cells end)
+      (first : slot < end → middle ≡ slot + 1) (has : PlaceIsOf node id cells slot true) where
     begins_there : middle ≡ slot + 1
     begins_there =
         elim (leb_tells end slot) as (λ _. middle ≡ slot + 1) [

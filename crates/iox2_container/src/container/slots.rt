@@ -1,4 +1,4 @@
-//! Numbered slots. Each function below reads or writes one cell once, and nobody else reaches cells.
+//! Numbered slots. No cell is reached but here, where each function reads or writes one cell once.
 ghost use Rattle.std.specs.Prelude.{◌≡◌, ◌+◌, ◌<◌, Some, IfOk};
 ghost use Rattle.std.specs.Prelude.{MatchOption, false, length, map, replicate, slice_get, slice_set};
 ghost use Rattle.iox2_container.specs.Cells.{shown};

@@ -14,8 +14,9 @@ invariant_of-self g c = (
   c.sweep-gone.ensures.fits,
   rw c.leave.ensures.left (newest_recover (CalledAt g.F.FnMut)
       (is_of g.T.Attached.node c.args.dead.now) c.args.f.now c.sweep-gone.new.f
-      c.self.inside.header (map shown c.self.inside.places.cells) (map shown c.sweep-gone.new.places.cells) c.sweep-gone.result
-      c.args.mode c.self.inside.newest_end c.sweep-gone.ensures.swept c.self.invariant.2),
+      c.self.inside.header (map shown c.self.inside.places.cells)
+      (map shown c.sweep-gone.new.places.cells) c.sweep-gone.result c.args.mode
+      c.self.inside.newest_end c.sweep-gone.ensures.swept c.self.invariant.2),
 )
 
 pub returns-then-self-eq0-clause-recovers : goal.returns-then-self-eq0-clause-recovers
