@@ -1,9 +1,9 @@
 -- What an add does.
 use Rattle.iox2_container.proofs.Prelude.{◌+◌, ◌<◌, ◌∙◌, ◌≡◌, ◌≢◌, ◌≤◌, All, All-weaker, List, None, Ok, Option, Some, ℕ, ap, arith, false, length, length-map, length-set, map, refl, slice_get, slice_get_within, slice_set}
-use Rattle.iox2_container.specs.Prelude.{AddStep, AreRegistry, Cell, Entry, InsertsOne, Occupant, RegistryHeader, entries_from, occupant, registry_of, shown}
+use Rattle.iox2_container.specs.Prelude.{AddStep, AreRegistry, Cell, Entry, InsertsOne, IsNewestEnd, Occupant, RegistryHeader, entries_from, occupant, registry_of, shown}
 use Rattle.iox2_container.proofs.CellEntries.{gains_write, slots_from, below_from, shown_from, room_from}
 use Rattle.iox2_container.proofs.Gaining.{length-InsertsOne}
-use Rattle.iox2_container.proofs.Keeping.{kept_add}
+use Rattle.iox2_container.proofs.Keeping.{All-gain, kept_add}
 
 -- no more entries than places
 pub entries_fit : {T N : Type 0} (cells : List (Cell T N))
@@ -50,3 +50,14 @@ module _ {T : Type 0} (a : RegistryHeader) (cells s : List (Option (Occupant T))
         (omega (arith, same, room_from 0 s, length-InsertsOne _ _ _ gains), room),
         (refl, free_everywhere cells slot free, gains, rw same refl),
       )
+
+  -- the end is behind it
+  pub newest_write : IsNewestEnd
+      (registry_of (record a { count = a.count + 1; used = a.used + 1 }) s) (slot + 1)
+  newest_write =
+      All-gain (λ e. e.ticket + 1 ≡ a.used + 1 → slot + 1 ≡ e.slot + 1) (entries_from 0 cells)
+      (entries_from 0 s) (record { slot = slot; ticket = a.used; details = d }) gains
+      (All-weaker (λ (e : Entry T). e.ticket < a.used)
+      (λ (e : Entry T). e.ticket + 1 ≡ a.used + 1 → slot + 1 ≡ e.slot + 1)
+      (λ e l is. absurd (omega (arith, l, is))) (entries_from 0 cells) k.0.tickets_used)
+      (λ is. refl)

@@ -1,6 +1,6 @@
 -- How many entries a test holds of.
-use Rattle.iox2_container.proofs.Prelude.{[], ◌&&◌, ◌++◌, ◌+◌, ◌<◌, ◌∙◌, ◌∷◌, ◌≡◌, ◌≤◌, ◌⊎◌, All, All-cons, All-nil, Bool, IsSome, List, MatchBool, MatchOption, None, Option, Some, ℕ, add-one, ap, arith, false, if◌then◌else◌, inl, inr, leb_tells, length, lt-ltb, map, nat_lt, not, refl, slice_get, slice_get_read, slice_index_or, suc, sym, take, true}
-use Rattle.iox2_container.specs.Prelude.{AreOthers, Cell, Entry, Found, InsertsOne, IsLastOf, IsNextOf, NoneFrom, Occupant, PlaceIsOf, candidates, cell_is_of, entries_from, is_of, shown, staying}
+use Rattle.iox2_container.proofs.Prelude.{[], ◌&&◌, ◌++◌, ◌+◌, ◌<◌, ◌∙◌, ◌∷◌, ◌≡◌, ◌≤◌, ◌⊎◌, All, All-cons, All-nil, Bool, IsSome, List, MatchBool, MatchOption, None, Option, Some, ℕ, add-one, ap, arith, false, if◌then◌else◌, inl, inr, leb_tells, length, lt-ltb, map, nat_lt, not, refl, same_Some, slice_get, slice_get_read, slice_index_or, suc, sym, take, true}
+use Rattle.iox2_container.specs.Prelude.{AreOthers, Cell, Entry, Found, InsertsOne, IsLastOf, IsNextOf, IsTakenAt, NoneFrom, Occupant, PlaceIsOf, candidates, cell_is_of, entries_from, is_of, shown, staying}
 use Rattle.iox2_container.proofs.AskedInTurn.{entries_split, taken_free, taken_more}
 use Rattle.iox2_container.proofs.CellEntries.{all_before}
 use Rattle.iox2_container.proofs.ShownCells.{shown_at}
@@ -161,6 +161,41 @@ module _ {T : Type 0} (node : T → ℕ) (id : ℕ) (cells : List (Option (Occup
   tells_last at from end old new false free others l after =
       rw (← all_before 0 end cells free)
       (rw (none_counted end (others_join 0 at from end others after l)) refl)
+
+  -- where the node has an entry, an entry stands
+  stands_there : (slot : ℕ) → PlaceIsOf node id cells slot true → IsTakenAt cells slot
+  stands_there slot (None, at, is) = (let e : true ≡ false = is in cc)
+  stands_there slot (Some o, at, is) = (o, at)
+
+  -- not both has the node an entry there and not
+  not_both : (slot : ℕ) → PlaceIsOf node id cells slot true → PlaceIsOf node id cells slot false
+      → ⊥
+  not_both slot has others =
+      let same : Some has.0 ≡ Some others.0 = sym has.1 ∙ others.1 in
+      let e : true ≡ false =
+      has.2 ∙ (ap (cell_is_of node id) (same_Some has.0 others.0 same) ∙ sym others.2) in cc
+
+  -- a search that begins at an entry of the node looks at no other place
+  module _ (end middle slot : ℕ) (free : NoneFrom cells end)
+      (first : slot < end → middle ≡ slot + 1) (has : PlaceIsOf node id cells slot true) where
+    begins_there : middle ≡ slot + 1
+    begins_there =
+        elim (leb_tells end slot) as (λ _. middle ≡ slot + 1) [
+          | inl later ↦ absurd (free slot later.1 (stands_there slot has))
+          | inr less ↦ first less.1
+        ]
+
+    pub newest_found : (old new : ℕ) → IsLastOf node id cells 0 middle old new → new ≡ old + 1
+    newest_found old new last =
+        elim (leb_tells slot last.slot) as (λ _. new ≡ old + 1) [
+          | inl later ↦ omega (arith, begins_there, later.1, last.before, last.looks)
+          | inr less ↦ absurd (not_both slot has
+              (last.others slot (omega (arith, less.1)) (omega (arith, begins_there))))
+        ]
+
+    pub newest_missed : AreOthers node id cells 0 middle → ⊥
+    newest_missed others =
+        not_both slot has (others slot (omega arith) (omega (arith, begins_there)))
 
 -- one entry more
 pub counted-InsertsOne : {T : Type 0} (p : T → Bool) (old new : List (Entry T)) (x : Entry T)

@@ -1,6 +1,6 @@
 -- What a call does, it does with other details too.
-use Rattle.iox2_container.proofs.Prelude.{[], ◌<◌, ◌==◌, ◌∙◌, ◌∷◌, ◌≡◌, ◌≢◌, All-map, AllPairs, AllPairs-cons, Bool, Err, List, Ok, Result, ℕ, ap, arith, filter_agree, length, length-map, map, map-append, map-map, refl}
-use Rattle.iox2_container.specs.Prelude.{AddStep, Adds, Changes, ContainerAddFailure, ContainerRemoveError, ContainerState, Entry, Handle, HasEntry, InsertsOne, IsLocked, IsRegistry, IsUnknownHandle, OutOfSpace, Reads, RegistryState, ReleaseMode, ReleaseState, RemoveStep, Removes, candidates, container_as, entries_of, entry_as, handle_of, is_of, registry_as}
+use Rattle.iox2_container.proofs.Prelude.{[], ◌<◌, ◌==◌, ◌∙◌, ◌∷◌, ◌≡◌, ◌≢◌, All-map, AllPairs, AllPairs-cons, Bool, Err, List, Ok, Result, ℕ, ap, arith, filter_agree, length, length-map, map, map-append, map-map}
+use Rattle.iox2_container.specs.Prelude.{AddStep, Adds, Changes, ContainerAddFailure, ContainerRemoveError, ContainerState, Entry, Handle, HasEntry, InsertsOne, IsLocked, IsRegistry, IsUnknownHandle, OutOfSpace, RegistryState, ReleaseMode, ReleaseState, RemoveStep, Removes, candidates, container_as, entries_of, entry_as, handle_of, is_of, registry_as}
 use Rattle.iox2_container.proofs.ListEdits.{filter-map}
 use Rattle.iox2_container.proofs.Gaining.{AllPairs-head, AllPairs-tail}
 
@@ -129,12 +129,3 @@ module _ {T U : Type 0} (g : T → U) where
       ap length
       (candidates-as (is_of node id) (is_of node' id) (λ x. ap (λ n. n == id) (same x)) r.entries)
       ∙ length-map (candidates (is_of node id) r.entries) (entry_as g)
-
-  -- slots that were read
-  pub Reads-as : (old new : ContainerState T) → Reads old new
-      → Reads (container_as g old) (container_as g new)
-  Reads-as old new reads = (ap (registry_as g) reads.0, reads.1, reads.2)
-
--- slots that were not
-pub no_reads : {T : Type 0} (c : ContainerState T) → Reads c c
-no_reads c = (refl, omega arith, omega arith)

@@ -1,6 +1,6 @@
 -- What a recovery does.
-use Rattle.iox2_container.proofs.Prelude.{[], ◌-◌, ◌<◌, ◌≡◌, ◌≢◌, All-filter, AllPairs-filter, Bool, List, Option, ℕ, arith, false, length, refl}
-use Rattle.iox2_container.specs.Prelude.{AreRegistry, ContainerState, Default, IsRegistry, LockIfLastIndex, Occupant, RecoversBy, RegistryHeader, ReleaseMode, Swept, entries_from, lock_after, release_state}
+use Rattle.iox2_container.proofs.Prelude.{[], ◌+◌, ◌-◌, ◌<◌, ◌≡◌, ◌≢◌, All-filter, AllPairs-filter, Bool, List, Option, ℕ, arith, false, length, refl}
+use Rattle.iox2_container.specs.Prelude.{AreRegistry, ContainerState, Default, IsNewestEnd, IsRegistry, LockIfLastIndex, Occupant, RecoversBy, RegistryHeader, ReleaseMode, Swept, entries_from, lock_after, registry_of, release_state}
 use Rattle.iox2_container.proofs.CellEntries.{slots_from, below_from}
 use Rattle.iox2_container.proofs.Removing.{left_by, left_empty}
 
@@ -22,6 +22,16 @@ kept_recover calls is_dead f h a cells s gone mode k w =
       },
       left,
     )
+
+pub newest_recover : {F T : Type 0} (calls : F → T → Bool → F → Type 0) (is_dead : T → Bool)
+    (f h : F) (a : RegistryHeader) (cells s : List (Option (Occupant T))) (gone : ℕ)
+    (mode : ReleaseMode) (newest_end : ℕ)
+    → Swept calls is_dead f (entries_from 0 cells) h (entries_from 0 s) gone
+    → IsNewestEnd (registry_of a cells) newest_end
+    → IsNewestEnd (registry_of (left_by a gone mode) s) newest_end
+newest_recover calls is_dead f h a cells s gone mode newest_end w newest =
+    rw w.left_is
+    (All-filter _ (λ e. e.ticket + 1 ≡ a.used → newest_end ≡ e.slot + 1) _ newest)
 
 same_lock : (mode : ReleaseMode) (locked : Bool) → lock_after mode 0 0 locked ≡ locked
 same_lock Default locked = refl

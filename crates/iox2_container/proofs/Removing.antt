@@ -1,10 +1,10 @@
 -- What a removal does.
 use Rattle.iox2_container.proofs.Prelude.{[], ◌+◌, ◌-◌, ◌∙◌, ◌∷◌, ◌≡◌, ◌≤◌, Bool, Err, IsTrue, List, None, Ok, Option, Some, ℕ, ap, arith, length, length-set, refl, slice_set, suc, sym, zero}
-use Rattle.iox2_container.specs.Prelude.{AreRegistry, ContainerRemoveError, Default, Entry, Finds, Handle, InsertsOne, IsUnknownHandle, LockIfLastIndex, Occupant, RegistryHeader, RegistryState, ReleaseMode, RemoveStep, entries_from, lock_after, registry_of, release_state}
+use Rattle.iox2_container.specs.Prelude.{AreRegistry, ContainerRemoveError, Default, Entry, Finds, Handle, InsertsOne, IsNewestEnd, IsUnknownHandle, LockIfLastIndex, Occupant, RegistryHeader, RegistryState, ReleaseMode, RemoveStep, entries_from, lock_after, registry_of, release_state}
 use Rattle.iox2_container.proofs.CellEntries.{gains_clear, below_from}
 use Rattle.iox2_container.proofs.Gaining.{length-InsertsOne}
 use Rattle.iox2_container.proofs.Handles.{has_parts}
-use Rattle.iox2_container.proofs.Keeping.{kept_remove}
+use Rattle.iox2_container.proofs.Keeping.{All-loss, kept_remove}
 
 pub nothing_left : {T : Type 0} (es : List (Entry T)) → length es ≡ 0 → es ≡ []
 nothing_left [] h = refl
@@ -57,6 +57,12 @@ module _ {T : Type 0} (a : RegistryHeader) (cells s : List (Option (Occupant T))
               (left_empty a 1 mode _ _ k.1 k.0.locked_is_empty left),
           left,
         )
+
+    pub newest_clear : (newest_end : ℕ) → IsNewestEnd (registry_of a cells) newest_end
+        → IsNewestEnd (registry_of (left_by a 1 mode) s) newest_end
+    newest_clear newest_end newest =
+        All-loss (λ e. e.ticket + 1 ≡ a.used → newest_end ≡ e.slot + 1) (entries_from 0 s)
+        (entries_from 0 cells) (entry_at handle d) gains newest
 
     pub remove_step : handle.service ≡ a.service → handle.role ≡ a.role
         → RemoveStep (registry_of a cells) handle mode

@@ -11,14 +11,18 @@ use Rattle.std.specs.contracts.prelude.OptionDebug.TheImpl as OptionDebug
 use Rattle.std.specs.contracts.prelude.UsizeDebug.TheImpl as UsizeDebug
 use Rattle.std.specs.declared.clone.Clone.{Ghosts as CloneGhosts}
 use Rattle.std.specs.declared.fmt.Debug.{Ghosts as DebugGhosts}
-use Rattle.iox2_container.specs.contracts.container.slots.Cell as Cell
+use Rattle.iox2_container.specs.contracts.container.cell.Cell as Cell
 use Rattle.iox2_container.specs.contracts.container.free.free_list.FreeList as FreeList
 use Rattle.iox2_container.specs.contracts.container.free.free_list.FreeListSlotAllocator.TheImpl as FreeListSlotAllocator
-use Rattle.iox2_container.specs.contracts.container.slot_map.RegistryHeader as RegistryHeader
+use Rattle.iox2_container.specs.contracts.container.header.RegistryHeader as RegistryHeader
 use Rattle.iox2_container.specs.contracts.container.slot_map.SlotMap as SlotMap
-use Rattle.iox2_container.specs.contracts.container.slot_map.SlotMap.TheInside as Inside
+use Rattle.iox2_container.specs.contracts.container.slot_map.SlotMap.TheInside as SlotMapInside
+use Rattle.iox2_container.specs.contracts.container.counted_map.CountedMap.TheInside as Inside
+use Rattle.iox2_container.specs.contracts.container.slot_map.places.PeekedPlaces.TheInside as PeekedInside
+use Rattle.iox2_container.specs.contracts.container.slot_map.places.Places as Places
+use Rattle.iox2_container.specs.contracts.container.slot_map.places.Places.TheInside as PlacesInside
 use Rattle.iox2_container.specs.contracts.container.slots.Slots as Slots
-use Rattle.iox2_container.specs.contracts.container.slots.Touches as Touches
+use Rattle.iox2_container.specs.contracts.container.touches.Touches as Touches
 use Rattle.iox2_container.specs.declared.container.free.slot_allocator.SlotAllocator.{Ghosts as SlotAllocatorGhosts}
 
 Touches-send : IsSend Touches.the_row
@@ -38,6 +42,17 @@ Cell-send T N t n =
     recorded_send (Enum (enum.shape (Cell.the_type T N))) _ _ ((Cell.the_type T N).to_one)
     (enum_send (enum.shape (Cell.the_type T N)) ((n, tt), ((search sendable, (t, tt)), tt)))
 
+-- what changes see of places, and what queries see
+module _ (T N : RattleType) where
+  Places-send : IsSend T → IsSend N → IsSend (Places.the_row T N)
+  Places-send t n =
+      view_send (PlacesInside.the_row T N) _ _ _ _
+      (declared_send (PlacesInside.the_type T N) (
+        view_send (PeekedInside.the_row T N) _ _ _ _
+            (declared_send (PeekedInside.the_type T N) (Slots-send _ (Cell-send T N t n), tt)),
+        tt,
+      ))
+
 -- any slot map
 module _ (T S N : RattleType) (slots : SlotAllocatorGhosts S.Denot T.Denot N.Denot)
     (debug : DebugGhosts N.Denot) where
@@ -45,11 +60,14 @@ module _ (T S N : RattleType) (slots : SlotAllocatorGhosts S.Denot T.Denot N.Den
   inside_send t s n =
       declared_send (Inside.the_type T S N slots debug) (
         RegistryHeader-send,
-        (Slots-send _ (Cell-send T N t n), (as_row_send (row_field S) s, (search sendable, tt))),
+        (Places-send T N t n, (as_row_send (row_field S) s, (search sendable, tt))),
       )
 
   pub SlotMap-send : IsSend T → IsSend S → IsSend N → IsSend (SlotMap.the_row T S N slots debug)
-  SlotMap-send t s n = view_send (Inside.the_row T S N slots debug) _ _ _ _ (inside_send t s n)
+  SlotMap-send t s n =
+      view_send (SlotMapInside.the_row T S N slots debug) _ _ _ _
+      (declared_send (SlotMapInside.the_type T S N slots debug)
+      (view_send (Inside.the_row T S N slots debug) _ _ _ _ (inside_send t s n), tt))
 
 -- that of a free list
 next : IsSend (Option.the_row u64-field.row)

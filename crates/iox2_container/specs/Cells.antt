@@ -1,8 +1,8 @@
 -- What contracts see of slots and of their cells.
 use Rattle.std.specs.Prelude.{ℕ, Option, Some, None, List}
-use Rattle.iox2_container.specs.declared.container.slots.Cell.{Cell}
-use Rattle.iox2_container.specs.declared.container.slots.Cell.TheVariants.{Taken, Free}
-use Rattle.iox2_container.specs.declared.container.slots.Occupant.{Occupant}
+use Rattle.iox2_container.specs.declared.container.cell.Cell.{Cell}
+use Rattle.iox2_container.specs.declared.container.cell.Cell.TheVariants.{Taken, Free}
+use Rattle.iox2_container.specs.declared.container.cell.Occupant.{Occupant}
 
 -- the cells of slots, how many there is memory for, and how often one was read or written
 pub record Cells (C : Type 0) : Type 0 where

@@ -1,5 +1,5 @@
 -- What contracts see of a container.
-use Rattle.std.specs.Prelude.{◌≡◌, ℕ, ◌+◌, ◌*◌, ◌≤◌, false, []}
+use Rattle.std.specs.Prelude.{ℕ, ◌+◌, ◌*◌, ◌≤◌, false, []}
 use Rattle.iox2_container.specs.declared.container.role.Role.{Role}
 use Rattle.iox2_container.specs.State.{RegistryState}
 
@@ -32,8 +32,3 @@ fresh service role capacity tickets = record {
 abbrev pub Touched : {T : Type 0} → ContainerState T → ContainerState T → Type 0
 Touched old new =
     (new.touches ≤ old.touches + 2 * old.registry.capacity) × (old.touches ≤ new.touches)
-
--- slots were read, none of them twice, and nothing else changed
-abbrev pub Reads : {T : Type 0} → ContainerState T → ContainerState T → Type 0
-Reads old new = (new.registry ≡ old.registry)
-    × (new.touches ≤ old.touches + old.registry.capacity) × (old.touches ≤ new.touches)

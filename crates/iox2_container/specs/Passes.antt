@@ -3,7 +3,7 @@ use Rattle.std.specs.Prelude.{◌≡◌, ℕ, ◌+◌, ◌-◌, ◌≤◌, ◌<�
 use Rattle.iox2_texts.specs.declared.bounded.callback_progression.CallbackProgression.{CallbackProgression}
 use Rattle.iox2_texts.specs.declared.bounded.callback_progression.CallbackProgression.TheVariants.{Continue}
 use Rattle.iox2_container.specs.declared.container.passes.Found.{Found}
-use Rattle.iox2_container.specs.declared.container.slots.Occupant.{Occupant}
+use Rattle.iox2_container.specs.declared.container.cell.Occupant.{Occupant}
 use Rattle.iox2_container.specs.Cells.{occupant}
 use Rattle.iox2_container.specs.State.{Entry}
 use Rattle.iox2_container.specs.Steps.{Asked, marks_of, candidates, staying, is_of}
@@ -58,6 +58,7 @@ pub record IsLastOf {T : Type 0} (node : T → ℕ) (id : ℕ) (cells : List (Op
     (from to old new : ℕ) : Type 0 where
   pub slot : ℕ
   pub order : from ≤ slot
+  pub before : slot < to
   pub others : AreOthers node id cells (slot + 1) to
   pub here : PlaceIsOf node id cells slot true
   pub looks : new + slot ≡ old + to

@@ -4,10 +4,10 @@ pub use Rattle.iox2_container.specs.Callbacks.{CanBeAsked, CanVisit, MayAsk, May
 pub use Rattle.iox2_container.specs.Calls.{Answered, CallRun, CallStep, Made, RemoveGiven, SameKind, SameReply, handle_given, handle_in, is_outside, reply_of_add, reply_of_remove}
 pub use Rattle.iox2_container.specs.Cells.{occupant, shown}
 pub use Rattle.iox2_container.specs.Changes.{Adds, Changes, RecoversBy, Removes}
-pub use Rattle.iox2_container.specs.ContainerState.{ContainerState, Reads, container, fresh}
+pub use Rattle.iox2_container.specs.ContainerState.{ContainerState, container, fresh}
 pub use Rattle.iox2_container.specs.FreeList.{IsFreeAt, IsFreeList, LeadsThrough, Linked, PutsFirst, TakesFirst, TakesLastFreed}
 pub use Rattle.iox2_container.specs.Handle.{Handle}
-pub use Rattle.iox2_container.specs.HeaderAndPlaces.{AreRegistry, registry_of}
+pub use Rattle.iox2_container.specs.HeaderAndPlaces.{AreRegistry, IsNewestEnd, registry_of}
 pub use Rattle.iox2_container.specs.Histories.{Change, ChangeStep, History, IsNew, IsRefused, Remains, TakesOut, handle_given_by, handles_given}
 pub use Rattle.iox2_container.specs.Histories.Change.{Adding, Recovering, Removing}
 pub use Rattle.iox2_container.specs.Mapped.{container_as, entry_as, registry_as}
@@ -25,10 +25,10 @@ pub use Rattle.iox2_container.specs.declared.container.release.ReleaseMode.{Rele
 pub use Rattle.iox2_container.specs.declared.container.release.ReleaseMode.TheVariants.{Default, LockIfLastIndex}
 pub use Rattle.iox2_container.specs.declared.container.release.ReleaseState.{ReleaseState}
 pub use Rattle.iox2_container.specs.declared.container.role.Role.{Role}
-pub use Rattle.iox2_container.specs.declared.container.slot_map.RegistryHeader.{RegistryHeader}
-pub use Rattle.iox2_container.specs.declared.container.slots.Cell.{Cell}
-pub use Rattle.iox2_container.specs.declared.container.slots.Cell.TheVariants.{Free, Taken}
-pub use Rattle.iox2_container.specs.declared.container.slots.Occupant.{Occupant}
+pub use Rattle.iox2_container.specs.declared.container.header.RegistryHeader.{RegistryHeader}
+pub use Rattle.iox2_container.specs.declared.container.cell.Cell.{Cell}
+pub use Rattle.iox2_container.specs.declared.container.cell.Cell.TheVariants.{Free, Taken}
+pub use Rattle.iox2_container.specs.declared.container.cell.Occupant.{Occupant}
 pub use Rattle.iox2_texts.specs.Attribute.{Visits}
 pub use Rattle.iox2_texts.specs.declared.bounded.callback_progression.CallbackProgression.{CallbackProgression}
 pub use Rattle.iox2_texts.specs.declared.bounded.callback_progression.CallbackProgression.TheVariants.{Continue, Stop}

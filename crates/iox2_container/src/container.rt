@@ -2,12 +2,15 @@
 //! registry stays locked.
 
 mod attached;
+mod cell;
 mod comparison;
+mod counted_map;
 mod free;
 mod handle;
+mod header;
 mod listing;
 mod passes;
-mod places;
+mod queries;
 mod refusal;
 mod registry;
 mod release;
@@ -15,6 +18,7 @@ mod role;
 mod service_numbers;
 mod slot_map;
 mod slots;
+mod touches;
 
 pub use attached::Attached;
 pub use comparison::{RegistryCall, RegistryReply, compare};

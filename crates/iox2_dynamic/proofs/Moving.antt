@@ -1,6 +1,6 @@
 -- What keeps a service one when ports come and go.
 use Rattle.std.proofs.Common.{◌≡◌, ◌∙◌, ℕ, ◌<◌, Result, Ok, Err, inl, inr, ap}
-use Rattle.iox2_dynamic.proofs.Names.{PatternKind, ContainerAddFailure, IsLocked, OutOfSpace, Default, ReleaseState, Role, Adds, Removes, ContainerState, Reads, Handle, Entry, RegistryState, IsRegistry, AddStep, RemoveStep, PortDetails, node_of, Ports, AddsTo, ReadsPorts, RemovesFrom, Side, of_side, other_side, First, Second, Service, IsService, IsPortRegistry, ArePorts, entries_of_node, first_role, second_role}
+use Rattle.iox2_dynamic.proofs.Names.{PatternKind, ContainerAddFailure, IsLocked, OutOfSpace, Default, ReleaseState, Role, Adds, Removes, ContainerState, Handle, Entry, RegistryState, IsRegistry, AddStep, RemoveStep, PortDetails, node_of, Ports, AddsTo, RemovesFrom, Side, of_side, other_side, First, Second, Service, IsService, IsPortRegistry, ArePorts, entries_of_node, first_role, second_role}
 use Rattle.iox2_container.specs.declared.container.refusal.ContainerRemoveError.{ContainerRemoveError}
 use Rattle.iox2_container.proofs.Keeping.{All-gain, All-loss}
 
@@ -65,26 +65,6 @@ with_ports s kind ports k i p = record {
   role_is = i.role_is;
   ports_are = rw k p;
 }
-
--- what a search for a node keeps
-pub nodes_read : (s : Service) (nodes : ContainerState ℕ) → Reads s.nodes nodes → IsService s
-    → IsService (record s { nodes = nodes })
-nodes_read s nodes reads i = record {
-  nodes_are = rw reads.0 i.nodes_are;
-  role_is = rw reads.0 i.role_is;
-  ports_are = rw reads.0 i.ports_are;
-}
-
--- what a search for the ports of a node keeps
-pub ports_read : (s : Service) (kind : PatternKind) (ports : Ports) → kind ≡ s.pattern
-    → ReadsPorts s.ports ports → IsService s
-    → IsService (record s { pattern = kind; ports = ports })
-ports_read s kind ports k reads i =
-    let nodes = s.nodes.registry in
-    with_ports s kind ports k i (record {
-      first = rw reads.0.0 i.ports_are.first;
-      second = rw reads.1.0 i.ports_are.second;
-    })
 
 -- what attaching a port keeps
 pub attach_kept : (s : Service) (kind : PatternKind) (ports : Ports) (d : PortDetails)

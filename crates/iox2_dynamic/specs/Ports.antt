@@ -1,7 +1,7 @@
 -- The ports of a service, and what the calls on them do.
-use Rattle.std.specs.Prelude.{◌≡◌, ◌≢◌, ℕ, nat_lt, ◌||◌, ◌⊎◌, Bool, true, false, Option, Some, None, Result, Err, List, ◌++◌, length}
+use Rattle.std.specs.Prelude.{◌≡◌, ◌≢◌, ℕ, ◌+◌, ◌≤◌, nat_lt, ◌||◌, ◌⊎◌, Bool, true, false, Option, Some, None, Result, Err, List, ◌++◌, length}
 use Rattle.iox2_texts.specs.declared.bounded.callback_progression.CallbackProgression.{CallbackProgression}
-use Rattle.iox2_dynamic.specs.Prelude.{UniquePortId, ContainerAddFailure, ContainerRemoveError, Default, ReleaseState, Role, Handle, ContainerState, Reads, fresh, RegistryState, Visit, IsUnknownHandle, HasEntry, TakesEntry, asked_about, entries_of, is_of, listed, PortCleanupAction, PortDetails, Adds, Removes}
+use Rattle.iox2_dynamic.specs.Prelude.{UniquePortId, ContainerAddFailure, ContainerRemoveError, Default, ReleaseState, Role, Handle, ContainerState, fresh, RegistryState, Visit, IsUnknownHandle, HasEntry, TakesEntry, asked_about, entries_of, is_of, listed, PortCleanupAction, PortDetails, Adds, Removes}
 use Rattle.iox2_container.specs.declared.container.refusal.ContainerRemoveError.TheVariants.{ContainerHandleNotOwnedByContainer}
 use Rattle.iox2_container.specs.Callbacks.{CanVisit}
 use Rattle.iox2_dynamic.specs.Recoveries.{RecoversPorts, ids_asked_about}
@@ -39,9 +39,10 @@ has_ports_of id p =
     nat_lt 0 (entries_of node_of id p.first.registry) || nat_lt 0
     (entries_of node_of id p.second.registry)
 
--- slots of both registries were read, none of them twice, and nothing else changed
-abbrev pub ReadsPorts : Ports → Ports → Type 0
-ReadsPorts old new = Reads old.first new.first × Reads old.second new.second
+-- slots of each registry were touched at most twice
+abbrev pub TouchesFew : {A B : Type 0} → PortsState A B → PortsState A B → Type 0
+TouchesFew old new =
+    (new.first.touches ≤ old.first.touches + 2) × (new.second.touches ≤ old.second.touches + 2)
 
 -- the registry of the role takes this step, and the other one is as it was
 pub record OnSide (a b : Role) (old : Ports) (role : Role)

@@ -1,7 +1,7 @@
 -- The names of the crates below, and of the declared types, that the definitions cite.
 pub use Rattle.iox2_config.specs.declared.hash.input.PatternKind.{PatternKind}
 pub use Rattle.iox2_container.specs.Changes.{Adds, RecoversBy, Removes}
-pub use Rattle.iox2_container.specs.ContainerState.{ContainerState, Reads, fresh}
+pub use Rattle.iox2_container.specs.ContainerState.{ContainerState, fresh}
 pub use Rattle.iox2_container.specs.Handle.{Handle}
 pub use Rattle.iox2_container.specs.State.{Entry, IsRegistry, RegistryState}
 pub use Rattle.iox2_container.specs.Steps.{HasEntry, IsUnknownHandle, TakesEntry, Visit, asked_about, entries_of, is_of, listed, release_state}

@@ -1,6 +1,6 @@
 -- What the calls on a service do.
 use Rattle.std.specs.Prelude.{◌≡◌, ◌<◌, ℕ, nat_eq, ◌&&◌, Bool, true, false, Result, Ok, Err}
-use Rattle.iox2_dynamic.specs.Prelude.{UniquePortId, ContainerAddFailure, ContainerRemoveError, LockIfLastIndex, ReleaseState, Handle, ContainerState, Reads, IsUnknownHandle, HasEntry, release_state, DeregisterNodeState, RegisterNodeResult, PortCleanupAction, PortDetails, Adds, Removes}
+use Rattle.iox2_dynamic.specs.Prelude.{UniquePortId, ContainerAddFailure, ContainerRemoveError, LockIfLastIndex, ReleaseState, Handle, ContainerState, IsUnknownHandle, HasEntry, release_state, DeregisterNodeState, RegisterNodeResult, PortCleanupAction, PortDetails, Adds, Removes}
 use Rattle.iox2_container.specs.declared.container.refusal.ContainerAddFailure.TheVariants as container
 use Rattle.iox2_dynamic.specs.declared.dynamic_config.answers.AttachError.{AttachError}
 use Rattle.iox2_dynamic.specs.declared.dynamic_config.answers.AttachError.TheVariants.{ServiceIsLocked, NodeNotRegistered, OutOfSpace}
@@ -9,7 +9,7 @@ use Rattle.iox2_dynamic.specs.declared.dynamic_config.answers.DeregisterError.Th
 use Rattle.iox2_dynamic.specs.Answers.{answer_of, state_of}
 use Rattle.iox2_dynamic.specs.Recoveries.{RecoversNodes}
 use Rattle.iox2_dynamic.specs.Details.{node_of}
-use Rattle.iox2_dynamic.specs.Ports.{AddsTo, RemovesFrom, RecoversBoth, ReadsPorts, has_ports_of}
+use Rattle.iox2_dynamic.specs.Ports.{AddsTo, RemovesFrom, RecoversBoth, has_ports_of}
 use Rattle.iox2_dynamic.specs.Service.{Service, entries_of_node, first_role, second_role}
 
 -- what registering a node does
@@ -28,28 +28,28 @@ DeregisterStep old handle (Err ContainerHandleNotOwnedByContainer) new =
     IsUnknownHandle old.nodes.registry handle × (new ≡ old)
 DeregisterStep old handle (Err PortsStillAttached) new =
     (id : ℕ) × HasEntry old.nodes.registry handle id × (is_last_of_ports id old ≡ true)
-    × ReadsPorts old.ports new.ports × (new ≡ record old { ports = new.ports })
+    × (new ≡ old)
 DeregisterStep old handle (Ok state) new =
     (id : ℕ) × HasEntry old.nodes.registry handle id × (is_last_of_ports id old ≡ false)
     × Removes old.nodes handle LockIfLastIndex (Ok (state_of state)) new.nodes
-    × ReadsPorts old.ports new.ports × (new ≡ record old { ports = new.ports; nodes = new.nodes })
+    × (new ≡ record old { nodes = new.nodes })
 
 -- the service is not locked, and the node is registered
 abbrev pub IsOpenFor : Service → ℕ → Type 0
 IsOpenFor s id = (s.nodes.registry.locked ≡ false) × (0 < entries_of_node id s.nodes.registry)
 
--- what adding a port of one of the pattern's roles does, after its node was looked for
+-- what adding a port of one of the pattern's roles does
 abbrev pub AddsPort : Service → PortDetails → Result Handle ContainerAddFailure → Service → Type 0
 AddsPort old details answer new =
     AddsTo (first_role old.pattern) (second_role old.pattern) old.ports details answer new.ports
-    × Reads old.nodes new.nodes × (new ≡ record old { ports = new.ports; nodes = new.nodes })
+    × (new ≡ record old { ports = new.ports })
 
 -- what attaching a port of one of the pattern's roles does
 abbrev pub AttachStep : Service → PortDetails → Result Handle AttachError → Service → Type 0
 AttachStep old details (Err ServiceIsLocked) new = (old.nodes.registry.locked ≡ true) × (new ≡ old)
 AttachStep old details (Err NodeNotRegistered) new =
     (old.nodes.registry.locked ≡ false) × (entries_of_node (node_of details) old.nodes.registry ≡ 0)
-    × Reads old.nodes new.nodes × (new ≡ record old { nodes = new.nodes })
+    × (new ≡ old)
 AttachStep old details (Err OutOfSpace) new =
     IsOpenFor old (node_of details) × AddsPort old details (Err container.OutOfSpace) new
 AttachStep old details (Ok handle) new = IsOpenFor old (node_of details)

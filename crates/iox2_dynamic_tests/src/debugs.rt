@@ -201,10 +201,11 @@ fn registry(
     [cells, free, newest_end]: [&str; 3],
 ) -> String {
     format!(in rt.alloc();
-        "SlotMap {{ header: RegistryHeader {{ service: 7, role: {role:?}, budget: 9, \
-        count: {count}, locked: false, used: {count} }}, \
-        places: Slots {{ cells: [{cells}], touches: Touches }}, \
-        free: FreeList {{ {free} }}, newest_end: {newest_end} }}"
+        "SlotMap {{ map: CountedMap {{ header: RegistryHeader {{ service: 7, role: {role:?}, \
+        budget: 9, count: {count}, locked: false, used: {count} }}, \
+        places: Places {{ peeked: PeekedPlaces {{ \
+        slots: Slots {{ cells: [{cells}], touches: Touches }} }} }}, \
+        free: FreeList {{ {free} }}, newest_end: {newest_end} }} }}"
     )
     .expect(rt, "memory for a text")
 }

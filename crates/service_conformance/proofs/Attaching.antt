@@ -22,7 +22,7 @@ use Rattle.service_conformance.specs.Possible.{Allows, ArePossible, possible_add
 use Rattle.service_conformance.specs.Sides.{role_at, ports_at, part_at, with_ports_at}
 use Rattle.service_conformance.proofs.Adds.{can_give, no_room, was_given}
 use Rattle.service_conformance.proofs.Possibles.{alone, not_both}
-use Rattle.service_conformance.proofs.Touching.{unread, untouching}
+use Rattle.service_conformance.proofs.Touching.{untouching}
 use Rattle.service_conformance.proofs.Sides.{given_at, has_role, lacks, may_give_at, ports_are, step_at, steps_at}
 
 module _ (s : Service) (d : PortDetails) where
@@ -70,7 +70,7 @@ module _ (s : Service) (d : PortDetails) where
       → s.nodes.registry.locked ≡ false → entries_of_node (node_of d) s.nodes.registry ≡ 0
       → ArePossible s (ServesAdd s d) (possible.One reply.NotRegistered)
   unregistered i has l n =
-      alone _ _ reply.NotRegistered s (λ r. refl) (has, (l, n, unread s.nodes, refl)) i
+      alone _ _ reply.NotRegistered s (λ r. refl) (has, (l, n, refl)) i
       (unregistered_only has l n)
 
   module _ (side : Side) (role : role_of d ≡ role_at s.pattern side)
@@ -126,7 +126,7 @@ module _ (s : Service) (d : PortDetails) where
           (container given.0 old.touches) role (untouching _ old given.0 given.1 given.2) in (
             record s { ports = ports },
             subst (λ r. ServesAdd s d r (record s { ports = ports })) (sym a.1)
-                (has_role s.pattern side (role_of d) role, (opens, (adds, unread s.nodes, refl))),
+                (has_role s.pattern side (role_of d) role, (opens, (adds, refl))),
             attach_kept s s.pattern ports d (Ok a.0) refl opens.1 adds i,
           );
       only = given_only takes;
@@ -140,5 +140,5 @@ module _ (s : Service) (d : PortDetails) where
         steps_at s.pattern side s.ports (role_of d) (λ o n. Adds o d (Err OutOfSpace) n) old role
         (untouching _ old old.registry (l, full, refl) (ports_are s side i).is_registry) in
         alone _ _ reply.Full (record s { ports = ports }) (λ r. refl)
-        (has_role s.pattern side (role_of d) role, (opens, (adds, unread s.nodes, refl)))
+        (has_role s.pattern side (role_of d) role, (opens, (adds, refl)))
         (attach_kept s s.pattern ports d (Err OutOfSpace) refl opens.1 adds i) (full_only full)

@@ -25,7 +25,7 @@ use Rattle.service_conformance.specs.declared.conformance.possible.Possible.TheV
 use Rattle.service_conformance.specs.Entries.{with_left}
 use Rattle.service_conformance.specs.Possible.{ArePossible, reply_of_owners, reply_of_state}
 use Rattle.service_conformance.proofs.Possibles.{alone, not_both}
-use Rattle.service_conformance.proofs.Touching.{unread_ports, untouching}
+use Rattle.service_conformance.proofs.Touching.{untouching}
 use Rattle.service_conformance.proofs.Removes.{can_remove, known}
 
 -- without a handle
@@ -118,7 +118,7 @@ module _ (s : Service) (h : Handle) where
     pub attached : is_last_of_ports id s ≡ true
         → ArePossible s (ServesDeregister s (Some h)) (possible.One reply.PortsAttached)
     attached l =
-        alone _ _ reply.PortsAttached s (λ r. refl) (id, has, l, unread_ports s.ports, refl) i
+        alone _ _ reply.PortsAttached s (λ r. refl) (id, has, l, refl) i
         (attached_only l)
 
     -- the answer is by the lock
@@ -161,9 +161,9 @@ module _ (s : Service) (h : Handle) where
         (λ b. left.locked ≡ b → b ≡ nat_eq (length s.nodes.registry.entries) 1
         → ArePossible s (ServesDeregister s (Some h)) (possible.One (reply_of_owners b))) [
           | true ↦ λ k e. alone _ _ reply.NoMoreOwners new (λ r. refl)
-              (id, has, l, leaves _ (sym (ap release_state k)), unread_ports s.ports, refl) kept
+              (id, has, l, leaves _ (sym (ap release_state k)), refl) kept
               (owners_only true e l)
           | false ↦ λ k e. alone _ _ reply.HasOwners new (λ r. refl)
-              (id, has, l, leaves _ (sym (ap release_state k)), unread_ports s.ports, refl) kept
+              (id, has, l, leaves _ (sym (ap release_state k)), refl) kept
               (owners_only false e l)
         ]) locked e

@@ -5,7 +5,7 @@ use Rattle.iox2_container.specs.declared.container.role.Role.{Role}
 use Rattle.iox2_container.specs.Changes.{Adds, Removes}
 use Rattle.iox2_container.specs.ContainerState.{ContainerState}
 use Rattle.iox2_dynamic.specs.Details.{role_of}
-use Rattle.iox2_dynamic.specs.Ports.{Ports, OnSide, IsNeither, ReadsPorts}
+use Rattle.iox2_dynamic.specs.Ports.{Ports, OnSide, IsNeither}
 use Rattle.iox2_dynamic.specs.PortsState.{Side, of_side, other_side}
 use Rattle.iox2_dynamic.specs.PortsState.Side.{First, Second}
 use Rattle.iox2_dynamic.specs.Steps.{AddsPort, RemovesPort}
@@ -46,13 +46,6 @@ seen_as : (s w : Service) (m : RegistryState ℕ) (first second : RegistryState 
     → w.ports.second.registry ≡ second → quiet w ≡ at_rest s.pattern m first second
 seen_as s w m first second p n f g = rw (p, n, f, g) refl
 
--- the nodes have changed, and the ports were read
-by_search : (s w : Service) (m : RegistryState ℕ) → w.pattern ≡ s.pattern
-    → w.nodes.registry ≡ m → ReadsPorts s.ports w.ports
-    → quiet w ≡ at_rest s.pattern m s.ports.first.registry s.ports.second.registry
-by_search s w m p n reads =
-    seen_as s w m s.ports.first.registry s.ports.second.registry p n reads.0.0 reads.1.0
-
 -- the nodes alone have changed
 by_nodes : (s w : Service) (m : RegistryState ℕ) → w ≡ record s { nodes = w.nodes }
     → w.nodes.registry ≡ m
@@ -78,9 +71,7 @@ module _ (s : Service) (rest : quiet s ≡ s) where
       → LeadsTo (ServesDeregister s (Some h)) r s
   deregister_stays h reply.HasOwners e = absurd (let z : true ≡ false = e in cc)
   deregister_stays h reply.NoMoreOwners e = absurd (let z : true ≡ false = e in cc)
-  deregister_stays h reply.PortsAttached e = λ w so.
-      by_search s w s.nodes.registry (ap (λ (n : Service). n.pattern) so.4)
-      (ap (λ (n : Service). n.nodes.registry) so.4) so.3 ∙ rest
+  deregister_stays h reply.PortsAttached e = λ w so. ap quiet so.3 ∙ rest
   deregister_stays h reply.NotOwned e = λ w so. ap quiet so.1 ∙ rest
   deregister_stays h _ e = λ w so. absurd so
 
@@ -109,9 +100,9 @@ pub deregister_goes : (s : Service) (h : Handle) (r : Reply) (m : RegistryState 
     → LeadsTo (ServesDeregister s (Some h)) r
     (at_rest s.pattern m s.ports.first.registry s.ports.second.registry)
 deregister_goes s h reply.HasOwners m e gone = λ w so.
-    by_search s w m (ap (λ n. n.pattern) so.5) (gone _ _ so.3.step) so.4
+    by_nodes s w m so.4 (gone _ _ so.3.step)
 deregister_goes s h reply.NoMoreOwners m e gone = λ w so.
-    by_search s w m (ap (λ n. n.pattern) so.5) (gone _ _ so.3.step) so.4
+    by_nodes s w m so.4 (gone _ _ so.3.step)
 deregister_goes s h reply.PortsAttached m e gone = absurd (let z : false ≡ true = e in cc)
 deregister_goes s h reply.NotOwned m e gone = absurd (let z : false ≡ true = e in cc)
 deregister_goes s h _ m e gone = λ w so. absurd so
@@ -151,16 +142,15 @@ others_at p side old new role Step e s =
 
 module _ (s : Service) (d : PortDetails) where
   refused_add : quiet s ≡ s → (w : Service) → AddsPort s d (Err OutOfSpace) w → quiet w ≡ s
-  refused_add rest w (a, reads, e) =
+  refused_add rest w (a, e) =
       by_ports a.side s w (ports_at s a.side).registry (ap (λ (n : Service). n.pattern) e)
-      reads.0 a.step.step.2 a.others
+      (ap (λ (n : Service). n.nodes.registry) e) a.step.step.2 a.others
       ∙ (same_side a.side s ∙ rest)
 
   pub attach_stays : quiet s ≡ s → (r : Reply) → handle_in r ≡ None → LeadsTo (ServesAdd s d) r s
   attach_stays rest (reply.Handle h) e = absurd (no_handle h e)
   attach_stays rest reply.Locked e = λ w so. ap quiet so.1.1 ∙ rest
-  attach_stays rest reply.NotRegistered e = λ w so.
-      by_nodes s w s.nodes.registry so.1.3 so.1.2.0 ∙ rest
+  attach_stays rest reply.NotRegistered e = λ w so. ap quiet so.1.2 ∙ rest
   attach_stays rest reply.Full e = λ w so. refused_add rest w so.1.1
   attach_stays rest reply.WrongPattern e = λ w so. ap quiet so.1 ∙ rest
   attach_stays rest _ e = λ w so. absurd so
@@ -181,7 +171,8 @@ module _ (s : Service) (d : PortDetails) where
         let a = so.1.1.0 in
         let c = step_at s.pattern side s.ports w.ports (role_of d)
         (λ o n. Adds o d (Ok h) n) role a in
-        by_ports side s w m (ap (λ (n : Service). n.pattern) so.1.1.2) so.1.1.1.0
+        by_ports side s w m (ap (λ (n : Service). n.pattern) so.1.1.1)
+        (ap (λ (n : Service). n.nodes.registry) so.1.1.1)
         (add_once (ports_at s side).registry (ports_at w side).registry m d
         (Ok h) c.step step c.kept k)
         (others_at s.pattern side s.ports w.ports (role_of d) (λ o n. Adds o d (Ok h) n) role a))

@@ -34,7 +34,7 @@ use Rattle.service_descriptions.specs.Cleanups.{Cleans, ServesDead}
 use Rattle.service_descriptions.specs.Handles.{named}
 use Rattle.service_descriptions.specs.Steps.{State, Serves, ServesRegister, ServesDeregister, ServesAdd, ServesRelease, ServiceStep, Run}
 use Rattle.service_conformance.specs.Quiet.{untouched, ports_at_rest, quiet, quiet_state}
-use Rattle.service_conformance.proofs.Touching.{changes, searches, searches_ports}
+use Rattle.service_conformance.proofs.Touching.{changes}
 
 abbrev quiet_ports : Ports → Ports
 quiet_ports p = ports_at_rest p.first.registry p.second.registry
@@ -70,11 +70,10 @@ module _ (old new : Service) where
       → ServesDeregister (quiet old) handle r (quiet new)
   deregisters None reply.NoHandle s = ap quiet s
   deregisters (Some h) reply.HasOwners s =
-      (s.0, s.1, s.2, changes _ _ _ s.3, searches_ports _ _ s.4, ap quiet s.5)
+      (s.0, s.1, s.2, changes _ _ _ s.3, ap quiet s.4)
   deregisters (Some h) reply.NoMoreOwners s =
-      (s.0, s.1, s.2, changes _ _ _ s.3, searches_ports _ _ s.4, ap quiet s.5)
-  deregisters (Some h) reply.PortsAttached s =
-      (s.0, s.1, s.2, searches_ports _ _ s.3, ap quiet s.4)
+      (s.0, s.1, s.2, changes _ _ _ s.3, ap quiet s.4)
+  deregisters (Some h) reply.PortsAttached s = (s.0, s.1, s.2, ap quiet s.3)
   deregisters (Some h) reply.NotOwned s = (s.0, ap quiet s.1)
   deregisters _ _ s = absurd s
 
@@ -84,16 +83,14 @@ module _ (old new : Service) where
     on_side (λ r s. AddStep r d answer s) (first_role old.pattern)
         (second_role old.pattern) old.ports
         new.ports (role_of d) s.0,
-    searches old.nodes new.nodes s.1,
-    ap quiet s.2,
+    ap quiet s.1,
   )
 
   adds : (d : PortDetails) (r : Reply) → ServesAdd old d r new
       → ServesAdd (quiet old) d r (quiet new)
   adds d (reply.Handle h) s = (s.0, (s.1.0, adds_port d (Ok h) s.1.1))
   adds d reply.Locked s = (s.0, (s.1.0, ap quiet s.1.1))
-  adds d reply.NotRegistered s =
-      (s.0, (s.1.0, s.1.1, searches old.nodes new.nodes s.1.2, ap quiet s.1.3))
+  adds d reply.NotRegistered s = (s.0, (s.1.0, s.1.1, ap quiet s.1.2))
   adds d reply.Full s = (s.0, (s.1.0, adds_port d (Err container.OutOfSpace) s.1.1))
   adds d reply.WrongPattern s = (s.0, ap quiet s.1)
   adds d _ s = absurd s

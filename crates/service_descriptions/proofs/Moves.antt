@@ -23,7 +23,7 @@ use Rattle.iox2_dynamic.specs.declared.dynamic_config.answers.DeregisterNodeStat
 use Rattle.iox2_dynamic.specs.declared.dynamic_config.port_details.PortDetails.{PortDetails}
 use Rattle.iox2_dynamic.specs.Answers.{state_of}
 use Rattle.iox2_dynamic.specs.Details.{node_of}
-use Rattle.iox2_dynamic.specs.Ports.{ReadsPorts, has_ports_of}
+use Rattle.iox2_dynamic.specs.Ports.{has_ports_of}
 use Rattle.iox2_dynamic.specs.PortsState.{Side, of_side, other_side}
 use Rattle.iox2_dynamic.specs.PortsState.Side.{First, Second}
 use Rattle.iox2_dynamic.specs.Service.{Service, IsService, first_role, second_role}
@@ -87,12 +87,6 @@ by_nodes old new given e g next =
     moved old new given g (grows_same _ _ (ap (λ s. s.ports.first.registry) e))
     (grows_same _ _ (ap (λ s. s.ports.second.registry) e)) next
 
--- the ports are read
-ports_read : (old new : Service) → Grows old.nodes.registry new.nodes.registry
-    → ReadsPorts old.ports new.ports → Moves old new None
-ports_read old new g reads =
-    moved old new None g (grows_same _ _ reads.0.0) (grows_same _ _ reads.1.0) tt
-
 -- the ports of one kind change, and no node comes or goes
 by_side : (side : Side) (old new : Service) (given : Option Handle)
     → new.nodes.registry ≡ old.nodes.registry
@@ -146,14 +140,14 @@ registers old id reply.Full new i s =
     (grows_add old.nodes.registry id (Err container.OutOfSpace) new.nodes.registry s.0.step) tt
 registers old id _ new i s = absurd s
 
--- a node leaves, after its ports were looked for
+-- a node leaves
 leaves : (old : Service) (handle : Handle) (state : ReleaseState) (new : Service)
     → Removes old.nodes handle LockIfLastIndex (Ok state) new.nodes
-    → ReadsPorts old.ports new.ports → Moves old new None
-leaves old handle state new gone reads =
-    ports_read old new
+    → new ≡ record old { nodes = new.nodes } → Moves old new None
+leaves old handle state new gone e =
+    by_nodes old new None e
     (grows_remove old.nodes.registry handle LockIfLastIndex (Ok state) new.nodes.registry
-    gone.step) reads
+    gone.step) tt
 
 deregisters : (old : Service) (handle : Option Handle) (r : Reply) (new : Service)
     → ServesDeregister old handle r new → Moves old new (handle_in r)
@@ -162,8 +156,7 @@ deregisters old (Some h) reply.HasOwners new s =
     leaves old h (state_of nodes.HasOwners) new s.3 s.4
 deregisters old (Some h) reply.NoMoreOwners new s =
     leaves old h (state_of nodes.NoMoreOwners) new s.3 s.4
-deregisters old (Some h) reply.PortsAttached new s =
-    ports_read old new (grows_same _ _ (ap (λ n. n.nodes.registry) s.4)) s.3
+deregisters old (Some h) reply.PortsAttached new s = still old new s.3
 deregisters old (Some h) reply.NotOwned new s = still old new s.1
 deregisters old _ _ new s = absurd s
 
@@ -171,8 +164,9 @@ deregisters old _ _ new s = absurd s
 adds_port : (old : Service) (details : PortDetails) (answer : Result Handle ContainerAddFailure)
     (new : Service) (given : Option Handle) → AddsPort old details answer new
     → IfSome given (IsNext old new) → Moves old new given
-adds_port old details answer new given (a, reads, e) next =
-    by_side a.side old new given reads.0 (grows_add _ details answer _ a.step.step) a.others next
+adds_port old details answer new given (a, e) next =
+    by_side a.side old new given (ap (λ s. s.nodes.registry) e)
+    (grows_add _ details answer _ a.step.step) a.others next
 
 next_at : (side : Side) (old : Service) (details : PortDetails) (h : Handle) (new : Service)
     → IsService old
@@ -198,8 +192,7 @@ attaches : (old : Service) (details : PortDetails) (r : Reply) (new : Service) �
 attaches old details (reply.Handle h) new i s =
     adds_port old details (Ok h) new (Some h) s.1.1 (next_port old details h new i s.1.1)
 attaches old details reply.Locked new i s = still old new s.1.1
-attaches old details reply.NotRegistered new i s =
-    by_nodes old new None s.1.3 (grows_same _ _ s.1.2.0) tt
+attaches old details reply.NotRegistered new i s = still old new s.1.2
 attaches old details reply.Full new i s =
     adds_port old details (Err container.OutOfSpace) new None s.1.1 tt
 attaches old details reply.WrongPattern new i s = still old new s.1

@@ -1,63 +1,26 @@
-//! Passes of a container over all its slots, one after another.
-ghost use Rattle.std.specs.Prelude.{◌≡◌, ◌+◌, ◌≤◌, ◌<◌, IsSome, IsTrue, None, false};
+//! What changes do with the slots of a container: passes over all of them, and a removal.
+ghost use Rattle.std.specs.Prelude.{◌≡◌, ◌+◌, ◌≤◌, ◌<◌, IfNone, IfSome, IsSome, IsTrue, None, false};
 ghost use Rattle.std.specs.Prelude.{MatchOption, length, map, slice_set, if◌then◌else◌};
-ghost use Rattle.std.specs.Bool.{MatchBool};
 ghost use Rattle.std.specs.Fn.{CalledAt, TakesAt};
 ghost use Rattle.iox2_container.specs.Cells.{shown};
-ghost use Rattle.iox2_container.specs.Places.{IsTakenAt, details_in, entries_from};
-ghost use Rattle.iox2_container.specs.Callbacks.{CanBeAsked, CanVisit};
-ghost use Rattle.iox2_container.specs.Passes.{AskedOfCell, AreOthers, Swept, cell_is_of};
-ghost use Rattle.iox2_container.specs.Passes.{IsLastOf, IsNextOf, TakesCell, looked_at};
-ghost use Rattle.iox2_container.specs.Steps.{Visit, candidates, is_of};
+ghost use Rattle.iox2_container.specs.Places.{Finds, IsTakenAt, entries_from};
+ghost use Rattle.iox2_container.specs.Callbacks.{CanBeAsked};
+ghost use Rattle.iox2_container.specs.Passes.{AreOthers, IsNextOf, Swept, looked_at};
+ghost use Rattle.iox2_container.specs.Steps.{candidates, is_of};
 
 use super::attached::Attached;
+use super::cell::with_ticket;
 use super::free::SlotAllocator;
-use super::places::Places;
-use super::slot_map::Looks;
-use super::slots::Occupant;
+use super::handle::ContainerHandle;
+use super::slot_map::places::Places;
 use iox2_ids::identifiers::UniqueNodeId;
-use iox2_texts::bounded::CallbackProgression;
 
 /// Calls the callback once.
-fn ask<T: Copy, R, F: FnMut(&T) -> R>(details: T, f: &mut F) -> R
+pub(super) fn ask<T: Copy, R, F: FnMut(&T) -> R>(details: T, f: &mut F) -> R
     requires { TakesAt F.FnMut f.old details }
     ensures { CalledAt F.FnMut f.old details result f.new }
 {
     f(&details)
-}
-
-/// Calls the callback with the entry of a slot, if it has one.
-fn show<T: Copy, F: FnMut(&T) -> CallbackProgression>(
-    cell: Option<Occupant<T>>,
-    f: &mut F,
-) -> CallbackProgression
-    requires { TakesCell (TakesAt F.FnMut) f.old cell }
-    ensures { AskedOfCell (CalledAt F.FnMut) f.old cell result f.new }
-{
-    match cell {
-        Some(occupant) => ask(occupant.details, f),
-        None => CallbackProgression::Continue,
-    }
-}
-
-/// Calls the callback with each entry in turn, until it stops. It reads each slot at most once.
-pub(super) fn visit<T: Copy, S: SlotAllocator<T>, F: FnMut(&T) -> CallbackProgression>(
-    places: &Places<T, S::Next>,
-    free: &S,
-    f: &mut F,
-    looks: &mut Looks,
-)
-    requires fits { S.fits free.now places.now.cells }
-    requires callable { CanVisit (TakesAt F.FnMut) (CalledAt F.FnMut) f.old
-        (details_in (map shown places.now.cells)) }
-    ensures visit { Visit (CalledAt F.FnMut) f.old (details_in (map shown places.now.cells)) f.new }
-    ensures looks { looks.new.touches.count ≤ looks.old.touches.count + length places.now.cells }
-{
-    for slot in 0..free.end(places) {
-        if let CallbackProgression::Stop = show(places.peek_at(slot, looks), f) {
-            return;
-        }
-    }
 }
 
 /// An entry that a search found, and where.
@@ -65,16 +28,6 @@ pub(super) fn visit<T: Copy, S: SlotAllocator<T>, F: FnMut(&T) -> CallbackProgre
 struct Found<T: Copy> {
     slot: usize,
     details: T,
-}
-
-/// Whether the entry of a slot is the node's.
-fn belongs_to<T: Attached + Copy>(cell: Option<Occupant<T>>, node: &UniqueNodeId) -> bool
-    ensures { result ≡ cell_is_of T.node node.now cell }
-{
-    match cell {
-        Some(occupant) => occupant.details.node_id() == *node,
-        None => false,
-    }
 }
 
 /// The same as [`next_of`], one slot after another.
@@ -180,55 +133,6 @@ fn next_of<T: Attached + Copy, N: Copy>(
     next_by_one(places, slot, end, node)
 }
 
-/// Whether some slot from one on and before the end has an entry of the node. It reads them from
-/// the last one down to the first that has, each once, and no other.
-pub(super) fn has_between<T: Attached + Copy, N: Copy>(
-    places: &mut Places<T, N>,
-    start: usize,
-    end: usize,
-    node: &UniqueNodeId,
-) -> bool
-    requires order { start ≤ end }
-    requires within { end ≤ length places.old.cells }
-    ensures cells { places.new.cells ≡ places.old.cells }
-    ensures touched { places.new.touches + start ≤ places.old.touches + end }
-    ensures counted { places.old.touches ≤ places.new.touches }
-    ensures has { MatchBool result
-        (IsLastOf T.node node.now (map shown places.old.cells) start end
-        places.old.touches places.new.touches)
-        (AreOthers T.node node.now (map shown places.old.cells) start end) }
-{
-    let mut slot = end;
-    while slot > start {
-        slot -= 1;
-        if places.has_at(slot, node) {
-            return true;
-        }
-    }
-    false
-}
-
-/// How many entries are those of the node. It reads each slot at most once.
-pub(super) fn count_of<T: Attached + Copy, S: SlotAllocator<T>>(
-    places: &Places<T, S::Next>,
-    free: &S,
-    node: &UniqueNodeId,
-    looks: &mut Looks,
-) -> usize
-    requires { S.fits free.now places.now.cells }
-    ensures looks { looks.new.touches.count ≤ looks.old.touches.count + length places.now.cells }
-    ensures count { result ≡
-        length (candidates (is_of T.node node.now) (entries_from 0 (map shown places.now.cells))) }
-{
-    let mut count = 0;
-    for slot in 0..free.end(places) {
-        if belongs_to(places.peek_at(slot, looks), node) {
-            count += 1;
-        }
-    }
-    count
-}
-
 /// Clears the slot of an entry that was found, if the callback says so.
 fn sweep_found<T: Attached + Copy, S: SlotAllocator<T>, F: FnMut(&T) -> bool>(
     places: &mut Places<T, S::Next>,
@@ -284,4 +188,30 @@ pub(super) fn sweep<T: Attached + Copy, S: SlotAllocator<T>, F: FnMut(&T) -> boo
         start = found.slot + 1;
     }
     gone
+}
+
+/// Takes the entry out of the handle's slot, if it has its ticket.
+pub(super) fn take_out<T: Copy, S: SlotAllocator<T>>(
+    places: &mut Places<T, S::Next>,
+    free: &mut S,
+    handle: ContainerHandle,
+) -> Option<T>
+    requires slot { handle.slot < length places.old.cells }
+    requires fits { S.fits free.old places.old.cells }
+    ensures fits { S.fits free.new places.new.cells }
+    ensures found { Finds (map shown places.old.cells) handle result }
+    ensures gone { IfSome result (λ _.
+        map shown places.new.cells ≡ slice_set (map shown places.old.cells) handle.slot None) }
+    ensures kept { IfNone result (map shown places.new.cells ≡ map shown places.old.cells) }
+    ensures touched { places.new.touches ≤ places.old.touches + 2 }
+    ensures counted { places.old.touches ≤ places.new.touches }
+{
+    let slot = handle.slot();
+    match with_ticket(places.look(slot), handle.ticket()) {
+        Some(details) => {
+            free.clear(places, slot);
+            Some(details)
+        }
+        None => None,
+    }
 }

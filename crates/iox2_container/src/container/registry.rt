@@ -3,7 +3,7 @@ ghost use Rattle.std.specs.Prelude.{◌≡◌, ℕ, ◌+◌, ◌≤◌, ◌↔�
 ghost use Rattle.std.specs.Fn.{CalledAt, TakesAt};
 ghost use Rattle.iox2_container.specs.Callbacks.{CanBeAsked, CanVisit};
 ghost use Rattle.iox2_container.specs.Changes.{Adds, Removes, RecoversBy};
-ghost use Rattle.iox2_container.specs.ContainerState.{ContainerState, Reads};
+ghost use Rattle.iox2_container.specs.ContainerState.{ContainerState};
 ghost use Rattle.iox2_container.specs.State.{IsRegistry};
 ghost use Rattle.iox2_container.specs.Steps.{IsUnknownHandle, HasEntry, TakesEntry, Visit};
 ghost use Rattle.iox2_container.specs.Steps.{asked_about, entries_of, is_of, listed};
@@ -17,8 +17,8 @@ use iox2_texts::bounded::CallbackProgression;
 
 /// A bounded map from handles, of which none is given twice, to details.
 ///
-/// No change reads or writes its slots more than twice as often as it has slots. No call takes
-/// memory, and a refused one changes no entry, no lock and no ticket.
+/// No change touches its slots more than twice as often as it has slots. No call takes memory, and
+/// a refused one changes no entry, no lock and no ticket.
 ///
 /// From `crates/iox2_dynamic/src/dynamic_config/service.rt`:
 ///
@@ -32,7 +32,7 @@ use iox2_texts::bounded::CallbackProgression;
 /// }
 /// ```
 pub trait Registry<T: Attached + Copy> {
-    /// What the registry holds, and how often a change read or wrote one of its slots.
+    /// What the registry holds, and how often changes touched its slots.
     ghost state: { Self → ContainerState T };
 
     /// The most touches of an add, by the capacity.
@@ -62,9 +62,9 @@ pub trait Registry<T: Attached + Copy> {
 
     /// Calls the callback once for each entry of the dead node, by rising slot, and removes those
     /// for which it returns `true`. Returns whether the registry is locked then. Where no entry is
-    /// removed, nothing is locked. It reads each slot at most once, and writes one for each entry
-    /// that it removes. The callback must be callable on those entries in turn, each time as the
-    /// call before left it.
+    /// removed, nothing is locked. It touches each slot at most once to look at it, and once more
+    /// for each entry that it removes. The callback must be callable on those entries in turn, each
+    /// time as the call before left it.
     fn recover<F: FnMut(&T) -> bool>(
         &mut self,
         dead: &UniqueNodeId,
@@ -95,11 +95,11 @@ pub trait Registry<T: Attached + Copy> {
             (HasEntry (state self.now).registry handle) }
         ensures kept { IsRegistry (state self.now).registry };
 
-    /// Whether the node has an entry. It reads each slot at most once, and changes nothing else.
-    fn has_entry_of(&mut self, node: &UniqueNodeId) -> bool
+    /// Whether the node has an entry.
+    fn has_entry_of(&self, node: &UniqueNodeId) -> bool
         ensures has { result ≡
-            nat_lt 0 (entries_of T.node node.now (state self.old).registry) }
-        ensures reads { Reads (state self.old) (state self.new) };
+            nat_lt 0 (entries_of T.node node.now (state self.now).registry) }
+        ensures kept { IsRegistry (state self.now).registry };
 
     /// How many entries are those of the node.
     fn entries_of(&self, node: &UniqueNodeId) -> usize

@@ -1,62 +1,23 @@
 //! The one container, whatever finds its free slots.
-ghost use Rattle.std.specs.Prelude.{◌≡◌, ◌+◌, ◌-◌, ◌≤◌, ◌<◌, ◌↔◌, IfOk, IsTrue};
+ghost use Rattle.std.specs.Prelude.{◌≡◌, ◌+◌, IfOk};
 ghost use Rattle.iox2_container.specs.ContainerState.{fresh};
-ghost use Rattle.iox2_container.specs.Steps.{lock_after, release_state};
+
+pub(super) mod places;
 
 use super::attached::Attached;
+use super::counted_map::CountedMap;
 use super::free::{FreeList, LowestFree, SlotAllocator};
 use super::handle::ContainerHandle;
-use super::passes::{count_of, has_between, sweep, visit};
-use super::places::{Places, find, take_out};
+use super::queries::{count_of, find, has_entry, visit};
 use super::refusal::{ContainerAddFailure, ContainerRemoveError};
 use super::registry::Registry;
 use super::release::{ReleaseMode, ReleaseState};
 use super::role::Role;
-use super::slots::{Cell, Slots, Touches};
+use super::touches::Touches;
 use iox2_ids::identifiers::UniqueNodeId;
 use iox2_texts::bounded::CallbackProgression;
 use std::alloc::{AllocError, Global};
 use std::marker::Model;
-
-/// What a container knows beside its slots: whose it is, how many entries it has, how many tickets
-/// it issued and may issue, and whether it is locked.
-#[derive(Debug, Drop)]
-struct RegistryHeader {
-    service: u64,
-    role: Role,
-    budget: u64,
-    count: usize,
-    locked: bool,
-    used: u64,
-}
-
-impl RegistryHeader {
-    /// Whether an entry of the container may have the handle, by all parts but its ticket.
-    fn may_have(&self, handle: ContainerHandle, capacity: usize) -> bool
-        ensures { IsTrue result ↔
-            ((handle.service ≡ self.now.service) × (handle.role ≡ self.now.role)
-            × (handle.slot < capacity)) }
-    {
-        handle.service() == self.service && handle.role() == self.role && handle.slot() < capacity
-    }
-
-    /// Counts this many entries less, locks where the last one was removed and the mode says so,
-    /// and returns whether the container is locked then.
-    fn leave(&mut self, gone: usize, mode: ReleaseMode) -> ReleaseState
-        requires { gone ≤ self.old.count }
-        ensures left { self.new ≡ record self.old {
-          count = self.old.count - gone;
-          locked = lock_after mode self.old.count (self.old.count - gone) self.old.locked;
-        } }
-        ensures state { result ≡ release_state self.new.locked }
-    {
-        self.count -= gone;
-        if gone > 0 {
-            self.locked = mode.lock_after(self.count, self.locked);
-        }
-        ReleaseState::of(self.locked)
-    }
-}
 
 /// A count for proofs of how often a call that changes nothing read slots. It takes no bytes. The
 /// calls of a registry alone begin a count.
@@ -108,28 +69,15 @@ pub type ListContainer<T> = SlotMap<T, FreeList>;
 /// `most_for_put` of that says, a removal at most twice.
 #[derive(Debug, Drop)]
 pub struct SlotMap<T: Copy, S: SlotAllocator<T>> {
-    header: RegistryHeader,
-    places: Places<T, S::Next>,
-    free: S,
-    // Behind the slot of the entry that came last, whose node is likely to be asked for next.
-    newest_end: usize,
+    map: CountedMap<T, S>,
 }
 
 impl<T: Copy, S: SlotAllocator<T>> Model for SlotMap<T, S> {
-    ghost use Rattle.std.specs.Prelude.{map};
-    ghost use Rattle.iox2_container.specs.Cells.{shown};
     ghost use Rattle.iox2_container.specs.ContainerState.{ContainerState};
-    ghost use Rattle.iox2_container.specs.HeaderAndPlaces.{registry_of, AreRegistry};
 
     ghost Value = { ContainerState T };
 
-    ghost view = { λ m. record {
-      registry = registry_of m.header (map shown m.places.cells);
-      touches = m.places.touches;
-    } };
-
-    ghost invariant = { λ m.
-        AreRegistry m.header (map shown m.places.cells) × S.fits m.free m.places.cells };
+    ghost view = { λ m. m.map };
 }
 
 impl<T: Copy, S: SlotAllocator<T>> SlotMap<T, S> {
@@ -144,24 +92,13 @@ impl<T: Copy, S: SlotAllocator<T>> SlotMap<T, S> {
     ) -> Result<Self, AllocError>
         ensures { IfOk result (λ m. m ≡ fresh service role capacity tickets) }
     {
-        let (free, next) = S::all_free();
-        let places = Slots::new(alloc, capacity, Cell::Free(next))?;
-        Ok(SlotMap {
-            header: RegistryHeader {
-                service,
-                role,
-                budget: tickets,
-                count: 0,
-                locked: false,
-                used: 0,
-            },
-            places,
-            free,
-            newest_end: 0,
-        })
+        let map = CountedMap::new(alloc, service, role, capacity, tickets)?;
+        Ok(SlotMap { map })
     }
 }
 
+/// Each change is one call of the map of the same name, which counts it. Queries do not change the
+/// map, and count their looks.
 impl<T: Attached + Copy, S: SlotAllocator<T>> Registry<T> for SlotMap<T, S> {
     ghost state = { λ m. m };
 
@@ -169,20 +106,8 @@ impl<T: Attached + Copy, S: SlotAllocator<T>> Registry<T> for SlotMap<T, S> {
 
     ghost most_for_remove = { 2 };
 
-    #[tactic(auto, using(crate::proofs::Adding::places_of_add))]
     fn add(&mut self, details: T) -> Result<ContainerHandle, ContainerAddFailure> {
-        if self.header.locked {
-            return Err(ContainerAddFailure::IsLocked);
-        }
-        if self.header.used >= self.header.budget || self.header.count == self.places.len() {
-            return Err(ContainerAddFailure::OutOfSpace);
-        }
-        let ticket = self.header.used;
-        self.header.used = ticket + 1;
-        self.header.count += 1;
-        let slot = self.free.put(&mut self.places, ticket, details);
-        self.newest_end = slot + 1;
-        Ok(ContainerHandle::from_parts(self.header.service, self.header.role, slot, ticket))
+        self.map.add(details)
     }
 
     fn remove(
@@ -190,14 +115,7 @@ impl<T: Attached + Copy, S: SlotAllocator<T>> Registry<T> for SlotMap<T, S> {
         handle: ContainerHandle,
         mode: ReleaseMode,
     ) -> Result<ReleaseState, ContainerRemoveError> {
-        let refused = Err(ContainerRemoveError::ContainerHandleNotOwnedByContainer);
-        if !self.header.may_have(handle, self.places.len()) {
-            return refused;
-        }
-        match take_out(&mut self.places, &mut self.free, handle) {
-            Some(_) => Ok(self.header.leave(1, mode)),
-            None => refused,
-        }
+        self.map.remove(handle, mode)
     }
 
     fn recover<F: FnMut(&T) -> bool>(
@@ -206,66 +124,64 @@ impl<T: Attached + Copy, S: SlotAllocator<T>> Registry<T> for SlotMap<T, S> {
         f: &mut F,
         mode: ReleaseMode,
     ) -> ReleaseState {
-        if self.header.count == 0 {
-            return ReleaseState::of(self.header.locked);
-        }
-        let gone = sweep(&mut self.places, &mut self.free, dead, f);
-        self.header.leave(gone, mode)
+        self.map.recover(dead, f, mode)
     }
 
     fn for_each<F: FnMut(&T) -> CallbackProgression>(&self, f: &mut F) {
-        if self.header.count > 0 {
-            let mut looks = Looks::none();
-            visit(&self.places, &self.free, f, &mut looks);
+        if self.map.header.count > 0 {
+            let end = self.map.free.end(&self.map.places);
+            visit(self.map.places.peeked(), end, f, &mut Looks::none());
         }
     }
 
     fn get(&self, handle: ContainerHandle) -> Option<T> {
-        if !self.header.may_have(handle, self.places.len()) {
+        if !self.map.header.may_have(handle, self.map.places.len()) {
             return None;
         }
-        let mut looks = Looks::none();
-        find(&self.places, handle, &mut looks)
+        find(self.map.places.peeked(), handle, &mut Looks::none())
     }
 
     fn entries_of(&self, node: &UniqueNodeId) -> usize {
-        if self.header.count == 0 {
+        if self.map.header.count == 0 {
             return 0;
         }
-        let mut looks = Looks::none();
-        count_of(&self.places, &self.free, node, &mut looks)
+        let end = self.map.free.end(&self.map.places);
+        count_of(self.map.places.peeked(), end, node, &mut Looks::none())
     }
 
-    fn has_entry_of(&mut self, node: &UniqueNodeId) -> bool {
-        if self.header.count == 0 {
+    fn has_entry_of(&self, node: &UniqueNodeId) -> bool {
+        if self.map.header.count == 0 {
             return false;
         }
-        // The newest entries are read first, and the later slots after them.
-        let end = self.free.end(&self.places);
-        let middle = self.newest_end.min(end);
-        has_between(&mut self.places, 0, middle, node)
-            || has_between(&mut self.places, middle, end, node)
+        let end = self.map.free.end(&self.map.places);
+        has_entry(
+            self.map.places.peeked(),
+            self.map.newest_end,
+            end,
+            node,
+            &mut Looks::none(),
+        )
     }
 
     fn len(&self) -> usize {
-        self.header.count
+        self.map.header.count
     }
 
     fn has_room(&self) -> bool {
-        !self.header.locked
-            && self.header.used < self.header.budget
-            && self.header.count < self.places.len()
+        !self.map.header.locked
+            && self.map.header.used < self.map.header.budget
+            && self.map.header.count < self.map.places.len()
     }
 
     fn service(&self) -> u64 {
-        self.header.service
+        self.map.header.service
     }
 
     fn capacity(&self) -> usize {
-        self.places.len()
+        self.map.places.len()
     }
 
     fn is_locked(&self) -> bool {
-        self.header.locked
+        self.map.header.locked
     }
 }

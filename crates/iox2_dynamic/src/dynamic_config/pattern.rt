@@ -7,7 +7,7 @@ ghost use Rattle.iox2_dynamic.specs.Details.{role_of};
 ghost use Rattle.iox2_dynamic.specs.Patterns.{kind_of_service, ports_of};
 ghost use Rattle.iox2_dynamic.specs.Ports.{ports_as, empty_ports, has_ports_of, IsNoPort, OfRole};
 ghost use Rattle.iox2_dynamic.specs.Ports.{AddsTo, RemovesFrom, RecoversBoth, CountsIn, CanListIn, ListsIn};
-ghost use Rattle.iox2_dynamic.specs.Ports.{ReadsPorts, StandsAmong, TakesIn, ports_asked_about, ports_of_node};
+ghost use Rattle.iox2_dynamic.specs.Ports.{StandsAmong, TakesIn, TouchesFew, ports_asked_about, ports_of_node};
 ghost use Rattle.iox2_dynamic.specs.Service.{HasRole, first_role, second_role, capacities_in, fresh_ports};
 
 use super::blackboard::DynamicConfig as BlackboardPorts;
@@ -88,10 +88,8 @@ impl<A: PortKind, B: PortKind> PortRegistries<A, B> {
     }
 
     /// Whether some port has the node.
-    pub(super) fn has_ports_of(&mut self, node: &UniqueNodeId) -> bool
-        ensures has { result ≡ has_ports_of node.now (ports_as A.details B.details self.old) }
-        ensures reads { ReadsPorts (ports_as A.details B.details self.old)
-            (ports_as A.details B.details self.new) }
+    pub(super) fn has_ports_of(&self, node: &UniqueNodeId) -> bool
+        ensures { result ≡ has_ports_of node.now (ports_as A.details B.details self.now) }
     {
         if self.first.has_entry_of(node) {
             return true;
@@ -101,16 +99,18 @@ impl<A: PortKind, B: PortKind> PortRegistries<A, B> {
 
     /// Adds a port of the first kind.
     pub(super) fn add_first(&mut self, port: A) -> Result<ContainerHandle, ContainerAddFailure>
-        ensures { AddsTo A.ROLE B.ROLE (ports_as A.details B.details self.old)
+        ensures added { AddsTo A.ROLE B.ROLE (ports_as A.details B.details self.old)
             (A.details port) result (ports_as A.details B.details self.new) }
+        ensures few { TouchesFew self.old self.new }
     {
         self.first.add(port)
     }
 
     /// Adds a port of the second kind.
     pub(super) fn add_second(&mut self, port: B) -> Result<ContainerHandle, ContainerAddFailure>
-        ensures { AddsTo A.ROLE B.ROLE (ports_as A.details B.details self.old)
+        ensures added { AddsTo A.ROLE B.ROLE (ports_as A.details B.details self.old)
             (B.details port) result (ports_as A.details B.details self.new) }
+        ensures few { TouchesFew self.old self.new }
     {
         self.second.add(port)
     }
@@ -120,8 +120,9 @@ impl<A: PortKind, B: PortKind> PortRegistries<A, B> {
         &mut self,
         handle: ContainerHandle,
     ) -> Result<ReleaseState, ContainerRemoveError>
-        ensures { RemovesFrom A.ROLE B.ROLE (ports_as A.details B.details self.old)
+        ensures removed { RemovesFrom A.ROLE B.ROLE (ports_as A.details B.details self.old)
             handle result (ports_as A.details B.details self.new) }
+        ensures few { TouchesFew self.old self.new }
     {
         if handle.role() == A::ROLE {
             return self.first.remove(handle, ReleaseMode::Default);
@@ -343,10 +344,8 @@ impl MessagingPattern {
     }
 
     /// Whether some port has the node.
-    pub(super) fn has_ports_of(&mut self, id: &UniqueNodeId) -> bool
-        ensures has { result ≡ has_ports_of id.now (ports_of self.old) }
-        ensures reads { ReadsPorts (ports_of self.old) (ports_of self.new) }
-        ensures kind { kind_of_service self.new ≡ kind_of_service self.old }
+    pub(super) fn has_ports_of(&self, id: &UniqueNodeId) -> bool
+        ensures { result ≡ has_ports_of id.now (ports_of self.now) }
     {
         of_any_pattern!(self, ports => ports.has_ports_of(id))
     }
@@ -360,6 +359,7 @@ impl MessagingPattern {
         ensures added { AddsTo (first_role (kind_of_service self.old))
             (second_role (kind_of_service self.old))
             (ports_of self.old) details result (ports_of self.new) }
+        ensures few { TouchesFew (ports_of self.old) (ports_of self.new) }
         ensures kind { kind_of_service self.new ≡ kind_of_service self.old }
     {
         match (self, details) {
@@ -391,6 +391,7 @@ impl MessagingPattern {
         ensures removed { RemovesFrom
             (first_role (kind_of_service self.old)) (second_role (kind_of_service self.old))
             (ports_of self.old) handle result (ports_of self.new) }
+        ensures few { TouchesFew (ports_of self.old) (ports_of self.new) }
         ensures kind { kind_of_service self.new ≡ kind_of_service self.old }
     {
         of_any_pattern!(self, ports => ports.remove(handle))

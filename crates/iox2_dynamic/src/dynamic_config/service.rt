@@ -1,5 +1,5 @@
 //! A service: its nodes and the ports of its pattern.
-ghost use Rattle.std.specs.Prelude.{◌≡◌, ◌↔◌, IfOk, IsTrue};
+ghost use Rattle.std.specs.Prelude.{◌≡◌, ◌+◌, ◌≤◌, ◌↔◌, IfOk, IsTrue};
 ghost use Rattle.std.specs.Fn.{CalledAt, TakesAt};
 ghost use Rattle.iox2_config.specs.declared.hash.input.PatternKind.TheVariants as kind;
 ghost use Rattle.iox2_container.specs.Callbacks.{CanBeAsked, CanVisit};
@@ -9,7 +9,7 @@ ghost use Rattle.iox2_dynamic.specs.Answers.{state_of};
 ghost use Rattle.iox2_dynamic.specs.Details.{role_of};
 ghost use Rattle.iox2_dynamic.specs.Patterns.{kind_of_service, ports_of};
 ghost use Rattle.iox2_dynamic.specs.Ports.{ports_as, ports_asked_about, CountsIn, CanListIn, ListsIn};
-ghost use Rattle.iox2_dynamic.specs.Ports.{ReadsPorts};
+ghost use Rattle.iox2_dynamic.specs.Ports.{TouchesFew};
 ghost use Rattle.iox2_dynamic.specs.Service.{IsService, HasRole, first_role, second_role};
 ghost use Rattle.iox2_dynamic.specs.Service.{capacities_in, fresh_service};
 ghost use Rattle.iox2_dynamic.specs.Steps.{RegisterStep, DeregisterStep, AttachStep, ReleaseStep};
@@ -64,17 +64,15 @@ impl Model for DynamicConfig {
 
 /// Whether one entry of the node is all that it has, and some port has the node.
 fn is_last_of_ports(
-    pattern: &mut MessagingPattern,
+    pattern: &MessagingPattern,
     nodes: &ServiceRegistry<UniqueNodeId>,
     id: &UniqueNodeId,
 ) -> bool
-    ensures last { result ≡ is_last_of_ports id.now (record {
-      pattern = kind_of_service pattern.old;
-      ports = ports_of pattern.old;
+    ensures { result ≡ is_last_of_ports id.now (record {
+      pattern = kind_of_service pattern.now;
+      ports = ports_of pattern.now;
       nodes = nodes.now;
     }) }
-    ensures reads { ReadsPorts (ports_of pattern.old) (ports_of pattern.new) }
-    ensures kind { kind_of_service pattern.new ≡ kind_of_service pattern.old }
 {
     pattern.has_ports_of(id) && nodes.entries_of(id) == 1
 }
@@ -121,6 +119,7 @@ impl DynamicConfig {
         id: UniqueNodeId,
     ) -> Result<ContainerHandle, RegisterNodeResult>
         ensures step { RegisterStep self.old id result self.new }
+        ensures few { self.new.nodes.touches ≤ self.old.nodes.touches + 2 }
         ensures kept { IsService self.new }
     {
         match self.nodes.add(id) {
@@ -140,12 +139,13 @@ impl DynamicConfig {
         handle: ContainerHandle,
     ) -> Result<DeregisterNodeState, DeregisterError>
         ensures step { DeregisterStep self.old handle result self.new }
+        ensures few { self.new.nodes.touches ≤ self.old.nodes.touches + 2 }
         ensures kept { IsService self.new }
     {
         let Some(id) = self.nodes.get(handle) else {
             return Err(DeregisterError::ContainerHandleNotOwnedByContainer);
         };
-        if is_last_of_ports(&mut self.pattern, &self.nodes, &id) {
+        if is_last_of_ports(&self.pattern, &self.nodes, &id) {
             return Err(DeregisterError::PortsStillAttached);
         }
         match self.nodes.remove(handle, ReleaseMode::LockIfLastIndex) {
@@ -186,6 +186,7 @@ impl DynamicConfig {
     pub fn attach(&mut self, details: PortDetails) -> Result<ContainerHandle, AttachError>
         requires { HasRole self.old.pattern (role_of details) }
         ensures step { AttachStep self.old details result self.new }
+        ensures few { TouchesFew self.old.ports self.new.ports }
         ensures kept { IsService self.new }
     {
         if self.nodes.is_locked() {
@@ -204,6 +205,7 @@ impl DynamicConfig {
     /// handle that is not that of a port here, a node's too.
     pub fn release_port(&mut self, handle: ContainerHandle) -> Result<(), ContainerRemoveError>
         ensures step { ReleaseStep self.old handle result self.new }
+        ensures few { TouchesFew self.old.ports self.new.ports }
         ensures kept { IsService self.new }
     {
         match self.pattern.remove(handle) {

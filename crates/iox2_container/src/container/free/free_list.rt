@@ -2,14 +2,14 @@
 //! through the slots.
 ghost use Rattle.std.specs.Prelude.{◌≡◌, ◌+◌, ◌*◌, ◌≤◌, ◌<◌, ℕ, List, [], ◌∷◌, Some, None};
 ghost use Rattle.std.specs.Prelude.{length, map, replicate, slice_get, slice_set};
-ghost use Rattle.iox2_container.specs.declared.container.slots.Cell.TheVariants.{Free};
+ghost use Rattle.iox2_container.specs.declared.container.cell.Cell.TheVariants.{Free};
 ghost use Rattle.iox2_container.specs.Cells.{occupant, shown};
 ghost use Rattle.iox2_container.specs.Places.{IsTakenAt, entries_from};
 ghost use Rattle.iox2_container.specs.FreeList.{AreFreed, IsFreeList, PutsFirst};
 
 use super::slot_allocator::SlotAllocator;
-use crate::container::places::Places;
-use crate::container::slots::Cell;
+use crate::container::cell::Cell;
+use crate::container::slot_map::places::Places;
 
 /// Slots of which a free one has the index of the one that was freed before it.
 type LinkedPlaces<T> = Places<T, Option<usize>>;

@@ -5,8 +5,8 @@ ghost use Rattle.iox2_container.specs.Places.{entries_from};
 ghost use Rattle.iox2_container.specs.Cells.{occupant, shown};
 
 use super::slot_allocator::SlotAllocator;
-use crate::container::places::Places;
-use crate::container::slots::Cell;
+use crate::container::cell::Cell;
+use crate::container::slot_map::places::Places;
 
 /// Finds free slots by a scan. It keeps nothing, so it fits any slots.
 #[derive(Debug, Drop)]

@@ -1,12 +1,12 @@
 //! What finds free slots.
 ghost use Rattle.std.specs.Prelude.{◌≡◌, ◌+◌, ◌*◌, ◌≤◌, ◌<◌, ℕ, Some, None, List};
 ghost use Rattle.std.specs.Prelude.{length, map, replicate, slice_get, slice_set};
-ghost use Rattle.iox2_container.specs.declared.container.slots.Cell.{Cell};
-ghost use Rattle.iox2_container.specs.declared.container.slots.Cell.TheVariants.{Free};
+ghost use Rattle.iox2_container.specs.declared.container.cell.Cell.{Cell};
+ghost use Rattle.iox2_container.specs.declared.container.cell.Cell.TheVariants.{Free};
 ghost use Rattle.iox2_container.specs.Cells.{occupant, shown};
 ghost use Rattle.iox2_container.specs.Places.{IsTakenAt, NoneFrom, entries_from};
 
-use crate::container::places::Places;
+use crate::container::slot_map::places::Places;
 use std::fmt::Debug;
 
 /// Finds free slots, by what it keeps and what the slots keep.

@@ -6,6 +6,7 @@ use Rattle.iox2_container.proofs.container.slot_map.SlotMapRegistry.get.Goals as
 pub returns-clause-details : goal.returns-clause-details
 returns-clause-details g c =
     let parts = c.may_have.ensures.0 c.if-not-may_have.false in
-    rw (← c.self.view_is)
-    (names c.self.inside.header (map shown c.self.inside.places.cells) c.args.handle
-    c.find.result parts.0 parts.1 c.find.ensures.found)
+    let map_is = c.self-inside.inside.0.0 in
+    rw (← c.self.view_is, ← c.self-inside.view_is)
+    (names map_is.header (map shown map_is.places.cells) c.args.handle
+    c.find.result parts.0 parts.1 (rw c.peeked.ensures at c.find.ensures.found))

@@ -3,8 +3,8 @@ use Rattle.iox2_container.proofs.Mapped.{Adds-as}
 use Rattle.iox2_dynamic.specs.PortsState.Side.{First}
 use Rattle.iox2_dynamic.proofs.dynamic_config.pattern.PortRegistries.add_first.Goals as goal
 
-pub returns : goal.returns
-returns g c =
+pub returns-clause-added : goal.returns-clause-added
+returns-clause-added g c =
     rw (sym c.self.view_is) (record {
       side = First;
       role_is = g.met.A.PortKind.same_role c.args.port;

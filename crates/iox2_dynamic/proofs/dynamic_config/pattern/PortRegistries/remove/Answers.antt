@@ -3,8 +3,8 @@ use Rattle.iox2_dynamic.proofs.Names.{Default, First, Second}
 use Rattle.iox2_container.proofs.Mapped.{Removes-as}
 use Rattle.iox2_dynamic.proofs.dynamic_config.pattern.PortRegistries.remove.Goals as goal
 
-pub returns-then-eq : goal.returns-then-eq
-returns-then-eq g c =
+pub returns-then-eq-clause-removed : goal.returns-then-eq-clause-removed
+returns-then-eq-clause-removed g c =
     rw (sym c.self.view_is)
     (inl (record {
       side = First;
@@ -13,8 +13,8 @@ returns-then-eq g c =
       others = refl;
     }))
 
-pub returns-then-eq-2 : goal.returns-then-eq-2
-returns-then-eq-2 g c =
+pub returns-then-eq-2-clause-removed : goal.returns-then-eq-2-clause-removed
+returns-then-eq-2-clause-removed g c =
     rw (sym c.self.view_is)
     (inl (record {
       side = Second;

@@ -1,6 +1,0 @@
-use Rattle.iox2_container.proofs.Prelude.{rules}
-use Rattle.iox2_container.specs.Prelude.{occupant}
-use Rattle.iox2_container.proofs.container.places.take_out.Goals as goal
-
-pub clear-requires-clause-taken : goal.clear-requires-clause-taken
-clear-requires-clause-taken g c = (occupant c.ticket.result c.in-Some.details, search rules)

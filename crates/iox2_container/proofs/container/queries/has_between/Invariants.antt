@@ -1,0 +1,14 @@
+use Rattle.iox2_container.proofs.Prelude.{◌+◌, ◌-◌, ◌≡◌, ◌≤◌, map}
+use Rattle.iox2_container.specs.Prelude.{AreOthers, shown}
+use Rattle.iox2_container.proofs.container.queries.has_between.Given as goal
+
+abbrev pub invariant-loop-slot : goal.invariant-loop-slot
+invariant-loop-slot g l = record {
+  order : l.start ≤ l.slot;
+  within : l.slot ≤ l.end;
+  looks : l.looks.touches.count + l.slot ≡ l.fn.looks.touches.count + l.end;
+  others : AreOthers g.T.Attached.node l.node (map shown l.places.cells) l.slot l.end;
+}
+
+abbrev pub decreases-loop-slot : goal.decreases-loop-slot
+decreases-loop-slot g l = l.slot - l.start

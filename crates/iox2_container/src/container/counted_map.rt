@@ -1,0 +1,146 @@
+//! A container as its changes see it.
+ghost use Rattle.std.specs.Prelude.{◌≡◌, ◌+◌, ◌≤◌, IfOk, length};
+ghost use Rattle.std.specs.Fn.{CalledAt, TakesAt};
+ghost use Rattle.iox2_container.specs.Callbacks.{CanBeAsked};
+ghost use Rattle.iox2_container.specs.Changes.{Adds, Removes, RecoversBy};
+ghost use Rattle.iox2_container.specs.ContainerState.{fresh};
+ghost use Rattle.iox2_container.specs.State.{IsRegistry};
+ghost use Rattle.iox2_container.specs.Steps.{asked_about, is_of};
+
+use super::attached::Attached;
+use super::free::SlotAllocator;
+use super::handle::ContainerHandle;
+use super::header::RegistryHeader;
+use super::passes::{sweep, take_out};
+use super::refusal::{ContainerAddFailure, ContainerRemoveError};
+use super::release::{ReleaseMode, ReleaseState};
+use super::role::Role;
+use super::slot_map::places::Places;
+use iox2_ids::identifiers::UniqueNodeId;
+use std::alloc::{AllocError, Global};
+use std::marker::Model;
+
+/// A container as its changes see it: whatever they do with a slot is a touch, since the calls of
+/// [`Places`] are. No query is in reach of them.
+#[derive(Debug, Drop)]
+pub struct CountedMap<T: Copy, S: SlotAllocator<T>> {
+    pub(super) header: RegistryHeader,
+    pub(super) places: Places<T, S::Next>,
+    pub(super) free: S,
+    // Behind the slot of the entry that came last, whose node is likely to be asked for next.
+    pub(super) newest_end: usize,
+}
+
+impl<T: Copy, S: SlotAllocator<T>> Model for CountedMap<T, S> {
+    ghost use Rattle.std.specs.Prelude.{map};
+    ghost use Rattle.iox2_container.specs.Cells.{shown};
+    ghost use Rattle.iox2_container.specs.ContainerState.{ContainerState};
+    ghost use Rattle.iox2_container.specs.HeaderAndPlaces.{registry_of, AreRegistry, IsNewestEnd};
+
+    ghost Value = { ContainerState T };
+
+    ghost view = { λ m. record {
+      registry = registry_of m.header (map shown m.places.cells);
+      touches = m.places.touches;
+    } };
+
+    ghost invariant = { λ m.
+        AreRegistry m.header (map shown m.places.cells) × S.fits m.free m.places.cells
+        × IsNewestEnd (registry_of m.header (map shown m.places.cells)) m.newest_end };
+}
+
+impl<T: Copy, S: SlotAllocator<T>> CountedMap<T, S> {
+    /// An empty container of a service, for this many entries at a time and this many in all.
+    /// Refused where there is no memory for its slots; no call on it takes memory afterwards.
+    pub(super) fn new(
+        alloc: Global,
+        service: u64,
+        role: Role,
+        capacity: usize,
+        tickets: u64,
+    ) -> Result<Self, AllocError>
+        ensures { IfOk result (λ m. m ≡ fresh service role capacity tickets) }
+    {
+        let (free, next) = S::all_free();
+        let places = Places::new(alloc, capacity, next)?;
+        Ok(CountedMap {
+            header: RegistryHeader {
+                service,
+                role,
+                budget: tickets,
+                count: 0,
+                locked: false,
+                used: 0,
+            },
+            places,
+            free,
+            newest_end: 0,
+        })
+    }
+}
+
+impl<T: Attached + Copy, S: SlotAllocator<T>> CountedMap<T, S> {
+    /// Adds an entry, as [`Registry::add`](super::registry::Registry::add) says.
+    #[tactic(auto, using(crate::proofs::Adding::places_of_add))]
+    pub(super) fn add(&mut self, details: T) -> Result<ContainerHandle, ContainerAddFailure>
+        ensures known { IsRegistry self.old.registry }
+        ensures adds { Adds self.old details result self.new }
+        ensures few { self.new.touches ≤
+            self.old.touches + S.most_for_put self.old.registry.capacity }
+    {
+        if self.header.locked {
+            return Err(ContainerAddFailure::IsLocked);
+        }
+        if self.header.used >= self.header.budget || self.header.count == self.places.len() {
+            return Err(ContainerAddFailure::OutOfSpace);
+        }
+        let ticket = self.header.used;
+        self.header.used = ticket + 1;
+        self.header.count += 1;
+        let slot = self.free.put(&mut self.places, ticket, details);
+        self.newest_end = slot + 1;
+        Ok(ContainerHandle::from_parts(self.header.service, self.header.role, slot, ticket))
+    }
+
+    /// Removes an entry, as [`Registry::remove`](super::registry::Registry::remove) says.
+    pub(super) fn remove(
+        &mut self,
+        handle: ContainerHandle,
+        mode: ReleaseMode,
+    ) -> Result<ReleaseState, ContainerRemoveError>
+        ensures known { IsRegistry self.old.registry }
+        ensures removes { Removes self.old handle mode result self.new }
+        ensures few { self.new.touches ≤ self.old.touches + 2 }
+    {
+        let refused = Err(ContainerRemoveError::ContainerHandleNotOwnedByContainer);
+        if !self.header.may_have(handle, self.places.len()) {
+            return refused;
+        }
+        match take_out(&mut self.places, &mut self.free, handle) {
+            Some(_) => Ok(self.header.leave(1, mode)),
+            None => refused,
+        }
+    }
+
+    /// Recovers entries, as [`Registry::recover`](super::registry::Registry::recover) says.
+    pub(super) fn recover<F: FnMut(&T) -> bool>(
+        &mut self,
+        dead: &UniqueNodeId,
+        f: &mut F,
+        mode: ReleaseMode,
+    ) -> ReleaseState
+        requires { CanBeAsked (TakesAt F.FnMut) (CalledAt F.FnMut) f.old
+            (asked_about (is_of T.node dead.now) self.old.registry) }
+        ensures known { IsRegistry self.old.registry }
+        ensures recovers { RecoversBy (CalledAt F.FnMut) (is_of T.node dead.now)
+            self.old f.old mode result self.new f.new }
+        ensures few { self.new.touches + length self.new.registry.entries ≤
+            self.old.touches + self.old.registry.capacity + length self.old.registry.entries }
+    {
+        if self.header.count == 0 {
+            return ReleaseState::of(self.header.locked);
+        }
+        let gone = sweep(&mut self.places, &mut self.free, dead, f);
+        self.header.leave(gone, mode)
+    }
+}

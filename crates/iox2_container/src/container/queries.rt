@@ -1,0 +1,153 @@
+//! What queries do with the slots of a container. None of them changes one.
+ghost use Rattle.std.specs.Prelude.{◌≡◌, ◌+◌, ◌≤◌, ◌<◌, ℕ, length, map, nat_lt, true};
+ghost use Rattle.std.specs.Bool.{MatchBool};
+ghost use Rattle.std.specs.Fn.{CalledAt, TakesAt};
+ghost use Rattle.iox2_container.specs.Cells.{shown};
+ghost use Rattle.iox2_container.specs.Places.{Finds, NoneFrom, details_in, entries_from};
+ghost use Rattle.iox2_container.specs.Callbacks.{CanVisit};
+ghost use Rattle.iox2_container.specs.Passes.{AreOthers, AskedOfCell, IsLastOf, PlaceIsOf};
+ghost use Rattle.iox2_container.specs.Passes.{TakesCell, cell_is_of};
+ghost use Rattle.iox2_container.specs.Steps.{Visit, candidates, is_of};
+
+use super::attached::Attached;
+use super::cell::{Occupant, with_ticket};
+use super::handle::ContainerHandle;
+use super::passes::ask;
+use super::slot_map::Looks;
+use super::slot_map::places::PeekedPlaces;
+use iox2_ids::identifiers::UniqueNodeId;
+use iox2_texts::bounded::CallbackProgression;
+
+/// Calls the callback with the entry of a slot, if it has one.
+fn show<T: Copy, F: FnMut(&T) -> CallbackProgression>(
+    cell: Option<Occupant<T>>,
+    f: &mut F,
+) -> CallbackProgression
+    requires { TakesCell (TakesAt F.FnMut) f.old cell }
+    ensures { AskedOfCell (CalledAt F.FnMut) f.old cell result f.new }
+{
+    match cell {
+        Some(occupant) => ask(occupant.details, f),
+        None => CallbackProgression::Continue,
+    }
+}
+
+/// Calls the callback with each entry in turn, until it stops. No slot from the end on has an
+/// entry. It looks at each slot at most once.
+pub(super) fn visit<T: Copy, N: Copy, F: FnMut(&T) -> CallbackProgression>(
+    places: &PeekedPlaces<T, N>,
+    end: usize,
+    f: &mut F,
+    looks: &mut Looks,
+)
+    requires within { end ≤ length places.now.cells }
+    requires free { NoneFrom (map shown places.now.cells) end }
+    requires callable { CanVisit (TakesAt F.FnMut) (CalledAt F.FnMut) f.old
+        (details_in (map shown places.now.cells)) }
+    ensures visit { Visit (CalledAt F.FnMut) f.old (details_in (map shown places.now.cells)) f.new }
+    ensures looks { looks.new.touches.count ≤ looks.old.touches.count + length places.now.cells }
+{
+    for slot in 0..end {
+        if let CallbackProgression::Stop = show(places.peek_at(slot, looks), f) {
+            return;
+        }
+    }
+}
+
+/// The details in the handle's slot, if they have its ticket. It looks at that slot alone, once.
+pub(super) fn find<T: Copy, N: Copy>(
+    places: &PeekedPlaces<T, N>,
+    handle: ContainerHandle,
+    looks: &mut Looks,
+) -> Option<T>
+    requires { handle.slot < length places.now.cells }
+    ensures found { Finds (map shown places.now.cells) handle result }
+    ensures looks { looks.new.touches.count ≡ looks.old.touches.count + 1 }
+{
+    with_ticket(places.peek_at(handle.slot(), looks), handle.ticket())
+}
+
+/// Whether some slot from one on and before the end has an entry of the node. It looks at them from
+/// the last one down to the first that has, each once, and at no other.
+fn has_between<T: Attached + Copy, N: Copy>(
+    places: &PeekedPlaces<T, N>,
+    start: usize,
+    end: usize,
+    node: &UniqueNodeId,
+    looks: &mut Looks,
+) -> bool
+    requires order { start ≤ end }
+    requires within { end ≤ length places.now.cells }
+    ensures looks { looks.new.touches.count + start ≤ looks.old.touches.count + end }
+    ensures has { MatchBool result
+        (IsLastOf T.node node.now (map shown places.now.cells) start end
+        looks.old.touches.count looks.new.touches.count)
+        (AreOthers T.node node.now (map shown places.now.cells) start end) }
+{
+    let mut slot = end;
+    while slot > start {
+        slot -= 1;
+        if places.has_at(slot, node, looks) {
+            return true;
+        }
+    }
+    false
+}
+
+/// Whether the node has an entry. No slot from the end on has one. It looks at the slots before
+/// `newest_end` first, from the last one down, and at each slot at most once. Where the slot just
+/// before `newest_end` has an entry of the node, it looks at no other.
+#[inline(always)]
+pub(super) fn has_entry<T: Attached + Copy, N: Copy>(
+    places: &PeekedPlaces<T, N>,
+    newest_end: usize,
+    end: usize,
+    node: &UniqueNodeId,
+    looks: &mut Looks,
+) -> bool
+    requires within { end ≤ length places.now.cells }
+    requires free { NoneFrom (map shown places.now.cells) end }
+    ensures has { result ≡ nat_lt 0
+        (length (candidates (is_of T.node node.now)
+        (entries_from 0 (map shown places.now.cells)))) }
+    ensures looks { looks.new.touches.count ≤ looks.old.touches.count + length places.now.cells }
+    ensures newest { (slot : ℕ) → newest_end ≡ slot + 1
+        → PlaceIsOf T.node node.now (map shown places.now.cells) slot true
+        → looks.new.touches.count ≡ looks.old.touches.count + 1 }
+{
+    let middle = newest_end.min(end);
+    has_between(places, 0, middle, node, looks) || has_between(places, middle, end, node, looks)
+}
+
+/// Whether the entry of a slot is the node's.
+fn belongs_to<T: Attached + Copy>(cell: Option<Occupant<T>>, node: &UniqueNodeId) -> bool
+    ensures { result ≡ cell_is_of T.node node.now cell }
+{
+    match cell {
+        Some(occupant) => occupant.details.node_id() == *node,
+        None => false,
+    }
+}
+
+/// How many entries are those of the node. No slot from the end on has an entry. It looks at each
+/// slot at most once.
+pub(super) fn count_of<T: Attached + Copy, N: Copy>(
+    places: &PeekedPlaces<T, N>,
+    end: usize,
+    node: &UniqueNodeId,
+    looks: &mut Looks,
+) -> usize
+    requires within { end ≤ length places.now.cells }
+    requires free { NoneFrom (map shown places.now.cells) end }
+    ensures looks { looks.new.touches.count ≤ looks.old.touches.count + length places.now.cells }
+    ensures count { result ≡
+        length (candidates (is_of T.node node.now) (entries_from 0 (map shown places.now.cells))) }
+{
+    let mut count = 0;
+    for slot in 0..end {
+        if belongs_to(places.peek_at(slot, looks), node) {
+            count += 1;
+        }
+    }
+    count
+}

@@ -1,0 +1,142 @@
+//! The slots of a container: what changes see of them, and what queries see.
+ghost use Rattle.std.specs.Prelude.{◌≡◌, ◌+◌, ◌<◌, Some, IfOk, MatchOption};
+ghost use Rattle.std.specs.Prelude.{false, length, map, replicate, slice_get, slice_set};
+ghost use Rattle.iox2_container.specs.declared.container.cell.Cell.TheVariants.{Free};
+ghost use Rattle.iox2_container.specs.Cells.{shown};
+ghost use Rattle.iox2_container.specs.Passes.{IsAt, PlaceIsOf};
+
+use super::Looks;
+use crate::container::attached::Attached;
+use crate::container::cell::{Cell, Occupant};
+use crate::container::slots::Slots;
+use iox2_ids::identifiers::UniqueNodeId;
+use std::alloc::{AllocError, Global};
+use std::marker::Model;
+
+/// Slots with entries, as queries see them: nothing changes, and each call is a look.
+#[derive(Debug, Drop)]
+pub struct PeekedPlaces<T: Copy, N: Copy> {
+    slots: Slots<Cell<T, N>>,
+}
+
+impl<T: Copy, N: Copy> Model for PeekedPlaces<T, N> {
+    ghost use Rattle.iox2_container.specs.declared.container.cell.Cell.{Cell};
+    ghost use Rattle.iox2_container.specs.Cells.{Cells};
+
+    ghost Value = { Cells (Cell T N) };
+
+    ghost view = { λ p. p.slots };
+}
+
+impl<T: Copy, N: Copy> PeekedPlaces<T, N> {
+    /// The entry of a slot. This is a look.
+    pub(crate) fn peek_at(&self, slot: usize, looks: &mut Looks) -> Option<Occupant<T>>
+        requires { slot < length self.now.cells }
+        ensures cell { slice_get (map shown self.now.cells) slot ≡ Some result }
+        ensures looks { looks.new.touches.count ≡ looks.old.touches.count + 1 }
+    {
+        looks.count();
+        self.slots.peek(slot).occupant()
+    }
+}
+
+impl<T: Attached + Copy, N: Copy> PeekedPlaces<T, N> {
+    /// Whether the entry in a slot is the node's. This is a look.
+    #[inline(always)]
+    pub(crate) fn has_at(&self, slot: usize, node: &UniqueNodeId, looks: &mut Looks) -> bool
+        requires { slot < length self.now.cells }
+        ensures has { PlaceIsOf T.node node.now (map shown self.now.cells) slot result }
+        ensures looks { looks.new.touches.count ≡ looks.old.touches.count + 1 }
+    {
+        looks.count();
+        self.slots.peek_is_of(slot, node)
+    }
+}
+
+/// Slots with entries, each with its ticket, as changes see them: each call but `len` is a touch.
+/// A free slot keeps an `N`.
+#[derive(Debug, Drop)]
+pub struct Places<T: Copy, N: Copy> {
+    peeked: PeekedPlaces<T, N>,
+}
+
+impl<T: Copy, N: Copy> Model for Places<T, N> {
+    ghost use Rattle.iox2_container.specs.declared.container.cell.Cell.{Cell};
+    ghost use Rattle.iox2_container.specs.Cells.{Cells};
+
+    ghost Value = { Cells (Cell T N) };
+
+    ghost view = { λ p. p.peeked };
+}
+
+impl<T: Copy, N: Copy> Places<T, N> {
+    /// So many free slots, each of which keeps this. Refused where there is no memory for them.
+    pub(crate) fn new(alloc: Global, capacity: usize, next: N) -> Result<Self, AllocError>
+        ensures cells { IfOk result (λ p. p.cells ≡ replicate capacity (Free next)) }
+        ensures room { IfOk result (λ p. p.room ≡ capacity) }
+        ensures touches { IfOk result (λ p. p.touches ≡ 0) }
+    {
+        let slots = Slots::new(alloc, capacity, Cell::Free(next))?;
+        Ok(Places {
+            peeked: PeekedPlaces { slots },
+        })
+    }
+
+    /// What queries see of them. No change can name this.
+    pub(super) fn peeked(&self) -> &PeekedPlaces<T, N>
+        ensures { result.now ≡ self.now }
+    {
+        &self.peeked
+    }
+
+    /// How many slots there are.
+    pub(crate) fn len(&self) -> usize
+        ensures { result ≡ length self.now.cells }
+    {
+        self.peeked.slots.len()
+    }
+
+    /// The cell in a slot. This is a touch.
+    pub(crate) fn read(&mut self, slot: usize) -> Cell<T, N>
+        requires { slot < length self.old.cells }
+        ensures cell { slice_get self.old.cells slot ≡ Some result }
+        ensures cells { self.new.cells ≡ self.old.cells }
+        ensures touches { self.new.touches ≡ self.old.touches + 1 }
+    {
+        self.peeked.slots.read(slot)
+    }
+
+    /// The entry of a slot. This is a touch.
+    pub(crate) fn look(&mut self, slot: usize) -> Option<Occupant<T>>
+        requires { slot < length self.old.cells }
+        ensures cell { slice_get (map shown self.old.cells) slot ≡ Some result }
+        ensures cells { self.new.cells ≡ self.old.cells }
+        ensures touched { self.new.touches ≡ self.old.touches + 1 }
+    {
+        self.read(slot).occupant()
+    }
+
+    /// Puts a cell into a slot, in place of the one that was there. This is a touch.
+    pub(crate) fn write(&mut self, slot: usize, cell: Cell<T, N>)
+        requires { slot < length self.old.cells }
+        ensures cells { self.new.cells ≡ slice_set self.old.cells slot cell }
+        ensures touches { self.new.touches ≡ self.old.touches + 1 }
+    {
+        self.peeked.slots.write(slot, cell);
+    }
+}
+
+impl<T: Attached + Copy, N: Copy> Places<T, N> {
+    /// The details in a slot, if they are the node's. This is a touch.
+    #[inline(always)]
+    pub(crate) fn look_for(&mut self, slot: usize, node: &UniqueNodeId) -> Option<T>
+        requires { slot < length self.old.cells }
+        ensures cells { self.new.cells ≡ self.old.cells }
+        ensures touches { self.new.touches ≡ self.old.touches + 1 }
+        ensures found { MatchOption result
+            (PlaceIsOf T.node node.now (map shown self.old.cells) slot false)
+            (IsAt T.node node.now (map shown self.old.cells) slot) }
+    {
+        self.peeked.slots.look_for(slot, node)
+    }
+}
