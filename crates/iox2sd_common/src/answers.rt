@@ -1,7 +1,8 @@
-//! What exports return beside a status: an index, a count, or a text for a buffer.
+//! What exports return beside a status: its cause, an index, a count, or a text for a buffer.
 ghost use Rattle.std.specs.Prelude.{◌≡◌, ◌≤◌, ◌++◌, length, drop};
 ghost use Rattle.iox2sd_common.specs.Answers.{place_answer, count_answer, text_answer, Writes};
 ghost use Rattle.iox2sd_common.specs.Answers.{Written, told_count, flag_answer, zero_padded};
+ghost use Rattle.iox2sd_common.specs.Answers.{caused_place, caused_count, caused_text};
 
 use super::status::Status;
 
@@ -11,6 +12,8 @@ use super::status::Status;
 pub struct PlaceAnswer {
     /// The number of a [`Status`].
     pub status: u32,
+    /// The number of the [`Status`] that says why a text is refused; 0 where no text is.
+    pub cause: u32,
     /// The index for which the status holds; 0 where it holds for none.
     pub at: usize,
 }
@@ -21,6 +24,8 @@ pub struct PlaceAnswer {
 pub struct CountAnswer {
     /// The number of a [`Status`].
     pub status: u32,
+    /// The number of the [`Status`] that says why a text is refused; 0 where no text is.
+    pub cause: u32,
     /// How many; also where the status is that of `BufferTooShort`: so many are needed.
     pub count: usize,
 }
@@ -41,6 +46,8 @@ pub struct FlagAnswer {
 pub struct TextAnswer {
     /// The number of a [`Status`].
     pub status: u32,
+    /// The number of the [`Status`] that says why a text is refused; 0 where no text is.
+    pub cause: u32,
     /// How many bytes the text has, whether they fitted or not; 0 where there is no text.
     pub length: usize,
 }
@@ -51,7 +58,18 @@ pub fn place(status: Status, at: usize) -> PlaceAnswer
 {
     PlaceAnswer {
         status: status.code(),
+        cause: 0,
         at,
+    }
+}
+
+/// The answer of this status with this index, of a text that is refused for this cause.
+pub fn caused_place(status: Status, cause: Status, at: usize) -> PlaceAnswer
+    ensures { result ≡ caused_place status cause at }
+{
+    PlaceAnswer {
+        cause: cause.code(),
+        ..place(status, at)
     }
 }
 
@@ -61,7 +79,18 @@ pub fn count(status: Status, count: usize) -> CountAnswer
 {
     CountAnswer {
         status: status.code(),
+        cause: 0,
         count,
+    }
+}
+
+/// The answer of this status without a number, where a text is refused for this cause.
+pub fn caused_count(status: Status, cause: Status) -> CountAnswer
+    ensures { result ≡ caused_count status cause }
+{
+    CountAnswer {
+        cause: cause.code(),
+        ..count(status, 0)
     }
 }
 
@@ -101,7 +130,18 @@ pub fn no_text(status: Status) -> TextAnswer
 {
     TextAnswer {
         status: status.code(),
+        cause: 0,
         length: 0,
+    }
+}
+
+/// The answer where there is no text, since another text is refused for this cause.
+pub fn caused_text(status: Status, cause: Status) -> TextAnswer
+    ensures { result ≡ caused_text status cause }
+{
+    TextAnswer {
+        cause: cause.code(),
+        ..no_text(status)
     }
 }
 
@@ -148,6 +188,7 @@ pub fn write(text: &[u8], out: &mut [u8]) -> TextAnswer
     };
     TextAnswer {
         status: status.code(),
+        cause: 0,
         length: text.len(),
     }
 }
