@@ -1,5 +1,6 @@
 -- How deep the tables and arrays of a file are in one another.
 use Rattle.std.specs.Prelude.{◌≡◌, ℕ, ◌+◌, ◌<◌, ◌≤◌, ◌||◌, ◌&&◌, ◌==◌, Bool, true, false, not, nat_le, nat_lt, if◌then◌else◌, List, [], ◌∷◌, ◌++◌, Option, Some, None, option_map, length}
+use Rattle.std.specs.Fmt.{decimal}
 use lib.Chars.{codes}
 use Rattle.iox2_config_file.specs.declared.depth.TooDeep.{TooDeep}
 use Rattle.iox2_config_file.specs.declared.depth.lexing.Inside.{Inside}
@@ -170,6 +171,12 @@ begin = record {
   inside = inside.Nothing;
   nesting = record { position = position.Start; marks = [] };
 }
+
+-- a place in words
+abbrev pub depth_text : TooDeep → List ℕ
+depth_text place =
+    codes "line " ++ (decimal place.line ++ (codes ", column " ++ (decimal place.column
+    ++ codes ": tables and arrays are more than 80 deep in one another")))
 
 -- the lines, and the characters of the last line, that are passed with a byte
 abbrev pub passed : TooDeep → ℕ → TooDeep

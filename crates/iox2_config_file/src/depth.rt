@@ -1,7 +1,8 @@
-//! How deep the tables and arrays of a file are in one another. It is looked at before anything is
-//! built: what is built is also dropped, which takes the more of the stack the deeper it is.
-ghost use Rattle.std.specs.Prelude.{◌≡◌, ◌+◌, ◌≤◌, length, Some};
-ghost use Rattle.iox2_config_file.specs.Depth.{depth_text, too_deep, begin, found_from, passed, told};
+//! How deep the tables and arrays of a file are in one another. A text of unknown origin is looked
+//! at before anything is built of it: what is built is dropped again, and both take the more of the
+//! stack the deeper it is.
+ghost use Rattle.std.specs.Prelude.{◌≡◌, ◌+◌, ◌<◌, ◌^◌, Some};
+ghost use Rattle.iox2_config_file.specs.Depth.{depth_text, passed, too_deep};
 
 mod lexing;
 mod marks;
@@ -55,9 +56,10 @@ fn passed(before: TooDeep, byte: u8) -> TooDeep
     }
 }
 
-/// The place of the first byte of a text that opens a table or an array within 80 others.
+/// The place of the first byte of a text that opens a table or an array within 80 others. Each part
+/// of a header, each dot of a key, each array and each inline table is one. It takes no memory.
 #[tactic(auto, unfolding(crate::specs::Depth::too_deep))]
-pub(crate) fn too_deep(text: &[u8]) -> Option<TooDeep>
+pub fn too_deep(text: &[u8]) -> Option<TooDeep>
     ensures { result ≡ too_deep text.now }
 {
     let mut scan = Scan::new();

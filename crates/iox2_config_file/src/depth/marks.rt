@@ -1,5 +1,5 @@
 //! What is open at a place of a file.
-ghost use Rattle.std.specs.Prelude.{◌≡◌, [], ◌∷◌};
+ghost use Rattle.std.specs.Prelude.{◌≡◌, [], ◌∷◌, reverse};
 ghost use Rattle.iox2_config_file.specs.Depth.{close_key, close_bracket, is_open, has_table, Pushes};
 
 use arrayvec::ArrayVec;
@@ -20,6 +20,7 @@ pub(crate) enum Mark {
 }
 
 /// What is open, at most 80 in one another. Contracts see the innermost first.
+#[derive(Drop)]
 pub(crate) struct Marks {
     marks: ArrayVec<Mark, 80>,
 }
@@ -31,6 +32,15 @@ impl Model for Marks {
     ghost Value = { List Mark };
 
     ghost view = { λ m. reverse m.marks.items };
+}
+
+/// Removes the dots at the end.
+fn pop_dots(marks: &mut ArrayVec<Mark, 80>)
+    ensures { reverse marks.new.items ≡ close_key (reverse marks.old.items) }
+{
+    while let Some(Mark::Dot) = marks.as_slice().last() {
+        marks.pop();
+    }
 }
 
 impl Marks {
@@ -62,9 +72,7 @@ impl Marks {
     pub(crate) fn close_key(&mut self)
         ensures { self.new ≡ close_key self.old }
     {
-        while let Some(Mark::Dot) = self.marks.as_slice().last() {
-            self.marks.pop();
-        }
+        pop_dots(&mut self.marks);
     }
 
     /// Closes the innermost array or inline table.

@@ -20,12 +20,14 @@ pub(crate) enum Position {
 }
 
 /// What is open, and where on a line.
+#[derive(Drop)]
 pub(crate) struct Nesting {
     position: Position,
     marks: Marks,
 }
 
 /// What the bytes so far have opened.
+#[derive(Drop)]
 pub(crate) struct Scan {
     inside: Inside,
     nesting: Nesting,
