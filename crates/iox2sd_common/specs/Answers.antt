@@ -12,17 +12,9 @@ use Rattle.iox2sd_common.specs.declared.status.Status.TheVariants as status
 abbrev pub place_answer : Status → ℕ → PlaceAnswer
 place_answer s at = record { status = code s; cause = 0; at = at }
 
--- the same, of a text that is refused for this cause
-abbrev pub caused_place : Status → Status → ℕ → PlaceAnswer
-caused_place s cause at = record (place_answer s at) { cause = code cause }
-
 -- the status with a number
 abbrev pub count_answer : Status → ℕ → CountAnswer
 count_answer s count = record { status = code s; cause = 0; count = count }
-
--- the status without a number, where a text is refused for this cause
-abbrev pub caused_count : Status → Status → CountAnswer
-caused_count s cause = record (count_answer s 0) { cause = code cause }
 
 -- how many, or the status of a refusal
 abbrev pub told_count : Result ℕ Status → CountAnswer
@@ -37,10 +29,6 @@ flag_answer (Err s) = record { status = code s; yes = false }
 -- the status with the length of a text
 abbrev pub text_answer : Status → ℕ → TextAnswer
 text_answer s n = record { status = code s; cause = 0; length = n }
-
--- the status without a text, where another text is refused for this cause
-abbrev pub caused_text : Status → Status → TextAnswer
-caused_text s cause = record (text_answer s 0) { cause = code cause }
 
 -- the text at the front of so many bytes, and zeros after it
 abbrev pub zero_padded : ℕ → List ℕ → List ℕ

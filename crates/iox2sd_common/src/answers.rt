@@ -2,7 +2,6 @@
 ghost use Rattle.std.specs.Prelude.{◌≡◌, ◌≤◌, ◌++◌, length, drop};
 ghost use Rattle.iox2sd_common.specs.Answers.{place_answer, count_answer, text_answer, Writes};
 ghost use Rattle.iox2sd_common.specs.Answers.{Written, told_count, flag_answer, zero_padded};
-ghost use Rattle.iox2sd_common.specs.Answers.{caused_place, caused_count, caused_text};
 
 use super::status::Status;
 
@@ -63,16 +62,6 @@ pub fn place(status: Status, at: usize) -> PlaceAnswer
     }
 }
 
-/// The answer of this status with this index, of a text that is refused for this cause.
-pub fn caused_place(status: Status, cause: Status, at: usize) -> PlaceAnswer
-    ensures { result ≡ caused_place status cause at }
-{
-    PlaceAnswer {
-        cause: cause.code(),
-        ..place(status, at)
-    }
-}
-
 /// The answer of this status with this number.
 pub fn count(status: Status, count: usize) -> CountAnswer
     ensures { result ≡ count_answer status count }
@@ -81,16 +70,6 @@ pub fn count(status: Status, count: usize) -> CountAnswer
         status: status.code(),
         cause: 0,
         count,
-    }
-}
-
-/// The answer of this status without a number, where a text is refused for this cause.
-pub fn caused_count(status: Status, cause: Status) -> CountAnswer
-    ensures { result ≡ caused_count status cause }
-{
-    CountAnswer {
-        cause: cause.code(),
-        ..count(status, 0)
     }
 }
 
@@ -132,16 +111,6 @@ pub fn no_text(status: Status) -> TextAnswer
         status: status.code(),
         cause: 0,
         length: 0,
-    }
-}
-
-/// The answer where there is no text, since another text is refused for this cause.
-pub fn caused_text(status: Status, cause: Status) -> TextAnswer
-    ensures { result ≡ caused_text status cause }
-{
-    TextAnswer {
-        cause: cause.code(),
-        ..no_text(status)
     }
 }
 

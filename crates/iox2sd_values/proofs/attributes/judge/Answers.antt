@@ -6,7 +6,7 @@ use Rattle.iox2sd_values.specs.Attributes.{pair_of}
 use Rattle.iox2sd_values.specs.Requirements.{RequiresPairs, text_of}
 use Rattle.iox2sd_values.proofs.Faults.{requires}
 use Rattle.iox2sd_values.proofs.Listings.{has_listing}
-use Rattle.iox2sd_values.proofs.attributes.iox2sd_attributes_verify_at.Goals as goal
+use Rattle.iox2sd_values.proofs.attributes.judge.Goals as goal
 
 pub returns-in-Err : goal.returns-in-Err
 returns-in-Err c =

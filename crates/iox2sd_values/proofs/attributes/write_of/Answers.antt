@@ -1,7 +1,7 @@
 use Rattle.std.proofs.Common.{map, refl, Ok, Err}
 use Rattle.iox2sd_values.specs.Attributes.{pair_of}
 use Rattle.iox2sd_values.proofs.Listings.{has_listing}
-use Rattle.iox2sd_values.proofs.attributes.iox2sd_attributes_key_value_at.Goals as goal
+use Rattle.iox2sd_values.proofs.attributes.write_of.Goals as goal
 
 pub write_value-requires : goal.write_value-requires
 write_value-requires c =

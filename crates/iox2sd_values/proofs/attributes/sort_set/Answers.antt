@@ -1,7 +1,7 @@
 use Rattle.std.proofs.Common.{map, refl, Ok, Err}
 use Rattle.iox2sd_values.specs.Attributes.{pair_of}
 use Rattle.iox2sd_values.proofs.Listings.{has_listing}
-use Rattle.iox2sd_values.proofs.attributes.iox2sd_attributes_sort_at.Goals as goal
+use Rattle.iox2sd_values.proofs.attributes.sort_set.Goals as goal
 
 pub returns-in-Ok : goal.returns-in-Ok
 returns-in-Ok c =

@@ -2,7 +2,7 @@ use Rattle.iox2_static.specs.PublishSubscribe.{publish_subscribe_of}
 use Rattle.iox2_static.specs.declared.static_config.messaging_pattern.MessagingPattern.TheVariants as pattern
 use Rattle.iox2sd_settings.specs.ReadSettings.{ReadsPublishSubscribe}
 use Rattle.iox2sd_values.proofs.Describing.{filled}
-use Rattle.iox2sd_values.proofs.descriptions.iox2sd_describe_publish_subscribe_at.Goals as goal
+use Rattle.iox2sd_values.proofs.descriptions.describe_publish_subscribe.Goals as goal
 
 pub returns : goal.returns
 returns c =

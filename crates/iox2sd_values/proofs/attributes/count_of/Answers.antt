@@ -4,7 +4,7 @@ use Rattle.iox2sd_common.specs.declared.status.Status.TheVariants as status
 use Rattle.iox2sd_values.specs.Attributes.{pair_of}
 use Rattle.iox2sd_values.proofs.Listings.{has_listing}
 use Rattle.iox2sd_values.proofs.Values.{as_in_listing}
-use Rattle.iox2sd_values.proofs.attributes.iox2sd_attributes_number_of_key_values_at.Goals as goal
+use Rattle.iox2sd_values.proofs.attributes.count_of.Goals as goal
 
 pub returns-in-Ok-new : goal.returns-in-Ok-new
 returns-in-Ok-new c =
