@@ -3,7 +3,7 @@
 
     bindings/python/build_wheel.py DIRECTORY
 
-prints the path of the wheel. The library is `bindings/out/libiox2sd.so.0`, or the file that
+prints the path of the wheel. The library is `bindings/out/libiox2sd.so.2`, or the file that
 IOX2SD_LIBRARY names. Python 3.11 or later is needed to build, not to install. `pip wheel` and `pip
 install` of this folder call `build_wheel` too, since pyproject.toml names this file.
 """
@@ -21,7 +21,7 @@ from typing import Any
 
 HERE = Path(__file__).resolve().parent
 PROJECT = HERE.parents[1]
-SHARED = "libiox2sd.so.0"
+SHARED = "libiox2sd.so.2"
 
 Files = dict[str, bytes]
 

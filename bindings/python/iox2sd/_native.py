@@ -43,7 +43,7 @@ DEADLINE = 2
 MAX_SUBSCRIBERS = 8
 
 
-_PATH = os.environ.get("IOX2SD_LIBRARY") or str(Path(__file__).with_name("libiox2sd.so.0"))
+_PATH = os.environ.get("IOX2SD_LIBRARY") or str(Path(__file__).with_name("libiox2sd.so.2"))
 
 
 def _load() -> ctypes.PyDLL:
@@ -106,6 +106,10 @@ PORT = struct.Struct("=Q4I4I7QIB3x")
 """The same structs as rows of numbers, in the order of their fields, for lists."""
 
 
+class PortId(ctypes.Structure):
+    _fields_ = [("role", c_uint64), ("port", Id)]
+
+
 class Capacities(ctypes.Structure):
     _fields_ = [("nodes", c_size_t), ("first", c_size_t), ("second", c_size_t)]
 
@@ -139,11 +143,11 @@ class HandleAnswer(ctypes.Structure):
 
 
 class CountAnswer(ctypes.Structure):
-    _fields_ = [("status", c_uint32), ("count", c_size_t)]
+    _fields_ = [("status", c_uint32), ("cause", c_uint32), ("count", c_size_t)]
 
 
 class TextAnswer(ctypes.Structure):
-    _fields_ = [("status", c_uint32), ("length", c_size_t)]
+    _fields_ = [("status", c_uint32), ("cause", c_uint32), ("length", c_size_t)]
 
 
 class NumberAnswer(ctypes.Structure):
@@ -171,12 +175,18 @@ class DeadNodeRemoval(ctypes.Structure):
 
 
 class ScriptAnswer(ctypes.Structure):
-    _fields_ = [("status", c_uint32), ("line", c_size_t), ("length", c_size_t)]
+    _fields_ = [
+        ("status", c_uint32),
+        ("verdict", c_uint32),
+        ("line", c_size_t),
+        ("length", c_size_t),
+    ]
 
 
 class ConformAnswer(ctypes.Structure):
     _fields_ = [
         ("status", c_uint32),
+        ("verdict", c_uint32),
         ("line", c_size_t),
         ("calls", c_size_t),
         ("length", c_size_t),
@@ -184,7 +194,7 @@ class ConformAnswer(ctypes.Structure):
 
 
 class PlaceAnswer(ctypes.Structure):
-    _fields_ = [("status", c_uint32), ("at", c_size_t)]
+    _fields_ = [("status", c_uint32), ("cause", c_uint32), ("at", c_size_t)]
 
 
 class Attribute(ctypes.Structure):
@@ -248,7 +258,7 @@ class GlobalSettings(ctypes.Structure):
 
 
 class FieldAnswer(ctypes.Structure):
-    _fields_ = [("status", c_uint32), ("field", c_uint32)]
+    _fields_ = [("status", c_uint32), ("field", c_uint32), ("cause", c_uint32)]
 
 
 class PublishSubscribeSettings(ctypes.Structure):
@@ -357,7 +367,7 @@ class Description(ctypes.Structure):
         ("id", Id),
         ("hash", c_char * 64),
         ("hash_length", c_size_t),
-        ("pattern", c_uint32),
+        ("pattern", c_uint64),
         ("publish_subscribe", PublishSubscribeConfig),
         ("event", EventConfig),
         ("request_response", RequestResponseConfig),
@@ -366,7 +376,7 @@ class Description(ctypes.Structure):
 
 
 class ConfigText(ctypes.Structure):
-    _fields_ = [("bytes", c_uint8 * 256), ("length", c_size_t)]
+    _fields_ = [("bytes", c_char * 256), ("length", c_size_t)]
 
 
 class ConfigTexts(ctypes.Structure):
@@ -407,9 +417,9 @@ class ConfigFault(ctypes.Structure):
         ("table", c_uint32),
         ("found", c_uint32),
         ("wanted", c_uint32),
-        ("key", c_uint8 * 80),
+        ("key", c_char * 80),
         ("key_length", c_size_t),
-        ("reason", c_uint8 * 256),
+        ("reason", c_char * 256),
         ("reason_length", c_size_t),
     ]
 
@@ -422,7 +432,7 @@ class UnknownKey(ctypes.Structure):
     _fields_ = [
         ("table", c_uint32),
         ("key_length", c_size_t),
-        ("meant", c_uint8 * 80),
+        ("meant", c_char * 80),
         ("meant_length", c_size_t),
     ]
 
@@ -436,7 +446,7 @@ class ConfigWriteAnswer(ctypes.Structure):
         ("status", c_uint32),
         ("field", c_uint32),
         ("length", c_size_t),
-        ("key", c_uint8 * 80),
+        ("key", c_char * 80),
         ("key_length", c_size_t),
     ]
 
@@ -472,7 +482,7 @@ id_is_before = _export("id_is_before", c_bool, Id, Id)
 id_text_at = _export("id_text_at", TextAnswer, Id, *_OUT)
 
 service_create_at = _export(
-    "service_create_at", c_uint32, *_SERVICE, c_uint32, c_uint64, Capacities, c_uint64
+    "service_create_at", c_uint32, *_SERVICE, c_uint64, c_uint64, Capacities, c_uint64
 )
 service_free_at = _export("service_free_at", c_uint32, *_SERVICE)
 next_service_number_at = _export(
@@ -485,7 +495,7 @@ attach_at = _export(
 )
 release_port_at = _export("release_port_at", c_uint32, *_SERVICE, Handle)
 remove_dead_node_id_at = _export(
-    "remove_dead_node_id_at", DeadNodeRemoval, *_SERVICE, Id, POINTER(Id), c_size_t
+    "remove_dead_node_id_at", DeadNodeRemoval, *_SERVICE, Id, POINTER(PortId), c_size_t
 )
 messaging_pattern_at = _export("messaging_pattern_at", NumberAnswer, *_SERVICE)
 service_number_at = _export("service_number_at", NumberAnswer, *_SERVICE)
@@ -530,8 +540,8 @@ path_add_path_entry_at = _export("path_add_path_entry_at", TextAnswer, *_TEXT, *
 file_path_from_path_and_file_at = _export(
     "file_path_from_path_and_file_at", TextAnswer, *_TEXT, *_TEXT, *_OUT
 )
-hash_text_at = _export("hash_text_at", TextAnswer, c_uint32, *_TEXT, *_OUT)
-internal_hash_text_at = _export("internal_hash_text_at", TextAnswer, c_uint32, *_TEXT, *_OUT)
+hash_text_at = _export("hash_text_at", TextAnswer, c_uint64, *_TEXT, *_OUT)
+internal_hash_text_at = _export("internal_hash_text_at", TextAnswer, c_uint64, *_TEXT, *_OUT)
 
 attributes_check_at = _export("attributes_check_at", PlaceAnswer, *_PAIRS)
 attributes_sort_at = _export("attributes_sort_at", PlaceAnswer, *_PAIRS)

@@ -100,7 +100,7 @@ class MessageTypeDetails(Checked):
         `OtherAlignment` of the header, `GreaterAlignment` of another part: all `Incompatible`.
         """
         instance(service, MessageTypeDetails, "MessageTypeDetails.check_compatible_to")
-        answer = _native.message_is_compatible_to_at(self._lent(), 1, service._lent(), 1)
+        answer = _native.message_is_compatible_to_at(service._lent(), 1, self._lent(), 1)
         part = ("header", "user header", "payload")[answer.part]
         check(answer.status, f"the opener's {part}")
 

@@ -13,7 +13,7 @@ CONSTANTS = {
 }
 """The members of all enums."""
 
-_ENUM = re.search(r"enum iox2sd_status \{(.*?)\};", TEXT, re.DOTALL)
+_ENUM = re.search(r"enum iox2sd_status_number \{(.*?)\};", TEXT, re.DOTALL)
 assert _ENUM is not None
 STATUSES = {
     name: int(number) for name, number in re.findall(r"IOX2SD_(\w+) = (\d+)", _ENUM.group(1))
