@@ -37,7 +37,7 @@ install -m 644 install/iox2sdConfig.cmake "$cmake"
 
 # The crate, without its tests.
 rm -rf "$share"
-(cd rust && find Cargo.toml build.rs README.md LICENSE-* src examples -type f) |
+(cd rust && find -L Cargo.toml build.rs README.md LICENSE-* NOTICE src examples -type f) |
     while read -r file; do install -D -m 644 "rust/$file" "$share/rust/$file"; done
 
 # The wheel.

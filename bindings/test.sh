@@ -60,14 +60,14 @@ same_exports() {
 
 # An example prints the lines that stand below 'It prints:' at its head.
 prints_what_it_says() {
-    "$work/caller" > "$work/printed" &&
+    "${@:2}" > "$work/printed" &&
         sed -n '/^\/\/ It prints:$/,/^[^/]/s|^//     ||p' "$1" | diff - "$work/printed"
 }
 
 example() {
     has "$1" || return 0
     run "$1 $2 compiles" "$1" -std=c++17 "${warnings[@]}" -O2 -I../include "$2" out/libiox2sd.a \
-        -o "$work/caller" && run "$1 $2 prints what it says" prints_what_it_says "$2"
+        -o "$work/caller" && run "$1 $2 prints what it says" prints_what_it_says "$2" "$work/caller"
 }
 
 # The statuses of the header are those of the crate that has them: a number has one name, and a name
@@ -110,6 +110,18 @@ unittests() {
 crate_tests() {
     crate test --quiet 2>&1 | tee "$work/crate_tests" &&
         grep -q '^test result: ok[.] [1-9]' "$work/crate_tests"
+}
+
+# Where the library is missing, what does not link passes, and what links says what is missing.
+without_library() {
+    local missing=$work/missing
+    mkdir -p "$missing"
+    without() {
+        CARGO_TARGET_DIR=$missing/target IOX2SD_LIB_DIR=$missing \
+            cargo "$1" --jobs 1 --offline --manifest-path rust/Cargo.toml "${@:2}" 2>&1
+    }
+    without check --tests && without doc --no-deps && ! without build > "$work/built" &&
+        grep 'run bindings/build.sh' "$work/built"
 }
 
 has_cargo() { cargo "$1" --version > "$work/which" 2>&1 || { echo "not found: cargo $1"; return 1; }; }
@@ -268,6 +280,13 @@ for name in short first; do
     fi
 done
 
+if has cargo; then
+    for name in builder monitor settings; do
+        run "$name.rs prints what it says" prints_what_it_says "../examples/$name.rs" \
+            of_rust "$name" "$PWD/rust"
+    done
+fi
+
 # ---- Random calls ----
 
 if has cc && has c++ && has cargo && has python3; then
@@ -350,9 +369,10 @@ installation
 
 if has cargo; then
     run "cargo test" crate_tests
-    for example in first builder monitor discovery factory; do
+    for example in first discovery factory; do
         run "cargo run --example $example" crate run --quiet --example "$example"
     done
+    run "cargo check and cargo doc pass without the library" without_library
     run "cargo doc" documented &&
         if has python3; then
             run "each public item of the crate has an example" rust/check_examples \

@@ -3,15 +3,8 @@
 //! lines.
 #![forbid(unsafe_code)]
 
-use iox2sd::attribute::{AttributeKey, AttributeVerificationError};
-use iox2sd::config::DataSegmentType;
-use iox2sd::dynamic_config::{
-    DeregisterNodeState, DynamicConfig, PortCleanupAction, PublisherDetails,
-};
-use iox2sd::identifiers::{UniqueNodeId, UniquePortId, UniquePublisherId, UniqueServiceId};
+use iox2sd::attribute::AttributeVerificationError;
 use iox2sd::prelude::*;
-use iox2sd::static_config::message_type_details::{MessageTypeDetails, TypeDetail, TypeVariant};
-use iox2sd::static_config::StaticConfig;
 use std::error::Error;
 
 fn answer(yes: bool) -> &'static str {
@@ -143,8 +136,6 @@ fn main() -> Result<(), Box<dyn Error>> {
             .publisher_max_loaned_samples,
     )?;
     verify(&description)?;
-    let capacities = description.messaging_pattern().into();
-    let max_nodes = description.publish_subscribe().max_nodes();
-    let mut service = DynamicConfig::new(&capacities, max_nodes, 7)?;
+    let mut service = DynamicConfig::with_capacities(&description, 7)?;
     live(&mut service)
 }

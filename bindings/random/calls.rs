@@ -232,9 +232,13 @@ fn checked<C: Content>(
     new: fn(&[u8]) -> Result<SemanticString<C>, SemanticStringError>,
     line: &mut Line,
 ) -> Answer {
-    match new(&line.bytes()) {
-        Ok(text) => done(&[&hex(text.as_str())]),
-        Err(error) => refused_with(&[&words_of_text(error), &NOT_SHOWN]),
+    let bytes = line.bytes();
+    match (new(&bytes), SemanticString::<C>::check(&bytes)) {
+        (Ok(text), Ok(())) => done(&[&hex(text.as_str())]),
+        (Err(error), Err(fault)) if error == fault.into() => {
+            refused_with(&[&fault.cause, &fault.at])
+        }
+        other => panic!("{other:?}"),
     }
 }
 
@@ -242,6 +246,16 @@ fn name(made: Result<ServiceName, ServiceNameError>) -> Answer {
     match made {
         Ok(name) => done(&[&hex(name.as_str())]),
         Err(error) => refused_with(&[&words_of_name(error), &NOT_SHOWN]),
+    }
+}
+
+fn users_name(text: &str) -> Answer {
+    match (ServiceName::new(text), ServiceName::check(text)) {
+        (Ok(name), Ok(())) => done(&[&hex(name.as_str())]),
+        (Err(error), Err(fault)) if error == fault.into() => {
+            refused_with(&[&fault.cause, &fault.at])
+        }
+        other => panic!("{other:?}"),
     }
 }
 
@@ -429,6 +443,7 @@ fn details(line: &mut Line, side: Option<u32>) -> Result<MessageTypeDetails, Ref
             }
             Err(TypeDetailError::Name(StringModificationError::InvalidCharacter)) => ILLEGAL_BYTE,
             Err(TypeDetailError::AlignmentNotPowerOfTwo) => BAD_ALIGNMENT,
+            Err(_) => return Err(NotExpressed),
         };
         return match side {
             Some(side) => refused_with(&[&words, &side, &place]),
@@ -446,6 +461,7 @@ fn in_range<T>(answer: Result<T, LayoutError>) -> Result<T, Refusal> {
     answer.or_else(|error| match error {
         LayoutError::TooLarge => refused(TOO_LARGE),
         LayoutError::DetailsNotGiven => refused(BAD_ALIGNMENT),
+        _ => Err(NotExpressed),
     })
 }
 
@@ -475,6 +491,7 @@ fn compatible(line: &mut Line) -> Answer {
         IncompatibilityCause::OtherSize => OTHER_SIZE,
         IncompatibilityCause::OtherAlignment => OTHER_ALIGNMENT,
         IncompatibilityCause::GreaterAlignment => GREATER_ALIGNMENT,
+        _ => return Err(NotExpressed),
     };
     refused_with(&[&words, &0, &(refusal.part as u32)])
 }
@@ -672,6 +689,7 @@ fn deregister(line: &mut Line, service: &mut DynamicConfig) -> Answer {
         Ok(left) => Ok(vec![state(left)]),
         Err(DeregisterError::ContainerHandleNotOwnedByContainer) => refused(FOREIGN_HANDLE),
         Err(DeregisterError::PortsStillAttached) => refused(PORTS_STILL_ATTACHED),
+        Err(_) => Err(NotExpressed),
     }
 }
 
@@ -851,6 +869,7 @@ fn attach(line: &mut Line, service: &mut DynamicConfig) -> Answer {
         Err(AttachError::ServiceIsLocked) => refused(IS_LOCKED),
         Err(AttachError::NodeNotRegistered) => refused(NODE_NOT_REGISTERED),
         Err(AttachError::OutOfSpace) => refused(OUT_OF_SPACE),
+        Err(_) => Err(NotExpressed),
     }
 }
 
@@ -902,7 +921,7 @@ fn nodes(service: &DynamicConfig) -> Answer {
 /// What a call of a value answers; `None` where the name is that of a call on the service.
 fn of_values(call: &str, line: &mut Line) -> Option<Answer> {
     Some(match call {
-        "service_name" => line.text().and_then(|text| name(ServiceName::new(&text))),
+        "service_name" => line.text().and_then(|text| users_name(&text)),
         "internal_name" => line
             .text()
             .and_then(|text| name(ServiceName::internal_new(&text))),

@@ -1,12 +1,7 @@
 //! Discovery: who is attached to a service, by node, and where its files lie.
 #![forbid(unsafe_code)]
 
-use iox2sd::config::DataSegmentType;
-use iox2sd::dynamic_config::{ClientDetails, DynamicConfig, PortDetails, ServerDetails};
-use iox2sd::identifiers::{UniqueClientId, UniqueNodeId, UniqueServerId, UniqueServiceId};
-use iox2sd::paths::FilePath;
 use iox2sd::prelude::*;
-use iox2sd::static_config::StaticConfig;
 use std::collections::BTreeMap;
 use std::error::Error;
 
@@ -38,8 +33,7 @@ fn main() -> Result<(), Box<dyn Error>> {
     );
 
     let limits = description.request_response();
-    let capacities = description.messaging_pattern().into();
-    let mut service = DynamicConfig::new(&capacities, limits.max_nodes(), 1)?;
+    let mut service = DynamicConfig::with_capacities(&description, 1)?;
     let server_node = UniqueNodeId::new(3, 0, 0, 1).ok_or("the id of no node")?;
     let client_node = UniqueNodeId::new(2, 0, 0, 1).ok_or("the id of no node")?;
     service.register_node_id(server_node)?;

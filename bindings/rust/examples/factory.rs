@@ -1,13 +1,7 @@
 //! The part of a port factory that attaches publishers and says which memory each of them needs.
 #![forbid(unsafe_code)]
 
-use iox2sd::config::DataSegmentType;
-use iox2sd::container::{ContainerHandle, Role};
-use iox2sd::dynamic_config::publish_subscribe::{DynamicConfigSettings, PublisherDetails};
-use iox2sd::dynamic_config::DynamicConfig;
-use iox2sd::identifiers::{UniqueNodeId, UniquePublisherId};
 use iox2sd::prelude::*;
-use iox2sd::static_config::message_type_details::{MessageTypeDetails, TypeVariant};
 use iox2sd::static_config::publish_subscribe::StaticConfig;
 use std::alloc::Layout;
 use std::error::Error;
@@ -46,8 +40,7 @@ fn main() -> Result<(), Box<dyn Error>> {
     let mut description = StaticConfig::new(&Config::default());
     description.message_type_details =
         MessageTypeDetails::from::<u64, u32, [f32; 3]>(TypeVariant::Dynamic)?;
-    let ports = DynamicConfigSettings::from(&description);
-    let mut service = DynamicConfig::new(&ports.into(), description.max_nodes(), 1)?;
+    let mut service = DynamicConfig::with_capacities(&description, 1)?;
     let node = UniqueNodeId::new(2, 0, 0, 1).ok_or("the id of no node")?;
     service.register_node_id(node)?;
 

@@ -1,7 +1,6 @@
 #![forbid(unsafe_code)]
 
-use iox2sd::dynamic_config::{event, DynamicConfig, ListenerDetails};
-use iox2sd::identifiers::{UniqueListenerId, UniqueNodeId};
+use iox2sd::dynamic_config::event;
 use iox2sd::prelude::*;
 
 fn main() -> Result<(), Box<dyn std::error::Error>> {
@@ -11,7 +10,7 @@ fn main() -> Result<(), Box<dyn std::error::Error>> {
         number_of_notifiers: 2,
     };
     // Room for one node; the number of the service is 7.
-    let mut service = DynamicConfig::new(&ports.into(), 1, 7)?;
+    let mut service = DynamicConfig::new(ports, 1, 7)?;
 
     let node_id = UniqueNodeId::new(1, 0, 0, 1).ok_or("the id of no node")?;
     let node = service.register_node_id(node_id)?;

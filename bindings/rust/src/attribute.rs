@@ -23,62 +23,29 @@ mod set;
 mod specifier;
 mod verifier;
 
-pub use set::{AttributeDefinitionError, AttributeSet};
+pub use set::{AttributeDefinitionError, AttributeSet, IntoIter, KeyValues};
 pub use specifier::AttributeSpecifier;
 pub use verifier::{AttributeVerificationError, AttributeVerifier};
 
+use crate::display::getters;
 use crate::semantic_string::kind::kind;
 use crate::semantic_string::SemanticString;
 
 kind! {
+    "attribute" "site" "" check_attribute_key ATTRIBUTE_KEY
     /// What the key of an attribute allows: every byte from 1 to 127, but not none at all.
-    ///
-    /// ```
-    /// use iox2sd::attribute::AttributeKeyContent;
-    /// use iox2sd::semantic_string::SemanticString;
-    ///
-    /// assert_eq!(SemanticString::<AttributeKeyContent>::new(b"site")?, "site");
-    /// assert!(SemanticString::<AttributeKeyContent>::new(b"").is_err());
-    /// # Ok::<(), iox2sd::semantic_string::SemanticStringError>(())
-    /// ```
-    AttributeKeyContent: check_attribute_key, ATTRIBUTE_KEY
+    AttributeKeyContent
+    /// The key of an attribute.
+    AttributeKey
 }
 
 kind! {
+    "attribute" "north" "" check_attribute_value ATTRIBUTE_VALUE
     /// What the value of an attribute allows: every byte from 1 to 127, but not none at all.
-    ///
-    /// ```
-    /// use iox2sd::attribute::AttributeValueContent;
-    /// use iox2sd::semantic_string::SemanticString;
-    ///
-    /// assert_eq!(SemanticString::<AttributeValueContent>::new(b"north")?, "north");
-    /// assert!(SemanticString::<AttributeValueContent>::new(b"\0").is_err());
-    /// # Ok::<(), iox2sd::semantic_string::SemanticStringError>(())
-    /// ```
-    AttributeValueContent: check_attribute_value, ATTRIBUTE_VALUE
+    AttributeValueContent
+    /// The value of an attribute.
+    AttributeValue
 }
-
-/// The key of an attribute.
-///
-/// ```
-/// use iox2sd::attribute::AttributeKey;
-///
-/// let key: AttributeKey = "site".try_into()?;
-/// assert_eq!(key.as_bytes(), b"site");
-/// # Ok::<(), iox2sd::semantic_string::SemanticStringError>(())
-/// ```
-pub type AttributeKey = SemanticString<AttributeKeyContent>;
-
-/// The value of an attribute.
-///
-/// ```
-/// use iox2sd::attribute::AttributeValue;
-///
-/// let value: AttributeValue = "north".try_into()?;
-/// assert_eq!(value.as_bytes(), b"north");
-/// # Ok::<(), iox2sd::semantic_string::SemanticStringError>(())
-/// ```
-pub type AttributeValue = SemanticString<AttributeValueContent>;
 
 /// A key with a value. Attributes are compared by their keys, and then by their values.
 ///
@@ -117,31 +84,15 @@ impl Attribute {
         }
     }
 
-    /// The key.
-    ///
-    /// ```
-    /// use iox2sd::attribute::Attribute;
-    ///
-    /// let attribute = Attribute::new(&"site".try_into()?, &"north".try_into()?);
-    /// assert_eq!(attribute.key(), "site");
-    /// # Ok::<(), iox2sd::semantic_string::SemanticStringError>(())
-    /// ```
-    #[must_use]
-    pub fn key(&self) -> &AttributeKey {
-        &self.key
-    }
-
-    /// The value.
-    ///
-    /// ```
-    /// use iox2sd::attribute::Attribute;
-    ///
-    /// let attribute = Attribute::new(&"site".try_into()?, &"north".try_into()?);
-    /// assert_eq!(attribute.value(), "north");
-    /// # Ok::<(), iox2sd::semantic_string::SemanticStringError>(())
-    /// ```
-    #[must_use]
-    pub fn value(&self) -> &AttributeValue {
-        &self.value
+    getters! {
+        {
+            /// use iox2sd::attribute::Attribute;
+            ///
+            /// let attribute = Attribute::new(&"site".try_into()?, &"north".try_into()?);
+        }
+        /// The key.
+        key -> &AttributeKey = |attribute| &attribute.key, "attribute.key(), \"site\"";
+        /// The value.
+        value -> &AttributeValue = |attribute| &attribute.value, "attribute.value(), \"north\"";
     }
 }

@@ -20,8 +20,10 @@ mod toml_kinds;
 
 pub use choices::{AllocationStrategy, BackpressureStrategy, DataSegmentType, EventId};
 pub use global::{Global, Node, Service};
-pub use patterns::{Blackboard, Event, PublishSubscribe, RequestResonse};
-pub use toml::{ConfigError, ConfigFault, ConfigFile, ConfigFileError, ConfigWriteError};
+pub use patterns::{Blackboard, Event, PatternSettings, PublishSubscribe, RequestResonse};
+pub use toml::{
+    ConfigCreationError, ConfigError, ConfigFault, ConfigFile, ConfigFileError, ConfigWriteError,
+};
 pub use toml::{Fault, UnknownKey};
 pub use toml_kinds::{SettingKind, TomlType};
 
@@ -40,6 +42,7 @@ use crate::sys;
 /// assert_eq!(config.defaults.event.max_nodes, 36);
 /// ```
 #[derive(Clone, Debug, Default, PartialEq, Eq, Hash)]
+#[non_exhaustive]
 pub struct Config {
     /// The settings that all services and nodes of one system share.
     pub global: Global,
@@ -57,6 +60,7 @@ pub struct Config {
 /// assert_eq!(defaults.blackboard.max_readers, 8);
 /// ```
 #[derive(Clone, Debug, Default, PartialEq, Eq, Hash)]
+#[non_exhaustive]
 pub struct Defaults {
     /// Those of publish-subscribe services.
     pub publish_subscribe: PublishSubscribe,
@@ -68,50 +72,43 @@ pub struct Defaults {
     pub blackboard: Blackboard,
 }
 
-impl Config {
+/// Defines the paths of configuration files, each with the line of an example.
+macro_rules! default_texts {
+    ($($(#[$documentation:meta])* => $(#[$shown:meta])* $name:ident -> $type:ty = $number:ident;)*) => {
+        impl Config {
+            $(
+                $(#[$documentation])*
+                ///
+                /// ```
+                /// use iox2sd::config::Config;
+                $(#[$shown])*
+                /// ```
+                #[must_use]
+                pub fn $name() -> $type {
+                    default_text(sys::$number)
+                }
+            )*
+        }
+    };
+}
+
+default_texts! {
     /// The name of a configuration file.
-    ///
-    /// ```
-    /// use iox2sd::config::Config;
+    =>
     /// assert_eq!(Config::default_config_file_name(), "iceoryx2.toml");
-    /// ```
-    #[must_use]
-    pub fn default_config_file_name() -> FileName {
-        default_text(sys::IOX2SD_CONFIG_FILE_NAME)
-    }
-
+    default_config_file_name -> FileName = IOX2SD_CONFIG_FILE_NAME;
     /// The configuration file of a working directory.
-    ///
-    /// ```
-    /// use iox2sd::config::Config;
+    =>
     /// assert_eq!(Config::default_config_file_path(), "config/iceoryx2.toml");
-    /// ```
-    #[must_use]
-    pub fn default_config_file_path() -> FilePath {
-        default_text(sys::IOX2SD_CONFIG_FILE_PATH)
-    }
-
+    default_config_file_path -> FilePath = IOX2SD_CONFIG_FILE_PATH;
     /// The directory, below one for configurations, that has this system's configuration.
-    ///
-    /// ```
-    /// use iox2sd::config::Config;
+    =>
     /// assert_eq!(Config::relative_config_path(), "iceoryx2");
-    /// ```
-    #[must_use]
-    pub fn relative_config_path() -> Path {
-        default_text(sys::IOX2SD_RELATIVE_CONFIG_PATH)
-    }
-
+    relative_config_path -> Path = IOX2SD_RELATIVE_CONFIG_PATH;
     /// The configuration file below a user's directory for configurations.
-    ///
-    /// ```
-    /// use iox2sd::config::Config;
+    =>
     /// assert_eq!(Config::default_user_config_file_path(), "iceoryx2/iceoryx2.toml");
-    /// ```
-    #[must_use]
-    pub fn default_user_config_file_path() -> FilePath {
-        default_text(sys::IOX2SD_USER_CONFIG_FILE_PATH)
-    }
+    default_user_config_file_path -> FilePath = IOX2SD_USER_CONFIG_FILE_PATH;
 }
 
 /// A text that stands where nothing else is said.

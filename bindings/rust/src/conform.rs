@@ -10,10 +10,15 @@
 //! # Ok::<(), iox2sd::dynamic_config::AllocError>(())
 //! ```
 
+use crate::display::{choices, padded};
 use crate::dynamic_config::AllocError;
 use crate::identifiers::UniqueNodeId;
 use crate::library;
+use crate::plain::Plain;
 use crate::sys;
+use std::collections::BTreeSet;
+use std::error::Error;
+use std::fmt;
 
 mod recorder;
 
@@ -30,6 +35,7 @@ pub use recorder::Recorder;
 /// ```
 #[must_use]
 #[derive(Clone, Debug, PartialEq, Eq, Hash)]
+#[non_exhaustive]
 pub enum Verdict {
     /// All replies are those of a run.
     Conforms {
@@ -145,29 +151,31 @@ pub struct Attached {
     pub ports: Vec<u128>,
 }
 
-/// What a line of a log has to be.
-///
-/// ```
-/// use iox2sd::conform::{check_log, Expected, Verdict};
-///
-/// let bad = |line, expected| Verdict::BadLine { line, expected };
-/// assert_eq!(check_log("")?, bad(1, Expected::Service));
-/// assert_eq!(check_log("service event 7 2 0 0\nleave\n")?, bad(2, Expected::Command));
-/// assert_eq!(check_log("service event 7 2 0 0\noverlap\n")?, bad(3, Expected::GroupLine));
-/// # Ok::<(), iox2sd::dynamic_config::AllocError>(())
-/// ```
-#[derive(Clone, Copy, Debug, PartialEq, Eq, Hash)]
-pub enum Expected {
-    /// The line of a service.
-    Service,
-    /// The line of a command.
-    Command,
-    /// The line of a reply.
-    Reply,
-    /// The line of a call of a group, or the group's end.
-    GroupLine,
-    /// The end of a group that has eight calls.
-    GroupEnd,
+choices! {
+    /// What a line of a log has to be.
+    ///
+    /// ```
+    /// use iox2sd::conform::{check_log, Expected, Verdict};
+    ///
+    /// let bad = |line, expected| Verdict::BadLine { line, expected };
+    /// assert_eq!(check_log("")?, bad(1, Expected::Service));
+    /// assert_eq!(check_log("service event 7 2 0 0\nleave\n")?, bad(2, Expected::Command));
+    /// assert_eq!(check_log("service event 7 2 0 0\noverlap\n")?, bad(3, Expected::GroupLine));
+    /// # Ok::<(), iox2sd::dynamic_config::AllocError>(())
+    /// ```
+    #[non_exhaustive]
+    Expected of u32 in "conform" {
+        /// The line of a service.
+        Service = IOX2SD_NO_SERVICE_LINE;
+        /// The line of a command.
+        Command = IOX2SD_NO_COMMAND_LINE;
+        /// The line of a reply.
+        Reply = IOX2SD_NO_REPLY_LINE;
+        /// The line of a call of a group, or the group's end.
+        GroupLine = IOX2SD_NO_GROUP_LINE;
+        /// The end of a group that has eight calls.
+        GroupEnd = IOX2SD_NO_GROUP_END;
+    }
 }
 
 /// Judges a log of services.
@@ -194,29 +202,107 @@ pub fn check_log(log: &str) -> Result<Verdict, AllocError> {
         sys::IOX2SD_NO_RUN => Verdict::NoRun(Refusal::of(line, &judged.report)),
         sys::IOX2SD_NO_ORDER => Verdict::NoOrder(GroupRefusal::of(line, &judged.report)),
         sys::IOX2SD_TOO_MANY_STATES => Verdict::TooManyStates { line },
-        sys::IOX2SD_NO_SERVICE_LINE => Verdict::BadLine {
-            line,
-            expected: Expected::Service,
-        },
-        sys::IOX2SD_NO_COMMAND_LINE => Verdict::BadLine {
-            line,
-            expected: Expected::Command,
-        },
-        sys::IOX2SD_NO_REPLY_LINE => Verdict::BadLine {
-            line,
-            expected: Expected::Reply,
-        },
-        sys::IOX2SD_NO_GROUP_LINE => Verdict::BadLine {
-            line,
-            expected: Expected::GroupLine,
-        },
-        sys::IOX2SD_NO_GROUP_END => Verdict::BadLine {
-            line,
-            expected: Expected::GroupEnd,
-        },
         sys::IOX2SD_NO_MEMORY => return Err(AllocError),
-        other => library::unexpected(other),
+        expected => Verdict::BadLine {
+            line,
+            expected: Expected::of_c(&expected),
+        },
     })
+}
+
+impl Verdict {
+    /// Whether all replies are those of a run.
+    ///
+    /// ```
+    /// use iox2sd::conform::check_log;
+    ///
+    /// let log = "service event 7 2 0 0\nregister 1.0.0.1\n= handle 1 0\n";
+    /// assert!(check_log(log)?.conforms());
+    /// # Ok::<(), iox2sd::dynamic_config::AllocError>(())
+    /// ```
+    #[must_use]
+    pub fn conforms(&self) -> bool {
+        matches!(self, Verdict::Conforms { .. })
+    }
+
+    /// How many calls conform.
+    ///
+    /// # Errors
+    ///
+    /// The verdict, where the log does not conform.
+    ///
+    /// # Examples
+    ///
+    /// ```
+    /// use iox2sd::conform::check_log;
+    ///
+    /// let log = "service event 7 2 0 0\nregister 1.0.0.1\n= handle 1 0\n";
+    /// assert_eq!(check_log(log)?.into_result()?, 1);
+    /// let refused = check_log("service event 7 2 0 0\nleave\n")?.into_result().unwrap_err();
+    /// assert!(refused.to_string().starts_with("line 2: "));
+    /// # Ok::<(), Box<dyn std::error::Error>>(())
+    /// ```
+    pub fn into_result(self) -> Result<usize, Verdict> {
+        match self {
+            Verdict::Conforms { calls } => Ok(calls),
+            refused => Err(refused),
+        }
+    }
+}
+
+/// How many calls conform, or the line that does not, and why.
+impl fmt::Display for Verdict {
+    fn fmt(&self, f: &mut fmt::Formatter<'_>) -> fmt::Result {
+        match self {
+            Verdict::Conforms { calls: 1 } => f.pad("conforms, 1 call"),
+            Verdict::Conforms { calls } => padded(f, format_args!("conforms, {calls} calls")),
+            Verdict::NoRun(refusal) => refusal.fmt(f),
+            Verdict::NoOrder(refusal) => refusal.fmt(f),
+            Verdict::TooManyStates { line } => at_line(f, *line, sys::IOX2SD_TOO_MANY_STATES),
+            Verdict::BadLine { line, expected } => at_line(f, *line, expected.as_c()),
+        }
+    }
+}
+
+/// A log that conforms is no error; [`Verdict::into_result`] returns the others.
+impl Error for Verdict {
+    fn source(&self) -> Option<&(dyn Error + 'static)> {
+        match self {
+            Verdict::NoRun(refusal) => Some(refusal),
+            Verdict::NoOrder(refusal) => Some(refusal),
+            _ => None,
+        }
+    }
+}
+
+/// The line, the reply that was seen, and those that are possible.
+impl fmt::Display for Refusal {
+    fn fmt(&self, f: &mut fmt::Formatter<'_>) -> fmt::Result {
+        let possible: BTreeSet<_> = self.states.iter().map(|state| &*state.possible).collect();
+        let possible = Vec::from_iter(possible).join("; or: ");
+        let Refusal { line, seen, .. } = self;
+        padded(
+            f,
+            format_args!("line {line}: seen: {seen}; possible: {possible}"),
+        )
+    }
+}
+
+impl Error for Refusal {}
+
+/// The line of the group's end.
+impl fmt::Display for GroupRefusal {
+    fn fmt(&self, f: &mut fmt::Formatter<'_>) -> fmt::Result {
+        at_line(f, self.line, sys::IOX2SD_NO_ORDER)
+    }
+}
+
+impl Error for GroupRefusal {}
+
+/// Writes what a status says of a line.
+fn at_line(f: &mut fmt::Formatter<'_>, line: usize, status: u32) -> fmt::Result {
+    let text = library::status_text(status).unwrap_or_default();
+    padded(f, format_args!("line {line}: {text}"))
 }
 
 impl Refusal {

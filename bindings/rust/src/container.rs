@@ -1,12 +1,9 @@
 //! What the entries of a service are, and the handles by which they are removed.
 //!
 //! ```
-//! use iox2sd::container::Role;
-//! use iox2sd::dynamic_config::{event, DynamicConfig, MessagingPatternSettings};
-//! use iox2sd::identifiers::UniqueNodeId;
+//! use iox2sd::prelude::*;
 //!
-//! let ports = event::DynamicConfigSettings { number_of_listeners: 1, number_of_notifiers: 1 };
-//! let mut service = DynamicConfig::new(&MessagingPatternSettings::Event(ports), 2, 7)?;
+//! let mut service = DynamicConfig::with_capacities(&Config::default().defaults.event, 7)?;
 //! let node = UniqueNodeId::new(1, 0, 0, 1).expect("the id of a node");
 //! service.register_node_id(node)?;
 //! let second = service.register_node_id(node)?;
@@ -14,66 +11,43 @@
 //! # Ok::<(), Box<dyn std::error::Error>>(())
 //! ```
 
-use crate::display::{error_by_path, shown_by_name};
+use crate::display::{choices, errors, getters};
 use crate::library;
+use crate::plain::Plain;
 use crate::sys;
 use std::iter::FusedIterator;
+use std::vec;
 
-/// What an entry of a service is: a node, or a port of one kind.
-///
-/// ```
-/// use iox2sd::container::Role;
-/// assert_eq!(Role::Publisher.to_string(), "Publisher");
-/// ```
-#[derive(Clone, Copy, Debug, PartialEq, Eq, PartialOrd, Ord, Hash)]
-#[repr(u64)]
-pub enum Role {
-    /// A node.
-    Node = sys::IOX2SD_NODE,
-    /// A port that sends samples.
-    Publisher = sys::IOX2SD_PUBLISHER,
-    /// A port that receives samples.
-    Subscriber = sys::IOX2SD_SUBSCRIBER,
-    /// A port that signals events.
-    Notifier = sys::IOX2SD_NOTIFIER,
-    /// A port that waits for events.
-    Listener = sys::IOX2SD_LISTENER,
-    /// A port that sends requests.
-    Client = sys::IOX2SD_CLIENT,
-    /// A port that answers requests.
-    Server = sys::IOX2SD_SERVER,
-    /// A port that reads a blackboard.
-    Reader = sys::IOX2SD_READER,
-    /// A port that writes to a blackboard.
-    Writer = sys::IOX2SD_WRITER,
-}
-
-impl Role {
-    /// All roles, by their numbers in the headers.
+choices! {
+    /// What an entry of a service is: a node, or a port of one kind.
     ///
     /// ```
     /// use iox2sd::container::Role;
+    ///
+    /// assert_eq!(Role::Publisher.to_string(), "Publisher");
     /// assert_eq!(Role::ALL.map(|role| role as usize), [0, 1, 2, 3, 4, 5, 6, 7, 8]);
     /// ```
-    pub const ALL: [Role; 9] = [
-        Role::Node,
-        Role::Publisher,
-        Role::Subscriber,
-        Role::Notifier,
-        Role::Listener,
-        Role::Client,
-        Role::Server,
-        Role::Reader,
-        Role::Writer,
-    ];
-
-    #[inline]
-    pub(crate) fn of(number: u64) -> Self {
-        library::choice(&Role::ALL, |role| role as u64, number)
+    Role of u64 in "container" {
+        /// A node.
+        Node = IOX2SD_NODE;
+        /// A port that sends samples.
+        Publisher = IOX2SD_PUBLISHER;
+        /// A port that receives samples.
+        Subscriber = IOX2SD_SUBSCRIBER;
+        /// A port that signals events.
+        Notifier = IOX2SD_NOTIFIER;
+        /// A port that waits for events.
+        Listener = IOX2SD_LISTENER;
+        /// A port that sends requests.
+        Client = IOX2SD_CLIENT;
+        /// A port that answers requests.
+        Server = IOX2SD_SERVER;
+        /// A port that reads a blackboard.
+        Reader = IOX2SD_READER;
+        /// A port that writes to a blackboard.
+        Writer = IOX2SD_WRITER;
     }
 }
-
-shown_by_name!(Role);
 
 /// Registering a node and attaching a port return a handle; deregistering and releasing take it. A
 /// service never reuses a handle. Handles are ordered by service, role, slot and ticket.
@@ -114,94 +88,63 @@ impl ContainerHandle {
         }
     }
 
-    /// The number of the service.
-    ///
-    /// ```
-    /// use iox2sd::container::{ContainerHandle, Role};
-    /// assert_eq!(ContainerHandle::from_parts(7, Role::Node, 0, 3).service(), 7);
-    /// ```
-    #[must_use]
-    pub fn service(&self) -> u64 {
-        self.service
+    getters! {
+        {
+            /// use iox2sd::container::{ContainerHandle, Role};
+            ///
+            /// let (service, role, slot, ticket) = (7, Role::Writer, 2, 3);
+            /// let handle = ContainerHandle::from_parts(service, role, slot, ticket);
+        }
+        /// The number of the service.
+        service -> u64 = |handle| handle.service, "handle.service(), service";
+        /// What has the handle.
+        role -> Role = |handle| handle.role, "handle.role(), role";
+        /// The slot among the entries of its role.
+        slot -> usize = |handle| handle.slot, "handle.slot(), slot";
+        /// How many entries of its role were made before it.
+        ticket -> u64 = |handle| handle.ticket, "handle.ticket(), ticket";
     }
+}
 
-    /// What has the handle.
-    ///
-    /// ```
-    /// use iox2sd::container::{ContainerHandle, Role};
-    /// assert_eq!(ContainerHandle::from_parts(7, Role::Writer, 0, 3).role(), Role::Writer);
-    /// ```
-    #[must_use]
-    pub fn role(&self) -> Role {
-        self.role
-    }
+impl Plain for ContainerHandle {
+    type C = sys::iox2sd_handle;
 
-    /// The slot among the entries of its role.
-    ///
-    /// ```
-    /// use iox2sd::container::{ContainerHandle, Role};
-    /// assert_eq!(ContainerHandle::from_parts(7, Role::Node, 2, 3).slot(), 2);
-    /// ```
-    #[must_use]
-    pub fn slot(&self) -> usize {
-        self.slot
-    }
-
-    /// How many entries of its role were made before it.
-    ///
-    /// ```
-    /// use iox2sd::container::{ContainerHandle, Role};
-    /// assert_eq!(ContainerHandle::from_parts(7, Role::Node, 2, 3).ticket(), 3);
-    /// ```
-    #[must_use]
-    pub fn ticket(&self) -> u64 {
-        self.ticket
+    #[inline]
+    fn of_c(c: &Self::C) -> Self {
+        Self::from_parts(c.service, Role::of_c(&c.role), c.slot, c.ticket)
     }
 
     #[inline]
-    pub(crate) fn of(handle: sys::iox2sd_handle) -> Self {
-        Self::from_parts(
-            handle.service,
-            Role::of(handle.role),
-            handle.slot,
-            handle.ticket,
-        )
-    }
-
-    #[inline]
-    pub(crate) fn parts(&self) -> sys::iox2sd_handle {
+    fn as_c(self) -> Self::C {
         sys::iox2sd_handle {
             service: self.service,
-            role: self.role as u64,
+            role: self.role.as_c(),
             slot: self.slot,
             ticket: self.ticket,
         }
     }
 }
 
-/// Why nothing was released.
-///
-/// ```
-/// use iox2sd::container::{ContainerHandle, Role};
-/// use iox2sd::dynamic_config::{event, DynamicConfig, MessagingPatternSettings};
-///
-/// let ports = event::DynamicConfigSettings { number_of_listeners: 1, number_of_notifiers: 1 };
-/// let mut service = DynamicConfig::new(&MessagingPatternSettings::Event(ports), 1, 7)?;
-/// let foreign = ContainerHandle::from_parts(8, Role::Listener, 0, 0);
-/// let refused = service.release_port(foreign).unwrap_err();
-/// assert_eq!(
-///     refused.to_string(),
-///     "ContainerRemoveError::ContainerHandleNotOwnedByContainer"
-/// );
-/// # Ok::<(), Box<dyn std::error::Error>>(())
-/// ```
-#[derive(Clone, Copy, Debug, PartialEq, Eq, Hash)]
-pub enum ContainerRemoveError {
-    /// No entry of the service has this handle.
-    ContainerHandleNotOwnedByContainer,
+errors! {
+    /// Why nothing was released.
+    ///
+    /// ```
+    /// use iox2sd::prelude::*;
+    ///
+    /// let mut service = DynamicConfig::with_capacities(&Config::default().defaults.event, 7)?;
+    /// let foreign = ContainerHandle::from_parts(8, Role::Listener, 0, 0);
+    /// let refused = service.release_port(foreign).unwrap_err();
+    /// assert_eq!(
+    ///     refused.to_string(),
+    ///     "ContainerRemoveError::ContainerHandleNotOwnedByContainer"
+    /// );
+    /// # Ok::<(), Box<dyn std::error::Error>>(())
+    /// ```
+    ContainerRemoveError {
+        /// No entry of the service has this handle.
+        ContainerHandleNotOwnedByContainer = IOX2SD_FOREIGN_HANDLE,
+    }
 }
-
-error_by_path!(ContainerRemoveError);
 
 /// Numbers for services, for those who have none: 1, 2, 3, .., each once, up to 2^64 - 1.
 ///
@@ -258,3 +201,79 @@ impl Iterator for ServiceNumbers {
 }
 
 impl FusedIterator for ServiceNumbers {}
+
+/// The entries that were there when they were listed, by rising slot.
+///
+/// ```
+/// use iox2sd::prelude::*;
+///
+/// let mut service = DynamicConfig::with_capacities(&Config::default().defaults.event, 7)?;
+/// let node = UniqueNodeId::new(1, 0, 0, 1).expect("the id of a node");
+/// service.register_node_id(node)?;
+/// let mut nodes = service.nodes();
+/// assert_eq!((nodes.len(), nodes.as_slice()), (1, &[node][..]));
+/// assert_eq!((nodes.next(), nodes.next()), (Some(node), None));
+/// # Ok::<(), Box<dyn std::error::Error>>(())
+/// ```
+#[derive(Clone, Debug)]
+pub struct Entries<T> {
+    entries: vec::IntoIter<T>,
+}
+
+impl<T> Entries<T> {
+    /// Those that are left.
+    ///
+    /// ```
+    /// use iox2sd::prelude::*;
+    ///
+    /// let service = DynamicConfig::with_capacities(&Config::default().defaults.event, 7)?;
+    /// assert!(service.nodes().as_slice().is_empty());
+    /// # Ok::<(), iox2sd::dynamic_config::AllocError>(())
+    /// ```
+    #[must_use]
+    pub fn as_slice(&self) -> &[T] {
+        self.entries.as_slice()
+    }
+}
+
+/// None.
+impl<T> Default for Entries<T> {
+    fn default() -> Self {
+        [].into_iter().collect()
+    }
+}
+
+impl<T> FromIterator<T> for Entries<T> {
+    fn from_iter<I>(entries: I) -> Self
+    where
+        I: IntoIterator<Item = T>,
+    {
+        Entries {
+            entries: Vec::from_iter(entries).into_iter(),
+        }
+    }
+}
+
+impl<T> Iterator for Entries<T> {
+    type Item = T;
+
+    #[inline]
+    fn next(&mut self) -> Option<T> {
+        self.entries.next()
+    }
+
+    #[inline]
+    fn size_hint(&self) -> (usize, Option<usize>) {
+        self.entries.size_hint()
+    }
+}
+
+impl<T> DoubleEndedIterator for Entries<T> {
+    fn next_back(&mut self) -> Option<T> {
+        self.entries.next_back()
+    }
+}
+
+impl<T> ExactSizeIterator for Entries<T> {}
+
+impl<T> FusedIterator for Entries<T> {}

@@ -1,18 +1,12 @@
 //! Who is attached to a service: its nodes, and their ports.
 //!
 //! ```
-//! use iox2sd::dynamic_config::{
-//!     event, DeregisterNodeState, DynamicConfig, ListenerDetails, MessagingPatternSettings,
-//! };
+//! use iox2sd::dynamic_config::{event, DeregisterNodeState, DynamicConfig, ListenerDetails};
 //! use iox2sd::identifiers::{UniqueListenerId, UniqueNodeId};
 //! use iox2sd::CallbackProgression;
 //!
-//! let settings = MessagingPatternSettings::Event(event::DynamicConfigSettings {
-//!     number_of_listeners: 2,
-//!     number_of_notifiers: 2,
-//! });
-//! let mut service = DynamicConfig::new(&settings, 1, 7)?;
-//!
+//! let ports = event::DynamicConfigSettings { number_of_listeners: 2, number_of_notifiers: 2 };
+//! let mut service = DynamicConfig::new(ports, 1, 7)?;
 //! let node_id = UniqueNodeId::new(1, 0, 0, 1).expect("the id of a node");
 //! let listener_id = UniqueListenerId::new(1, 0, 0, 2);
 //! let node = service.register_node_id(node_id)?;
@@ -43,7 +37,7 @@ pub use answers::{
     RegisterNodeResult,
 };
 pub use details::{
-    ClientDetails, ListenerDetails, NotifierDetails, PortDetails, PublisherDetails, ReaderDetails,
-    ServerDetails, SubscriberDetails, WriterDetails,
+    ClientDetails, ListenerDetails, NotifierDetails, OtherRole, PortDetails, PublisherDetails,
+    ReaderDetails, ServerDetails, SubscriberDetails, WriterDetails,
 };
-pub use service::{DynamicConfig, MessagingPatternSettings};
+pub use service::{Capacities, DynamicConfig, MessagingPatternSettings};

@@ -14,7 +14,11 @@
 //! assert!(UniquePublisherId::new(1, 2, 3, 4) < UniquePublisherId::new(1, 2, 4, 0));
 //! ```
 
+use crate::container::Role;
+use crate::display::getters;
+use crate::dynamic_config::OtherRole;
 use crate::library;
+use crate::plain::Plain;
 use crate::sys;
 use std::cmp::Ordering;
 use std::error::Error;
@@ -30,7 +34,7 @@ use std::str::FromStr;
 /// assert_eq!(UniqueServiceId::new(17, 0, 0, 1).pid(), ProcessId::new(17));
 /// assert_eq!(ProcessId::new(17).to_string(), "17");
 /// ```
-#[derive(Clone, Copy, Debug, PartialEq, Eq, Hash)]
+#[derive(Clone, Copy, Debug, PartialEq, Eq, PartialOrd, Ord, Hash)]
 pub struct ProcessId {
     value: u32,
 }
@@ -76,7 +80,7 @@ impl fmt::Display for ProcessId {
 /// assert_eq!(id.creation_time(), Time::new(1000, 5));
 /// assert_eq!(Time::default(), Time::new(0, 0));
 /// ```
-#[derive(Clone, Copy, Debug, Default, PartialEq, Eq, Hash)]
+#[derive(Clone, Copy, Debug, Default, PartialEq, Eq, PartialOrd, Ord, Hash)]
 pub struct Time {
     seconds: u64,
     nanoseconds: u32,
@@ -99,26 +103,17 @@ impl Time {
         }
     }
 
-    /// The whole seconds.
-    ///
-    /// ```
-    /// use iox2sd::identifiers::Time;
-    /// assert_eq!(Time::new(1000, 5).seconds(), 1000);
-    /// ```
-    #[must_use]
-    pub fn seconds(&self) -> u64 {
-        self.seconds
-    }
-
-    /// The nanoseconds beside the seconds.
-    ///
-    /// ```
-    /// use iox2sd::identifiers::Time;
-    /// assert_eq!(Time::new(1000, 5).nanoseconds(), 5);
-    /// ```
-    #[must_use]
-    pub fn nanoseconds(&self) -> u32 {
-        self.nanoseconds
+    getters! {
+        {
+            /// use iox2sd::identifiers::Time;
+            ///
+            /// let (seconds, nanoseconds) = (1000, 5);
+            /// let time = Time::new(seconds, nanoseconds);
+        }
+        /// The whole seconds.
+        seconds -> u64 = |time| time.seconds, "time.seconds(), seconds";
+        /// The nanoseconds beside the seconds.
+        nanoseconds -> u32 = |time| time.nanoseconds, "time.nanoseconds(), nanoseconds";
     }
 }
 
@@ -138,50 +133,39 @@ macro_rules! unique_id {
         /// ```
         #[derive(Clone, Copy, PartialEq, Eq, Hash)]
         pub struct $name {
-            pub(crate) parts: sys::iox2sd_id,
+            parts: sys::iox2sd_id,
+        }
+
+        impl Plain for $name {
+            type C = sys::iox2sd_id;
+
+            #[inline]
+            fn of_c(parts: &sys::iox2sd_id) -> Self {
+                $name { parts: *parts }
+            }
+
+            #[inline]
+            fn as_c(self) -> sys::iox2sd_id {
+                self.parts
+            }
         }
 
         impl $name {
-            #[inline]
-            pub(crate) fn of(parts: sys::iox2sd_id) -> Self {
-                $name { parts }
-            }
-
-            /// The id as one number: process, seconds, nanoseconds and counter, 32 bits each.
-            ///
-            /// ```
-            #[doc = concat!("use iox2sd::identifiers::", stringify!($name), ";")]
-            ///
-            $(#[$made])*
-            /// assert_eq!(id.value(), 0x1_0000_0002_0000_0002_0000_0001);
-            /// ```
-            pub fn value(&self) -> u128 {
-                value(self.parts)
-            }
-
-            /// The process that made the id.
-            ///
-            /// ```
-            #[doc = concat!("use iox2sd::identifiers::", stringify!($name), ";")]
-            ///
-            $(#[$made])*
-            /// assert_eq!(id.pid().value(), 1);
-            /// ```
-            pub fn pid(&self) -> ProcessId {
-                ProcessId::new(self.parts.process)
-            }
-
-            /// When the id was made.
-            ///
-            /// ```
-            #[doc = concat!("use iox2sd::identifiers::", stringify!($name), ";")]
-            ///
-            $(#[$made])*
-            /// let time = id.creation_time();
-            /// assert_eq!((time.seconds(), time.nanoseconds()), (2, 2));
-            /// ```
-            pub fn creation_time(&self) -> Time {
-                Time::new(u64::from(self.parts.seconds), self.parts.nanoseconds)
+            getters! {
+                {
+                    #[doc = concat!("use iox2sd::identifiers::", stringify!($name), ";")]
+                    ///
+                    $(#[$made])*
+                }
+                /// The id as one number: process, seconds, nanoseconds and counter, 32 bits each.
+                value -> u128 = |id| value(id.parts),
+                    "id.value().try_into(), Ok(id)";
+                /// The process that made the id.
+                pid -> ProcessId = |id| ProcessId::new(id.parts.process), "id.pid().value(), 1";
+                /// When the id was made.
+                creation_time -> Time =
+                    |id| Time::new(u64::from(id.parts.seconds), id.parts.nanoseconds),
+                    "id.creation_time().seconds(), 2";
             }
         }
 
@@ -210,6 +194,13 @@ macro_rules! unique_id {
         impl fmt::Display for $name {
             fn fmt(&self, f: &mut fmt::Formatter<'_>) -> fmt::Result {
                 f.pad(&text(self.parts))
+            }
+        }
+
+        /// The digits of its value.
+        impl fmt::LowerHex for $name {
+            fn fmt(&self, f: &mut fmt::Formatter<'_>) -> fmt::Result {
+                fmt::LowerHex::fmt(&self.value(), f)
             }
         }
 
@@ -253,11 +244,11 @@ macro_rules! unique_ids {
                 #[doc = concat!("assert!(earlier < ", stringify!($name), "::new(1, 2, 2, 1));")]
                 /// ```
                 pub fn new(process: u32, seconds: u32, nanoseconds: u32, counter: u32) -> Self {
-                    Self::of(sys::iox2sd_id { process, seconds, nanoseconds, counter })
+                    Self::of_c(&sys::iox2sd_id { process, seconds, nanoseconds, counter })
                 }
 
                 fn of_parts(parts: sys::iox2sd_id) -> Option<Self> {
-                    Some(Self::of(parts))
+                    Some(Self::of_c(&parts))
                 }
             }
         )*
@@ -314,7 +305,7 @@ impl UniqueNodeId {
     }
 
     fn of_parts(parts: sys::iox2sd_id) -> Option<Self> {
-        library::id_is_node(parts).then(|| Self::of(parts))
+        library::id_is_node(parts).then(|| Self::of_c(&parts))
     }
 
     /// Process and counter as one number, which is never 0. Nodes of one process with one counter
@@ -334,75 +325,97 @@ impl UniqueNodeId {
     }
 }
 
-/// The id of a port of any kind.
-///
-/// ```
-/// use iox2sd::identifiers::{UniquePortId, UniqueReaderId, UniqueWriterId};
-///
-/// let reader = UniquePortId::Reader(UniqueReaderId::new(0, 0, 0, 10));
-/// let writer = UniquePortId::Writer(UniqueWriterId::new(0, 0, 0, 10));
-/// assert_ne!(reader, writer);
-/// assert_eq!(reader.value(), writer.value());
-/// assert_eq!(reader.to_string(), "a");
-/// ```
-#[derive(Clone, Copy, Debug, PartialEq, Eq, Hash)]
-pub enum UniquePortId {
-    /// The id of a publisher.
-    Publisher(UniquePublisherId),
-    /// The id of a subscriber.
-    Subscriber(UniqueSubscriberId),
-    /// The id of a notifier.
-    Notifier(UniqueNotifierId),
-    /// The id of a listener.
-    Listener(UniqueListenerId),
-    /// The id of a client.
-    Client(UniqueClientId),
-    /// The id of a server.
-    Server(UniqueServerId),
-    /// The id of a reader.
-    Reader(UniqueReaderId),
-    /// The id of a writer.
-    Writer(UniqueWriterId),
-}
-
-/// Defines how the id of each kind of ports becomes that of a port of any kind.
+/// Defines the id of a port of any kind.
 macro_rules! port_ids {
-    ($($kind:ident: $name:ident)*) => {
+    ($($(#[$documentation:meta])* $kind:ident: $name:ident,)*) => {
+        /// The id of a port of any kind. Ids are ordered by their kinds, and then by their numbers.
+        ///
+        /// ```
+        /// use iox2sd::identifiers::{UniquePortId, UniqueReaderId, UniqueWriterId};
+        ///
+        /// let reader = UniquePortId::Reader(UniqueReaderId::new(0, 0, 0, 10));
+        /// let writer = UniquePortId::Writer(UniqueWriterId::new(0, 0, 0, 10));
+        /// assert_ne!(reader, writer);
+        /// assert_eq!(reader.value(), writer.value());
+        /// assert_eq!(reader.to_string(), "a");
+        /// ```
+        #[derive(Clone, Copy, Debug, PartialEq, Eq, PartialOrd, Ord, Hash)]
+        pub enum UniquePortId {
+            $(
+                $(#[$documentation])*
+                $kind($name),
+            )*
+        }
+
         $(
             impl From<$name> for UniquePortId {
                 fn from(id: $name) -> Self {
                     UniquePortId::$kind(id)
                 }
             }
+
+            impl TryFrom<UniquePortId> for $name {
+                type Error = OtherRole;
+
+                /// The id, where it is that of such a port.
+                fn try_from(id: UniquePortId) -> Result<Self, OtherRole> {
+                    match id {
+                        UniquePortId::$kind(id) => Ok(id),
+                        other => Err(OtherRole {
+                            found: other.role(),
+                            wanted: Role::$kind,
+                        }),
+                    }
+                }
+            }
         )*
+
+        impl UniquePortId {
+            pub(crate) fn parts(self) -> sys::iox2sd_id {
+                match self {
+                    $(UniquePortId::$kind(id) => id.parts,)*
+                }
+            }
+
+            /// What the port is.
+            ///
+            /// ```
+            /// use iox2sd::container::Role;
+            /// use iox2sd::identifiers::{UniquePortId, UniqueWriterId};
+            ///
+            /// let id = UniquePortId::Writer(UniqueWriterId::new(1, 2, 3, 4));
+            /// assert_eq!(id.role(), Role::Writer);
+            /// ```
+            #[must_use]
+            pub fn role(&self) -> Role {
+                match self {
+                    $(UniquePortId::$kind(_) => Role::$kind,)*
+                }
+            }
+        }
     };
 }
 
 port_ids! {
-    Publisher: UniquePublisherId
-    Subscriber: UniqueSubscriberId
-    Notifier: UniqueNotifierId
-    Listener: UniqueListenerId
-    Client: UniqueClientId
-    Server: UniqueServerId
-    Reader: UniqueReaderId
-    Writer: UniqueWriterId
+    /// The id of a publisher.
+    Publisher: UniquePublisherId,
+    /// The id of a subscriber.
+    Subscriber: UniqueSubscriberId,
+    /// The id of a notifier.
+    Notifier: UniqueNotifierId,
+    /// The id of a listener.
+    Listener: UniqueListenerId,
+    /// The id of a client.
+    Client: UniqueClientId,
+    /// The id of a server.
+    Server: UniqueServerId,
+    /// The id of a reader.
+    Reader: UniqueReaderId,
+    /// The id of a writer.
+    Writer: UniqueWriterId,
 }
 
 impl UniquePortId {
-    pub(crate) fn parts(&self) -> sys::iox2sd_id {
-        match self {
-            UniquePortId::Publisher(id) => id.parts,
-            UniquePortId::Subscriber(id) => id.parts,
-            UniquePortId::Notifier(id) => id.parts,
-            UniquePortId::Listener(id) => id.parts,
-            UniquePortId::Client(id) => id.parts,
-            UniquePortId::Server(id) => id.parts,
-            UniquePortId::Reader(id) => id.parts,
-            UniquePortId::Writer(id) => id.parts,
-        }
-    }
-
     /// The id as one number, whatever its kind.
     ///
     /// ```
@@ -424,6 +437,13 @@ impl fmt::Display for UniquePortId {
     }
 }
 
+/// The digits of its value, whatever its kind.
+impl fmt::LowerHex for UniquePortId {
+    fn fmt(&self, f: &mut fmt::Formatter<'_>) -> fmt::Result {
+        fmt::LowerHex::fmt(&self.value(), f)
+    }
+}
+
 fn text(parts: sys::iox2sd_id) -> String {
     library::id_text(parts).unwrap_or_else(|status| library::unexpected(status))
 }
@@ -440,7 +460,8 @@ fn text(parts: sys::iox2sd_id) -> String {
 /// assert_eq!(UniqueNodeId::try_from(0), Err(IdError::NoNode));
 /// # Ok::<(), IdError>(())
 /// ```
-#[derive(Clone, Copy, Debug, PartialEq, Eq, Hash)]
+#[derive(Clone, Copy, Debug, PartialEq, Eq, PartialOrd, Ord, Hash)]
+#[non_exhaustive]
 pub enum IdError {
     /// The text is none of an id: lower-case hexadecimal digits without leading zeros, at most
     /// those of 128 bits.

@@ -15,11 +15,9 @@
 //! | [`script`], [`conform`] | runs as text, and whether a log is that of one |
 //!
 //! ```
-//! use iox2sd::dynamic_config::{event, DynamicConfig, MessagingPatternSettings};
-//! use iox2sd::identifiers::UniqueNodeId;
+//! use iox2sd::prelude::*;
 //!
-//! let ports = event::DynamicConfigSettings { number_of_listeners: 2, number_of_notifiers: 2 };
-//! let mut service = DynamicConfig::new(&MessagingPatternSettings::Event(ports), 1, 7)?;
+//! let mut service = DynamicConfig::with_capacities(&Config::default().defaults.event, 7)?;
 //! let node = UniqueNodeId::new(1, 0, 0, 1).expect("the id of a node");
 //! let handle = service.register_node_id(node)?;
 //! assert_eq!(service.nodes().collect::<Vec<_>>(), [node]);
@@ -63,12 +61,14 @@ mod display;
 #[allow(unsafe_code)]
 mod library;
 mod limits;
+mod plain;
 // Names are those of the headers.
 #[allow(missing_debug_implementations, clippy::struct_field_names)]
 mod sys;
 mod text;
 
 pub use callback_progression::CallbackProgression;
+pub use display::UnknownName;
 
 /// The modules of this crate that stand in the module `service` of iceoryx2.
 ///
@@ -109,3 +109,29 @@ pub fn layer_version() -> String {
 #[cfg(doctest)]
 #[doc = include_str!("../README.md")]
 struct ReadMe;
+
+/// What an opener requires has a type of its own, so that the wrong order does not compile.
+///
+/// ```
+/// use iox2sd::prelude::*;
+/// use iox2sd::static_config::messaging_pattern::MessagingPattern as Required;
+/// fn satisfies(service: &StaticConfig, required: &Required) -> bool {
+///     service.satisfies(required)
+/// }
+/// ```
+///
+/// ```compile_fail,E0308
+/// use iox2sd::prelude::*;
+/// use iox2sd::static_config::messaging_pattern::MessagingPattern as Required;
+/// fn satisfies(service: &StaticConfig, required: &Required) -> bool {
+///     required.satisfies(service)
+/// }
+/// ```
+///
+/// Settings may grow, so that none are written out.
+///
+/// ```compile_fail,E0639
+/// let settings = iox2sd::config::Blackboard { max_readers: 3, max_nodes: 4 };
+/// ```
+#[cfg(doctest)]
+struct DoesNotCompile;

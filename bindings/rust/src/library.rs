@@ -11,10 +11,7 @@ mod service;
 
 pub(crate) use attributes::{attribute_value, attribute_values, sorted, verify, Missing};
 pub(crate) use config::{config_faults, config_read, config_unknown, config_write};
-pub(crate) use descriptions::{
-    blackboard_capacities, event_capacities, publish_subscribe_capacities,
-    request_response_capacities, Settings,
-};
+pub(crate) use descriptions::Settings;
 pub(crate) use messages::{check_type, check_type_name, compatible, layout, places};
 pub(crate) use satisfies::Fixed;
 pub(crate) use service::Service;
@@ -123,12 +120,6 @@ values! {
     id_owner(id: sys::iox2sd_id) -> u64: iox2sd_id_owner_id
     id_is_before(id: sys::iox2sd_id, other: sys::iox2sd_id) -> bool: iox2sd_id_is_before
     global_defaults() -> sys::iox2sd_global_settings: iox2sd_global_defaults
-    publish_subscribe_defaults() -> sys::iox2sd_publish_subscribe_settings:
-        iox2sd_publish_subscribe_defaults
-    event_defaults() -> sys::iox2sd_event_settings: iox2sd_event_defaults
-    request_response_defaults() -> sys::iox2sd_request_response_settings:
-        iox2sd_request_response_defaults
-    blackboard_defaults() -> sys::iox2sd_blackboard_settings: iox2sd_blackboard_defaults
     publisher_chunks(
         max_subscribers: usize,
         buffer_size: usize,
@@ -161,52 +152,31 @@ pub(crate) fn has_internal_prefix(text: &str) -> bool {
     unsafe { sys::iox2sd_has_iox2_prefix_at(text.as_ptr(), text.len()) }
 }
 
-pub(crate) fn internal_service_name(name: &str) -> Result<String, u32> {
-    // SAFETY: each pointer and length are those of one slice, and `out` overlaps no other.
-    text(|out| unsafe {
-        sys::iox2sd_internal_service_name_at(name.as_ptr(), name.len(), out.as_mut_ptr(), out.len())
-    })
+/// Defines calls that write a text about texts, and about numbers before them.
+macro_rules! texts_of_texts {
+    ($($name:ident($([$number:ident: $type:ty])? $($text:ident)*): $export:ident)*) => {
+        $(
+            pub(crate) fn $name($($number: $type,)? $($text: &str),*) -> Result<String, u32> {
+                // SAFETY: each pointer and length are those of one slice, and `out` overlaps no
+                // other.
+                text(|out| unsafe {
+                    sys::$export(
+                        $($number,)?
+                        $($text.as_ptr(), $text.len(),)*
+                        out.as_mut_ptr(),
+                        out.len(),
+                    )
+                })
+            }
+        )*
+    };
 }
 
-pub(crate) fn hash_text(pattern: u32, name: &str) -> Result<String, u32> {
-    // SAFETY: as above.
-    text(|out| unsafe {
-        sys::iox2sd_internal_hash_text_at(
-            pattern,
-            name.as_ptr(),
-            name.len(),
-            out.as_mut_ptr(),
-            out.len(),
-        )
-    })
-}
-
-pub(crate) fn path_join(path: &str, entry: &str) -> Result<String, u32> {
-    // SAFETY: as above.
-    text(|out| unsafe {
-        sys::iox2sd_path_add_path_entry_at(
-            path.as_ptr(),
-            path.len(),
-            entry.as_ptr(),
-            entry.len(),
-            out.as_mut_ptr(),
-            out.len(),
-        )
-    })
-}
-
-pub(crate) fn file_path_join(path: &str, file: &str) -> Result<String, u32> {
-    // SAFETY: as above.
-    text(|out| unsafe {
-        sys::iox2sd_file_path_from_path_and_file_at(
-            path.as_ptr(),
-            path.len(),
-            file.as_ptr(),
-            file.len(),
-            out.as_mut_ptr(),
-            out.len(),
-        )
-    })
+texts_of_texts! {
+    internal_service_name(name): iox2sd_internal_service_name_at
+    hash_text([pattern: u64] name): iox2sd_internal_hash_text_at
+    path_join(path entry): iox2sd_path_add_path_entry_at
+    file_path_join(path file): iox2sd_file_path_from_path_and_file_at
 }
 
 /// The number after the last one that was returned, or `None` after the greatest.
@@ -228,23 +198,35 @@ pub(crate) struct Run {
     pub(crate) replies: String,
 }
 
-pub(crate) fn script_run(script: &str) -> Run {
-    let mut out = Vec::new();
+/// Makes a call that writes a text whatever its status, which an answer has with the length: the
+/// last answer, and the text.
+fn written<A>(
+    mut out: Vec<u8>,
+    call: impl Fn(&mut [u8]) -> A,
+    parts: impl Fn(&A) -> (u32, usize),
+) -> (A, String) {
     loop {
-        // SAFETY: each pointer and length are those of one slice, and `out` overlaps no other.
-        let answer = unsafe {
-            sys::iox2sd_script_run_at(script.as_ptr(), script.len(), out.as_mut_ptr(), out.len())
-        };
-        if answer.status == sys::IOX2SD_BUFFER_TOO_SHORT {
-            out.resize(answer.length, 0);
-            continue;
+        let answer = call(&mut out);
+        let (status, length) = parts(&answer);
+        out.resize(length, 0);
+        if status != sys::IOX2SD_BUFFER_TOO_SHORT {
+            let text = String::from_utf8(out);
+            return (answer, text.expect("the library writes texts of texts"));
         }
-        out.truncate(answer.length);
-        return Run {
-            status: answer.status,
-            line: answer.line,
-            replies: String::from_utf8(out).expect("the library writes texts"),
-        };
+    }
+}
+
+pub(crate) fn script_run(script: &str) -> Run {
+    let call = |out: &mut [u8]| {
+        let (text, length) = (script.as_ptr(), script.len());
+        // SAFETY: each pointer and length are those of one slice, and `out` overlaps no other.
+        unsafe { sys::iox2sd_script_run_at(text, length, out.as_mut_ptr(), out.len()) }
+    };
+    let (answer, replies) = written(Vec::new(), call, |answer| (answer.status, answer.length));
+    Run {
+        status: answer.status,
+        line: answer.line,
+        replies,
     }
 }
 
@@ -261,22 +243,17 @@ pub(crate) struct Judged {
 const REPORT: usize = 512;
 
 pub(crate) fn conform_run(log: &str) -> Judged {
-    let mut out = vec![0; REPORT];
-    loop {
-        // SAFETY: each pointer and length are those of one slice, and `out` overlaps no other.
-        let answer = unsafe {
-            sys::iox2sd_conform_run_at(log.as_ptr(), log.len(), out.as_mut_ptr(), out.len())
-        };
-        if answer.status == sys::IOX2SD_BUFFER_TOO_SHORT {
-            out.resize(answer.length, 0);
-            continue;
-        }
-        out.truncate(answer.length);
-        return Judged {
-            status: answer.status,
-            line: answer.line,
-            calls: answer.calls,
-            report: String::from_utf8(out).expect("the report of a text is one"),
-        };
+    let call = |out: &mut [u8]| {
+        let (text, length) = (log.as_ptr(), log.len());
+        // SAFETY: as above.
+        unsafe { sys::iox2sd_conform_run_at(text, length, out.as_mut_ptr(), out.len()) }
+    };
+    let parts = |answer: &sys::iox2sd_conform_answer| (answer.status, answer.length);
+    let (answer, report) = written(vec![0; REPORT], call, parts);
+    Judged {
+        status: answer.status,
+        line: answer.line,
+        calls: answer.calls,
+        report,
     }
 }

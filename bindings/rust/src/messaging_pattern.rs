@@ -10,26 +10,23 @@
 //! # Ok::<(), Box<dyn std::error::Error>>(())
 //! ```
 
-use crate::display::shown_by_name;
-use crate::sys;
+use crate::display::choices;
 
-/// How the ports of a service talk to one another.
-///
-/// ```
-/// use iox2sd::messaging_pattern::MessagingPattern;
-/// assert_eq!(MessagingPattern::Event.to_string(), "Event");
-/// ```
-#[derive(Clone, Copy, Debug, PartialEq, Eq, Hash)]
-#[repr(u32)]
-pub enum MessagingPattern {
-    /// Publishers send samples to all subscribers.
-    PublishSubscribe = sys::IOX2SD_PUBLISH_SUBSCRIBE,
-    /// Notifiers wake listeners.
-    Event = sys::IOX2SD_EVENT,
-    /// Clients send requests, and servers answer them.
-    RequestResponse = sys::IOX2SD_REQUEST_RESPONSE,
-    /// A writer keeps values that readers look up by key.
-    Blackboard = sys::IOX2SD_BLACKBOARD,
+choices! {
+    /// How the ports of a service talk to one another.
+    ///
+    /// ```
+    /// use iox2sd::messaging_pattern::MessagingPattern;
+    /// assert_eq!(MessagingPattern::Event.to_string(), "Event");
+    /// ```
+    MessagingPattern of u32 in "messaging_pattern" {
+        /// Publishers send samples to all subscribers.
+        PublishSubscribe = IOX2SD_PUBLISH_SUBSCRIBE;
+        /// Notifiers wake listeners.
+        Event = IOX2SD_EVENT;
+        /// Clients send requests, and servers answer them.
+        RequestResponse = IOX2SD_REQUEST_RESPONSE;
+        /// A writer keeps values that readers look up by key.
+        Blackboard = IOX2SD_BLACKBOARD;
+    }
 }
-
-shown_by_name!(MessagingPattern);

@@ -17,98 +17,38 @@ use crate::service_hash::ServiceHash;
 use std::ffi::OsStr;
 
 kind! {
+    "paths" "robots/one" "a\0" check_path PATH
     /// What a path allows: every byte from 1 to 127, and none at all.
-    ///
-    /// ```
-    /// use iox2sd::paths::PathContent;
-    /// use iox2sd::semantic_string::SemanticString;
-    ///
-    /// assert!(SemanticString::<PathContent>::new(b"").is_ok());
-    /// assert!(SemanticString::<PathContent>::new(b"a\0b").is_err());
-    /// ```
-    PathContent: check_path, PATH
+    PathContent
+    /// A path, which may be empty.
+    Path
 }
 
 kind! {
+    "paths" "robots" "robots/one" check_file_name FILE_NAME
     /// What the name of a file allows: any byte from 1 to 127 but `/`; not `.` and not `..`.
-    ///
-    /// ```
-    /// use iox2sd::paths::FileNameContent;
-    /// use iox2sd::semantic_string::SemanticString;
-    ///
-    /// assert!(SemanticString::<FileNameContent>::new(b"iceoryx2.toml").is_ok());
-    /// assert!(SemanticString::<FileNameContent>::new(b"..").is_err());
-    /// ```
-    FileNameContent: check_file_name, FILE_NAME
+    FileNameContent
+    /// The name of a file.
+    FileName
 }
 
 kind! {
+    "paths" "robots/one" "robots/.." check_file_path FILE_PATH
     /// What the path of a file allows: any byte from 1 to 127, where the bytes after the last `/`
     /// are the name of a file.
-    ///
-    /// ```
-    /// use iox2sd::paths::FilePathContent;
-    /// use iox2sd::semantic_string::SemanticString;
-    ///
-    /// assert!(SemanticString::<FilePathContent>::new(b"/tmp/iceoryx2.toml").is_ok());
-    /// assert!(SemanticString::<FilePathContent>::new(b"/tmp/").is_err());
-    /// ```
-    FilePathContent: check_file_path, FILE_PATH
+    FilePathContent
+    /// The path of a file.
+    FilePath
 }
 
 kind! {
+    "paths" "a-Z_.:" "a b" check_restricted_name RESTRICTED_FILE_NAME
     /// What a restricted name of a file allows: letters, digits, `-`, `.`, `:` and `_`; not `.` and
     /// not `..`.
-    ///
-    /// ```
-    /// use iox2sd::paths::RestrictedFileNameContent;
-    /// use iox2sd::semantic_string::SemanticString;
-    ///
-    /// assert!(SemanticString::<RestrictedFileNameContent>::new(b"Tqyt8mlaP0suuV").is_ok());
-    /// assert!(SemanticString::<RestrictedFileNameContent>::new(b"Tqyt8/mlaP0suuV").is_err());
-    /// ```
-    RestrictedFileNameContent: check_restricted_name, RESTRICTED_FILE_NAME
+    RestrictedFileNameContent
+    /// A name of a file as hash texts are.
+    RestrictedFileName
 }
-
-/// A path, which may be empty.
-///
-/// ```
-/// use iox2sd::paths::Path;
-///
-/// assert!(Path::new(b"").is_ok());
-/// assert!(Path::new(b"/tmp/iceoryx2/").is_ok());
-/// ```
-pub type Path = SemanticString<PathContent>;
-
-/// The name of a file.
-///
-/// ```
-/// use iox2sd::paths::FileName;
-///
-/// assert!(FileName::new(b"iceoryx2.toml").is_ok());
-/// assert!(FileName::new(b"config/iceoryx2.toml").is_err());
-/// ```
-pub type FileName = SemanticString<FileNameContent>;
-
-/// The path of a file.
-///
-/// ```
-/// use iox2sd::paths::FilePath;
-///
-/// assert!(FilePath::new(b"config/iceoryx2.toml").is_ok());
-/// assert!(FilePath::new(b"config/..").is_err());
-/// ```
-pub type FilePath = SemanticString<FilePathContent>;
-
-/// A name of a file as hash texts are.
-///
-/// ```
-/// use iox2sd::paths::RestrictedFileName;
-///
-/// assert!(RestrictedFileName::new(b"a-Z_0.9:x").is_ok());
-/// assert!(RestrictedFileName::new(b"a b").is_err());
-/// ```
-pub type RestrictedFileName = SemanticString<RestrictedFileNameContent>;
 
 impl Path {
     /// Joins an entry to the path, with one `/` between them unless the path is empty or ends in

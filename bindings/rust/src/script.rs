@@ -7,6 +7,7 @@
 //! # Ok::<(), iox2sd::script::ScriptError>(())
 //! ```
 
+use crate::display::padded;
 use crate::library;
 use crate::sys;
 use std::error::Error;
@@ -21,6 +22,7 @@ use std::fmt;
 /// assert_eq!(refused.to_string(), "bad line 2");
 /// ```
 #[derive(Clone, Debug, PartialEq, Eq, Hash)]
+#[non_exhaustive]
 pub enum ScriptError {
     /// A line is not one that may stand there, or has no newline.
     BadLine {
@@ -36,8 +38,8 @@ pub enum ScriptError {
 impl fmt::Display for ScriptError {
     fn fmt(&self, f: &mut fmt::Formatter<'_>) -> fmt::Result {
         match self {
-            ScriptError::BadLine { line, .. } => write!(f, "bad line {line}"),
-            ScriptError::NoMemory => f.write_str("no memory"),
+            ScriptError::BadLine { line, .. } => padded(f, format_args!("bad line {line}")),
+            ScriptError::NoMemory => f.pad("no memory"),
         }
     }
 }

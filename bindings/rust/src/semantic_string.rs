@@ -13,66 +13,57 @@
 //! # Ok::<(), SemanticStringError>(())
 //! ```
 
-use crate::display::error_by_path;
-use crate::library;
-use crate::sys;
+use crate::display::{errors, getters};
+use crate::plain::Plain;
 use crate::text::{shown_as_text, Text};
+pub use crate::text::{TextCause, TextFault};
 use std::cmp::Ordering;
 use std::hash::{Hash, Hasher};
 use std::marker::PhantomData;
 use std::str::FromStr;
 
-/// Why a text is no semantic string.
-///
-/// ```
-/// use iox2sd::paths::FileName;
-/// use iox2sd::semantic_string::SemanticStringError;
-///
-/// let refused = FileName::new(b"a/b").unwrap_err();
-/// assert_eq!(refused, SemanticStringError::InvalidContent);
-/// assert_eq!(refused.to_string(), "SemanticStringError::InvalidContent");
-/// ```
-#[derive(Clone, Copy, Debug, PartialEq, Eq, Hash)]
-pub enum SemanticStringError {
-    /// The text is empty, or has a byte or a form, that its kind does not allow.
-    InvalidContent,
-    /// The text has more bytes than its kind allows. This is reported before an illegal byte.
-    ExceedsMaximumLength,
-}
-
-error_by_path!(SemanticStringError);
-
-impl SemanticStringError {
-    /// The error that a check or a joining of texts is refused with.
-    pub(crate) fn of(status: u32) -> Self {
-        match status {
-            sys::IOX2SD_EMPTY | sys::IOX2SD_ILLEGAL_BYTE | sys::IOX2SD_NO_FILE_NAME => {
-                SemanticStringError::InvalidContent
-            }
-            sys::IOX2SD_TOO_LONG => SemanticStringError::ExceedsMaximumLength,
-            other => library::unexpected(other),
-        }
+errors! {
+    /// Why a text is no semantic string.
+    ///
+    /// ```
+    /// use iox2sd::paths::FileName;
+    /// use iox2sd::semantic_string::SemanticStringError;
+    ///
+    /// let refused = FileName::new(b"a/b").unwrap_err();
+    /// assert_eq!(refused, SemanticStringError::InvalidContent);
+    /// assert_eq!(refused.to_string(), "SemanticStringError::InvalidContent");
+    /// ```
+    SemanticStringError {
+        /// The text is empty, or has a byte or a form, that its kind does not allow.
+        InvalidContent = IOX2SD_EMPTY | IOX2SD_ILLEGAL_BYTE | IOX2SD_NO_FILE_NAME,
+        /// The text has more bytes than its kind allows. This is reported before an illegal byte.
+        ExceedsMaximumLength = IOX2SD_TOO_LONG,
     }
 }
 
-/// Why a text of a type's name was not made.
-///
-/// ```
-/// use iox2sd::semantic_string::StringModificationError;
-/// use iox2sd::static_config::message_type_details::TypeName;
-///
-/// let refused = TypeName::try_from("a".repeat(257).as_str()).unwrap_err();
-/// assert_eq!(refused, StringModificationError::InsertWouldExceedCapacity);
-/// ```
-#[derive(Clone, Copy, Debug, PartialEq, Eq, Hash)]
-pub enum StringModificationError {
-    /// The text has too many bytes. This is reported before an illegal byte.
-    InsertWouldExceedCapacity,
-    /// The text has a byte that is not from 1 to 127.
-    InvalidCharacter,
+impl From<TextFault> for SemanticStringError {
+    fn from(fault: TextFault) -> Self {
+        SemanticStringError::of(fault.cause.as_c())
+    }
 }
 
-error_by_path!(StringModificationError);
+errors! {
+    /// Why a text of a type's name was not made.
+    ///
+    /// ```
+    /// use iox2sd::semantic_string::StringModificationError;
+    /// use iox2sd::static_config::message_type_details::TypeName;
+    ///
+    /// let refused = TypeName::try_from("a".repeat(257).as_str()).unwrap_err();
+    /// assert_eq!(refused, StringModificationError::InsertWouldExceedCapacity);
+    /// ```
+    StringModificationError {
+        /// The text has too many bytes. This is reported before an illegal byte.
+        InsertWouldExceedCapacity = IOX2SD_TOO_LONG,
+        /// The text has a byte that is not from 1 to 127.
+        InvalidCharacter = IOX2SD_ILLEGAL_BYTE,
+    }
+}
 
 /// A kind of semantic strings. The kinds are those of this crate.
 ///
@@ -96,37 +87,61 @@ pub(crate) mod kind {
     /// A kind of semantic strings, by the check of the library.
     pub trait Kind {
         #[doc(hidden)]
-        fn check(text: &[u8]) -> Result<(), u32>;
+        fn check(text: &[u8]) -> sys::iox2sd_place_answer;
 
         #[doc(hidden)]
         const CAPACITY: usize;
     }
 
-    /// Defines a kind by the check that the library makes, and by the most bytes that it lets
-    /// through.
+    /// Defines a kind and its texts, by the check that the library makes, by the most bytes that it
+    /// lets through, and by a text that the kind allows and one that it does not.
     macro_rules! kind {
-        ($(#[$documentation:meta])* $name:ident: $check:ident, $capacity:ident) => {
-            $(#[$documentation])*
+        (
+            $module:literal $good:literal $bad:literal $check:ident $capacity:ident
+            $(#[$allowed:meta])*
+            $content:ident
+            $(#[$documentation:meta])*
+            $name:ident
+        ) => {
+            $(#[$allowed])*
+            ///
+            /// ```
+            /// use iox2sd::semantic_string::SemanticString;
+            #[doc = concat!("use iox2sd::", $module, "::", stringify!($content), ";")]
+            ///
+            #[doc = concat!(
+                "assert!(SemanticString::<", stringify!($content), ">::new(b\"", $good,
+                "\").is_ok());"
+            )]
+            #[doc = concat!(
+                "assert!(SemanticString::<", stringify!($content), ">::new(b\"", $bad,
+                "\").is_err());"
+            )]
+            /// ```
             #[derive(Clone, Copy, Debug)]
-            pub enum $name {}
+            pub enum $content {}
 
-            impl $crate::semantic_string::kind::Kind for $name {
-                fn check(text: &[u8]) -> Result<(), u32> {
-                    $crate::semantic_string::kind::legal($crate::library::$check(text).status)
+            impl $crate::semantic_string::kind::Kind for $content {
+                fn check(text: &[u8]) -> $crate::sys::iox2sd_place_answer {
+                    $crate::library::$check(text)
                 }
 
                 const CAPACITY: usize = $crate::limits::$capacity;
             }
+
+            $(#[$documentation])*
+            ///
+            /// ```
+            #[doc = concat!("use iox2sd::", $module, "::", stringify!($name), ";")]
+            ///
+            #[doc = concat!("assert_eq!(", stringify!($name), "::new(b\"", $good, "\")?, \"", $good, "\");")]
+            #[doc = concat!("assert!(", stringify!($name), "::new(b\"", $bad, "\").is_err());")]
+            /// # Ok::<(), iox2sd::semantic_string::SemanticStringError>(())
+            /// ```
+            pub type $name = SemanticString<$content>;
         };
     }
     pub(crate) use kind;
-
-    pub(crate) fn legal(status: u32) -> Result<(), u32> {
-        match status {
-            sys::IOX2SD_DONE => Ok(()),
-            refusal => Err(refusal),
-        }
-    }
 }
 
 /// A text that the kind `C` allows, copied by value. Texts are compared by their bytes.
@@ -170,10 +185,30 @@ impl<C: Content> SemanticString<C> {
     /// # Ok::<(), SemanticStringError>(())
     /// ```
     pub fn new(bytes: &[u8]) -> Result<Self, SemanticStringError> {
-        C::check(bytes).map_err(SemanticStringError::of)?;
+        Self::check(bytes)?;
         // The library takes bytes up to 127 alone, which are UTF-8.
         let text = std::str::from_utf8(bytes).map_err(|_| SemanticStringError::InvalidContent)?;
         Ok(Self::of_legal(text))
+    }
+
+    /// Whether these bytes are such a text.
+    ///
+    /// # Errors
+    ///
+    /// Refused as by [`SemanticString::new`], with the cause and the index of the byte.
+    ///
+    /// # Examples
+    ///
+    /// ```
+    /// use iox2sd::paths::FileName;
+    /// use iox2sd::semantic_string::TextCause;
+    ///
+    /// assert_eq!(FileName::check(b"iceoryx2.toml"), Ok(()));
+    /// let fault = FileName::check(b"config/iceoryx2.toml").unwrap_err();
+    /// assert_eq!((fault.cause, fault.at), (TextCause::IllegalByte, 6));
+    /// ```
+    pub fn check(bytes: &[u8]) -> Result<(), TextFault> {
+        TextFault::checked(&C::check(bytes))
     }
 
     /// The semantic string of a text that the library made or took.
@@ -184,54 +219,20 @@ impl<C: Content> SemanticString<C> {
         }
     }
 
-    /// The text.
-    ///
-    /// ```
-    /// use iox2sd::attribute::AttributeKey;
-    /// assert_eq!(AttributeKey::new(b"site")?.as_str(), "site");
-    /// # Ok::<(), iox2sd::semantic_string::SemanticStringError>(())
-    /// ```
-    #[must_use]
-    pub fn as_str(&self) -> &str {
-        self.text.as_str()
-    }
-
-    /// The bytes of the text.
-    ///
-    /// ```
-    /// use iox2sd::attribute::AttributeKey;
-    /// assert_eq!(AttributeKey::new(b"site")?.as_bytes(), b"site");
-    /// # Ok::<(), iox2sd::semantic_string::SemanticStringError>(())
-    /// ```
-    #[must_use]
-    pub fn as_bytes(&self) -> &[u8] {
-        self.as_str().as_bytes()
-    }
-
-    /// The number of bytes.
-    ///
-    /// ```
-    /// use iox2sd::attribute::AttributeKey;
-    /// assert_eq!(AttributeKey::new(b"site")?.len(), 4);
-    /// # Ok::<(), iox2sd::semantic_string::SemanticStringError>(())
-    /// ```
-    #[must_use]
-    pub fn len(&self) -> usize {
-        self.as_bytes().len()
-    }
-
-    /// Whether there is no byte.
-    ///
-    /// ```
-    /// use iox2sd::paths::Path;
-    ///
-    /// assert!(Path::new(b"")?.is_empty());
-    /// assert!(!Path::new(b"/")?.is_empty());
-    /// # Ok::<(), iox2sd::semantic_string::SemanticStringError>(())
-    /// ```
-    #[must_use]
-    pub fn is_empty(&self) -> bool {
-        self.as_bytes().is_empty()
+    getters! {
+        {
+            /// use iox2sd::paths::Path;
+            ///
+            /// let text: Path = "robot".parse()?;
+        }
+        /// The text.
+        as_str -> &str = |text| text.text.as_str(), "text.as_str(), \"robot\"";
+        /// The bytes of the text.
+        as_bytes -> &[u8] = |text| text.as_str().as_bytes(), "text.as_bytes(), b\"robot\"";
+        /// The number of bytes.
+        len -> usize = |text| text.as_bytes().len(), "text.len(), text.as_bytes().len()";
+        /// Whether there is no byte.
+        is_empty -> bool = |text| text.as_bytes().is_empty(), "text.is_empty(), false";
     }
 
     /// The greatest number of bytes of this kind.

@@ -10,7 +10,7 @@
 //! # Ok::<(), Box<dyn std::error::Error>>(())
 //! ```
 
-use crate::display::error_by_path;
+use crate::display::errors;
 use crate::library;
 use crate::messaging_pattern::MessagingPattern;
 use crate::paths::RestrictedFileName;
@@ -18,27 +18,18 @@ use crate::service_name::ServiceName;
 use crate::sys;
 use crate::text::shown_as_text;
 
-/// Why a service has no hash text.
-///
-/// ```
-/// use iox2sd::service_hash::ServiceHashError;
-/// assert_eq!(ServiceHashError::IllegalText.to_string(), "ServiceHashError::IllegalText");
-/// ```
-#[derive(Clone, Copy, Debug, PartialEq, Eq, Hash)]
-pub enum ServiceHashError {
-    /// The text cannot be the name of a file. The library's hasher, SHA-1, is proved to make no such
-    /// text.
-    IllegalText,
-}
-
-error_by_path!(ServiceHashError);
-
-impl ServiceHashError {
-    pub(crate) fn of(status: u32) -> Self {
-        match status {
-            sys::IOX2SD_ILLEGAL_HASH => ServiceHashError::IllegalText,
-            other => library::unexpected(other),
-        }
+errors! {
+    /// Why a service has no hash text.
+    ///
+    /// ```
+    /// use iox2sd::service_hash::ServiceHashError;
+    /// assert_eq!(ServiceHashError::IllegalText.to_string(), "ServiceHashError::IllegalText");
+    /// ```
+    #[non_exhaustive]
+    ServiceHashError {
+        /// The text cannot be the name of a file. The library's hasher, SHA-1, is proved to make no such
+        /// text.
+        IllegalText = IOX2SD_ILLEGAL_HASH,
     }
 }
 
@@ -80,7 +71,7 @@ impl ServiceHash {
     /// # Ok::<(), Box<dyn std::error::Error>>(())
     /// ```
     pub fn new(name: &ServiceName, pattern: MessagingPattern) -> Result<Self, ServiceHashError> {
-        match library::hash_text(pattern as u32, name) {
+        match library::hash_text(pattern as u64, name) {
             Ok(text) => Ok(ServiceHash {
                 text: RestrictedFileName::of_legal(&text),
             }),
@@ -89,7 +80,7 @@ impl ServiceHash {
     }
 
     /// The hash text of a description that the library made.
-    pub(crate) fn of(made: &sys::iox2sd_description) -> Self {
+    pub(crate) fn made(made: &sys::iox2sd_description) -> Self {
         let text = std::str::from_utf8(&made.hash[..made.hash_length]);
         ServiceHash {
             text: RestrictedFileName::of_legal(text.expect("the library writes texts")),

@@ -8,11 +8,11 @@
 //! # Ok::<(), iox2sd::service_name::ServiceNameError>(())
 //! ```
 
-use crate::display::error_by_path;
+use crate::display::errors;
 use crate::library;
 use crate::limits;
-use crate::sys;
-use crate::text::{shown_as_text, Text};
+use crate::plain::Plain;
+use crate::text::{shown_as_text, Text, TextFault};
 use std::ops::Deref;
 use std::str::FromStr;
 
@@ -27,36 +27,29 @@ use std::str::FromStr;
 /// ```
 pub const INTERNAL_SERVICE_PREFIX: &str = limits::INTERNAL_SERVICE_PREFIX;
 
-/// Why a text is no service name.
-///
-/// ```
-/// use iox2sd::service_name::{ServiceName, ServiceNameError};
-///
-/// let refused = ServiceName::new("lidar\0front").unwrap_err();
-/// assert_eq!(refused, ServiceNameError::InvalidContent);
-/// assert_eq!(refused.to_string(), "ServiceNameError::InvalidContent");
-/// ```
-#[derive(Clone, Copy, Debug, PartialEq, Eq, Hash)]
-pub enum ServiceNameError {
-    /// The name is empty, has a byte that is not from 1 to 127, or begins with the prefix of the
-    /// system's own services where that is refused.
-    InvalidContent,
-    /// The name has more than [`ServiceName::max_len`] bytes. This is reported before an illegal
-    /// byte.
-    ExceedsMaximumLength,
+errors! {
+    /// Why a text is no service name.
+    ///
+    /// ```
+    /// use iox2sd::service_name::{ServiceName, ServiceNameError};
+    ///
+    /// let refused = ServiceName::new("lidar\0front").unwrap_err();
+    /// assert_eq!(refused, ServiceNameError::InvalidContent);
+    /// assert_eq!(refused.to_string(), "ServiceNameError::InvalidContent");
+    /// ```
+    ServiceNameError {
+        /// The name is empty, has a byte that is not from 1 to 127, or begins with the prefix of the
+        /// system's own services where that is refused.
+        InvalidContent = IOX2SD_RESERVED_PREFIX | IOX2SD_EMPTY | IOX2SD_ILLEGAL_BYTE,
+        /// The name has more than [`ServiceName::max_len`] bytes. This is reported before an illegal
+        /// byte.
+        ExceedsMaximumLength = IOX2SD_TOO_LONG,
+    }
 }
 
-error_by_path!(ServiceNameError);
-
-impl ServiceNameError {
-    fn of(status: u32) -> Self {
-        match status {
-            sys::IOX2SD_RESERVED_PREFIX | sys::IOX2SD_EMPTY | sys::IOX2SD_ILLEGAL_BYTE => {
-                ServiceNameError::InvalidContent
-            }
-            sys::IOX2SD_TOO_LONG => ServiceNameError::ExceedsMaximumLength,
-            other => library::unexpected(other),
-        }
+impl From<TextFault> for ServiceNameError {
+    fn from(fault: TextFault) -> Self {
+        ServiceNameError::of(fault.cause.as_c())
     }
 }
 
@@ -99,7 +92,30 @@ impl ServiceName {
     /// assert_eq!(ServiceName::new(&long), Err(ServiceNameError::ExceedsMaximumLength));
     /// ```
     pub fn new(name: &str) -> Result<Self, ServiceNameError> {
-        Self::taken(name, library::check_service_name(name.as_bytes()).status)
+        Self::check(name)?;
+        Ok(Self::of_legal(name))
+    }
+
+    /// Whether a text is a name that a user gives.
+    ///
+    /// # Errors
+    ///
+    /// Refused as by [`ServiceName::new`], with the cause and the index of the byte.
+    ///
+    /// # Examples
+    ///
+    /// ```
+    /// use iox2sd::semantic_string::TextCause;
+    /// use iox2sd::service_name::ServiceName;
+    ///
+    /// assert_eq!(ServiceName::check("lidar/front"), Ok(()));
+    /// let fault = ServiceName::check("lidar\0front").unwrap_err();
+    /// assert_eq!((fault.cause, fault.at), (TextCause::IllegalByte, 5));
+    /// let fault = ServiceName::check("iox2://discovery").unwrap_err();
+    /// assert_eq!(fault.cause, TextCause::ReservedPrefix);
+    /// ```
+    pub fn check(name: &str) -> Result<(), TextFault> {
+        TextFault::checked(&library::check_service_name(name.as_bytes()))
     }
 
     /// A name that may be that of one of the system's own services.
@@ -117,8 +133,8 @@ impl ServiceName {
     /// assert_eq!(ServiceName::internal_new(""), Err(ServiceNameError::InvalidContent));
     /// ```
     pub fn internal_new(name: &str) -> Result<Self, ServiceNameError> {
-        let status = library::check_internal_service_name(name.as_bytes()).status;
-        Self::taken(name, status)
+        TextFault::checked(&library::check_internal_service_name(name.as_bytes()))?;
+        Ok(Self::of_legal(name))
     }
 
     /// The name of one of the system's own services: the prefix and `name`, which may be empty.
@@ -138,17 +154,13 @@ impl ServiceName {
     /// ```
     pub fn internal_new_prefixed(name: &str) -> Result<Self, ServiceNameError> {
         let text = library::internal_service_name(name).map_err(ServiceNameError::of)?;
-        Ok(ServiceName {
-            text: Text::copy_of(&text),
-        })
+        Ok(Self::of_legal(&text))
     }
 
-    fn taken(name: &str, status: u32) -> Result<Self, ServiceNameError> {
-        match status {
-            sys::IOX2SD_DONE => Ok(ServiceName {
-                text: Text::copy_of(name),
-            }),
-            refusal => Err(ServiceNameError::of(refusal)),
+    /// The name of a text that the library made or took.
+    fn of_legal(name: &str) -> Self {
+        ServiceName {
+            text: Text::copy_of(name),
         }
     }
 
@@ -192,7 +204,7 @@ impl ServiceName {
 impl TryFrom<&str> for ServiceName {
     type Error = ServiceNameError;
 
-    /// As [`ServiceName::internal_new`], so a name with the prefix is taken.
+    /// As [`ServiceName::internal_new`], so a name with the prefix is taken, as in iceoryx2.
     fn try_from(name: &str) -> Result<Self, ServiceNameError> {
         Self::internal_new(name)
     }
@@ -201,18 +213,18 @@ impl TryFrom<&str> for ServiceName {
 impl TryFrom<String> for ServiceName {
     type Error = ServiceNameError;
 
-    /// As of a `&str`.
+    /// As [`ServiceName::new`], so the prefix is refused.
     fn try_from(name: String) -> Result<Self, ServiceNameError> {
-        Self::internal_new(&name)
+        Self::new(&name)
     }
 }
 
 impl FromStr for ServiceName {
     type Err = ServiceNameError;
 
-    /// As [`ServiceName::internal_new`], so a name with the prefix is taken.
+    /// As [`ServiceName::new`], so the prefix is refused.
     fn from_str(name: &str) -> Result<Self, ServiceNameError> {
-        Self::internal_new(name)
+        Self::new(name)
     }
 }
 

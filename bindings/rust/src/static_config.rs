@@ -25,13 +25,20 @@ pub mod publish_subscribe;
 pub mod request_response;
 pub mod setting;
 
-use crate::attribute::AttributeSet;
-use crate::config::Config;
+mod fixed;
+mod opener;
+
+pub use opener::Unmet;
+
+use crate::attribute::{AttributeSet, AttributeVerifier};
+use crate::config::{Config, PatternSettings};
+use crate::display::getters;
 use crate::identifiers::UniqueServiceId;
-use crate::library::Settings;
+use crate::plain::Plain;
 use crate::service_hash::{ServiceHash, ServiceHashError};
 use crate::service_name::ServiceName;
 use messaging_pattern::MessagingPattern;
+use opener::Both;
 
 /// The description of a service: its name, its hash text, its id, its attributes, and what is fixed
 /// by its pattern.
@@ -59,74 +66,111 @@ pub struct StaticConfig {
 /// Defines, for one pattern, the maker of descriptions and the getters of what is fixed by it.
 macro_rules! of_pattern {
     (
-        $kind:literal $variant:ident $module:ident $is:ident $get_mut:ident
-        $(#[$documentation:meta])*
-        $make:ident
+        $kind:literal $variant:ident $module:ident $make:ident $is:ident
+        $get_mut:ident $as:ident $as_mut:ident
     ) => {
-        $(#[$documentation])*
+        #[doc = concat!("The description of ", $kind, " service with the defaults of a")]
+        /// configuration and without attributes.
+        ///
+        /// # Errors
+        ///
+        /// Refused as [`ServiceHash::new`] is for the name and the pattern.
+        ///
+        /// # Examples
+        ///
+        /// ```
+        /// use iox2sd::prelude::*;
+        ///
+        /// let (name, id) = ("front".parse()?, UniqueServiceId::new(1, 0, 0, 1));
+        #[doc = concat!(
+            "let service = StaticConfig::", stringify!($make), "(&name, &Config::default(), id)?;"
+        )]
+        #[doc = concat!("assert!(service.", stringify!($is), "());")]
+        /// # Ok::<(), Box<dyn std::error::Error>>(())
+        /// ```
         pub fn $make(
             service_name: &ServiceName,
             config: &Config,
             unique_service_id: UniqueServiceId,
         ) -> Result<Self, ServiceHashError> {
-            let settings = &config.defaults.$module;
-            match settings.describe(service_name, unique_service_id.parts) {
-                Ok(made) => Ok(StaticConfig {
-                    service_hash: ServiceHash::of(&made),
-                    service_name: *service_name,
-                    unique_service_id,
-                    attributes: AttributeSet::new(),
-                    messaging_pattern: MessagingPattern::$variant($module::StaticConfig::of(
-                        &made.$module,
-                    )),
-                }),
-                Err(refusal) => Err(ServiceHashError::of(refusal)),
-            }
+            Self::new(service_name, &config.defaults.$module, unique_service_id)
         }
 
         #[doc = concat!("Whether it is ", $kind, " service.")]
         ///
         /// ```
-        /// use iox2sd::config::Config;
-        /// use iox2sd::identifiers::UniqueServiceId;
-        /// use iox2sd::static_config::StaticConfig;
-        ///
-        /// let (name, id) = ("front".try_into()?, UniqueServiceId::new(1, 0, 0, 1));
-        /// let config = Config::default();
-        #[doc = concat!(
-            "let service = StaticConfig::", stringify!($make), "(&name, &config, id)?;"
-        )]
+        /// # use iox2sd::prelude::*;
+        /// # let (name, id) = ("front".parse()?, UniqueServiceId::new(1, 0, 0, 1));
+        #[doc = concat!("let settings = Config::default().defaults.", stringify!($module), ";")]
+        /// let service = StaticConfig::new(&name, &settings, id)?;
         #[doc = concat!("assert!(service.", stringify!($is), "());")]
         /// # Ok::<(), Box<dyn std::error::Error>>(())
         /// ```
+        #[must_use]
         pub fn $is(&self) -> bool {
-            matches!(self.messaging_pattern, MessagingPattern::$variant(_))
+            self.$as().is_some()
+        }
+
+        #[doc = concat!("What is fixed of ", $kind, " service; `None` for each other pattern.")]
+        ///
+        /// ```
+        /// # use iox2sd::prelude::*;
+        /// # let (name, id) = ("front".parse()?, UniqueServiceId::new(1, 0, 0, 1));
+        #[doc = concat!("let settings = Config::default().defaults.", stringify!($module), ";")]
+        /// let service = StaticConfig::new(&name, &settings, id)?;
+        #[doc = concat!("let fixed = service.", stringify!($as), "().ok_or(\"another pattern\")?;")]
+        /// assert_eq!(fixed.max_nodes(), settings.max_nodes);
+        /// # Ok::<(), Box<dyn std::error::Error>>(())
+        /// ```
+        #[must_use]
+        pub fn $as(&self) -> Option<&$module::StaticConfig> {
+            match &self.messaging_pattern {
+                MessagingPattern::$variant(fixed) => Some(fixed),
+                _ => None,
+            }
+        }
+
+        #[doc = concat!("The same as [`", stringify!($as), "`](Self::", stringify!($as), "),")]
+        /// to be changed.
+        ///
+        /// ```
+        /// # use iox2sd::prelude::*;
+        /// # let (name, id) = ("front".parse()?, UniqueServiceId::new(1, 0, 0, 1));
+        #[doc = concat!("let settings = Config::default().defaults.", stringify!($module), ";")]
+        /// let mut service = StaticConfig::new(&name, &settings, id)?;
+        #[doc = concat!("if let Some(fixed) = service.", stringify!($as_mut), "() {")]
+        ///     fixed.max_nodes = 1;
+        /// }
+        #[doc = concat!("assert_eq!(service.", stringify!($module), "().max_nodes(), 1);")]
+        /// # Ok::<(), Box<dyn std::error::Error>>(())
+        /// ```
+        #[must_use]
+        pub fn $as_mut(&mut self) -> Option<&mut $module::StaticConfig> {
+            match &mut self.messaging_pattern {
+                MessagingPattern::$variant(fixed) => Some(fixed),
+                _ => None,
+            }
         }
 
         #[doc = concat!("What is fixed of ", $kind, " service.")]
         ///
         /// # Panics
         ///
-        #[doc = concat!("Where [`Self::", stringify!($is), "`] says no.")]
+        #[doc = concat!("Where [`Self::", stringify!($as), "`] is `None`.")]
         ///
         /// ```
-        /// use iox2sd::config::Config;
-        /// use iox2sd::identifiers::UniqueServiceId;
-        /// use iox2sd::static_config::StaticConfig;
-        ///
-        /// let (name, id) = ("front".try_into()?, UniqueServiceId::new(1, 0, 0, 1));
-        /// let config = Config::default();
-        #[doc = concat!(
-            "let service = StaticConfig::", stringify!($make), "(&name, &config, id)?;"
-        )]
-        #[doc = concat!("let defaults = &config.defaults.", stringify!($module), ";")]
+        /// # use iox2sd::prelude::*;
+        /// # let (name, id) = ("front".parse()?, UniqueServiceId::new(1, 0, 0, 1));
+        #[doc = concat!("let settings = Config::default().defaults.", stringify!($module), ";")]
+        /// let service = StaticConfig::new(&name, &settings, id)?;
         #[doc = concat!("let fixed = service.", stringify!($module), "();")]
-        /// assert_eq!(fixed.max_nodes(), defaults.max_nodes);
+        /// assert_eq!(fixed.max_nodes(), settings.max_nodes);
         /// # Ok::<(), Box<dyn std::error::Error>>(())
         /// ```
+        #[must_use]
         pub fn $module(&self) -> &$module::StaticConfig {
             match &self.messaging_pattern {
-                MessagingPattern::$variant(config) => config,
+                MessagingPattern::$variant(fixed) => fixed,
                 other => panic!(concat!("the pattern is {}, not ", stringify!($variant)), other),
             }
         }
@@ -135,25 +179,21 @@ macro_rules! of_pattern {
         ///
         /// # Panics
         ///
-        #[doc = concat!("Where [`Self::", stringify!($is), "`] says no.")]
+        #[doc = concat!("Where [`Self::", stringify!($as), "`] is `None`.")]
         ///
         /// ```
-        /// use iox2sd::config::Config;
-        /// use iox2sd::identifiers::UniqueServiceId;
-        /// use iox2sd::static_config::StaticConfig;
-        ///
-        /// let (name, id) = ("front".try_into()?, UniqueServiceId::new(1, 0, 0, 1));
-        /// let config = Config::default();
-        #[doc = concat!(
-            "let mut service = StaticConfig::", stringify!($make), "(&name, &config, id)?;"
-        )]
+        /// # use iox2sd::prelude::*;
+        /// # let (name, id) = ("front".parse()?, UniqueServiceId::new(1, 0, 0, 1));
+        #[doc = concat!("let settings = Config::default().defaults.", stringify!($module), ";")]
+        /// let mut service = StaticConfig::new(&name, &settings, id)?;
         #[doc = concat!("service.", stringify!($get_mut), "().max_nodes = 1;")]
         #[doc = concat!("assert_eq!(service.", stringify!($module), "().max_nodes(), 1);")]
         /// # Ok::<(), Box<dyn std::error::Error>>(())
         /// ```
+        #[must_use]
         pub fn $get_mut(&mut self) -> &mut $module::StaticConfig {
             match &mut self.messaging_pattern {
-                MessagingPattern::$variant(config) => config,
+                MessagingPattern::$variant(fixed) => fixed,
                 other => panic!(concat!("the pattern is {}, not ", stringify!($variant)), other),
             }
         }
@@ -161,110 +201,65 @@ macro_rules! of_pattern {
 }
 
 impl StaticConfig {
-    of_pattern! {
-        "a request-response" RequestResponse request_response is_request_response request_response_mut
-        /// The description of a request-response service with the defaults of a configuration and
-        /// without attributes.
-        ///
-        /// # Errors
-        ///
-        /// Refused as [`ServiceHash::new`] is for the name and the pattern.
-        ///
-        /// # Examples
-        ///
-        /// ```
-        /// use iox2sd::config::Config;
-        /// use iox2sd::identifiers::UniqueServiceId;
-        /// use iox2sd::static_config::StaticConfig;
-        ///
-        /// let (name, id) = ("front".try_into()?, UniqueServiceId::new(1, 0, 0, 1));
-        /// let service = StaticConfig::new_request_response(&name, &Config::default(), id)?;
-        /// assert!(service.is_request_response());
-        /// # Ok::<(), Box<dyn std::error::Error>>(())
-        /// ```
-        new_request_response
+    /// The description of a service with the settings of its pattern and without attributes.
+    ///
+    /// # Errors
+    ///
+    /// Refused as [`ServiceHash::new`] is for the name and the pattern.
+    ///
+    /// # Examples
+    ///
+    /// ```
+    /// use iox2sd::prelude::*;
+    ///
+    /// let mut settings = Config::default().defaults.event;
+    /// settings.max_listeners = 3;
+    /// let (name, id) = ("front".parse()?, UniqueServiceId::new(1, 0, 0, 1));
+    /// let service = StaticConfig::new(&name, &settings, id)?;
+    /// assert_eq!(service.event().max_listeners(), 3);
+    /// # Ok::<(), Box<dyn std::error::Error>>(())
+    /// ```
+    pub fn new<S: PatternSettings>(
+        service_name: &ServiceName,
+        settings: &S,
+        unique_service_id: UniqueServiceId,
+    ) -> Result<Self, ServiceHashError> {
+        let made = settings.describe(service_name, unique_service_id.as_c());
+        let made = made.map_err(ServiceHashError::of)?;
+        Ok(StaticConfig {
+            service_hash: ServiceHash::made(&made),
+            service_name: *service_name,
+            unique_service_id,
+            attributes: AttributeSet::new(),
+            messaging_pattern: S::fixed_by(&made),
+        })
     }
 
     of_pattern! {
-        "an event" Event event is_event event_mut
-        /// The description of an event service with the defaults of a configuration and
-        /// without attributes.
-        ///
-        /// # Errors
-        ///
-        /// Refused as [`ServiceHash::new`] is for the name and the pattern.
-        ///
-        /// # Examples
-        ///
-        /// ```
-        /// use iox2sd::config::Config;
-        /// use iox2sd::identifiers::UniqueServiceId;
-        /// use iox2sd::static_config::StaticConfig;
-        ///
-        /// let (name, id) = ("front".try_into()?, UniqueServiceId::new(1, 0, 0, 1));
-        /// let service = StaticConfig::new_event(&name, &Config::default(), id)?;
-        /// assert!(service.is_event());
-        /// # Ok::<(), Box<dyn std::error::Error>>(())
-        /// ```
-        new_event
+        "a request-response" RequestResponse request_response new_request_response is_request_response
+        request_response_mut as_request_response as_request_response_mut
     }
 
     of_pattern! {
-        "a publish-subscribe" PublishSubscribe publish_subscribe is_publish_subscribe publish_subscribe_mut
-        /// The description of a publish-subscribe service with the defaults of a configuration and
-        /// without attributes.
-        ///
-        /// # Errors
-        ///
-        /// Refused as [`ServiceHash::new`] is for the name and the pattern.
-        ///
-        /// # Examples
-        ///
-        /// ```
-        /// use iox2sd::config::Config;
-        /// use iox2sd::identifiers::UniqueServiceId;
-        /// use iox2sd::static_config::StaticConfig;
-        ///
-        /// let (name, id) = ("front".try_into()?, UniqueServiceId::new(1, 0, 0, 1));
-        /// let service = StaticConfig::new_publish_subscribe(&name, &Config::default(), id)?;
-        /// assert!(service.is_publish_subscribe());
-        /// # Ok::<(), Box<dyn std::error::Error>>(())
-        /// ```
-        new_publish_subscribe
+        "an event" Event event new_event is_event
+        event_mut as_event as_event_mut
     }
 
     of_pattern! {
-        "a blackboard" Blackboard blackboard is_blackboard blackboard_mut
-        /// The description of a blackboard service with the defaults of a configuration and
-        /// without attributes.
-        ///
-        /// # Errors
-        ///
-        /// Refused as [`ServiceHash::new`] is for the name and the pattern.
-        ///
-        /// # Examples
-        ///
-        /// ```
-        /// use iox2sd::config::Config;
-        /// use iox2sd::identifiers::UniqueServiceId;
-        /// use iox2sd::static_config::StaticConfig;
-        ///
-        /// let (name, id) = ("front".try_into()?, UniqueServiceId::new(1, 0, 0, 1));
-        /// let service = StaticConfig::new_blackboard(&name, &Config::default(), id)?;
-        /// assert!(service.is_blackboard());
-        /// # Ok::<(), Box<dyn std::error::Error>>(())
-        /// ```
-        new_blackboard
+        "a publish-subscribe" PublishSubscribe publish_subscribe new_publish_subscribe is_publish_subscribe
+        publish_subscribe_mut as_publish_subscribe as_publish_subscribe_mut
+    }
+
+    of_pattern! {
+        "a blackboard" Blackboard blackboard new_blackboard is_blackboard
+        blackboard_mut as_blackboard as_blackboard_mut
     }
 
     /// The same service with these attributes in place of those that it had.
     ///
     /// ```
     /// use iox2sd::attribute::AttributeSpecifier;
-    /// use iox2sd::config::Config;
-    /// use iox2sd::identifiers::UniqueServiceId;
-    /// use iox2sd::static_config::StaticConfig;
-    ///
+    /// # use iox2sd::prelude::*;
     /// let (name, id) = ("front".try_into()?, UniqueServiceId::new(1, 0, 0, 1));
     /// let site = "site".try_into()?;
     /// let specifier = AttributeSpecifier::new().define(&site, &"north".try_into()?)?;
@@ -281,100 +276,32 @@ impl StaticConfig {
         }
     }
 
-    /// The attributes of the service.
-    ///
-    /// ```
-    /// use iox2sd::config::Config;
-    /// use iox2sd::identifiers::UniqueServiceId;
-    /// use iox2sd::static_config::StaticConfig;
-    ///
-    /// let (name, id) = ("front".try_into()?, UniqueServiceId::new(1, 0, 0, 1));
-    /// let service = StaticConfig::new_event(&name, &Config::default(), id)?;
-    /// assert!(service.attributes().is_empty());
-    /// # Ok::<(), Box<dyn std::error::Error>>(())
-    /// ```
-    #[must_use]
-    pub fn attributes(&self) -> &AttributeSet {
-        &self.attributes
-    }
-
-    /// The hash text of the service.
-    ///
-    /// ```
-    /// use iox2sd::config::Config;
-    /// use iox2sd::identifiers::UniqueServiceId;
-    /// use iox2sd::messaging_pattern::MessagingPattern;
-    /// use iox2sd::service_hash::ServiceHash;
-    /// use iox2sd::static_config::StaticConfig;
-    ///
-    /// let (name, id) = ("front".try_into()?, UniqueServiceId::new(1, 0, 0, 1));
-    /// let service = StaticConfig::new_event(&name, &Config::default(), id)?;
-    /// assert_eq!(service.service_hash(), &ServiceHash::new(&name, MessagingPattern::Event)?);
-    /// # Ok::<(), Box<dyn std::error::Error>>(())
-    /// ```
-    #[must_use]
-    pub fn service_hash(&self) -> &ServiceHash {
-        &self.service_hash
-    }
-
-    /// The id of the service.
-    ///
-    /// ```
-    /// use iox2sd::config::Config;
-    /// use iox2sd::identifiers::UniqueServiceId;
-    /// use iox2sd::static_config::StaticConfig;
-    ///
-    /// let (name, id) = ("front".try_into()?, UniqueServiceId::new(1, 0, 0, 1));
-    /// let service = StaticConfig::new_event(&name, &Config::default(), id)?;
-    /// assert_eq!(service.unique_service_id(), id);
-    /// # Ok::<(), Box<dyn std::error::Error>>(())
-    /// ```
-    #[must_use]
-    pub fn unique_service_id(&self) -> UniqueServiceId {
-        self.unique_service_id
-    }
-
-    /// The name of the service.
-    ///
-    /// ```
-    /// use iox2sd::config::Config;
-    /// use iox2sd::identifiers::UniqueServiceId;
-    /// use iox2sd::static_config::StaticConfig;
-    ///
-    /// let (name, id) = ("front".try_into()?, UniqueServiceId::new(1, 0, 0, 1));
-    /// let service = StaticConfig::new_event(&name, &Config::default(), id)?;
-    /// assert_eq!(service.name(), "front");
-    /// # Ok::<(), Box<dyn std::error::Error>>(())
-    /// ```
-    #[must_use]
-    pub fn name(&self) -> &ServiceName {
-        &self.service_name
-    }
-
-    /// The pattern of the service, with what is fixed by it.
-    ///
-    /// ```
-    /// use iox2sd::config::Config;
-    /// use iox2sd::identifiers::UniqueServiceId;
-    /// use iox2sd::static_config::StaticConfig;
-    ///
-    /// let (name, id) = ("front".try_into()?, UniqueServiceId::new(1, 0, 0, 1));
-    /// let service = StaticConfig::new_event(&name, &Config::default(), id)?;
-    /// assert_eq!(service.messaging_pattern().to_string(), "Event");
-    /// # Ok::<(), Box<dyn std::error::Error>>(())
-    /// ```
-    #[must_use]
-    pub fn messaging_pattern(&self) -> &MessagingPattern {
-        &self.messaging_pattern
+    getters! {
+        {
+            /// # use iox2sd::{prelude::*, service_hash::ServiceHash};
+            /// let (name, id) = ("front".parse()?, UniqueServiceId::new(1, 0, 0, 1));
+            /// let service = StaticConfig::new_event(&name, &Config::default(), id)?;
+        }
+        /// The attributes of the service.
+        attributes -> &AttributeSet = |service| &service.attributes,
+            "service.attributes(), &AttributeSet::new()";
+        /// The hash text of the service.
+        service_hash -> &ServiceHash = |service| &service.service_hash,
+            "service.service_hash(), &ServiceHash::new(&name, MessagingPattern::Event)?";
+        /// The id of the service.
+        unique_service_id -> UniqueServiceId = |service| service.unique_service_id,
+            "service.unique_service_id(), id";
+        /// The name of the service.
+        name -> &ServiceName = |service| &service.service_name, "service.name(), \"front\"";
+        /// The pattern of the service, with what is fixed by it.
+        messaging_pattern -> &MessagingPattern = |service| &service.messaging_pattern,
+            "service.messaging_pattern().kind().name(), \"Event\"";
     }
 
     /// Whether both services have one pattern, whatever is fixed by it.
     ///
     /// ```
-    /// use iox2sd::config::Config;
-    /// use iox2sd::identifiers::UniqueServiceId;
-    /// use iox2sd::static_config::StaticConfig;
-    ///
+    /// # use iox2sd::prelude::*;
     /// let (name, id) = ("front".try_into()?, UniqueServiceId::new(1, 0, 0, 1));
     /// let events = StaticConfig::new_event(&name, &Config::default(), id)?;
     /// let board = StaticConfig::new_blackboard(&name, &Config::default(), id)?;
@@ -386,5 +313,66 @@ impl StaticConfig {
     pub fn has_same_messaging_pattern(&self, rhs: &StaticConfig) -> bool {
         self.messaging_pattern
             .is_same_pattern(&rhs.messaging_pattern)
+    }
+
+    /// Whether the service meets what an opener requires of its pattern and its settings, as
+    /// [`MessagingPattern::satisfies`] says.
+    ///
+    /// ```
+    /// # use iox2sd::prelude::*;
+    /// use iox2sd::static_config::event;
+    /// use iox2sd::static_config::messaging_pattern::MessagingPattern;
+    ///
+    /// let (name, id) = ("front".try_into()?, UniqueServiceId::new(1, 0, 0, 1));
+    /// let service = StaticConfig::new_event(&name, &Config::default(), id)?;
+    /// let mut required = event::StaticConfig::new(&Config::default());
+    /// required.max_nodes = 1;
+    /// assert!(service.satisfies(&MessagingPattern::Event(required)));
+    /// required.max_nodes = 100;
+    /// assert!(!service.satisfies(&MessagingPattern::Event(required)));
+    /// # Ok::<(), Box<dyn std::error::Error>>(())
+    /// ```
+    #[must_use]
+    pub fn satisfies(&self, required: &MessagingPattern) -> bool {
+        self.messaging_pattern.satisfies(required)
+    }
+
+    /// Whether the service meets all that an opener requires: of its pattern, its attributes, the
+    /// types of its messages or keys, and its settings. Types of keys are compared as headers are.
+    ///
+    /// # Errors
+    ///
+    /// Refused with the first of them that it does not meet, in this order.
+    ///
+    /// # Examples
+    ///
+    /// ```
+    /// # use iox2sd::prelude::*;
+    /// use iox2sd::static_config::Unmet;
+    ///
+    /// let (name, id) = ("front".try_into()?, UniqueServiceId::new(1, 0, 0, 1));
+    /// let service = StaticConfig::new_event(&name, &Config::default(), id)?;
+    /// let required = *service.messaging_pattern();
+    /// assert_eq!(service.verify_opener(&required, &AttributeVerifier::new()), Ok(()));
+    ///
+    /// let verifier = AttributeVerifier::new().require_key(&"site".try_into()?)?;
+    /// let refused = service.verify_opener(&required, &verifier).unwrap_err();
+    /// assert!(matches!(refused, Unmet::Attributes(_)));
+    /// # Ok::<(), Box<dyn std::error::Error>>(())
+    /// ```
+    pub fn verify_opener(
+        &self,
+        required: &MessagingPattern,
+        attributes: &AttributeVerifier,
+    ) -> Result<(), Unmet> {
+        let both = Both::of(&self.messaging_pattern, required).ok_or(Unmet::Pattern {
+            service: self.messaging_pattern.kind(),
+            required: required.kind(),
+        })?;
+        let verified = attributes.verify_requirements(&self.attributes);
+        verified.map_err(|lacked| Unmet::Attributes(Box::new(lacked)))?;
+        both.verify_types()?;
+        both.first_unmet()
+            .map_or(Ok(()), |setting| Err(Unmet::Setting(setting)))
     }
 }

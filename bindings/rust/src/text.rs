@@ -1,6 +1,11 @@
 //! Short texts that are copied by value.
 
+use crate::display::{choices, padded};
+use crate::plain::Plain;
+use crate::sys;
 use std::cmp::Ordering;
+use std::error::Error;
+use std::fmt;
 use std::hash::{Hash, Hasher};
 
 /// The capacity of a short text in bytes: enough for each text that the library takes, which says
@@ -63,7 +68,7 @@ impl Hash for Text {
     }
 }
 
-/// Shows a type with `as_str` as its text, and compares it with texts.
+/// Shows a type with `as_str` as its text, lends it as one, and compares it with texts.
 macro_rules! shown_as_text {
     ($({$($generics:tt)*})? $name:ty) => {
         impl$(<$($generics)*>)? ::std::fmt::Display for $name {
@@ -84,41 +89,104 @@ macro_rules! shown_as_text {
             }
         }
 
-        impl$(<$($generics)*>)? PartialEq<str> for $name {
-            fn eq(&self, other: &str) -> bool {
-                self.as_str() == other
+        /// It is compared and hashed as its text, so a map finds it by that.
+        impl$(<$($generics)*>)? ::std::borrow::Borrow<str> for $name {
+            fn borrow(&self) -> &str {
+                self.as_str()
             }
         }
 
-        impl$(<$($generics)*>)? PartialEq<&str> for $name {
-            fn eq(&self, other: &&str) -> bool {
-                self.as_str() == *other
+        $crate::text::compared_with!($({$($generics)*})? $name, str);
+        $crate::text::compared_with!($({$($generics)*})? $name, &str);
+        $crate::text::compared_with!($({$($generics)*})? $name, String);
+    };
+}
+pub(crate) use shown_as_text;
+
+/// Compares a type with `as_str` with another type of texts, both ways.
+macro_rules! compared_with {
+    ($({$($generics:tt)*})? $name:ty, $other:ty) => {
+        impl$(<$($generics)*>)? PartialEq<$other> for $name {
+            fn eq(&self, other: &$other) -> bool {
+                self.as_str() == AsRef::<str>::as_ref(other)
             }
         }
 
-        impl$(<$($generics)*>)? PartialEq<String> for $name {
-            fn eq(&self, other: &String) -> bool {
-                self.as_str() == other
-            }
-        }
-
-        impl$(<$($generics)*>)? PartialEq<$name> for str {
+        impl$(<$($generics)*>)? PartialEq<$name> for $other {
             fn eq(&self, other: &$name) -> bool {
-                self == other.as_str()
-            }
-        }
-
-        impl$(<$($generics)*>)? PartialEq<$name> for &str {
-            fn eq(&self, other: &$name) -> bool {
-                *self == other.as_str()
-            }
-        }
-
-        impl$(<$($generics)*>)? PartialEq<$name> for String {
-            fn eq(&self, other: &$name) -> bool {
-                self == other.as_str()
+                other == self
             }
         }
     };
 }
-pub(crate) use shown_as_text;
+pub(crate) use compared_with;
+
+choices! {
+    /// Why a text is refused.
+    ///
+    /// ```
+    /// use iox2sd::semantic_string::TextCause;
+    /// assert_eq!(TextCause::Empty.to_string(), "the text is empty");
+    /// ```
+    #[non_exhaustive]
+    TextCause of u32 in "semantic_string" {
+        /// It begins with the prefix of the system's own services.
+        ReservedPrefix = IOX2SD_RESERVED_PREFIX, "the name begins with a reserved prefix";
+        /// It has no byte.
+        Empty = IOX2SD_EMPTY, "the text is empty";
+        /// It has more bytes than its kind allows.
+        TooLong = IOX2SD_TOO_LONG, "the text is too long";
+        /// It has a byte that its kind does not allow.
+        IllegalByte = IOX2SD_ILLEGAL_BYTE, "a byte may not stand in the text";
+        /// It is no name of a file, or does not end in one: it is `.` or `..`, or ends in `/`.
+        NoFileName = IOX2SD_NO_FILE_NAME, "not the name of a file";
+    }
+}
+
+/// Why a text is refused, and where.
+///
+/// ```
+/// use iox2sd::attribute::AttributeKey;
+/// use iox2sd::semantic_string::{SemanticStringError, TextCause};
+///
+/// let fault = AttributeKey::check(b"si\0te").unwrap_err();
+/// assert_eq!((fault.cause, fault.at), (TextCause::IllegalByte, 2));
+/// assert_eq!(fault.to_string(), "a byte may not stand in the text, at byte 2");
+/// assert_eq!(SemanticStringError::from(fault), SemanticStringError::InvalidContent);
+/// ```
+#[derive(Clone, Copy, Debug, PartialEq, Eq, Hash)]
+#[non_exhaustive]
+pub struct TextFault {
+    /// Why it is refused.
+    pub cause: TextCause,
+    /// The index of the first byte that is not allowed, or that is one too many; 0 where the cause
+    /// is of the whole text.
+    pub at: usize,
+}
+
+impl TextFault {
+    /// The answer of a check: the fault, if there is one.
+    pub(crate) fn checked(answer: &sys::iox2sd_place_answer) -> Result<(), Self> {
+        if answer.status == sys::IOX2SD_DONE {
+            return Ok(());
+        }
+        Err(TextFault {
+            cause: TextCause::of_c(&answer.status),
+            at: answer.at,
+        })
+    }
+}
+
+impl fmt::Display for TextFault {
+    fn fmt(&self, f: &mut fmt::Formatter<'_>) -> fmt::Result {
+        let TextFault { cause, at } = self;
+        match cause {
+            TextCause::TooLong | TextCause::IllegalByte => {
+                padded(f, format_args!("{cause}, at byte {at}"))
+            }
+            whole => whole.fmt(f),
+        }
+    }
+}
+
+impl Error for TextFault {}

@@ -1,5 +1,6 @@
 //! Code as it is written for iceoryx2, but for its `use` lines and for what `docs/RUST.md` lists.
 #![forbid(unsafe_code)]
+#![allow(clippy::needless_borrows_for_generic_args)] // As it is written there.
 
 use iox2sd::identifiers::{UniqueNodeId, UniquePublisherId, UniqueServiceId};
 use iox2sd::prelude::*;
@@ -62,7 +63,7 @@ fn settings_are_overridden() -> Result<(), Box<dyn Error>> {
     custom.defaults.publish_subscribe.backpressure_strategy = BackpressureStrategy::DiscardData;
     custom.defaults.event.notifier_dead_event = Some(EventId::new(7).as_value());
     custom.global.prefix = FileName::new(b"robot_")?;
-    custom.global.service.directory = Path::new(b"another_service_dir")?;
+    custom.global.service.directory = "another_service_dir".parse()?;
     let same = custom.clone();
     assert_eq!(same, custom);
     assert_ne!(same, Config::default());

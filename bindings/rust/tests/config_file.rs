@@ -1,6 +1,9 @@
 //! Files of settings: what is read, what is refused and why, and what is written.
 #![forbid(unsafe_code)]
 
+#[macro_use]
+mod common;
+
 use iox2sd::config::{
     AllocationStrategy, BackpressureStrategy, Blackboard, Config, ConfigError, ConfigFault,
     ConfigFileError, ConfigWriteError, Defaults, Event, Fault, PublishSubscribe, RequestResonse,
@@ -127,8 +130,8 @@ fn each_setting_is_read_and_written() {
     node.port_tag_suffix = name(".k");
     node.global_mgmt_suffix = name(".l");
     node.cleanup_dead_nodes_on_creation = false;
-    wanted.defaults = Defaults {
-        publish_subscribe: PublishSubscribe {
+    wanted.defaults = with!(Defaults::default();
+        publish_subscribe: with!(PublishSubscribe::default();
             max_subscribers: 101,
             max_publishers: 102,
             max_nodes: 103,
@@ -140,8 +143,8 @@ fn each_setting_is_read_and_written() {
             backpressure_strategy: BackpressureStrategy::DiscardData,
             subscriber_expired_connection_buffer: 108,
             publisher_allocation_strategy: AllocationStrategy::BestFit,
-        },
-        event: Event {
+        ),
+        event: with!(Event::default();
             max_listeners: 201,
             max_notifiers: 202,
             max_nodes: 203,
@@ -150,8 +153,8 @@ fn each_setting_is_read_and_written() {
             notifier_created_event: Some(207),
             notifier_dropped_event: Some(208),
             notifier_dead_event: Some(209),
-        },
-        request_response: RequestResonse {
+        ),
+        request_response: with!(RequestResonse::default();
             enable_safe_overflow_for_requests: false,
             enable_safe_overflow_for_responses: true,
             max_active_requests_per_client: 301,
@@ -169,12 +172,12 @@ fn each_setting_is_read_and_written() {
             enable_fire_and_forget_requests: false,
             client_allocation_strategy: AllocationStrategy::Static,
             server_allocation_strategy: AllocationStrategy::PowerOfTwo,
-        },
-        blackboard: Blackboard {
+        ),
+        blackboard: with!(Blackboard::default();
             max_readers: 401,
             max_nodes: 402,
-        },
-    };
+        ),
+    );
     for text in [EACH_SETTING, &wanted.to_toml().unwrap()] {
         let file = Config::from_toml(text).unwrap();
         assert_eq!(file.config, wanted);
@@ -347,7 +350,12 @@ fn files_are_read() {
     assert!(refused.to_string().contains("UTF-8"));
     fs::remove_file(&path).unwrap();
     match Config::from_toml_file(&path) {
-        Err(ConfigFileError::Read(error)) => assert_eq!(error.kind(), ErrorKind::NotFound),
+        Err(ConfigFileError::Read {
+            path: named,
+            ref error,
+        }) => {
+            assert_eq!((&named, error.kind()), (&path, ErrorKind::NotFound));
+        }
         other => panic!("{other:?}"),
     }
 }

@@ -1,6 +1,9 @@
 //! Conversions, limits and paths of names.
 #![forbid(unsafe_code)]
 
+mod common;
+
+use common::settings;
 use iox2sd::attribute::{
     Attribute, AttributeKey, AttributeSet, AttributeSpecifier, AttributeValue, AttributeVerifier,
 };
@@ -184,53 +187,29 @@ fn room_is_that_of_descriptions_and_of_defaults() -> Result<(), Box<dyn Error>> 
     config.defaults.request_response.max_clients = 9;
     config.defaults.blackboard.max_readers = 10;
     let (name, id) = ("front".parse()?, UniqueServiceId::new(1, 0, 0, 1));
-    let described = |made: StaticConfig| MessagingPatternSettings::from(made.messaging_pattern());
-    assert_eq!(
-        described(StaticConfig::new_event(&name, &config, id)?),
-        MessagingPatternSettings::Event(event::DynamicConfigSettings {
-            number_of_listeners: 3,
-            number_of_notifiers: 4,
-        })
-    );
-    assert_eq!(
-        described(StaticConfig::new_publish_subscribe(&name, &config, id)?),
-        MessagingPatternSettings::PublishSubscribe(publish_subscribe::DynamicConfigSettings {
-            number_of_publishers: 5,
-            number_of_subscribers: 6,
-        })
-    );
-    assert_eq!(
-        described(StaticConfig::new_request_response(&name, &config, id)?),
-        MessagingPatternSettings::RequestResponse(request_response::DynamicConfigSettings {
-            number_of_servers: 7,
-            number_of_clients: 9,
-        })
-    );
-    assert_eq!(
-        described(StaticConfig::new_blackboard(&name, &config, id)?),
-        MessagingPatternSettings::Blackboard(blackboard::DynamicConfigSettings {
-            number_of_readers: 10,
-            number_of_writers: 1,
-        })
-    );
-
-    let defaults = Config::default();
-    assert_eq!(
-        MessagingPatternSettings::from(event::DynamicConfigSettings::default()),
-        described(StaticConfig::new_event(&name, &defaults, id)?)
-    );
-    assert_eq!(
-        MessagingPatternSettings::from(publish_subscribe::DynamicConfigSettings::default()),
-        described(StaticConfig::new_publish_subscribe(&name, &defaults, id)?)
-    );
-    assert_eq!(
-        MessagingPatternSettings::from(request_response::DynamicConfigSettings::default()),
-        described(StaticConfig::new_request_response(&name, &defaults, id)?)
-    );
-    assert_eq!(
-        MessagingPatternSettings::from(blackboard::DynamicConfigSettings::default()),
-        described(StaticConfig::new_blackboard(&name, &defaults, id)?)
-    );
+    let ports = |config: &Config| -> Result<_, Box<dyn Error>> {
+        let all = [
+            StaticConfig::new_publish_subscribe(&name, config, id)?,
+            StaticConfig::new_event(&name, config, id)?,
+            StaticConfig::new_request_response(&name, config, id)?,
+            StaticConfig::new_blackboard(&name, config, id)?,
+        ];
+        Ok(all.map(|made| MessagingPatternSettings::from(made.messaging_pattern())))
+    };
+    let expected = [
+        settings(MessagingPattern::PublishSubscribe, [5, 6]),
+        settings(MessagingPattern::Event, [3, 4]),
+        settings(MessagingPattern::RequestResponse, [7, 9]),
+        settings(MessagingPattern::Blackboard, [10, 1]),
+    ];
+    assert_eq!(ports(&config)?, expected);
+    let defaults = [
+        publish_subscribe::DynamicConfigSettings::default().into(),
+        event::DynamicConfigSettings::default().into(),
+        request_response::DynamicConfigSettings::default().into(),
+        blackboard::DynamicConfigSettings::default().into(),
+    ];
+    assert_eq!(ports(&Config::default())?, defaults);
     Ok(())
 }
 

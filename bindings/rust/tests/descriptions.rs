@@ -1,6 +1,9 @@
 //! Configurations, descriptions of services, hash texts and counts of chunks.
 #![forbid(unsafe_code)]
 
+#[macro_use]
+mod common;
+
 use iox2sd::config::{
     AllocationStrategy, BackpressureStrategy, Blackboard, Config, DataSegmentType, Defaults, Event,
     EventId, PublishSubscribe, RequestResonse,
@@ -34,8 +37,8 @@ fn descriptions(config: &Config) -> [StaticConfig; 4] {
 
 #[test]
 fn settings_have_defaults() {
-    let expected = Defaults {
-        publish_subscribe: PublishSubscribe {
+    let expected = with!(Defaults::default();
+        publish_subscribe: with!(PublishSubscribe::default();
             max_subscribers: 8,
             max_publishers: 2,
             max_nodes: 20,
@@ -47,8 +50,8 @@ fn settings_have_defaults() {
             backpressure_strategy: BackpressureStrategy::RetryUntilDelivered,
             subscriber_expired_connection_buffer: 128,
             publisher_allocation_strategy: AllocationStrategy::Static,
-        },
-        event: Event {
+        ),
+        event: with!(Event::default();
             max_listeners: 16,
             max_notifiers: 16,
             max_nodes: 36,
@@ -57,8 +60,8 @@ fn settings_have_defaults() {
             notifier_created_event: None,
             notifier_dropped_event: None,
             notifier_dead_event: None,
-        },
-        request_response: RequestResonse {
+        ),
+        request_response: with!(RequestResonse::default();
             enable_safe_overflow_for_requests: true,
             enable_safe_overflow_for_responses: true,
             max_active_requests_per_client: 4,
@@ -76,12 +79,12 @@ fn settings_have_defaults() {
             enable_fire_and_forget_requests: true,
             client_allocation_strategy: AllocationStrategy::Static,
             server_allocation_strategy: AllocationStrategy::Static,
-        },
-        blackboard: Blackboard {
+        ),
+        blackboard: with!(Blackboard::default();
             max_readers: 8,
             max_nodes: 20,
-        },
-    };
+        ),
+    );
     assert_eq!(Config::default().defaults, expected);
 }
 
@@ -296,7 +299,7 @@ fn a_description_is_changed_in_place() {
 #[should_panic(expected = "the pattern is Event, not PublishSubscribe")]
 fn a_getter_for_another_pattern_panics() {
     let [_, event, ..] = descriptions(&Config::default());
-    event.publish_subscribe();
+    let _ = event.publish_subscribe();
 }
 
 #[test]

@@ -2,7 +2,7 @@
 //! beside it would take memory meanwhile.
 #![forbid(unsafe_code)]
 
-use iox2sd::dynamic_config::{event, DynamicConfig, MessagingPatternSettings};
+use iox2sd::dynamic_config::{event, DynamicConfig};
 
 /// How many pages of memory the process has.
 fn pages() -> usize {
@@ -16,7 +16,7 @@ fn service() -> DynamicConfig {
         number_of_listeners: 1,
         number_of_notifiers: 1,
     };
-    DynamicConfig::new(&MessagingPatternSettings::Event(capacities), 100_000, 7).unwrap()
+    DynamicConfig::new(capacities, 100_000, 7).unwrap()
 }
 
 #[test]

@@ -58,9 +58,9 @@ fn no_limit_stands_in_the_code() {
         let is_number = |word: &&str| word.starts_with(|letter: char| letter.is_ascii_digit());
         numbers.extend(words.filter(is_number).map(str::to_string));
     }
-    // The sizes of arrays of roles and of settings, those of buffers for a short text, a short list
-    // and a report, and the radix of an id's text, besides 0, 1 and 2.
-    let expected = ["0", "1", "16", "2", "25", "256", "512", "9"].map(str::to_string);
+    // The sizes of buffers for a short text, a short list and a report, and the radix of an id's
+    // text, besides 0, 1 and 2.
+    let expected = ["0", "1", "16", "2", "256", "512"].map(str::to_string);
     assert_eq!(numbers, BTreeSet::from(expected));
     assert_eq!(places("256"), ["text.rs: const CAPACITY: usize = 256;"]);
     assert_eq!(places("512"), ["library.rs: const REPORT: usize = 512;"]);

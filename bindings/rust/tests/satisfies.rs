@@ -1,13 +1,16 @@
 //! Whether services meet what openers require, capacities by settings, and numbers for services.
 #![forbid(unsafe_code)]
 
-use iox2sd::config::{Blackboard, Config, Event, PublishSubscribe, RequestResonse};
-use iox2sd::container::ServiceNumbers;
-use iox2sd::dynamic_config::{
-    blackboard as values, event as events, publish_subscribe as samples,
-    request_response as requests,
+#[macro_use]
+mod common;
+
+use iox2sd::config::{
+    Blackboard, Config, Event, PatternSettings, PublishSubscribe, RequestResonse,
 };
+use iox2sd::container::ServiceNumbers;
+use iox2sd::dynamic_config::{publish_subscribe as publish_subscribe_ports, Capacities};
 use iox2sd::identifiers::Time;
+use iox2sd::messaging_pattern::MessagingPattern;
 use iox2sd::static_config::event::Deadline;
 use iox2sd::static_config::setting::Setting;
 use iox2sd::static_config::{blackboard, event, publish_subscribe, request_response};
@@ -38,10 +41,7 @@ fn samples_are_as_required() {
         |r| r.enable_safe_overflow = false,
         Setting::EnableSafeOverflow,
     );
-    let fewer = publish_subscribe::StaticConfig {
-        max_nodes: 19,
-        ..service
-    };
+    let fewer = with!(service; max_nodes: 19);
     assert!(service.satisfies(&fewer) && service.satisfies(&service));
 }
 
@@ -147,32 +147,31 @@ fn settings_print_as_their_fields() {
 
 #[test]
 fn capacities_are_those_of_settings() {
-    let room = samples::DynamicConfigSettings::from(&PublishSubscribe {
-        max_publishers: 4,
-        max_subscribers: 5,
-        ..PublishSubscribe::default()
-    });
+    let room = with!(PublishSubscribe::default(); max_publishers: 4, max_subscribers: 5);
+    let ports = publish_subscribe_ports::DynamicConfigSettings::from(&room);
+    assert_eq!(room.capacities().ports, ports.into());
     assert_eq!(
-        (room.number_of_publishers, room.number_of_subscribers),
-        (4, 5)
+        room.capacities().ports,
+        common::settings(MessagingPattern::PublishSubscribe, [4, 5])
     );
-    let room = events::DynamicConfigSettings::from(&Event {
-        max_listeners: 4,
-        max_notifiers: 5,
-        ..Event::default()
-    });
-    assert_eq!((room.number_of_listeners, room.number_of_notifiers), (4, 5));
-    let room = requests::DynamicConfigSettings::from(&RequestResonse {
-        max_servers: 4,
-        max_clients: 5,
-        ..RequestResonse::default()
-    });
-    assert_eq!((room.number_of_servers, room.number_of_clients), (4, 5));
-    let room = values::DynamicConfigSettings::from(&Blackboard {
-        max_readers: 4,
-        ..Blackboard::default()
-    });
-    assert_eq!((room.number_of_readers, room.number_of_writers), (4, 1));
+    let room = with!(Event::default(); max_listeners: 4, max_notifiers: 5, max_nodes: 6);
+    assert_eq!(
+        Capacities::from(&room),
+        Capacities {
+            max_nodes: 6,
+            ports: common::settings(MessagingPattern::Event, [4, 5]),
+        }
+    );
+    let room = with!(RequestResonse::default(); max_servers: 4, max_clients: 5);
+    assert_eq!(
+        room.capacities().ports,
+        common::settings(MessagingPattern::RequestResponse, [4, 5])
+    );
+    let room = with!(Blackboard::default(); max_readers: 4);
+    assert_eq!(
+        room.capacities().ports,
+        common::settings(MessagingPattern::Blackboard, [4, 1])
+    );
 }
 
 #[test]

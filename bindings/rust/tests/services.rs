@@ -12,18 +12,6 @@ use iox2sd::dynamic_config::{
 use iox2sd::messaging_pattern::MessagingPattern;
 use iox2sd::CallbackProgression;
 
-const ROLES: [Role; 9] = [
-    Role::Node,
-    Role::Publisher,
-    Role::Subscriber,
-    Role::Notifier,
-    Role::Listener,
-    Role::Client,
-    Role::Server,
-    Role::Reader,
-    Role::Writer,
-];
-
 #[test]
 fn a_new_service_has_room_and_nobody() {
     for (kind, first, second) in KINDS {
@@ -34,7 +22,7 @@ fn a_new_service_has_room_and_nobody() {
         assert_eq!((service.number_of_nodes(), service.max_nodes()), (0, 3));
         assert!(service.has_room_for_node());
         assert!(!service.is_locked());
-        for role in ROLES {
+        for role in Role::ALL {
             let of_pattern = role == first || role == second;
             assert_eq!(service.has_role(role), of_pattern);
             assert_eq!(service.count_ports(role), of_pattern.then_some(0));
@@ -100,109 +88,40 @@ fn ports_are_listed_by_their_types() {
     }
     /// Counts, lists by a callback, lists by a callback that stops, and lists by an iterator.
     macro_rules! check {
-        ($ports:expr, $number:ident, $list:ident, $all:ident, $variant:ident, $id:ident) => {{
-            let ports = $ports;
-            assert_eq!(ports.$number(), 2);
-            let mut seen = Vec::new();
-            ports.$list(|details| {
-                seen.push(PortDetails::$variant(*details));
-                CallbackProgression::Continue
-            });
-            let mut calls = 0;
-            ports.$list(|_| {
-                calls += 1;
-                CallbackProgression::Stop
-            });
-            assert_eq!(calls, 1);
-            assert_eq!(
-                ports.$all().map(PortDetails::$variant).collect::<Vec<_>>(),
-                seen
-            );
-            let ids: Vec<_> = ports.$all().map(|details| details.$id.value()).collect();
-            assert_eq!(ids.len(), 2);
-            assert!(ids[0] < ids[1]);
-            assert!(ports.$all().all(|details| details.node_id == node(1)));
-        }};
+        ($($pattern:ident $variant:ident $id:ident: $number:ident $list:ident $all:ident,)*) => {
+            $(
+                let ports = services.iter().find_map(|service| service.$pattern()).unwrap();
+                assert_eq!(ports.$number(), 2);
+                let mut seen = Vec::new();
+                ports.$list(|details| {
+                    seen.push(PortDetails::$variant(*details));
+                    CallbackProgression::Continue
+                });
+                let mut calls = 0;
+                ports.$list(|_| {
+                    calls += 1;
+                    CallbackProgression::Stop
+                });
+                assert_eq!(calls, 1);
+                assert_eq!(ports.$all().map(PortDetails::$variant).collect::<Vec<_>>(), seen);
+                let ids: Vec<_> = ports.$all().map(|details| details.$id.value()).collect();
+                assert_eq!(ids.len(), 2);
+                assert!(ids[0] < ids[1]);
+                assert!(ports.$all().all(|details| details.node_id == node(1)));
+            )*
+        };
     }
-    for service in &services {
-        match service.kind() {
-            MessagingPattern::PublishSubscribe => {
-                let ports = service.publish_subscribe();
-                check!(
-                    ports,
-                    number_of_publishers,
-                    list_publishers,
-                    publishers,
-                    Publisher,
-                    publisher_id
-                );
-                check!(
-                    ports,
-                    number_of_subscribers,
-                    list_subscribers,
-                    subscribers,
-                    Subscriber,
-                    subscriber_id
-                );
-            }
-            MessagingPattern::Event => {
-                let ports = service.event();
-                check!(
-                    ports,
-                    number_of_listeners,
-                    list_listeners,
-                    listeners,
-                    Listener,
-                    listener_id
-                );
-                check!(
-                    ports,
-                    number_of_notifiers,
-                    list_notifiers,
-                    notifiers,
-                    Notifier,
-                    notifier_id
-                );
-            }
-            MessagingPattern::RequestResponse => {
-                let ports = service.request_response();
-                check!(
-                    ports,
-                    number_of_servers,
-                    list_servers,
-                    servers,
-                    Server,
-                    server_id
-                );
-                check!(
-                    ports,
-                    number_of_clients,
-                    list_clients,
-                    clients,
-                    Client,
-                    client_id
-                );
-            }
-            MessagingPattern::Blackboard => {
-                let ports = service.blackboard();
-                check!(
-                    ports,
-                    number_of_readers,
-                    list_readers,
-                    readers,
-                    Reader,
-                    reader_id
-                );
-                check!(
-                    ports,
-                    number_of_writers,
-                    list_writers,
-                    writers,
-                    Writer,
-                    writer_id
-                );
-            }
-        }
+    check! {
+        as_publish_subscribe Publisher publisher_id:
+            number_of_publishers list_publishers publishers,
+        as_publish_subscribe Subscriber subscriber_id:
+            number_of_subscribers list_subscribers subscribers,
+        as_event Listener listener_id: number_of_listeners list_listeners listeners,
+        as_event Notifier notifier_id: number_of_notifiers list_notifiers notifiers,
+        as_request_response Server server_id: number_of_servers list_servers servers,
+        as_request_response Client client_id: number_of_clients list_clients clients,
+        as_blackboard Reader reader_id: number_of_readers list_readers readers,
+        as_blackboard Writer writer_id: number_of_writers list_writers writers,
     }
 }
 
@@ -225,7 +144,7 @@ fn patterns_are_asked_about() {
 #[test]
 #[should_panic(expected = "the pattern is Event, not Blackboard")]
 fn ports_of_another_pattern_are_not_lent() {
-    service(MessagingPattern::Event, 1, [1, 1]).blackboard();
+    let _ = service(MessagingPattern::Event, 1, [1, 1]).blackboard();
 }
 
 #[test]
@@ -339,7 +258,7 @@ fn foreign_handles_are_refused() {
 #[test]
 fn tickets_run_out() {
     let settings = settings(MessagingPattern::Event, [2, 2]);
-    let mut service = DynamicConfig::with_tickets(&settings, 2, 7, 1).unwrap();
+    let mut service = DynamicConfig::with_tickets(settings, 2, 7, 1).unwrap();
     service.register_node_id(node(1)).unwrap();
     assert!(!service.has_room_for_node());
     let full = service.register_node_id(node(1));
@@ -360,7 +279,7 @@ fn memory_is_refused() {
             (1, [usize::MAX, 1]),
             (1, [1, usize::MAX]),
         ] {
-            let made = DynamicConfig::new(&settings(kind, ports), nodes, 7);
+            let made = DynamicConfig::new(settings(kind, ports), nodes, 7);
             assert_eq!(made.unwrap_err(), AllocError);
         }
         assert_eq!(service(kind, 0, [0, 0]).max_nodes(), 0);

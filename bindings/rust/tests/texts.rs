@@ -67,10 +67,13 @@ fn a_length_of_more_than_32_bits_is_not_cut() {
 }
 
 #[test]
-fn a_conversion_takes_the_prefix_that_new_refuses() {
-    let name: ServiceName = "iox2://discovery".try_into().unwrap();
-    assert_eq!("iox2://discovery".parse(), Ok(name));
-    assert_eq!("iox2://discovery".to_string().try_into(), Ok(name));
+fn the_conversion_of_iceoryx2_alone_takes_the_prefix_that_new_refuses() {
+    let text = "iox2://discovery";
+    let name: ServiceName = text.try_into().unwrap();
+    let refused = Err(ServiceNameError::InvalidContent);
+    assert_eq!(ServiceName::new(text), refused);
+    assert_eq!(text.parse::<ServiceName>(), refused);
+    assert_eq!(ServiceName::try_from(text.to_string()), refused);
     assert_eq!(ServiceName::internal_new("iox2://discovery"), Ok(name));
     assert_eq!(ServiceName::internal_new_prefixed("discovery"), Ok(name));
     assert!(ServiceName::has_iox2_prefix(&name));

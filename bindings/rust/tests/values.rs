@@ -2,11 +2,14 @@
 //! and printed otherwise.
 #![forbid(unsafe_code)]
 
+mod common;
+
+use common::{ports_of_kind, KINDS};
 use iox2sd::attribute::{Attribute, AttributeSet, AttributeSpecifier, AttributeVerificationError};
 use iox2sd::config::{AllocationStrategy, BackpressureStrategy, Config, DataSegmentType, EventId};
 use iox2sd::container::{ContainerHandle, Role};
 use iox2sd::dynamic_config::{
-    event, ClientDetails, ListenerDetails, MessagingPatternSettings, NotifierDetails, PortDetails,
+    event, ClientDetails, ListenerDetails, MessagingPatternSettings, NotifierDetails,
     PublisherDetails, ReaderDetails, ServerDetails, SubscriberDetails, WriterDetails,
 };
 use iox2sd::identifiers::{
@@ -254,98 +257,33 @@ fn texts_and_attributes_differ() -> Result<(), Box<dyn std::error::Error>> {
 
 #[test]
 fn details_of_ports_differ() {
-    let node_id = node(4);
-    let data_segment_type = DataSegmentType::Dynamic;
-    let publisher = PublisherDetails {
-        publisher_id: UniquePublisherId::new(1, 1, 1, 1),
-        node_id,
-        number_of_samples: 1,
-        max_slice_len: 2,
-        data_segment_type,
-        max_number_of_segments: 3,
-    };
-    differ_hashed(
-        &changed!(publisher; publisher_id = UniquePublisherId::new(1, 1, 1, 2),
-        node_id = node(5), number_of_samples = 9, max_slice_len = 9,
-        data_segment_type = DataSegmentType::Static, max_number_of_segments = 9),
-    );
-    let subscriber = SubscriberDetails {
-        subscriber_id: UniqueSubscriberId::new(1, 1, 1, 1),
-        node_id,
-        buffer_size: 1,
-    };
-    differ_hashed(
-        &changed!(subscriber; subscriber_id = UniqueSubscriberId::new(1, 1, 1, 2),
-        node_id = node(5), buffer_size = 9),
-    );
-    let client = ClientDetails {
-        client_id: UniqueClientId::new(1, 1, 1, 1),
-        node_id,
-        number_of_requests: 1,
-        response_buffer_size: 2,
-        max_slice_len: 3,
-        data_segment_type,
-        max_number_of_segments: 4,
-    };
-    differ_hashed(
-        &changed!(client; client_id = UniqueClientId::new(1, 1, 1, 2),
-        node_id = node(5), number_of_requests = 9, response_buffer_size = 9, max_slice_len = 9,
-        data_segment_type = DataSegmentType::Static, max_number_of_segments = 9),
-    );
-    let server = ServerDetails {
-        server_id: UniqueServerId::new(1, 1, 1, 1),
-        node_id,
-        request_buffer_size: 1,
-        number_of_responses: 2,
-        max_slice_len: 3,
-        data_segment_type,
-        max_number_of_segments: 4,
-    };
-    differ_hashed(
-        &changed!(server; server_id = UniqueServerId::new(1, 1, 1, 2),
-        node_id = node(5), request_buffer_size = 9, number_of_responses = 9, max_slice_len = 9,
-        data_segment_type = DataSegmentType::Static, max_number_of_segments = 9),
-    );
-    let listener_id = UniqueListenerId::new(1, 1, 1, 1);
-    let listener = ListenerDetails {
-        listener_id,
-        node_id,
-    };
-    differ_hashed(
-        &changed!(listener; listener_id = UniqueListenerId::new(1, 1, 1, 2),
-        node_id = node(5)),
-    );
-    let notifier_id = UniqueNotifierId::new(1, 1, 1, 1);
-    let notifier = NotifierDetails {
-        notifier_id,
-        node_id,
-    };
-    differ_hashed(
-        &changed!(notifier; notifier_id = UniqueNotifierId::new(1, 1, 1, 2),
-        node_id = node(5)),
-    );
-    let reader_id = UniqueReaderId::new(1, 1, 1, 1);
-    let reader = ReaderDetails { reader_id, node_id };
-    differ_hashed(
-        &changed!(reader; reader_id = UniqueReaderId::new(1, 1, 1, 2),
-        node_id = node(5)),
-    );
-    let writer_id = UniqueWriterId::new(1, 1, 1, 1);
-    let writer = WriterDetails { writer_id, node_id };
-    differ_hashed(
-        &changed!(writer; writer_id = UniqueWriterId::new(1, 1, 1, 2),
-        node_id = node(5)),
-    );
-    differ_hashed::<PortDetails>(&[
-        publisher.into(),
-        subscriber.into(),
-        listener.into(),
-        notifier.into(),
-        server.into(),
-        client.into(),
-        reader.into(),
-        writer.into(),
-    ]);
+    let other = DataSegmentType::Static;
+    let ports = KINDS.map(|(kind, ..)| ports_of_kind(kind, node(4), 1));
+    let [[publisher, subscriber], [listener, notifier], [server, client], [reader, writer]] = ports;
+    /// Details with one id, the node and further fields changed in turn.
+    macro_rules! changed_port {
+        ($details:ident $port:ident $id:ident $id_type:ident $($field:ident = $new:expr),*) => {
+            differ_hashed(
+                &changed!($details::try_from($port).unwrap(); $id = $id_type::new(9, 9, 9, 9),
+                node_id = node(5) $(, $field = $new)*),
+            );
+        };
+    }
+    changed_port!(PublisherDetails publisher publisher_id UniquePublisherId
+        number_of_samples = 9, max_slice_len = 9, data_segment_type = other,
+        max_number_of_segments = 9);
+    changed_port!(SubscriberDetails subscriber subscriber_id UniqueSubscriberId buffer_size = 9);
+    changed_port!(ListenerDetails listener listener_id UniqueListenerId);
+    changed_port!(NotifierDetails notifier notifier_id UniqueNotifierId);
+    changed_port!(ServerDetails server server_id UniqueServerId
+        request_buffer_size = 9, number_of_responses = 9, max_slice_len = 9,
+        data_segment_type = DataSegmentType::Dynamic, max_number_of_segments = 9);
+    changed_port!(ClientDetails client client_id UniqueClientId
+        number_of_requests = 9, response_buffer_size = 9, max_slice_len = 9,
+        data_segment_type = other, max_number_of_segments = 9);
+    changed_port!(ReaderDetails reader reader_id UniqueReaderId);
+    changed_port!(WriterDetails writer writer_id UniqueWriterId);
+    differ_hashed(&ports.concat());
     let room = event::DynamicConfigSettings {
         number_of_listeners: 1,
         number_of_notifiers: 2,

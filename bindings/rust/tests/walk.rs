@@ -167,6 +167,7 @@ impl Walk {
             Some(Err(DeregisterError::ContainerHandleNotOwnedByContainer)) => {
                 "not-owned".to_string()
             }
+            Some(Err(other)) => panic!("{other}"),
         };
         self.note(&format!("deregister {number}"), Err(text));
     }
@@ -199,6 +200,7 @@ impl Walk {
                     AttachError::ServiceIsLocked => "locked",
                     AttachError::NodeNotRegistered => "not-registered",
                     AttachError::OutOfSpace => "full",
+                    other => panic!("{other}"),
                 };
                 text.to_string()
             });
@@ -268,7 +270,7 @@ fn walk(kind: MessagingPattern, random: &mut Random, steps: usize) -> Walk {
         MessagingPattern::Blackboard => "blackboard",
     };
     let mut walk = Walk {
-        service: Recorder::new(&settings(kind, ports), nodes, 7).unwrap(),
+        service: Recorder::new(settings(kind, ports), nodes, 7).unwrap(),
         handles: Vec::new(),
         script: format!("service {name} 7 {nodes} {} {}\n", ports[0], ports[1]),
         replies: String::new(),

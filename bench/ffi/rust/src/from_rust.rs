@@ -44,7 +44,7 @@ impl Service for DynamicConfig {
             number_of_publishers: places.publishers as usize,
             number_of_subscribers: places.subscribers as usize,
         };
-        DynamicConfig::new(&ports.into(), places.nodes as usize, 7).ok()
+        DynamicConfig::new(ports, places.nodes as usize, 7).ok()
     }
 
     #[inline]

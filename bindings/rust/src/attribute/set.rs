@@ -1,36 +1,36 @@
 use super::{Attribute, AttributeKey, AttributeValue};
 use crate::callback_progression::visit;
-use crate::display::error_by_path;
+use crate::display::errors;
 use crate::library;
 use crate::limits;
 use crate::sys;
 use crate::CallbackProgression;
-use std::ops::Deref;
+use std::iter::FusedIterator;
+use std::ops::{Deref, Range};
 use std::slice;
 use std::vec;
 
-/// Why an attribute or a key was not added.
-///
-/// ```
-/// use iox2sd::attribute::{AttributeDefinitionError, AttributeSet};
-///
-/// let (site, north) = ("site".try_into()?, "north".try_into()?);
-/// let mut set = AttributeSet::new();
-/// for _ in 0..AttributeSet::capacity() {
-///     set.add(&site, &north)?;
-/// }
-/// let refused = set.add(&site, &north).unwrap_err();
-/// assert_eq!(refused, AttributeDefinitionError::ExceedsMaxSupportedAttributes);
-/// assert_eq!(refused.to_string(), "AttributeDefinitionError::ExceedsMaxSupportedAttributes");
-/// # Ok::<(), Box<dyn std::error::Error>>(())
-/// ```
-#[derive(Clone, Copy, Debug, PartialEq, Eq, Hash)]
-pub enum AttributeDefinitionError {
-    /// There are as many already as there may be.
-    ExceedsMaxSupportedAttributes,
+errors! {
+    /// Why an attribute or a key was not added.
+    ///
+    /// ```
+    /// use iox2sd::attribute::{AttributeDefinitionError, AttributeSet};
+    ///
+    /// let (site, north) = ("site".try_into()?, "north".try_into()?);
+    /// let mut set = AttributeSet::new();
+    /// for _ in 0..AttributeSet::capacity() {
+    ///     set.add(&site, &north)?;
+    /// }
+    /// let refused = set.add(&site, &north).unwrap_err();
+    /// assert_eq!(refused, AttributeDefinitionError::ExceedsMaxSupportedAttributes);
+    /// assert_eq!(refused.to_string(), "AttributeDefinitionError::ExceedsMaxSupportedAttributes");
+    /// # Ok::<(), Box<dyn std::error::Error>>(())
+    /// ```
+    AttributeDefinitionError {
+        /// There are as many already as there may be.
+        ExceedsMaxSupportedAttributes = IOX2SD_TOO_MANY | IOX2SD_TOO_MANY_REQUIRED,
+    }
 }
-
-error_by_path!(AttributeDefinitionError);
 
 /// The attributes of a service, at most [`AttributeSet::capacity`] of them, in the order of their
 /// keys and then of their values. A key may have several values, and a pair may stand there twice.
@@ -94,10 +94,7 @@ impl AttributeSet {
     ) -> Result<(), AttributeDefinitionError> {
         let mut attributes = self.attributes.clone();
         attributes.push(Attribute::new(key, value));
-        self.attributes = library::sorted(&attributes).map_err(|status| match status {
-            sys::IOX2SD_TOO_MANY => AttributeDefinitionError::ExceedsMaxSupportedAttributes,
-            other => library::unexpected(other),
-        })?;
+        self.attributes = library::sorted(&attributes).map_err(AttributeDefinitionError::of)?;
         Ok(())
     }
 
@@ -210,11 +207,52 @@ impl AttributeSet {
     /// assert!(set.key_values(&site).eq(["east", "north"]));
     /// # Ok::<(), Box<dyn std::error::Error>>(())
     /// ```
-    pub fn key_values(&self, key: &AttributeKey) -> impl Iterator<Item = &AttributeValue> {
-        let key = *key;
-        (0..self.number_of_key_values(&key)).filter_map(move |index| self.key_value(&key, index))
+    #[must_use]
+    pub fn key_values(&self, key: &AttributeKey) -> KeyValues<'_> {
+        KeyValues {
+            set: self,
+            key: *key,
+            indices: 0..self.number_of_key_values(key),
+        }
     }
 }
+
+/// The values that a key has, in their order.
+///
+/// ```
+/// use iox2sd::attribute::AttributeSet;
+///
+/// let site = "site".try_into()?;
+/// let mut set = AttributeSet::new();
+/// set.add(&site, &"north".try_into()?)?;
+/// let mut values = set.key_values(&site);
+/// assert_eq!(values.len(), 1);
+/// assert_eq!((values.next(), values.next()), (Some(&"north".try_into()?), None));
+/// # Ok::<(), Box<dyn std::error::Error>>(())
+/// ```
+#[derive(Clone, Debug)]
+pub struct KeyValues<'a> {
+    set: &'a AttributeSet,
+    key: AttributeKey,
+    indices: Range<usize>,
+}
+
+impl<'a> Iterator for KeyValues<'a> {
+    type Item = &'a AttributeValue;
+
+    fn next(&mut self) -> Option<&'a AttributeValue> {
+        let index = self.indices.next()?;
+        self.set.key_value(&self.key, index)
+    }
+
+    fn size_hint(&self) -> (usize, Option<usize>) {
+        self.indices.size_hint()
+    }
+}
+
+impl ExactSizeIterator for KeyValues<'_> {}
+
+impl FusedIterator for KeyValues<'_> {}
 
 /// The attributes in their order.
 impl Deref for AttributeSet {
@@ -225,12 +263,46 @@ impl Deref for AttributeSet {
     }
 }
 
+/// The attributes of a set that was taken apart, in their order.
+///
+/// ```
+/// use iox2sd::attribute::{Attribute, AttributeSet};
+///
+/// let (site, north) = ("site".try_into()?, "north".try_into()?);
+/// let mut set = AttributeSet::new();
+/// set.add(&site, &north)?;
+/// assert!(set.into_iter().eq([Attribute::new(&site, &north)]));
+/// # Ok::<(), Box<dyn std::error::Error>>(())
+/// ```
+#[derive(Clone, Debug)]
+pub struct IntoIter {
+    attributes: vec::IntoIter<Attribute>,
+}
+
+impl Iterator for IntoIter {
+    type Item = Attribute;
+
+    fn next(&mut self) -> Option<Attribute> {
+        self.attributes.next()
+    }
+
+    fn size_hint(&self) -> (usize, Option<usize>) {
+        self.attributes.size_hint()
+    }
+}
+
+impl ExactSizeIterator for IntoIter {}
+
+impl FusedIterator for IntoIter {}
+
 impl IntoIterator for AttributeSet {
     type Item = Attribute;
-    type IntoIter = vec::IntoIter<Attribute>;
+    type IntoIter = IntoIter;
 
-    fn into_iter(self) -> Self::IntoIter {
-        self.attributes.into_iter()
+    fn into_iter(self) -> IntoIter {
+        IntoIter {
+            attributes: self.attributes.into_iter(),
+        }
     }
 }
 

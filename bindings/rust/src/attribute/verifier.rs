@@ -1,6 +1,6 @@
 use super::{AttributeDefinitionError, AttributeKey, AttributeSet, AttributeValue};
+use crate::display::padded;
 use crate::library::{self, Missing};
-use crate::sys;
 use std::error::Error;
 use std::fmt;
 
@@ -29,12 +29,17 @@ pub enum AttributeVerificationError {
 /// The path of the variant with the key, or the key and the value, as they are between quotes.
 impl fmt::Display for AttributeVerificationError {
     fn fmt(&self, f: &mut fmt::Formatter<'_>) -> fmt::Result {
-        f.write_str("AttributeVerificationError::")?;
         match self {
-            Self::NonExistingKey(key) => write!(f, "NonExistingKey(\"{key}\")"),
-            Self::IncompatibleAttribute((key, value)) => {
-                write!(f, "IncompatibleAttribute((\"{key}\", \"{value}\"))")
-            }
+            Self::NonExistingKey(key) => padded(
+                f,
+                format_args!("AttributeVerificationError::NonExistingKey(\"{key}\")"),
+            ),
+            Self::IncompatibleAttribute((key, value)) => padded(
+                f,
+                format_args!(
+                    "AttributeVerificationError::IncompatibleAttribute((\"{key}\", \"{value}\"))"
+                ),
+            ),
         }
     }
 }
@@ -127,10 +132,7 @@ impl AttributeVerifier {
     fn within_limits(self) -> Result<Self, AttributeDefinitionError> {
         match library::verify(&[], &self.attributes, &self.keys) {
             Ok(_) => Ok(self),
-            Err(sys::IOX2SD_TOO_MANY_REQUIRED) => {
-                Err(AttributeDefinitionError::ExceedsMaxSupportedAttributes)
-            }
-            Err(other) => library::unexpected(other),
+            Err(refusal) => Err(AttributeDefinitionError::of(refusal)),
         }
     }
 

@@ -1,11 +1,153 @@
 use super::default_text;
 use crate::library;
 use crate::paths::{FileName, Path};
+use crate::plain::Plain;
 use crate::semantic_string::{Content, SemanticString, SemanticStringError};
 use crate::sys;
 use std::str;
 use std::sync::OnceLock;
 use std::time::Duration;
+
+/// Where texts come from: the defaults of the library, or what it read.
+enum Texts<'a> {
+    Defaults,
+    Read(&'a sys::iox2sd_config_texts),
+}
+
+impl Texts<'_> {
+    /// The text with this number among the defaults, which is this field of what was read.
+    fn text<C: Content>(
+        &self,
+        number: u32,
+        field: fn(&sys::iox2sd_config_texts) -> &sys::iox2sd_config_text,
+    ) -> SemanticString<C> {
+        match self {
+            Texts::Defaults => default_text(number),
+            Texts::Read(texts) => {
+                let text = field(texts);
+                let text = str::from_utf8(&text.bytes[..text.length]);
+                SemanticString::of_legal(text.expect("the library writes texts"))
+            }
+        }
+    }
+}
+
+/// Writes a text into a struct of zeros.
+fn lend<C: Content>(text: &SemanticString<C>, out: &mut sys::iox2sd_config_text) {
+    out.bytes[..text.len()].copy_from_slice(text.as_bytes());
+    out.length = text.len();
+}
+
+/// Defines where files of one kind lie: the texts with their fields and numbers in the library, and
+/// the flags.
+macro_rules! files {
+    (
+        $(#[$documentation:meta])*
+        $name:ident of $in_global:ident {
+            $($(#[$text_documentation:meta])* $text:ident: $type:ty = $c:ident $number:ident,)*
+        } and {
+            $($(#[$flag_documentation:meta])* $flag:ident,)*
+        }
+    ) => {
+        $(#[$documentation])*
+        #[derive(Clone, Debug, PartialEq, Eq, Hash)]
+        #[non_exhaustive]
+        pub struct $name {
+            $($(#[$text_documentation])* pub $text: $type,)*
+            $($(#[$flag_documentation])* pub $flag: bool,)*
+        }
+
+        impl $name {
+            fn of(settings: &sys::iox2sd_global_settings, texts: &Texts<'_>) -> Self {
+                $name {
+                    $($text: texts.text(sys::$number, |texts| &texts.$c),)*
+                    $($flag: settings.$flag,)*
+                }
+            }
+
+            fn lend(
+                &self,
+                settings: &mut sys::iox2sd_global_settings,
+                texts: &mut sys::iox2sd_config_texts,
+            ) {
+                $(lend(&self.$text, &mut texts.$c);)*
+                $(settings.$flag = self.$flag;)*
+            }
+        }
+
+        impl Default for $name {
+            fn default() -> Self {
+                defaults().$in_global.clone()
+            }
+        }
+    };
+}
+
+files! {
+    /// Where the files of services lie, and how their names end.
+    ///
+    /// ```
+    /// use iox2sd::config::Service;
+    ///
+    /// let files = Service::default();
+    /// assert_eq!(files.directory, "services");
+    /// assert_eq!(files.static_config_storage_suffix, ".service");
+    /// assert!(files.cleanup_dead_nodes_on_open);
+    /// ```
+    Service of service {
+        /// The directory of services, below the root path.
+        directory: Path = service_directory IOX2SD_SERVICE_DIRECTORY,
+        /// The end of the name of a port's data segment.
+        data_segment_suffix: FileName = data_segment_suffix IOX2SD_DATA_SEGMENT_SUFFIX,
+        /// The end of the name of a service's static configuration.
+        static_config_storage_suffix: FileName = static_config_storage_suffix IOX2SD_STATIC_CONFIG_STORAGE_SUFFIX,
+        /// The end of the name of a service's dynamic configuration.
+        dynamic_config_storage_suffix: FileName = dynamic_config_storage_suffix IOX2SD_DYNAMIC_CONFIG_STORAGE_SUFFIX,
+        /// The end of the name of a connection between two ports.
+        connection_suffix: FileName = connection_suffix IOX2SD_CONNECTION_SUFFIX,
+        /// The end of the name of a connection for events.
+        event_connection_suffix: FileName = event_connection_suffix IOX2SD_EVENT_CONNECTION_SUFFIX,
+        /// The end of the name of the segment by which a blackboard is managed.
+        blackboard_mgmt_suffix: FileName = blackboard_mgmt_suffix IOX2SD_BLACKBOARD_MGMT_SUFFIX,
+        /// The end of the name of the segment with a blackboard's values.
+        blackboard_data_suffix: FileName = blackboard_data_suffix IOX2SD_BLACKBOARD_DATA_SUFFIX,
+    } and {
+        /// Whether somebody who opens a service first removes what dead nodes left; so by default.
+        cleanup_dead_nodes_on_open,
+    }
+}
+
+files! {
+    /// Where the files of nodes lie, and how their names end.
+    ///
+    /// ```
+    /// use iox2sd::config::Node;
+    ///
+    /// let files = Node::default();
+    /// assert_eq!(files.directory, "nodes");
+    /// assert_eq!(files.static_config_suffix, ".details");
+    /// assert!(files.cleanup_dead_nodes_on_creation && files.cleanup_dead_nodes_on_destruction);
+    /// ```
+    Node of node {
+        /// The directory of nodes, below the root path.
+        directory: Path = node_directory IOX2SD_NODE_DIRECTORY,
+        /// The end of the name of the token by which others see that a node lives.
+        monitor_suffix: FileName = monitor_suffix IOX2SD_MONITOR_SUFFIX,
+        /// The end of the name of a node's static configuration.
+        static_config_suffix: FileName = node_static_config_suffix IOX2SD_NODE_STATIC_CONFIG_SUFFIX,
+        /// The end of the name of the tag that a node leaves for each service that it uses.
+        service_tag_suffix: FileName = service_tag_suffix IOX2SD_SERVICE_TAG_SUFFIX,
+        /// The end of the name of the tag that a node leaves for each of its ports.
+        port_tag_suffix: FileName = port_tag_suffix IOX2SD_PORT_TAG_SUFFIX,
+        /// The end of the name of the segment with which nodes are managed.
+        global_mgmt_suffix: FileName = global_mgmt_suffix IOX2SD_GLOBAL_MGMT_SUFFIX,
+    } and {
+        /// Whether somebody who creates a node first removes what dead nodes left; so by default.
+        cleanup_dead_nodes_on_creation,
+        /// Whether a node that is dropped removes what dead nodes left; so by default.
+        cleanup_dead_nodes_on_destruction,
+    }
+}
 
 /// The settings that all services and nodes of one system share.
 ///
@@ -20,6 +162,7 @@ use std::time::Duration;
 /// # Ok::<(), iox2sd::semantic_string::SemanticStringError>(())
 /// ```
 #[derive(Clone, Debug, PartialEq, Eq, Hash)]
+#[non_exhaustive]
 pub struct Global {
     root_path: Path,
     /// What the name of each file begins with.
@@ -36,40 +179,7 @@ pub struct Global {
 /// The defaults, which are read from the library once.
 fn defaults() -> &'static Global {
     static DEFAULTS: OnceLock<Global> = OnceLock::new();
-    DEFAULTS.get_or_init(|| {
-        let settings = library::global_defaults();
-        let timeout = settings.creation_timeout;
-        Global {
-            root_path: default_text(sys::IOX2SD_ROOT_PATH),
-            prefix: default_text(sys::IOX2SD_PREFIX),
-            service: Service {
-                directory: default_text(sys::IOX2SD_SERVICE_DIRECTORY),
-                data_segment_suffix: default_text(sys::IOX2SD_DATA_SEGMENT_SUFFIX),
-                static_config_storage_suffix: default_text(
-                    sys::IOX2SD_STATIC_CONFIG_STORAGE_SUFFIX,
-                ),
-                dynamic_config_storage_suffix: default_text(
-                    sys::IOX2SD_DYNAMIC_CONFIG_STORAGE_SUFFIX,
-                ),
-                connection_suffix: default_text(sys::IOX2SD_CONNECTION_SUFFIX),
-                event_connection_suffix: default_text(sys::IOX2SD_EVENT_CONNECTION_SUFFIX),
-                blackboard_mgmt_suffix: default_text(sys::IOX2SD_BLACKBOARD_MGMT_SUFFIX),
-                blackboard_data_suffix: default_text(sys::IOX2SD_BLACKBOARD_DATA_SUFFIX),
-                cleanup_dead_nodes_on_open: settings.cleanup_dead_nodes_on_open,
-            },
-            node: Node {
-                directory: default_text(sys::IOX2SD_NODE_DIRECTORY),
-                monitor_suffix: default_text(sys::IOX2SD_MONITOR_SUFFIX),
-                static_config_suffix: default_text(sys::IOX2SD_NODE_STATIC_CONFIG_SUFFIX),
-                service_tag_suffix: default_text(sys::IOX2SD_SERVICE_TAG_SUFFIX),
-                port_tag_suffix: default_text(sys::IOX2SD_PORT_TAG_SUFFIX),
-                global_mgmt_suffix: default_text(sys::IOX2SD_GLOBAL_MGMT_SUFFIX),
-                cleanup_dead_nodes_on_creation: settings.cleanup_dead_nodes_on_creation,
-                cleanup_dead_nodes_on_destruction: settings.cleanup_dead_nodes_on_destruction,
-            },
-            creation_timeout: Duration::new(timeout.seconds, timeout.nanoseconds),
-        }
-    })
+    DEFAULTS.get_or_init(|| Global::made(&library::global_defaults(), &Texts::Defaults))
 }
 
 impl Default for Global {
@@ -78,57 +188,30 @@ impl Default for Global {
     }
 }
 
-impl Default for Service {
-    fn default() -> Self {
-        defaults().service.clone()
-    }
-}
-
-impl Default for Node {
-    fn default() -> Self {
-        defaults().node.clone()
-    }
-}
-
-/// A path or the name of a file that the library gave.
-fn text_of<C: Content>(text: &sys::iox2sd_config_text) -> SemanticString<C> {
-    let bytes = &text.bytes[..text.length];
-    SemanticString::of_legal(str::from_utf8(bytes).expect("the library writes texts"))
-}
-
 impl Global {
-    /// The settings that the library gives.
-    pub(super) fn of(
-        settings: &sys::iox2sd_global_settings,
-        texts: &sys::iox2sd_config_texts,
-    ) -> Self {
-        let timeout = &settings.creation_timeout;
+    fn made(settings: &sys::iox2sd_global_settings, texts: &Texts<'_>) -> Self {
         Global {
-            root_path: text_of(&texts.root_path),
-            prefix: text_of(&texts.prefix),
-            service: Service {
-                directory: text_of(&texts.service_directory),
-                data_segment_suffix: text_of(&texts.data_segment_suffix),
-                static_config_storage_suffix: text_of(&texts.static_config_storage_suffix),
-                dynamic_config_storage_suffix: text_of(&texts.dynamic_config_storage_suffix),
-                connection_suffix: text_of(&texts.connection_suffix),
-                event_connection_suffix: text_of(&texts.event_connection_suffix),
-                blackboard_mgmt_suffix: text_of(&texts.blackboard_mgmt_suffix),
-                blackboard_data_suffix: text_of(&texts.blackboard_data_suffix),
-                cleanup_dead_nodes_on_open: settings.cleanup_dead_nodes_on_open,
-            },
-            node: Node {
-                directory: text_of(&texts.node_directory),
-                monitor_suffix: text_of(&texts.monitor_suffix),
-                static_config_suffix: text_of(&texts.node_static_config_suffix),
-                service_tag_suffix: text_of(&texts.service_tag_suffix),
-                port_tag_suffix: text_of(&texts.port_tag_suffix),
-                global_mgmt_suffix: text_of(&texts.global_mgmt_suffix),
-                cleanup_dead_nodes_on_creation: settings.cleanup_dead_nodes_on_creation,
-                cleanup_dead_nodes_on_destruction: settings.cleanup_dead_nodes_on_destruction,
-            },
-            creation_timeout: Duration::new(timeout.seconds, timeout.nanoseconds),
+            root_path: texts.text(sys::IOX2SD_ROOT_PATH, |texts| &texts.root_path),
+            prefix: texts.text(sys::IOX2SD_PREFIX, |texts| &texts.prefix),
+            service: Service::of(settings, texts),
+            node: Node::of(settings, texts),
+            creation_timeout: Duration::of_c(&settings.creation_timeout),
         }
+    }
+
+    /// The settings that the library gives.
+    pub(super) fn of(made: &sys::iox2sd_config) -> Self {
+        Self::made(&made.global, &Texts::Read(&made.texts))
+    }
+
+    /// Writes the settings, as the library takes them, into a struct of zeros.
+    pub(crate) fn lend(&self, made: &mut sys::iox2sd_config) {
+        let (settings, texts) = (&mut made.global, &mut made.texts);
+        settings.creation_timeout = self.creation_timeout.as_c();
+        lend(&self.root_path, &mut texts.root_path);
+        lend(&self.prefix, &mut texts.prefix);
+        self.service.lend(settings, texts);
+        self.node.lend(settings, texts);
     }
 
     /// The path below which everything else lies.
@@ -201,66 +284,4 @@ impl Global {
         path.add_path_entry(directory)?;
         Ok(path)
     }
-}
-
-/// Where the files of services lie, and how their names end.
-///
-/// ```
-/// use iox2sd::config::Service;
-///
-/// let files = Service::default();
-/// assert_eq!(files.directory, "services");
-/// assert_eq!(files.static_config_storage_suffix, ".service");
-/// assert!(files.cleanup_dead_nodes_on_open);
-/// ```
-#[derive(Clone, Debug, PartialEq, Eq, Hash)]
-pub struct Service {
-    /// The directory of services, below the root path.
-    pub directory: Path,
-    /// The end of the name of a port's data segment.
-    pub data_segment_suffix: FileName,
-    /// The end of the name of a service's static configuration.
-    pub static_config_storage_suffix: FileName,
-    /// The end of the name of a service's dynamic configuration.
-    pub dynamic_config_storage_suffix: FileName,
-    /// The end of the name of a connection between two ports.
-    pub connection_suffix: FileName,
-    /// The end of the name of a connection for events.
-    pub event_connection_suffix: FileName,
-    /// The end of the name of the segment by which a blackboard is managed.
-    pub blackboard_mgmt_suffix: FileName,
-    /// The end of the name of the segment with a blackboard's values.
-    pub blackboard_data_suffix: FileName,
-    /// Whether somebody who opens a service first removes what dead nodes left; so by default.
-    pub cleanup_dead_nodes_on_open: bool,
-}
-
-/// Where the files of nodes lie, and how their names end.
-///
-/// ```
-/// use iox2sd::config::Node;
-///
-/// let files = Node::default();
-/// assert_eq!(files.directory, "nodes");
-/// assert_eq!(files.static_config_suffix, ".details");
-/// assert!(files.cleanup_dead_nodes_on_creation && files.cleanup_dead_nodes_on_destruction);
-/// ```
-#[derive(Clone, Debug, PartialEq, Eq, Hash)]
-pub struct Node {
-    /// The directory of nodes, below the root path.
-    pub directory: Path,
-    /// The end of the name of the token by which others see that a node lives.
-    pub monitor_suffix: FileName,
-    /// The end of the name of a node's static configuration.
-    pub static_config_suffix: FileName,
-    /// The end of the name of the tag that a node leaves for each service that it uses.
-    pub service_tag_suffix: FileName,
-    /// The end of the name of the tag that a node leaves for each of its ports.
-    pub port_tag_suffix: FileName,
-    /// The end of the name of the segment with which nodes are managed.
-    pub global_mgmt_suffix: FileName,
-    /// Whether somebody who creates a node first removes what dead nodes left; so by default.
-    pub cleanup_dead_nodes_on_creation: bool,
-    /// Whether a node that is dropped removes what dead nodes left; so by default.
-    pub cleanup_dead_nodes_on_destruction: bool,
 }

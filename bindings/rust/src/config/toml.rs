@@ -2,13 +2,17 @@
 
 use super::{Blackboard, Config, Defaults, Event, Global, PublishSubscribe, RequestResonse};
 use super::{SettingKind, TomlType};
+use crate::display::{error_by_path, padded};
 use crate::library;
+use crate::paths::FilePath;
+use crate::plain::Plain;
 use crate::semantic_string::SemanticStringError;
 use crate::sys;
 use std::error::Error;
 use std::fmt;
 use std::fs;
-use std::io;
+use std::io::{self, ErrorKind, Read};
+use std::path::PathBuf;
 
 /// What stands in a file of settings.
 ///
@@ -21,6 +25,7 @@ use std::io;
 /// # Ok::<(), iox2sd::config::ConfigError>(())
 /// ```
 #[derive(Clone, Debug, PartialEq, Eq)]
+#[non_exhaustive]
 pub struct ConfigFile {
     /// The settings, where each key that the file does not have has its default.
     pub config: Config,
@@ -40,6 +45,7 @@ pub struct ConfigFile {
 /// # Ok::<(), iox2sd::config::ConfigError>(())
 /// ```
 #[derive(Clone, Debug, PartialEq, Eq)]
+#[non_exhaustive]
 pub struct UnknownKey {
     /// The path of the key.
     pub key: String,
@@ -52,8 +58,8 @@ pub struct UnknownKey {
 impl fmt::Display for UnknownKey {
     fn fmt(&self, f: &mut fmt::Formatter<'_>) -> fmt::Result {
         match &self.meant {
-            Some(meant) => write!(f, "{}: {meant} may be meant", self.key),
-            None => f.write_str(&self.key),
+            Some(meant) => padded(f, format_args!("{}: {meant} may be meant", self.key)),
+            None => f.pad(&self.key),
         }
     }
 }
@@ -69,6 +75,7 @@ impl fmt::Display for UnknownKey {
 /// assert_eq!(faults[0].fault, Fault::WrongType { found, wanted });
 /// ```
 #[derive(Clone, Copy, Debug, PartialEq, Eq, Hash)]
+#[non_exhaustive]
 pub enum Fault {
     /// It is of another type than the one that is wanted.
     WrongType {
@@ -94,10 +101,10 @@ pub enum Fault {
 impl Fault {
     fn of(fault: &sys::iox2sd_config_fault) -> Self {
         use SemanticStringError::{ExceedsMaximumLength, InvalidContent};
-        let wanted = || SettingKind::of(fault.wanted);
+        let wanted = || SettingKind::of_c(&fault.wanted);
         match fault.status {
             sys::IOX2SD_WRONG_TYPE => Fault::WrongType {
-                found: TomlType::of(fault.found),
+                found: TomlType::of_c(&fault.found),
                 wanted: wanted(),
             },
             sys::IOX2SD_BELOW_ZERO => Fault::BelowZero,
@@ -126,6 +133,7 @@ impl Fault {
 /// assert_eq!(faults[0].reason, "is not \"RetryUntilDelivered\" or \"DiscardData\"");
 /// ```
 #[derive(Clone, Debug, PartialEq, Eq)]
+#[non_exhaustive]
 pub struct ConfigFault {
     /// The path of the key.
     pub key: String,
@@ -138,7 +146,7 @@ pub struct ConfigFault {
 /// The key, and what is wrong with its value.
 impl fmt::Display for ConfigFault {
     fn fmt(&self, f: &mut fmt::Formatter<'_>) -> fmt::Result {
-        write!(f, "{}: {}", self.key, self.reason)
+        padded(f, format_args!("{}: {}", self.key, self.reason))
     }
 }
 
@@ -157,6 +165,7 @@ impl fmt::Display for ConfigFault {
 /// assert!(matches!(Config::from_toml("max"), Err(ConfigError::NotToml(_))));
 /// ```
 #[derive(Clone, Debug, PartialEq, Eq)]
+#[non_exhaustive]
 pub enum ConfigError {
     /// It is no TOML, with the line and the column in words.
     NotToml(String),
@@ -170,14 +179,11 @@ pub enum ConfigError {
 impl fmt::Display for ConfigError {
     fn fmt(&self, f: &mut fmt::Formatter<'_>) -> fmt::Result {
         match self {
-            ConfigError::NotToml(reason) => f.write_str(reason),
-            ConfigError::NoMemory => f.write_str("no memory"),
+            ConfigError::NotToml(reason) => f.pad(reason),
+            ConfigError::NoMemory => f.pad("no memory"),
             ConfigError::Faults(faults) => {
-                for (index, fault) in faults.iter().enumerate() {
-                    let end = if index == 0 { "" } else { "\n" };
-                    write!(f, "{end}{fault}")?;
-                }
-                Ok(())
+                let lines: Vec<_> = faults.iter().map(ToString::to_string).collect();
+                f.pad(&lines.join("\n"))
             }
         }
     }
@@ -189,28 +195,79 @@ impl Error for ConfigError {}
 ///
 /// ```
 /// use iox2sd::config::{Config, ConfigFileError};
+/// use std::error::Error;
 ///
-/// let refused = Config::from_toml_file("no/such/iceoryx2.toml");
-/// assert!(matches!(refused, Err(ConfigFileError::Read(_))));
+/// let refused = Config::from_toml_file("no/such/iceoryx2.toml").unwrap_err();
+/// assert!(refused.to_string().starts_with("no/such/iceoryx2.toml: "));
+/// assert!(refused.source().is_some());
+/// assert!(matches!(refused, ConfigFileError::Read { .. }));
 /// ```
 #[derive(Debug)]
+#[non_exhaustive]
 pub enum ConfigFileError {
     /// It was not read, or is not UTF-8.
-    Read(io::Error),
+    Read {
+        /// The file.
+        path: PathBuf,
+        /// What was reported.
+        error: io::Error,
+    },
     /// Its text gives no settings.
     Content(ConfigError),
 }
 
+/// What is wrong, with the name of a file that was not read.
 impl fmt::Display for ConfigFileError {
     fn fmt(&self, f: &mut fmt::Formatter<'_>) -> fmt::Result {
         match self {
-            ConfigFileError::Read(error) => error.fmt(f),
+            ConfigFileError::Read { path, error } => {
+                padded(f, format_args!("{}: {error}", path.display()))
+            }
             ConfigFileError::Content(error) => error.fmt(f),
         }
     }
 }
 
-impl Error for ConfigFileError {}
+impl Error for ConfigFileError {
+    fn source(&self) -> Option<&(dyn Error + 'static)> {
+        match self {
+            ConfigFileError::Read { error, .. } => Some(error),
+            ConfigFileError::Content(error) => Some(error),
+        }
+    }
+}
+
+impl From<ConfigError> for ConfigFileError {
+    fn from(error: ConfigError) -> Self {
+        ConfigFileError::Content(error)
+    }
+}
+
+/// Why [`Config::from_file`] gives no settings.
+///
+/// ```
+/// use iox2sd::config::{Config, ConfigCreationError};
+///
+/// let refused = Config::from_file(&"no/such/iceoryx2.toml".parse()?).unwrap_err();
+/// assert_eq!(refused, ConfigCreationError::ConfigFileDoesNotExist);
+/// assert_eq!(refused.to_string(), "ConfigCreationError::ConfigFileDoesNotExist");
+/// # Ok::<(), iox2sd::semantic_string::SemanticStringError>(())
+/// ```
+#[derive(Clone, Copy, Debug, PartialEq, Eq, PartialOrd, Ord, Hash)]
+pub enum ConfigCreationError {
+    /// The file was opened, and not read, or is not UTF-8.
+    FailedToReadConfigFileContents,
+    /// Its text gives no settings, as [`Config::from_toml`] says.
+    UnableToDeserializeContents,
+    /// The file may not be opened.
+    InsufficientPermissions,
+    /// There is no such file.
+    ConfigFileDoesNotExist,
+    /// The file was not opened, for another reason.
+    UnableToOpenConfigFile,
+}
+
+error_by_path!(ConfigCreationError);
 
 /// Why settings give no text.
 ///
@@ -224,6 +281,7 @@ impl Error for ConfigFileError {}
 /// assert_eq!(refused, ConfigWriteError::OutOfRange { key });
 /// ```
 #[derive(Clone, Debug, PartialEq, Eq)]
+#[non_exhaustive]
 pub enum ConfigWriteError {
     /// A number, or the seconds of a duration, are above 2^63 - 1, which TOML does not have.
     OutOfRange {
@@ -239,9 +297,9 @@ impl fmt::Display for ConfigWriteError {
         match self {
             ConfigWriteError::OutOfRange { key } => {
                 let reason = library::status_text(sys::IOX2SD_NO_TOML_INTEGER);
-                write!(f, "{key}: {}", reason.unwrap_or_default())
+                padded(f, format_args!("{key}: {}", reason.unwrap_or_default()))
             }
-            ConfigWriteError::NoMemory => f.write_str("no memory"),
+            ConfigWriteError::NoMemory => f.pad("no memory"),
         }
     }
 }
@@ -339,8 +397,43 @@ impl Config {
     pub fn from_toml_file(
         path: impl AsRef<std::path::Path>,
     ) -> Result<ConfigFile, ConfigFileError> {
-        let text = fs::read_to_string(path).map_err(ConfigFileError::Read)?;
-        Config::from_toml(&text).map_err(ConfigFileError::Content)
+        let path = path.as_ref();
+        let text = fs::read_to_string(path).map_err(|error| ConfigFileError::Read {
+            path: path.to_path_buf(),
+            error,
+        })?;
+        Ok(Config::from_toml(&text)?)
+    }
+
+    /// The settings of a file, as iceoryx2 reads them: unknown keys are not listed.
+    ///
+    /// # Errors
+    ///
+    /// Refused where the file is not opened or not read, and where its text gives no settings;
+    /// [`from_toml_file`](Self::from_toml_file) says which of its values are not allowed.
+    ///
+    /// # Examples
+    ///
+    /// ```no_run
+    /// use iox2sd::config::Config;
+    ///
+    /// let config = Config::from_file(&Config::default_config_file_path())?;
+    /// println!("{}", config.global.prefix);
+    /// # Ok::<(), iox2sd::config::ConfigCreationError>(())
+    /// ```
+    pub fn from_file(config_file: &FilePath) -> Result<Config, ConfigCreationError> {
+        let opened = fs::File::open(config_file).map_err(|error| match error.kind() {
+            ErrorKind::NotFound => ConfigCreationError::ConfigFileDoesNotExist,
+            ErrorKind::PermissionDenied => ConfigCreationError::InsufficientPermissions,
+            _ => ConfigCreationError::UnableToOpenConfigFile,
+        });
+        let mut text = String::new();
+        let read = opened?.read_to_string(&mut text);
+        read.map_err(|_| ConfigCreationError::FailedToReadConfigFileContents)?;
+        let made = Config::from_toml(&text);
+        Ok(made
+            .map_err(|_| ConfigCreationError::UnableToDeserializeContents)?
+            .config)
     }
 
     /// The settings as the text of a file, each below a comment with what it is and its default.
@@ -373,7 +466,7 @@ impl Config {
     /// The settings that the library gives.
     fn of(settings: &sys::iox2sd_config) -> Self {
         Config {
-            global: Global::of(&settings.global, &settings.texts),
+            global: Global::of(settings),
             defaults: Defaults {
                 publish_subscribe: PublishSubscribe::of(&settings.publish_subscribe),
                 event: Event::of(&settings.event),

@@ -1,14 +1,14 @@
-use crate::container::{ContainerHandle, ContainerRemoveError, Role};
+use crate::container::{ContainerHandle, ContainerRemoveError, Entries, Role};
 use crate::dynamic_config::{
-    AllocError, AttachError, DeregisterError, DeregisterNodeState, DynamicConfig,
+    AllocError, AttachError, Capacities, DeregisterError, DeregisterNodeState, DynamicConfig,
     MessagingPatternSettings, PortCleanupAction, PortDetails, RegisterNodeResult,
 };
 use crate::identifiers::{UniqueNodeId, UniquePortId};
 use crate::messaging_pattern::MessagingPattern;
+use crate::plain::Plain;
 use crate::sys;
 use std::collections::HashMap;
 use std::fmt::Display;
-use std::vec;
 
 /// A service that writes down each call on it with its reply, as a log that
 /// [`check_log`](super::check_log) judges. So what a test saw is compared with the proved machine.
@@ -18,11 +18,11 @@ use std::vec;
 ///
 /// ```
 /// use iox2sd::conform::{check_log, Recorder, Verdict};
-/// use iox2sd::dynamic_config::{event, MessagingPatternSettings};
-/// use iox2sd::identifiers::UniqueNodeId;
+/// use iox2sd::dynamic_config::event;
+/// use iox2sd::prelude::*;
 ///
 /// let ports = event::DynamicConfigSettings { number_of_listeners: 2, number_of_notifiers: 2 };
-/// let mut service = Recorder::new(&MessagingPatternSettings::Event(ports), 1, 7)?;
+/// let mut service = Recorder::new(ports, 1, 7)?;
 /// let node = UniqueNodeId::new(1, 0, 0, 1).expect("the id of a node");
 /// let handle = service.register_node_id(node)?;
 /// service.deregister_node_id(handle)?;
@@ -51,15 +51,15 @@ impl Recorder {
     ///
     /// ```
     /// use iox2sd::conform::Recorder;
-    /// use iox2sd::dynamic_config::{blackboard, MessagingPatternSettings};
+    /// use iox2sd::dynamic_config::blackboard;
     ///
     /// let ports = blackboard::DynamicConfigSettings { number_of_readers: 8, number_of_writers: 1 };
-    /// let service = Recorder::new(&MessagingPatternSettings::Blackboard(ports), 20, 7)?;
+    /// let service = Recorder::new(ports, 20, 7)?;
     /// assert_eq!(service.log(), "service blackboard 7 20 8 1\n");
-    /// # Ok::<(), iox2sd::dynamic_config::AllocError>(())
+    /// # Ok::<(), Box<dyn std::error::Error>>(())
     /// ```
     pub fn new(
-        settings: &MessagingPatternSettings,
+        settings: impl Into<MessagingPatternSettings>,
         max_nodes: usize,
         service_number: u64,
     ) -> Result<Self, AllocError> {
@@ -80,15 +80,36 @@ impl Recorder {
         })
     }
 
+    /// The same with capacities that come from settings or from a description.
+    ///
+    /// # Errors
+    ///
+    /// Refused as [`DynamicConfig::new`] is.
+    ///
+    /// # Examples
+    ///
+    /// ```
+    /// use iox2sd::{conform::Recorder, prelude::*};
+    ///
+    /// let service = Recorder::with_capacities(&Config::default().defaults.event, 7)?;
+    /// assert_eq!(service.log(), "service event 7 36 16 16\n");
+    /// # Ok::<(), Box<dyn std::error::Error>>(())
+    /// ```
+    pub fn with_capacities(
+        capacities: impl Into<Capacities>,
+        service_number: u64,
+    ) -> Result<Self, AllocError> {
+        let Capacities { max_nodes, ports } = capacities.into();
+        Self::new(ports, max_nodes, service_number)
+    }
+
     /// The service, for queries that are not written down.
     ///
     /// ```
-    /// # use iox2sd::conform::Recorder;
-    /// # use iox2sd::dynamic_config::{event, MessagingPatternSettings};
-    /// # let ports = event::DynamicConfigSettings { number_of_listeners: 2, number_of_notifiers: 2 };
-    /// let service = Recorder::new(&MessagingPatternSettings::Event(ports), 1, 7)?;
+    /// # use iox2sd::{conform::Recorder, prelude::*};
+    /// let service = Recorder::with_capacities(&Config::default().defaults.event, 7)?;
     /// assert!(!service.service().is_locked());
-    /// # Ok::<(), iox2sd::dynamic_config::AllocError>(())
+    /// # Ok::<(), Box<dyn std::error::Error>>(())
     /// ```
     #[must_use]
     pub fn service(&self) -> &DynamicConfig {
@@ -98,13 +119,11 @@ impl Recorder {
     /// The log so far.
     ///
     /// ```
-    /// # use iox2sd::conform::Recorder;
-    /// # use iox2sd::dynamic_config::{event, MessagingPatternSettings};
-    /// # let ports = event::DynamicConfigSettings { number_of_listeners: 2, number_of_notifiers: 2 };
-    /// let mut service = Recorder::new(&MessagingPatternSettings::Event(ports), 1, 7)?;
+    /// # use iox2sd::{conform::Recorder, prelude::*};
+    /// let mut service = Recorder::with_capacities(&Config::default().defaults.event, 7)?;
     /// assert!(service.nodes().next().is_none());
-    /// assert_eq!(service.log(), "service event 7 1 2 2\nnodes\n= list\n");
-    /// # Ok::<(), iox2sd::dynamic_config::AllocError>(())
+    /// assert_eq!(service.log(), "service event 7 36 16 16\nnodes\n= list\n");
+    /// # Ok::<(), Box<dyn std::error::Error>>(())
     /// ```
     #[must_use]
     pub fn log(&self) -> &str {
@@ -120,15 +139,13 @@ impl Recorder {
     /// # Examples
     ///
     /// ```
-    /// # use iox2sd::conform::Recorder;
-    /// # use iox2sd::dynamic_config::{event, MessagingPatternSettings};
-    /// # use iox2sd::identifiers::UniqueNodeId;
-    /// # let ports = event::DynamicConfigSettings { number_of_listeners: 2, number_of_notifiers: 2 };
-    /// # let mut service = Recorder::new(&MessagingPatternSettings::Event(ports), 0, 7)?;
+    /// # use iox2sd::{conform::Recorder, prelude::*};
+    /// # let ports = iox2sd::dynamic_config::event::DynamicConfigSettings::default();
+    /// # let mut service = Recorder::new(ports, 0, 7)?;
     /// let node = UniqueNodeId::new(1, 0, 0, 1).expect("the id of a node");
     /// assert!(service.register_node_id(node).is_err());
     /// assert!(service.log().ends_with("register 1.0.0.1\n= full\n"));
-    /// # Ok::<(), iox2sd::dynamic_config::AllocError>(())
+    /// # Ok::<(), Box<dyn std::error::Error>>(())
     /// ```
     pub fn register_node_id(
         &mut self,
@@ -136,7 +153,7 @@ impl Recorder {
     ) -> Result<ContainerHandle, RegisterNodeResult> {
         let made = self.service.register_node_id(node_id);
         self.write_made(
-            &format!("register {}", dotted(node_id.parts)),
+            &format!("register {}", dotted(node_id.as_c())),
             made,
             |refused| match refused {
                 RegisterNodeResult::MarkedForDestruction => "locked",
@@ -154,11 +171,8 @@ impl Recorder {
     /// # Examples
     ///
     /// ```
-    /// # use iox2sd::conform::Recorder;
-    /// # use iox2sd::dynamic_config::{event, MessagingPatternSettings};
-    /// # use iox2sd::identifiers::UniqueNodeId;
-    /// # let ports = event::DynamicConfigSettings { number_of_listeners: 2, number_of_notifiers: 2 };
-    /// # let mut service = Recorder::new(&MessagingPatternSettings::Event(ports), 2, 7)?;
+    /// # use iox2sd::{conform::Recorder, prelude::*};
+    /// # let mut service = Recorder::with_capacities(&Config::default().defaults.event, 7)?;
     /// # let node = UniqueNodeId::new(1, 0, 0, 1).expect("the id of a node");
     /// let handle = service.register_node_id(node)?;
     /// service.deregister_node_id(handle)?;
@@ -188,16 +202,13 @@ impl Recorder {
     /// # Examples
     ///
     /// ```
-    /// # use iox2sd::conform::Recorder;
-    /// # use iox2sd::dynamic_config::{event, ListenerDetails, MessagingPatternSettings};
-    /// # use iox2sd::identifiers::{UniqueListenerId, UniqueNodeId};
-    /// # let ports = event::DynamicConfigSettings { number_of_listeners: 2, number_of_notifiers: 2 };
-    /// # let mut service = Recorder::new(&MessagingPatternSettings::Event(ports), 2, 7)?;
+    /// # use iox2sd::{conform::Recorder, prelude::*};
+    /// # let mut service = Recorder::with_capacities(&Config::default().defaults.event, 7)?;
     /// # let node_id = UniqueNodeId::new(1, 0, 0, 1).expect("the id of a node");
     /// let listener_id = UniqueListenerId::new(1, 0, 0, 2);
     /// assert!(service.attach(ListenerDetails { listener_id, node_id }).is_err());
     /// assert!(service.log().ends_with("add listener 1.0.0.2 1.0.0.1\n= not-registered\n"));
-    /// # Ok::<(), iox2sd::dynamic_config::AllocError>(())
+    /// # Ok::<(), Box<dyn std::error::Error>>(())
     /// ```
     pub fn attach(
         &mut self,
@@ -208,7 +219,7 @@ impl Recorder {
             "add {} {} {}",
             word_of(details.role()),
             dotted(details.port_id().parts()),
-            dotted(details.node_id().parts)
+            dotted(details.node_id().as_c())
         );
         let made = self.service.attach(details);
         self.write_made(&command, made, |refused| match refused {
@@ -228,15 +239,12 @@ impl Recorder {
     /// # Examples
     ///
     /// ```
-    /// # use iox2sd::conform::Recorder;
-    /// # use iox2sd::container::{ContainerHandle, Role};
-    /// # use iox2sd::dynamic_config::{event, MessagingPatternSettings};
-    /// # let ports = event::DynamicConfigSettings { number_of_listeners: 2, number_of_notifiers: 2 };
-    /// # let mut service = Recorder::new(&MessagingPatternSettings::Event(ports), 2, 7)?;
+    /// # use iox2sd::{conform::Recorder, prelude::*};
+    /// # let mut service = Recorder::with_capacities(&Config::default().defaults.event, 7)?;
     /// let foreign = ContainerHandle::from_parts(7, Role::Listener, 0, 0);
     /// assert!(service.release_port(foreign).is_err());
     /// assert!(service.log().ends_with("# release: no call returned the handle\n"));
-    /// # Ok::<(), iox2sd::dynamic_config::AllocError>(())
+    /// # Ok::<(), Box<dyn std::error::Error>>(())
     /// ```
     pub fn release_port(&mut self, handle: ContainerHandle) -> Result<(), ContainerRemoveError> {
         let removed = self.service.release_port(handle);
@@ -251,11 +259,8 @@ impl Recorder {
     /// [`DynamicConfig::remove_dead_node_id`], written down.
     ///
     /// ```
-    /// # use iox2sd::conform::Recorder;
-    /// # use iox2sd::dynamic_config::{event, MessagingPatternSettings, PortCleanupAction};
-    /// # use iox2sd::identifiers::UniqueNodeId;
-    /// # let ports = event::DynamicConfigSettings { number_of_listeners: 2, number_of_notifiers: 2 };
-    /// # let mut service = Recorder::new(&MessagingPatternSettings::Event(ports), 2, 7)?;
+    /// # use iox2sd::{conform::Recorder, prelude::*};
+    /// # let mut service = Recorder::with_capacities(&Config::default().defaults.event, 7)?;
     /// # let node = UniqueNodeId::new(1, 0, 0, 1).expect("the id of a node");
     /// service.register_node_id(node)?;
     /// service.remove_dead_node_id(&node, |_| PortCleanupAction::RemovePort);
@@ -276,7 +281,7 @@ impl Recorder {
             }
             action
         });
-        let command = format!("dead {}{skipped}", dotted(dead.parts));
+        let command = format!("dead {}{skipped}", dotted(dead.as_c()));
         self.write(&command, words_of_state(state));
         state
     }
@@ -284,15 +289,13 @@ impl Recorder {
     /// [`DynamicConfig::nodes`], written down.
     ///
     /// ```
-    /// # use iox2sd::conform::Recorder;
-    /// # use iox2sd::dynamic_config::{event, MessagingPatternSettings};
-    /// # let ports = event::DynamicConfigSettings { number_of_listeners: 2, number_of_notifiers: 2 };
-    /// # let mut service = Recorder::new(&MessagingPatternSettings::Event(ports), 2, 7)?;
+    /// # use iox2sd::{conform::Recorder, prelude::*};
+    /// # let mut service = Recorder::with_capacities(&Config::default().defaults.event, 7)?;
     /// assert_eq!(service.nodes().len(), 0);
     /// assert!(service.log().ends_with("nodes\n= list\n"));
-    /// # Ok::<(), iox2sd::dynamic_config::AllocError>(())
+    /// # Ok::<(), Box<dyn std::error::Error>>(())
     /// ```
-    pub fn nodes(&mut self) -> vec::IntoIter<UniqueNodeId> {
+    pub fn nodes(&mut self) -> Entries<UniqueNodeId> {
         let nodes = self.service.nodes();
         self.write("nodes", &listed(nodes.as_slice()));
         nodes
@@ -301,16 +304,13 @@ impl Recorder {
     /// [`DynamicConfig::ports`], written down; but for [`Role::Node`], which has no line.
     ///
     /// ```
-    /// # use iox2sd::conform::Recorder;
-    /// # use iox2sd::container::Role;
-    /// # use iox2sd::dynamic_config::{event, MessagingPatternSettings};
-    /// # let ports = event::DynamicConfigSettings { number_of_listeners: 2, number_of_notifiers: 2 };
-    /// # let mut service = Recorder::new(&MessagingPatternSettings::Event(ports), 2, 7)?;
+    /// # use iox2sd::{conform::Recorder, prelude::*};
+    /// # let mut service = Recorder::with_capacities(&Config::default().defaults.event, 7)?;
     /// assert!(service.ports(Role::Reader).is_none());
     /// assert!(service.log().ends_with("list reader\n= wrong-pattern\n"));
-    /// # Ok::<(), iox2sd::dynamic_config::AllocError>(())
+    /// # Ok::<(), Box<dyn std::error::Error>>(())
     /// ```
-    pub fn ports(&mut self, role: Role) -> Option<vec::IntoIter<PortDetails>> {
+    pub fn ports(&mut self, role: Role) -> Option<Entries<PortDetails>> {
         let ports = self.service.ports(role);
         let reply = ports.as_ref().map(|ports| {
             let ids: Vec<_> = ports.as_slice().iter().map(PortDetails::port_id).collect();
@@ -323,14 +323,11 @@ impl Recorder {
     /// [`DynamicConfig::count_ports`], written down; but for [`Role::Node`], which has no line.
     ///
     /// ```
-    /// # use iox2sd::conform::Recorder;
-    /// # use iox2sd::container::Role;
-    /// # use iox2sd::dynamic_config::{event, MessagingPatternSettings};
-    /// # let ports = event::DynamicConfigSettings { number_of_listeners: 2, number_of_notifiers: 2 };
-    /// # let mut service = Recorder::new(&MessagingPatternSettings::Event(ports), 2, 7)?;
+    /// # use iox2sd::{conform::Recorder, prelude::*};
+    /// # let mut service = Recorder::with_capacities(&Config::default().defaults.event, 7)?;
     /// assert_eq!(service.count_ports(Role::Listener), Some(0));
     /// assert!(service.log().ends_with("count listener\n= count 0\n"));
-    /// # Ok::<(), iox2sd::dynamic_config::AllocError>(())
+    /// # Ok::<(), Box<dyn std::error::Error>>(())
     /// ```
     pub fn count_ports(&mut self, role: Role) -> Option<usize> {
         let count = self.service.count_ports(role);

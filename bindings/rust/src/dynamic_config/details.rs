@@ -1,12 +1,19 @@
 //! The details of ports.
 
+use super::listing;
+use super::{blackboard, event, publish_subscribe, request_response};
 use crate::config::DataSegmentType;
-use crate::container::Role;
+use crate::container::{Entries, Role};
+use crate::display::padded;
 use crate::identifiers::{
     UniqueClientId, UniqueListenerId, UniqueNodeId, UniqueNotifierId, UniquePortId,
     UniquePublisherId, UniqueReaderId, UniqueServerId, UniqueSubscriberId, UniqueWriterId,
 };
+use crate::plain::Plain;
 use crate::sys;
+use crate::CallbackProgression;
+use std::error::Error;
+use std::fmt;
 
 /// The details of one kind of ports, as the library has them.
 pub(super) trait Details {
@@ -15,23 +22,34 @@ pub(super) trait Details {
     fn of(port: &sys::iox2sd_port_details) -> Self;
 }
 
-fn number_of_segment_type(segment: DataSegmentType) -> u32 {
-    segment as u32
-}
-
-/// Defines the details of one kind of ports. The fields after the ids are given with the field of
-/// the library that has them, and with how they are read from it and written to it where that is
-/// not as they are.
+/// Defines the details of one kind of ports, and the queries about those of a service. An example
+/// makes some. The fields after the ids are given with the field of the library that has them.
 macro_rules! details {
     (
+        $module:ident: $all:ident $number:ident $list:ident;
+        $(#[$made:meta])*
+        =>
         $(#[$documentation:meta])*
         $name:ident of $role:ident with $id:ident: $id_type:ident;
         $(
             $(#[$field_documentation:meta])*
-            $field:ident: $type:ty = $library_field:ident $(by $read:path, $write:path)?;
+            $field:ident: $type:ty = $library_field:ident;
         )*
     ) => {
         $(#[$documentation])*
+        ///
+        /// ```
+        /// use iox2sd::prelude::*;
+        ///
+        /// let node_id = UniqueNodeId::new(1, 0, 0, 1).expect("the id of a node");
+        $(#[$made])*
+        #[doc = concat!(
+            "assert_eq!(PortDetails::from(details), PortDetails::", stringify!($role), "(details));"
+        )]
+        #[doc = concat!(
+            "assert_eq!(", stringify!($name), "::try_from(PortDetails::from(details)), Ok(details));"
+        )]
+        /// ```
         #[derive(Clone, Copy, Debug, PartialEq, Eq, Hash)]
         pub struct $name {
             /// Its id.
@@ -50,9 +68,9 @@ macro_rules! details {
             #[inline]
             fn of(port: &sys::iox2sd_port_details) -> Self {
                 $name {
-                    $id: $id_type::of(port.port),
-                    node_id: UniqueNodeId::of(port.node),
-                    $($field: $($read)?(port.$library_field),)*
+                    $id: Plain::of_c(&port.port),
+                    node_id: Plain::of_c(&port.node),
+                    $($field: Plain::of_c(&port.$library_field),)*
                 }
             }
         }
@@ -61,10 +79,10 @@ macro_rules! details {
             #[inline]
             fn from(details: $name) -> Self {
                 sys::iox2sd_port_details {
-                    role: Role::$role as u64,
-                    port: details.$id.parts,
-                    node: details.node_id.parts,
-                    $($library_field: $($write)?(details.$field),)*
+                    role: Role::$role.as_c(),
+                    port: details.$id.as_c(),
+                    node: details.node_id.as_c(),
+                    $($library_field: details.$field.as_c(),)*
                     ..Self::default()
                 }
             }
@@ -76,109 +94,164 @@ macro_rules! details {
                 PortDetails::$role(details)
             }
         }
+
+        impl TryFrom<PortDetails> for $name {
+            type Error = OtherRole;
+
+            /// The details, where they are those of such a port.
+            fn try_from(details: PortDetails) -> Result<Self, OtherRole> {
+                match details {
+                    PortDetails::$role(details) => Ok(details),
+                    other => Err(OtherRole {
+                        found: other.role(),
+                        wanted: Role::$role,
+                    }),
+                }
+            }
+        }
+
+        impl $module::DynamicConfig {
+            #[doc = concat!("How many ", stringify!($all), " are attached.")]
+            ///
+            /// ```
+            /// # use iox2sd::prelude::*;
+            #[doc = concat!("# let settings = Config::default().defaults.", stringify!($module), ";")]
+            /// # let mut service = DynamicConfig::with_capacities(&settings, 7)?;
+            /// # let node_id = UniqueNodeId::new(1, 0, 0, 1).expect("the id of a node");
+            /// service.register_node_id(node_id)?;
+            $(#[$made])*
+            /// service.attach(details)?;
+            #[doc = concat!(
+                "assert_eq!(service.", stringify!($module), "().", stringify!($number), "(), 1);"
+            )]
+            /// # Ok::<(), Box<dyn std::error::Error>>(())
+            /// ```
+            #[must_use]
+            #[inline]
+            pub fn $number(&self) -> usize {
+                listing::count::<$name>(&self.service)
+            }
+
+            #[doc = concat!(
+                "Calls the callback on the details of the ", stringify!($all), " by rising slot, ",
+                "up to and with the first answer [`Stop`](CallbackProgression::Stop)."
+            )]
+            ///
+            /// ```
+            /// # use iox2sd::prelude::*;
+            #[doc = concat!("# let settings = Config::default().defaults.", stringify!($module), ";")]
+            /// # let mut service = DynamicConfig::with_capacities(&settings, 7)?;
+            /// # let node_id = UniqueNodeId::new(1, 0, 0, 1).expect("the id of a node");
+            /// service.register_node_id(node_id)?;
+            $(#[$made])*
+            /// service.attach(details)?;
+            /// let mut seen = Vec::new();
+            #[doc = concat!(
+                "service.", stringify!($module), "().", stringify!($list), "(|details| {"
+            )]
+            ///     seen.push(*details);
+            ///     CallbackProgression::Stop
+            /// });
+            /// assert_eq!(seen, [details]);
+            /// # Ok::<(), Box<dyn std::error::Error>>(())
+            /// ```
+            pub fn $list<F: FnMut(&$name) -> CallbackProgression>(&self, callback: F) {
+                listing::visit_ports(&self.service, callback);
+            }
+
+            #[doc = concat!(
+                "The details of the ", stringify!($all), " that are attached now, by rising slot."
+            )]
+            ///
+            /// ```
+            /// # use iox2sd::prelude::*;
+            #[doc = concat!("# let settings = Config::default().defaults.", stringify!($module), ";")]
+            /// # let mut service = DynamicConfig::with_capacities(&settings, 7)?;
+            /// # let node_id = UniqueNodeId::new(1, 0, 0, 1).expect("the id of a node");
+            /// service.register_node_id(node_id)?;
+            $(#[$made])*
+            /// service.attach(details)?;
+            #[doc = concat!(
+                "assert!(service.", stringify!($module), "().", stringify!($all),
+                "().eq([details]));"
+            )]
+            /// # Ok::<(), Box<dyn std::error::Error>>(())
+            /// ```
+            #[must_use]
+            #[inline]
+            pub fn $all(&self) -> Entries<$name> {
+                listing::ports(&self.service)
+            }
+        }
     };
 }
 
 details! {
-    /// A port that sends samples.
-    ///
-    /// ```
-    /// use iox2sd::config::DataSegmentType;
-    /// use iox2sd::dynamic_config::{PortDetails, PublisherDetails};
-    /// use iox2sd::identifiers::{UniqueNodeId, UniquePublisherId};
-    ///
-    /// let publisher = PublisherDetails {
+    publish_subscribe: publishers number_of_publishers list_publishers;
+    /// let details = PublisherDetails {
     ///     publisher_id: UniquePublisherId::new(1, 0, 0, 2),
-    ///     node_id: UniqueNodeId::new(1, 0, 0, 1).expect("the id of a node"),
+    ///     node_id,
     ///     number_of_samples: 34,
     ///     max_slice_len: 1,
     ///     data_segment_type: DataSegmentType::Static,
     ///     max_number_of_segments: 1,
     /// };
-    /// assert_eq!(PortDetails::from(publisher), PortDetails::Publisher(publisher));
-    /// ```
+    =>
+    /// A port that sends samples.
     PublisherDetails of Publisher with publisher_id: UniquePublisherId;
     /// The most samples that it has at a time.
     number_of_samples: usize = number_of_samples;
     /// The most elements of a sample.
     max_slice_len: usize = max_slice_len;
     /// Whether its data segment may grow.
-    data_segment_type: DataSegmentType = data_segment
-        by DataSegmentType::of, number_of_segment_type;
+    data_segment_type: DataSegmentType = data_segment;
     /// The most segments that it may have.
     max_number_of_segments: u8 = max_number_of_segments;
 }
 
 details! {
-    /// A port that receives samples.
-    ///
-    /// ```
-    /// use iox2sd::dynamic_config::{PortDetails, SubscriberDetails};
-    /// use iox2sd::identifiers::{UniqueNodeId, UniqueSubscriberId};
-    ///
-    /// let subscriber = SubscriberDetails {
+    publish_subscribe: subscribers number_of_subscribers list_subscribers;
+    /// let details = SubscriberDetails {
     ///     subscriber_id: UniqueSubscriberId::new(1, 0, 0, 2),
-    ///     node_id: UniqueNodeId::new(1, 0, 0, 1).expect("the id of a node"),
+    ///     node_id,
     ///     buffer_size: 2,
     /// };
-    /// assert_eq!(PortDetails::from(subscriber), PortDetails::Subscriber(subscriber));
-    /// ```
+    =>
+    /// A port that receives samples.
     SubscriberDetails of Subscriber with subscriber_id: UniqueSubscriberId;
     /// The most samples that wait for it.
     buffer_size: usize = buffer_size;
 }
 
 details! {
+    event: listeners number_of_listeners list_listeners;
+    /// let details = ListenerDetails { listener_id: UniqueListenerId::new(1, 0, 0, 2), node_id };
+    =>
     /// A port that waits for events.
-    ///
-    /// ```
-    /// use iox2sd::dynamic_config::{PortDetails, ListenerDetails};
-    /// use iox2sd::identifiers::{UniqueListenerId, UniqueNodeId};
-    ///
-    /// let listener = ListenerDetails {
-    ///     listener_id: UniqueListenerId::new(1, 0, 0, 2),
-    ///     node_id: UniqueNodeId::new(1, 0, 0, 1).expect("the id of a node"),
-    /// };
-    /// assert_eq!(PortDetails::from(listener), PortDetails::Listener(listener));
-    /// ```
     ListenerDetails of Listener with listener_id: UniqueListenerId;
 }
 
 details! {
+    event: notifiers number_of_notifiers list_notifiers;
+    /// let details = NotifierDetails { notifier_id: UniqueNotifierId::new(1, 0, 0, 2), node_id };
+    =>
     /// A port that signals events.
-    ///
-    /// ```
-    /// use iox2sd::dynamic_config::{PortDetails, NotifierDetails};
-    /// use iox2sd::identifiers::{UniqueNodeId, UniqueNotifierId};
-    ///
-    /// let notifier = NotifierDetails {
-    ///     notifier_id: UniqueNotifierId::new(1, 0, 0, 2),
-    ///     node_id: UniqueNodeId::new(1, 0, 0, 1).expect("the id of a node"),
-    /// };
-    /// assert_eq!(PortDetails::from(notifier), PortDetails::Notifier(notifier));
-    /// ```
     NotifierDetails of Notifier with notifier_id: UniqueNotifierId;
 }
 
 details! {
-    /// A port that answers requests.
-    ///
-    /// ```
-    /// use iox2sd::config::DataSegmentType;
-    /// use iox2sd::dynamic_config::{PortDetails, ServerDetails};
-    /// use iox2sd::identifiers::{UniqueNodeId, UniqueServerId};
-    ///
-    /// let server = ServerDetails {
+    request_response: servers number_of_servers list_servers;
+    /// let details = ServerDetails {
     ///     server_id: UniqueServerId::new(1, 0, 0, 2),
-    ///     node_id: UniqueNodeId::new(1, 0, 0, 1).expect("the id of a node"),
+    ///     node_id,
     ///     request_buffer_size: 4,
     ///     number_of_responses: 384,
     ///     max_slice_len: 1,
     ///     data_segment_type: DataSegmentType::Static,
     ///     max_number_of_segments: 1,
     /// };
-    /// assert_eq!(PortDetails::from(server), PortDetails::Server(server));
-    /// ```
+    =>
+    /// A port that answers requests.
     ServerDetails of Server with server_id: UniqueServerId;
     /// The most requests that wait for it.
     request_buffer_size: usize = request_buffer_size;
@@ -187,31 +260,24 @@ details! {
     /// The most elements of a response.
     max_slice_len: usize = max_slice_len;
     /// Whether its data segment may grow.
-    data_segment_type: DataSegmentType = data_segment
-        by DataSegmentType::of, number_of_segment_type;
+    data_segment_type: DataSegmentType = data_segment;
     /// The most segments that it may have.
     max_number_of_segments: u8 = max_number_of_segments;
 }
 
 details! {
-    /// A port that sends requests.
-    ///
-    /// ```
-    /// use iox2sd::config::DataSegmentType;
-    /// use iox2sd::dynamic_config::{PortDetails, ClientDetails};
-    /// use iox2sd::identifiers::{UniqueClientId, UniqueNodeId};
-    ///
-    /// let client = ClientDetails {
+    request_response: clients number_of_clients list_clients;
+    /// let details = ClientDetails {
     ///     client_id: UniqueClientId::new(1, 0, 0, 2),
-    ///     node_id: UniqueNodeId::new(1, 0, 0, 1).expect("the id of a node"),
+    ///     node_id,
     ///     number_of_requests: 18,
     ///     response_buffer_size: 2,
     ///     max_slice_len: 1,
     ///     data_segment_type: DataSegmentType::Static,
     ///     max_number_of_segments: 1,
     /// };
-    /// assert_eq!(PortDetails::from(client), PortDetails::Client(client));
-    /// ```
+    =>
+    /// A port that sends requests.
     ClientDetails of Client with client_id: UniqueClientId;
     /// The most requests that it has at a time.
     number_of_requests: usize = number_of_requests;
@@ -220,181 +286,165 @@ details! {
     /// The most elements of a request.
     max_slice_len: usize = max_slice_len;
     /// Whether its data segment may grow.
-    data_segment_type: DataSegmentType = data_segment
-        by DataSegmentType::of, number_of_segment_type;
+    data_segment_type: DataSegmentType = data_segment;
     /// The most segments that it may have.
     max_number_of_segments: u8 = max_number_of_segments;
 }
 
 details! {
+    blackboard: readers number_of_readers list_readers;
+    /// let details = ReaderDetails { reader_id: UniqueReaderId::new(1, 0, 0, 2), node_id };
+    =>
     /// A port that reads a blackboard.
-    ///
-    /// ```
-    /// use iox2sd::dynamic_config::{PortDetails, ReaderDetails};
-    /// use iox2sd::identifiers::{UniqueNodeId, UniqueReaderId};
-    ///
-    /// let reader = ReaderDetails {
-    ///     reader_id: UniqueReaderId::new(1, 0, 0, 2),
-    ///     node_id: UniqueNodeId::new(1, 0, 0, 1).expect("the id of a node"),
-    /// };
-    /// assert_eq!(PortDetails::from(reader), PortDetails::Reader(reader));
-    /// ```
     ReaderDetails of Reader with reader_id: UniqueReaderId;
 }
 
 details! {
+    blackboard: writers number_of_writers list_writers;
+    /// let details = WriterDetails { writer_id: UniqueWriterId::new(1, 0, 0, 2), node_id };
+    =>
     /// A port that writes to a blackboard.
-    ///
-    /// ```
-    /// use iox2sd::dynamic_config::{PortDetails, WriterDetails};
-    /// use iox2sd::identifiers::{UniqueNodeId, UniqueWriterId};
-    ///
-    /// let writer = WriterDetails {
-    ///     writer_id: UniqueWriterId::new(1, 0, 0, 2),
-    ///     node_id: UniqueNodeId::new(1, 0, 0, 1).expect("the id of a node"),
-    /// };
-    /// assert_eq!(PortDetails::from(writer), PortDetails::Writer(writer));
-    /// ```
     WriterDetails of Writer with writer_id: UniqueWriterId;
 }
 
-/// The details of a port of any kind.
+/// Defines the details of a port of any kind.
+macro_rules! any_port {
+    ($($(#[$documentation:meta])* $role:ident: $details:ident $id:ident,)*) => {
+        /// The details of a port of any kind.
+        ///
+        /// ```
+        /// use iox2sd::prelude::*;
+        ///
+        /// let node_id = UniqueNodeId::new(1, 0, 0, 1).expect("the id of a node");
+        /// let writer_id = UniqueWriterId::new(1, 0, 0, 2);
+        /// let port = PortDetails::from(WriterDetails { writer_id, node_id });
+        /// assert_eq!(port.role(), Role::Writer);
+        /// assert_eq!(port.node_id(), node_id);
+        /// assert_eq!(port.port_id(), UniquePortId::Writer(writer_id));
+        /// ```
+        #[derive(Clone, Copy, Debug, PartialEq, Eq, Hash)]
+        pub enum PortDetails {
+            $(
+                $(#[$documentation])*
+                $role($details),
+            )*
+        }
+
+        impl PortDetails {
+            pub(super) fn of(port: &sys::iox2sd_port_details) -> Self {
+                match Role::of_c(&port.role) {
+                    $(Role::$role => PortDetails::$role($details::of(port)),)*
+                    Role::Node => unreachable!("a port is no node"),
+                }
+            }
+
+            #[inline]
+            pub(super) fn parts(self) -> sys::iox2sd_port_details {
+                match self {
+                    $(PortDetails::$role(details) => details.into(),)*
+                }
+            }
+
+            /// What the port is.
+            ///
+            /// ```
+            /// use iox2sd::prelude::*;
+            ///
+            /// let node_id = UniqueNodeId::new(1, 0, 0, 1).expect("the id of a node");
+            /// let reader_id = UniqueReaderId::new(1, 0, 0, 2);
+            /// let port = PortDetails::Reader(ReaderDetails { reader_id, node_id });
+            /// assert_eq!(port.role(), Role::Reader);
+            /// ```
+            #[must_use]
+            pub fn role(&self) -> Role {
+                match self {
+                    $(PortDetails::$role(_) => Role::$role,)*
+                }
+            }
+
+            /// The id of the node that the port belongs to.
+            ///
+            /// ```
+            /// use iox2sd::prelude::*;
+            ///
+            /// let node_id = UniqueNodeId::new(1, 0, 0, 1).expect("the id of a node");
+            /// let reader_id = UniqueReaderId::new(1, 0, 0, 2);
+            /// let port = PortDetails::Reader(ReaderDetails { reader_id, node_id });
+            /// assert_eq!(port.node_id(), node_id);
+            /// ```
+            #[must_use]
+            pub fn node_id(&self) -> UniqueNodeId {
+                match self {
+                    $(PortDetails::$role(details) => details.node_id,)*
+                }
+            }
+
+            /// The id of the port.
+            ///
+            /// ```
+            /// use iox2sd::prelude::*;
+            ///
+            /// let node_id = UniqueNodeId::new(1, 0, 0, 1).expect("the id of a node");
+            /// let reader_id = UniqueReaderId::new(1, 0, 0, 2);
+            /// let port = PortDetails::Reader(ReaderDetails { reader_id, node_id });
+            /// assert_eq!(port.port_id(), UniquePortId::Reader(reader_id));
+            /// ```
+            #[must_use]
+            #[inline]
+            pub fn port_id(&self) -> UniquePortId {
+                match self {
+                    $(PortDetails::$role(details) => UniquePortId::$role(details.$id),)*
+                }
+            }
+        }
+    };
+}
+
+any_port! {
+    /// A port that sends samples.
+    Publisher: PublisherDetails publisher_id,
+    /// A port that receives samples.
+    Subscriber: SubscriberDetails subscriber_id,
+    /// A port that waits for events.
+    Listener: ListenerDetails listener_id,
+    /// A port that signals events.
+    Notifier: NotifierDetails notifier_id,
+    /// A port that answers requests.
+    Server: ServerDetails server_id,
+    /// A port that sends requests.
+    Client: ClientDetails client_id,
+    /// A port that reads a blackboard.
+    Reader: ReaderDetails reader_id,
+    /// A port that writes to a blackboard.
+    Writer: WriterDetails writer_id,
+}
+
+/// The details or the id of a port are those of a port of another kind.
 ///
 /// ```
-/// use iox2sd::container::Role;
-/// use iox2sd::dynamic_config::{PortDetails, WriterDetails};
-/// use iox2sd::identifiers::{UniqueNodeId, UniquePortId, UniqueWriterId};
+/// use iox2sd::dynamic_config::OtherRole;
+/// use iox2sd::prelude::*;
 ///
 /// let node_id = UniqueNodeId::new(1, 0, 0, 1).expect("the id of a node");
-/// let writer_id = UniqueWriterId::new(1, 0, 0, 2);
-/// let port = PortDetails::from(WriterDetails { writer_id, node_id });
-/// assert_eq!(port.role(), Role::Writer);
-/// assert_eq!(port.node_id(), node_id);
-/// assert_eq!(port.port_id(), UniquePortId::Writer(writer_id));
+/// let reader_id = UniqueReaderId::new(1, 0, 0, 2);
+/// let port = PortDetails::Reader(ReaderDetails { reader_id, node_id });
+/// let refused = WriterDetails::try_from(port).unwrap_err();
+/// assert_eq!(refused, OtherRole { found: Role::Reader, wanted: Role::Writer });
+/// assert_eq!(refused.to_string(), "the port is a Reader, not a Writer");
 /// ```
 #[derive(Clone, Copy, Debug, PartialEq, Eq, Hash)]
-pub enum PortDetails {
-    /// A port that sends samples.
-    Publisher(PublisherDetails),
-    /// A port that receives samples.
-    Subscriber(SubscriberDetails),
-    /// A port that waits for events.
-    Listener(ListenerDetails),
-    /// A port that signals events.
-    Notifier(NotifierDetails),
-    /// A port that answers requests.
-    Server(ServerDetails),
-    /// A port that sends requests.
-    Client(ClientDetails),
-    /// A port that reads a blackboard.
-    Reader(ReaderDetails),
-    /// A port that writes to a blackboard.
-    Writer(WriterDetails),
+pub struct OtherRole {
+    /// The kind that it has.
+    pub found: Role,
+    /// The kind that is wanted.
+    pub wanted: Role,
 }
 
-impl PortDetails {
-    pub(super) fn of(port: &sys::iox2sd_port_details) -> Self {
-        match Role::of(port.role) {
-            Role::Publisher => PublisherDetails::of(port).into(),
-            Role::Subscriber => SubscriberDetails::of(port).into(),
-            Role::Listener => ListenerDetails::of(port).into(),
-            Role::Notifier => NotifierDetails::of(port).into(),
-            Role::Server => ServerDetails::of(port).into(),
-            Role::Client => ClientDetails::of(port).into(),
-            Role::Reader => ReaderDetails::of(port).into(),
-            Role::Writer => WriterDetails::of(port).into(),
-            Role::Node => unreachable!("a port is no node"),
-        }
-    }
-
-    #[inline]
-    pub(super) fn parts(self) -> sys::iox2sd_port_details {
-        match self {
-            PortDetails::Publisher(details) => details.into(),
-            PortDetails::Subscriber(details) => details.into(),
-            PortDetails::Listener(details) => details.into(),
-            PortDetails::Notifier(details) => details.into(),
-            PortDetails::Server(details) => details.into(),
-            PortDetails::Client(details) => details.into(),
-            PortDetails::Reader(details) => details.into(),
-            PortDetails::Writer(details) => details.into(),
-        }
-    }
-
-    /// What the port is.
-    ///
-    /// ```
-    /// use iox2sd::container::Role;
-    /// use iox2sd::dynamic_config::{PortDetails, ReaderDetails};
-    /// use iox2sd::identifiers::{UniqueNodeId, UniqueReaderId};
-    ///
-    /// let node_id = UniqueNodeId::new(1, 0, 0, 1).expect("the id of a node");
-    /// let reader_id = UniqueReaderId::new(1, 0, 0, 2);
-    /// let port = PortDetails::Reader(ReaderDetails { reader_id, node_id });
-    /// assert_eq!(port.role(), Role::Reader);
-    /// ```
-    #[must_use]
-    pub fn role(&self) -> Role {
-        match self {
-            PortDetails::Publisher(_) => Role::Publisher,
-            PortDetails::Subscriber(_) => Role::Subscriber,
-            PortDetails::Listener(_) => Role::Listener,
-            PortDetails::Notifier(_) => Role::Notifier,
-            PortDetails::Server(_) => Role::Server,
-            PortDetails::Client(_) => Role::Client,
-            PortDetails::Reader(_) => Role::Reader,
-            PortDetails::Writer(_) => Role::Writer,
-        }
-    }
-
-    /// The id of the node that the port belongs to.
-    ///
-    /// ```
-    /// use iox2sd::dynamic_config::{PortDetails, ReaderDetails};
-    /// use iox2sd::identifiers::{UniqueNodeId, UniqueReaderId};
-    ///
-    /// let node_id = UniqueNodeId::new(1, 0, 0, 1).expect("the id of a node");
-    /// let reader_id = UniqueReaderId::new(1, 0, 0, 2);
-    /// let port = PortDetails::Reader(ReaderDetails { reader_id, node_id });
-    /// assert_eq!(port.node_id(), node_id);
-    /// ```
-    #[must_use]
-    pub fn node_id(&self) -> UniqueNodeId {
-        match self {
-            PortDetails::Publisher(details) => details.node_id,
-            PortDetails::Subscriber(details) => details.node_id,
-            PortDetails::Listener(details) => details.node_id,
-            PortDetails::Notifier(details) => details.node_id,
-            PortDetails::Server(details) => details.node_id,
-            PortDetails::Client(details) => details.node_id,
-            PortDetails::Reader(details) => details.node_id,
-            PortDetails::Writer(details) => details.node_id,
-        }
-    }
-
-    /// The id of the port.
-    ///
-    /// ```
-    /// use iox2sd::dynamic_config::{PortDetails, ReaderDetails};
-    /// use iox2sd::identifiers::{UniqueNodeId, UniquePortId, UniqueReaderId};
-    ///
-    /// let node_id = UniqueNodeId::new(1, 0, 0, 1).expect("the id of a node");
-    /// let reader_id = UniqueReaderId::new(1, 0, 0, 2);
-    /// let port = PortDetails::Reader(ReaderDetails { reader_id, node_id });
-    /// assert_eq!(port.port_id(), UniquePortId::Reader(reader_id));
-    /// ```
-    #[must_use]
-    #[inline]
-    pub fn port_id(&self) -> UniquePortId {
-        match self {
-            PortDetails::Publisher(details) => UniquePortId::Publisher(details.publisher_id),
-            PortDetails::Subscriber(details) => UniquePortId::Subscriber(details.subscriber_id),
-            PortDetails::Listener(details) => UniquePortId::Listener(details.listener_id),
-            PortDetails::Notifier(details) => UniquePortId::Notifier(details.notifier_id),
-            PortDetails::Server(details) => UniquePortId::Server(details.server_id),
-            PortDetails::Client(details) => UniquePortId::Client(details.client_id),
-            PortDetails::Reader(details) => UniquePortId::Reader(details.reader_id),
-            PortDetails::Writer(details) => UniquePortId::Writer(details.writer_id),
-        }
+impl fmt::Display for OtherRole {
+    fn fmt(&self, f: &mut fmt::Formatter<'_>) -> fmt::Result {
+        let OtherRole { found, wanted } = self;
+        padded(f, format_args!("the port is a {found}, not a {wanted}"))
     }
 }
+
+impl Error for OtherRole {}

@@ -2,16 +2,15 @@
 
 use super::details::Details;
 use crate::callback_progression::visit;
+use crate::container::Entries;
 use crate::library::Service;
 use crate::CallbackProgression;
-use std::vec;
 
 /// The ports of a kind that the pattern has, by rising slot.
 #[inline]
-pub(super) fn ports<T: Details>(service: &Service) -> vec::IntoIter<T> {
+pub(super) fn ports<T: Details>(service: &Service) -> Entries<T> {
     let of_each = |ports: &[_]| ports.iter().map(T::of).collect();
-    let ports: Option<Vec<T>> = service.ports(T::ROLE as u64, of_each);
-    ports.unwrap_or_default().into_iter()
+    service.ports(T::ROLE as u64, of_each).unwrap_or_default()
 }
 
 /// Calls the callback on these ports, up to and with the first answer `Stop`.
@@ -31,85 +30,94 @@ pub(super) fn count<T: Details>(service: &Service) -> usize {
     service.count_ports(T::ROLE as u64).unwrap_or_default()
 }
 
-/// Defines the queries about the two kinds of ports of one pattern.
+/// Defines how many ports of each kind a service of one pattern can have, and how it lends them.
 macro_rules! ports_of_pattern {
     (
-        $(#[$example:meta])*
-        $module:ident:
-        $(
-            $details:ident: $number:ident $list:ident $all:ident, $kind:literal;
-            $(#[$attached:meta])*
-        )*
+        $kind:literal $settings:ident $module:ident $room:ident:
+        $($all:ident $number:ident $max:ident,)*
     ) => {
-        /// The ports of a service, as [`super::DynamicConfig`] lends them.
+        /// How many ports of each kind there may be at a time.
         ///
         /// ```
-        $(#[$example])*
+        /// use iox2sd::prelude::*;
+        #[doc = concat!("use iox2sd::dynamic_config::", stringify!($module), ";")]
+        ///
+        #[doc = concat!(
+            "let ports = ", stringify!($module), "::DynamicConfigSettings {"
+        )]
+        $(#[doc = concat!("    ", stringify!($number), ": 2,")])*
+        /// };
+        /// let service = DynamicConfig::new(ports, 1, 7)?;
+        /// let (first, second) = service.port_roles();
+        /// assert_eq!((service.max_ports(first), service.max_ports(second)), (Some(2), Some(2)));
+        /// # Ok::<(), iox2sd::dynamic_config::AllocError>(())
         /// ```
-        pub struct DynamicConfig {
-            pub(super) service: Service,
-        }
-
-        impl DynamicConfig {
+        #[derive(Clone, Copy, Debug, PartialEq, Eq, Hash)]
+        pub struct DynamicConfigSettings {
             $(
-                #[doc = concat!("How many ", $kind, " are attached.")]
-                ///
-                /// ```
-                $(#[$attached])*
-                #[doc = concat!(
-                    "assert_eq!(service.", stringify!($module), "().", stringify!($number),
-                    "(), 1);"
-                )]
-                /// # Ok::<(), Box<dyn std::error::Error>>(())
-                /// ```
-                #[inline]
-                pub fn $number(&self) -> usize {
-                    listing::count::<$details>(&self.service)
-                }
-
-                #[doc = concat!(
-                    "Calls the callback on the details of the ", $kind, " by rising slot, up to ",
-                    "and with the first answer [`Stop`](CallbackProgression::Stop)."
-                )]
-                ///
-                /// ```
-                /// use iox2sd::CallbackProgression;
-                $(#[$attached])*
-                /// let mut seen = Vec::new();
-                #[doc = concat!(
-                    "service.", stringify!($module), "().", stringify!($list), "(|details| {"
-                )]
-                ///     seen.push(*details);
-                ///     CallbackProgression::Stop
-                /// });
-                /// assert_eq!(seen, [details]);
-                /// # Ok::<(), Box<dyn std::error::Error>>(())
-                /// ```
-                pub fn $list<F: FnMut(&$details) -> CallbackProgression>(&self, callback: F) {
-                    listing::visit_ports(&self.service, callback);
-                }
-
-                #[doc = concat!(
-                    "The details of the ", $kind, " that are attached now, by rising slot."
-                )]
-                ///
-                /// ```
-                $(#[$attached])*
-                #[doc = concat!(
-                    "assert!(service.", stringify!($module), "().", stringify!($all),
-                    "().eq([details]));"
-                )]
-                /// # Ok::<(), Box<dyn std::error::Error>>(())
-                /// ```
-                #[inline]
-                pub fn $all(&self) -> vec::IntoIter<$details> {
-                    listing::ports(&self.service)
-                }
+                #[doc = concat!("How many ", stringify!($all), " there may be at a time.")]
+                pub $number: usize,
             )*
         }
 
-        impl fmt::Debug for DynamicConfig {
-            fn fmt(&self, f: &mut fmt::Formatter<'_>) -> fmt::Result {
+        impl DynamicConfigSettings {
+            /// As many as the library says.
+            pub(crate) fn of(room: &$crate::sys::$room) -> Self {
+                DynamicConfigSettings {
+                    $($number: room.$all,)*
+                }
+            }
+
+            /// As many as there may be of the first kind, and of the second.
+            pub(super) fn each(&self) -> [usize; 2] {
+                [$(self.$number),*]
+            }
+        }
+
+        #[doc = concat!("As many as ", $kind, " service has by default.")]
+        impl Default for DynamicConfigSettings {
+            fn default() -> Self {
+                Self::from(&$crate::config::$settings::default())
+            }
+        }
+
+        #[doc = concat!("As many as ", $kind, " service with these settings has.")]
+        impl From<&$crate::config::$settings> for DynamicConfigSettings {
+            fn from(settings: &$crate::config::$settings) -> Self {
+                Self::of(&$crate::library::Settings::room(settings))
+            }
+        }
+
+        #[doc = concat!("As many as ", $kind, " service is described to have.")]
+        impl From<&$crate::static_config::$module::StaticConfig> for DynamicConfigSettings {
+            fn from(service: &$crate::static_config::$module::StaticConfig) -> Self {
+                DynamicConfigSettings {
+                    $($number: service.$max,)*
+                }
+            }
+        }
+
+        /// The ports of a service, as [`super::DynamicConfig`] lends them.
+        ///
+        /// ```
+        /// use iox2sd::prelude::*;
+        ///
+        #[doc = concat!("let settings = Config::default().defaults.", stringify!($module), ";")]
+        /// let service = DynamicConfig::with_capacities(&settings, 7)?;
+        $(
+            #[doc = concat!(
+                "assert_eq!(service.", stringify!($module), "().", stringify!($all),
+                "().len(), 0);"
+            )]
+        )*
+        /// # Ok::<(), iox2sd::dynamic_config::AllocError>(())
+        /// ```
+        pub struct DynamicConfig {
+            pub(super) service: $crate::library::Service,
+        }
+
+        impl ::std::fmt::Debug for DynamicConfig {
+            fn fmt(&self, f: &mut ::std::fmt::Formatter<'_>) -> ::std::fmt::Result {
                 f.debug_struct("DynamicConfig")
                     $(.field(stringify!($all), &self.$all().as_slice()))*
                     .finish()

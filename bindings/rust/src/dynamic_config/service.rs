@@ -3,104 +3,181 @@ use super::{
     DeregisterError, DeregisterNodeState, PortCleanupAction, PortDetails, RegisterNodeResult,
 };
 use crate::callback_progression::visit;
-use crate::container::{ContainerHandle, ContainerRemoveError, Role};
+use crate::config::PatternSettings;
+use crate::container::{ContainerHandle, ContainerRemoveError, Entries, Role};
 use crate::identifiers::{order, UniqueNodeId, UniquePortId};
 use crate::library::{self, Service};
 use crate::messaging_pattern::MessagingPattern as Kind;
+use crate::plain::Plain;
 use crate::static_config::messaging_pattern::MessagingPattern as Pattern;
+use crate::static_config::{self as fixed, StaticConfig};
 use crate::sys;
 use crate::CallbackProgression;
 use std::fmt;
-use std::vec;
 
-/// How many ports of each kind a service can have at a time, by its pattern.
-///
-/// ```
-/// use iox2sd::dynamic_config::{event, DynamicConfig, MessagingPatternSettings};
-///
-/// let ports = event::DynamicConfigSettings { number_of_listeners: 1, number_of_notifiers: 1 };
-/// let service = DynamicConfig::new(&MessagingPatternSettings::Event(ports), 1, 7)?;
-/// assert!(service.is_event());
-/// # Ok::<(), iox2sd::dynamic_config::AllocError>(())
-/// ```
-#[derive(Clone, Copy, Debug, PartialEq, Eq, Hash)]
-pub enum MessagingPatternSettings {
-    /// A request-response service.
-    RequestResponse(request_response::DynamicConfigSettings),
-    /// A publish-subscribe service.
-    PublishSubscribe(publish_subscribe::DynamicConfigSettings),
-    /// An event service.
-    Event(event::DynamicConfigSettings),
-    /// A blackboard service.
-    Blackboard(blackboard::DynamicConfigSettings),
-}
+/// Defines what goes by the pattern of a service.
+macro_rules! patterns {
+    ($($(#[$documentation:meta])* $variant:ident: $module:ident,)*) => {
+        /// How many ports of each kind a service can have at a time, by its pattern.
+        ///
+        /// ```
+        /// use iox2sd::dynamic_config::{event, DynamicConfig, MessagingPatternSettings};
+        ///
+        /// let ports = event::DynamicConfigSettings { number_of_listeners: 1, number_of_notifiers: 1 };
+        /// let service = DynamicConfig::new(&MessagingPatternSettings::Event(ports), 1, 7)?;
+        /// assert!(service.is_event());
+        /// # Ok::<(), iox2sd::dynamic_config::AllocError>(())
+        /// ```
+        #[derive(Clone, Copy, Debug, PartialEq, Eq, Hash)]
+        pub enum MessagingPatternSettings {
+            $(
+                $(#[$documentation])*
+                $variant($module::DynamicConfigSettings),
+            )*
+        }
 
-/// Defines how the capacities of each pattern become those of a service.
-macro_rules! settings_of {
-    ($($variant:ident: $module:ident)*) => {
         $(
             impl From<$module::DynamicConfigSettings> for MessagingPatternSettings {
                 fn from(room: $module::DynamicConfigSettings) -> Self {
                     MessagingPatternSettings::$variant(room)
                 }
             }
+
+            /// What the description of a service of the pattern says.
+            impl From<&fixed::$module::StaticConfig> for Capacities {
+                fn from(service: &fixed::$module::StaticConfig) -> Self {
+                    Capacities {
+                        max_nodes: service.max_nodes,
+                        ports: $module::DynamicConfigSettings::from(service).into(),
+                    }
+                }
+            }
         )*
+
+        /// The capacities in the description of a service of the pattern.
+        impl From<&Pattern> for MessagingPatternSettings {
+            fn from(pattern: &Pattern) -> Self {
+                Capacities::from(pattern).ports
+            }
+        }
+
+        /// What the description of a service says.
+        impl From<&Pattern> for Capacities {
+            fn from(pattern: &Pattern) -> Self {
+                match pattern {
+                    $(Pattern::$variant(service) => service.into(),)*
+                }
+            }
+        }
+
+        impl MessagingPatternSettings {
+            /// The pattern, with the capacities of its two kinds of ports.
+            fn parts(&self) -> (Kind, [usize; 2]) {
+                match self {
+                    $(Self::$variant(room) => (Kind::$variant, room.each()),)*
+                }
+            }
+        }
+
+        /// The service, as the queries about its pattern's ports want it.
+        enum MessagingPattern {
+            $($variant($module::DynamicConfig),)*
+        }
+
+        impl DynamicConfig {
+            fn of(kind: Kind, service: Service) -> Self {
+                let messaging_pattern = match kind {
+                    $(Kind::$variant => {
+                        MessagingPattern::$variant($module::DynamicConfig { service })
+                    })*
+                };
+                DynamicConfig { messaging_pattern }
+            }
+
+            #[inline]
+            fn service(&self) -> &Service {
+                match &self.messaging_pattern {
+                    $(MessagingPattern::$variant(ports) => &ports.service,)*
+                }
+            }
+
+            #[inline]
+            fn service_mut(&mut self) -> &mut Service {
+                match &mut self.messaging_pattern {
+                    $(MessagingPattern::$variant(ports) => &mut ports.service,)*
+                }
+            }
+
+            /// The pattern of the service.
+            ///
+            /// ```
+            /// # use iox2sd::prelude::*;
+            /// let service = DynamicConfig::with_capacities(&Config::default().defaults.event, 7)?;
+            /// assert_eq!(service.kind(), MessagingPattern::Event);
+            /// # Ok::<(), Box<dyn std::error::Error>>(())
+            /// ```
+            #[must_use]
+            #[inline]
+            pub fn kind(&self) -> Kind {
+                match self.messaging_pattern {
+                    $(MessagingPattern::$variant(_) => Kind::$variant,)*
+                }
+            }
+        }
     };
 }
 
-/// The capacities in the description of a service of the pattern.
-impl From<&Pattern> for MessagingPatternSettings {
-    fn from(pattern: &Pattern) -> Self {
-        match pattern {
-            Pattern::RequestResponse(service) => Self::RequestResponse(service.into()),
-            Pattern::PublishSubscribe(service) => Self::PublishSubscribe(service.into()),
-            Pattern::Event(service) => Self::Event(service.into()),
-            Pattern::Blackboard(service) => Self::Blackboard(service.into()),
-        }
+patterns! {
+    /// A request-response service.
+    RequestResponse: request_response,
+    /// A publish-subscribe service.
+    PublishSubscribe: publish_subscribe,
+    /// An event service.
+    Event: event,
+    /// A blackboard service.
+    Blackboard: blackboard,
+}
+
+/// A caller keeps its own.
+impl From<&MessagingPatternSettings> for MessagingPatternSettings {
+    fn from(settings: &MessagingPatternSettings) -> Self {
+        *settings
     }
 }
 
-settings_of! {
-    RequestResponse: request_response
-    PublishSubscribe: publish_subscribe
-    Event: event
-    Blackboard: blackboard
+/// How many nodes and how many ports of each kind a service can have at a time.
+///
+/// They come from the settings of a pattern, from what is fixed of a service and from its
+/// description.
+///
+/// ```
+/// use iox2sd::dynamic_config::Capacities;
+/// use iox2sd::prelude::*;
+///
+/// let settings = Config::default().defaults.event;
+/// let service = StaticConfig::new(&"front".parse()?, &settings, UniqueServiceId::new(1, 0, 0, 1))?;
+/// assert_eq!(Capacities::from(&service), Capacities::from(&settings));
+/// assert_eq!(Capacities::from(service.event()).max_nodes, 36);
+/// # Ok::<(), Box<dyn std::error::Error>>(())
+/// ```
+#[derive(Clone, Copy, Debug, PartialEq, Eq, Hash)]
+pub struct Capacities {
+    /// How many handles of nodes there may be at a time.
+    pub max_nodes: usize,
+    /// How many ports of each kind there may be at a time, by the pattern.
+    pub ports: MessagingPatternSettings,
 }
 
-impl MessagingPatternSettings {
-    /// The pattern, with the capacities of its two kinds of ports.
-    fn parts(&self) -> (Kind, usize, usize) {
-        match self {
-            Self::RequestResponse(room) => (
-                Kind::RequestResponse,
-                room.number_of_servers,
-                room.number_of_clients,
-            ),
-            Self::PublishSubscribe(room) => (
-                Kind::PublishSubscribe,
-                room.number_of_publishers,
-                room.number_of_subscribers,
-            ),
-            Self::Event(room) => (
-                Kind::Event,
-                room.number_of_listeners,
-                room.number_of_notifiers,
-            ),
-            Self::Blackboard(room) => (
-                Kind::Blackboard,
-                room.number_of_readers,
-                room.number_of_writers,
-            ),
-        }
+impl<S: PatternSettings> From<&S> for Capacities {
+    fn from(settings: &S) -> Self {
+        settings.capacities()
     }
 }
 
-/// The service, as the queries about its pattern's ports want it.
-enum MessagingPattern {
-    RequestResponse(request_response::DynamicConfig),
-    PublishSubscribe(publish_subscribe::DynamicConfig),
-    Event(event::DynamicConfig),
-    Blackboard(blackboard::DynamicConfig),
+impl From<&StaticConfig> for Capacities {
+    fn from(service: &StaticConfig) -> Self {
+        service.messaging_pattern().into()
+    }
 }
 
 /// Who is attached to a service: nodes, and ports that belong to them.
@@ -111,12 +188,10 @@ enum MessagingPattern {
 /// A service may be sent to another thread, and many threads may query it at once:
 ///
 /// ```
-/// use iox2sd::dynamic_config::{event, DynamicConfig, MessagingPatternSettings};
-/// use iox2sd::identifiers::UniqueNodeId;
+/// use iox2sd::prelude::*;
 /// use std::thread;
 ///
-/// let ports = event::DynamicConfigSettings { number_of_listeners: 1, number_of_notifiers: 1 };
-/// let mut service = DynamicConfig::new(&MessagingPatternSettings::Event(ports), 1, 7)?;
+/// let mut service = DynamicConfig::with_capacities(&Config::default().defaults.event, 7)?;
 /// let node = UniqueNodeId::new(1, 0, 0, 1).expect("the id of a node");
 /// let other = thread::spawn(move || service.register_node_id(node).map(|_| service));
 /// let service = other.join().expect("it ends")?;
@@ -143,23 +218,49 @@ impl DynamicConfig {
     ///
     /// ```
     /// use iox2sd::dynamic_config::{blackboard, AllocError, DynamicConfig};
-    /// use iox2sd::dynamic_config::MessagingPatternSettings::Blackboard;
     ///
     /// let mut ports = blackboard::DynamicConfigSettings {
     ///     number_of_readers: 8,
     ///     number_of_writers: 1,
     /// };
-    /// assert_eq!(DynamicConfig::new(&Blackboard(ports), 20, 7)?.max_nodes(), 20);
+    /// assert_eq!(DynamicConfig::new(ports, 20, 7)?.max_nodes(), 20);
     /// ports.number_of_readers = usize::MAX;
-    /// assert_eq!(DynamicConfig::new(&Blackboard(ports), 20, 7).unwrap_err(), AllocError);
+    /// assert_eq!(DynamicConfig::new(ports, 20, 7).unwrap_err(), AllocError);
     /// # Ok::<(), AllocError>(())
     /// ```
     pub fn new(
-        settings: &MessagingPatternSettings,
+        settings: impl Into<MessagingPatternSettings>,
         max_nodes: usize,
         service_number: u64,
     ) -> Result<Self, AllocError> {
         Self::with_tickets(settings, max_nodes, service_number, u64::MAX)
+    }
+
+    /// The same with capacities that come from settings or from a description.
+    ///
+    /// # Errors
+    ///
+    /// Refused as [`DynamicConfig::new`] is.
+    ///
+    /// # Examples
+    ///
+    /// ```
+    /// use iox2sd::prelude::*;
+    ///
+    /// let config = Config::default();
+    /// let id = UniqueServiceId::new(1, 0, 0, 1);
+    /// let description = StaticConfig::new_event(&"front".parse()?, &config, id)?;
+    /// let service = DynamicConfig::with_capacities(&description, 7)?;
+    /// assert_eq!((service.max_nodes(), service.max_ports(Role::Listener)), (36, Some(16)));
+    /// assert!(DynamicConfig::with_capacities(&config.defaults.blackboard, 8)?.is_blackboard());
+    /// # Ok::<(), Box<dyn std::error::Error>>(())
+    /// ```
+    pub fn with_capacities(
+        capacities: impl Into<Capacities>,
+        service_number: u64,
+    ) -> Result<Self, AllocError> {
+        let Capacities { max_nodes, ports } = capacities.into();
+        Self::new(ports, max_nodes, service_number)
     }
 
     /// A service with this number and nothing attached, and with so many tickets for nodes and for
@@ -172,69 +273,30 @@ impl DynamicConfig {
     /// # Examples
     ///
     /// ```
-    /// use iox2sd::dynamic_config::{event, DynamicConfig, MessagingPatternSettings};
-    /// use iox2sd::identifiers::UniqueNodeId;
-    ///
-    /// let settings = MessagingPatternSettings::Event(event::DynamicConfigSettings {
-    ///     number_of_listeners: 1,
-    ///     number_of_notifiers: 1,
-    /// });
-    /// let mut service = DynamicConfig::with_tickets(&settings, 9, 7, 1)?;
+    /// # use iox2sd::prelude::*;
+    /// # let settings = iox2sd::dynamic_config::event::DynamicConfigSettings::default();
+    /// let mut service = DynamicConfig::with_tickets(settings, 9, 7, 1)?;
     /// let node = UniqueNodeId::new(1, 0, 0, 1).expect("the id of a node");
     /// service.register_node_id(node)?;
     /// assert!(!service.has_room_for_node());
     /// # Ok::<(), Box<dyn std::error::Error>>(())
     /// ```
     pub fn with_tickets(
-        settings: &MessagingPatternSettings,
+        settings: impl Into<MessagingPatternSettings>,
         max_nodes: usize,
         service_number: u64,
         tickets: u64,
     ) -> Result<Self, AllocError> {
-        let (kind, first, second) = settings.parts();
+        let (kind, [first, second]) = settings.into().parts();
         let capacities = sys::iox2sd_capacities {
             nodes: max_nodes,
             first,
             second,
         };
-        match Service::make(kind as u32, service_number, capacities, tickets) {
+        match Service::make(kind.as_c().into(), service_number, capacities, tickets) {
             Ok(service) => Ok(Self::of(kind, service)),
             Err(sys::IOX2SD_NO_MEMORY) => Err(AllocError),
             Err(other) => library::unexpected(other),
-        }
-    }
-
-    fn of(kind: Kind, service: Service) -> Self {
-        let messaging_pattern = match kind {
-            Kind::RequestResponse => {
-                MessagingPattern::RequestResponse(request_response::DynamicConfig { service })
-            }
-            Kind::PublishSubscribe => {
-                MessagingPattern::PublishSubscribe(publish_subscribe::DynamicConfig { service })
-            }
-            Kind::Event => MessagingPattern::Event(event::DynamicConfig { service }),
-            Kind::Blackboard => MessagingPattern::Blackboard(blackboard::DynamicConfig { service }),
-        };
-        DynamicConfig { messaging_pattern }
-    }
-
-    #[inline]
-    fn service(&self) -> &Service {
-        match &self.messaging_pattern {
-            MessagingPattern::RequestResponse(ports) => &ports.service,
-            MessagingPattern::PublishSubscribe(ports) => &ports.service,
-            MessagingPattern::Event(ports) => &ports.service,
-            MessagingPattern::Blackboard(ports) => &ports.service,
-        }
-    }
-
-    #[inline]
-    fn service_mut(&mut self) -> &mut Service {
-        match &mut self.messaging_pattern {
-            MessagingPattern::RequestResponse(ports) => &mut ports.service,
-            MessagingPattern::PublishSubscribe(ports) => &mut ports.service,
-            MessagingPattern::Event(ports) => &mut ports.service,
-            MessagingPattern::Blackboard(ports) => &mut ports.service,
         }
     }
 
@@ -248,16 +310,10 @@ impl DynamicConfig {
     /// # Examples
     ///
     /// ```
-    /// use iox2sd::dynamic_config::{
-    ///     event, DynamicConfig, MessagingPatternSettings, RegisterNodeResult,
-    /// };
-    /// use iox2sd::identifiers::UniqueNodeId;
+    /// # use iox2sd::prelude::*;
+    /// use iox2sd::dynamic_config::{event, RegisterNodeResult};
     ///
-    /// let settings = MessagingPatternSettings::Event(event::DynamicConfigSettings {
-    ///     number_of_listeners: 1,
-    ///     number_of_notifiers: 1,
-    /// });
-    /// let mut service = DynamicConfig::new(&settings, 1, 7)?;
+    /// let mut service = DynamicConfig::new(event::DynamicConfigSettings::default(), 1, 7)?;
     /// let node = UniqueNodeId::new(1, 0, 0, 1).expect("the id of a node");
     /// let handle = service.register_node_id(node)?;
     /// assert_eq!(service.node(handle), Some(node));
@@ -272,9 +328,9 @@ impl DynamicConfig {
         &mut self,
         id: UniqueNodeId,
     ) -> Result<ContainerHandle, RegisterNodeResult> {
-        let handle = self.service_mut().register(id.parts);
+        let handle = self.service_mut().register(id.as_c());
         handle
-            .map(ContainerHandle::of)
+            .map(|handle| ContainerHandle::of_c(&handle))
             .map_err(RegisterNodeResult::of)
     }
 
@@ -289,16 +345,10 @@ impl DynamicConfig {
     /// # Examples
     ///
     /// ```
-    /// use iox2sd::dynamic_config::{
-    ///     event, DeregisterError, DeregisterNodeState, DynamicConfig, MessagingPatternSettings,
-    /// };
-    /// use iox2sd::identifiers::UniqueNodeId;
+    /// # use iox2sd::prelude::*;
+    /// use iox2sd::dynamic_config::DeregisterError;
     ///
-    /// let settings = MessagingPatternSettings::Event(event::DynamicConfigSettings {
-    ///     number_of_listeners: 1,
-    ///     number_of_notifiers: 1,
-    /// });
-    /// let mut service = DynamicConfig::new(&settings, 1, 7)?;
+    /// let mut service = DynamicConfig::with_capacities(&Config::default().defaults.event, 7)?;
     /// let node = UniqueNodeId::new(1, 0, 0, 1).expect("the id of a node");
     /// let handle = service.register_node_id(node)?;
     /// assert_eq!(service.deregister_node_id(handle)?, DeregisterNodeState::NoMoreOwners);
@@ -313,7 +363,7 @@ impl DynamicConfig {
         &mut self,
         handle: ContainerHandle,
     ) -> Result<DeregisterNodeState, DeregisterError> {
-        let locked = self.service_mut().deregister(handle.parts());
+        let locked = self.service_mut().deregister(handle.as_c());
         locked
             .map(DeregisterNodeState::of)
             .map_err(DeregisterError::of)
@@ -330,11 +380,8 @@ impl DynamicConfig {
     /// # Examples
     ///
     /// ```
-    /// use iox2sd::dynamic_config::{
-    ///     publish_subscribe, AttachError, DynamicConfig, MessagingPatternSettings,
-    ///     SubscriberDetails,
-    /// };
-    /// use iox2sd::identifiers::{UniqueNodeId, UniqueSubscriberId};
+    /// # use iox2sd::prelude::*;
+    /// use iox2sd::dynamic_config::{publish_subscribe, AttachError};
     ///
     /// let ports = publish_subscribe::DynamicConfigSettings {
     ///     number_of_publishers: 1,
@@ -360,7 +407,9 @@ impl DynamicConfig {
         details: impl Into<PortDetails>,
     ) -> Result<ContainerHandle, AttachError> {
         let handle = self.service_mut().attach(&details.into().parts());
-        handle.map(ContainerHandle::of).map_err(AttachError::of)
+        handle
+            .map(|handle| ContainerHandle::of_c(&handle))
+            .map_err(AttachError::of)
     }
 
     /// Releases the port with this handle.
@@ -372,15 +421,9 @@ impl DynamicConfig {
     /// # Examples
     ///
     /// ```
+    /// # use iox2sd::prelude::*;
     /// use iox2sd::container::ContainerRemoveError;
-    /// use iox2sd::dynamic_config::{event, DynamicConfig, MessagingPatternSettings};
-    /// use iox2sd::identifiers::UniqueNodeId;
-    ///
-    /// let settings = MessagingPatternSettings::Event(event::DynamicConfigSettings {
-    ///     number_of_listeners: 1,
-    ///     number_of_notifiers: 1,
-    /// });
-    /// let mut service = DynamicConfig::new(&settings, 1, 7)?;
+    /// let mut service = DynamicConfig::with_capacities(&Config::default().defaults.event, 7)?;
     /// let node = UniqueNodeId::new(1, 0, 0, 1).expect("the id of a node");
     /// let handle = service.register_node_id(node)?;
     /// assert_eq!(
@@ -391,11 +434,8 @@ impl DynamicConfig {
     /// ```
     #[inline]
     pub fn release_port(&mut self, handle: ContainerHandle) -> Result<(), ContainerRemoveError> {
-        let released = self.service_mut().release(handle.parts());
-        released.map_err(|status| match status {
-            sys::IOX2SD_FOREIGN_HANDLE => ContainerRemoveError::ContainerHandleNotOwnedByContainer,
-            other => library::unexpected(other),
-        })
+        let released = self.service_mut().release(handle.as_c());
+        released.map_err(ContainerRemoveError::of)
     }
 
     /// Calls the callback once for each port of the dead node, in the order of
@@ -413,17 +453,8 @@ impl DynamicConfig {
     /// is for one port.
     ///
     /// ```
-    /// use iox2sd::dynamic_config::{
-    ///     event, DeregisterNodeState, DynamicConfig, MessagingPatternSettings,
-    ///     NotifierDetails, PortCleanupAction,
-    /// };
-    /// use iox2sd::identifiers::{UniqueNodeId, UniqueNotifierId};
-    ///
-    /// let ports = event::DynamicConfigSettings {
-    ///     number_of_listeners: 1,
-    ///     number_of_notifiers: 1,
-    /// };
-    /// let mut service = DynamicConfig::new(&MessagingPatternSettings::Event(ports), 1, 7)?;
+    /// # use iox2sd::prelude::*;
+    /// let mut service = DynamicConfig::with_capacities(&Config::default().defaults.event, 7)?;
     /// let node_id = UniqueNodeId::new(1, 0, 0, 1).expect("the id of a node");
     /// service.register_node_id(node_id)?;
     /// let notifier_id = UniqueNotifierId::new(1, 0, 0, 2);
@@ -444,7 +475,7 @@ impl DynamicConfig {
         mut callback: F,
     ) -> DeregisterNodeState {
         let mut kept = Vec::new();
-        self.service().ports_of(dead.parts, |ports| {
+        self.service().ports_of(dead.as_c(), |ports| {
             for port in ports {
                 let id = PortDetails::of(port).port_id();
                 if callback(id) == PortCleanupAction::SkipPort {
@@ -458,251 +489,87 @@ impl DynamicConfig {
         kept.sort_unstable_by(|one, other| {
             order(one.port, other.port).then(one.role.cmp(&other.role))
         });
-        match self.service_mut().dead(dead.parts, &kept) {
+        match self.service_mut().dead(dead.as_c(), &kept) {
             Ok(locked) => DeregisterNodeState::of(locked),
             Err(other) => library::unexpected(other),
         }
     }
 }
 
+/// Defines queries of numbers and flags, each with what an example says of an event service for one
+/// node.
+macro_rules! queries {
+    ($(
+        $(#[$documentation:meta])*
+        $name:ident($($role:ident)?) -> $answer:ty, $example:literal;
+    )*) => {
+        $(
+            $(#[$documentation])*
+            ///
+            /// ```
+            /// use iox2sd::prelude::*;
+            ///
+            /// # let ports = iox2sd::dynamic_config::event::DynamicConfigSettings::default();
+            /// let (max_nodes, number) = (1, 7);
+            /// let service = DynamicConfig::new(ports, max_nodes, number)?;
+            #[doc = concat!("assert_eq!(", $example, ");")]
+            /// # Ok::<(), iox2sd::dynamic_config::AllocError>(())
+            /// ```
+            #[must_use]
+            #[inline]
+            pub fn $name(&self $(, $role: Role)?) -> $answer {
+                self.service().$name($($role.as_c())?)
+            }
+        )*
+    };
+}
+
 /// Questions about a service.
 impl DynamicConfig {
-    /// The pattern of the service.
-    ///
-    /// ```
-    /// use iox2sd::messaging_pattern::MessagingPattern;
-    ///
-    /// # use iox2sd::dynamic_config::{event, DynamicConfig, MessagingPatternSettings};
-    /// # let (number_of_listeners, number_of_notifiers) = (2, 3);
-    /// # let ports = event::DynamicConfigSettings { number_of_listeners, number_of_notifiers };
-    /// # let settings = MessagingPatternSettings::Event(ports);
-    /// let service = DynamicConfig::new(&settings, 1, 7)?;
-    /// assert_eq!(service.kind(), MessagingPattern::Event);
-    /// # Ok::<(), Box<dyn std::error::Error>>(())
-    /// ```
-    #[must_use]
-    #[inline]
-    pub fn kind(&self) -> Kind {
-        match self.messaging_pattern {
-            MessagingPattern::RequestResponse(_) => Kind::RequestResponse,
-            MessagingPattern::PublishSubscribe(_) => Kind::PublishSubscribe,
-            MessagingPattern::Event(_) => Kind::Event,
-            MessagingPattern::Blackboard(_) => Kind::Blackboard,
-        }
-    }
-
-    /// The number of the service, which each of its handles has.
-    ///
-    /// ```
-    /// # use iox2sd::dynamic_config::{event, DynamicConfig, MessagingPatternSettings};
-    /// # let (number_of_listeners, number_of_notifiers) = (2, 3);
-    /// # let ports = event::DynamicConfigSettings { number_of_listeners, number_of_notifiers };
-    /// # let settings = MessagingPatternSettings::Event(ports);
-    /// let service = DynamicConfig::new(&settings, 1, 7)?;
-    /// assert_eq!(service.service_number(), 7);
-    /// # Ok::<(), Box<dyn std::error::Error>>(())
-    /// ```
-    #[must_use]
-    #[inline]
-    pub fn service_number(&self) -> u64 {
-        self.service().number()
+    queries! {
+        /// The number of the service, which each of its handles has.
+        service_number() -> u64, "service.service_number(), number";
+        /// Whether the pattern has ports of the role; no for [`Role::Node`].
+        has_role(role) -> bool, "service.has_role(Role::Listener), true";
+        /// Whether the service is locked for good: it has no node and no port then, and takes none
+        /// any more.
+        is_locked() -> bool, "service.is_locked(), false";
+        /// How many handles of nodes there are: a node that is registered twice counts twice.
+        number_of_nodes() -> usize, "service.number_of_nodes(), 0";
+        /// How many handles of nodes there may be at a time.
+        max_nodes() -> usize, "service.max_nodes(), max_nodes";
+        /// Whether [`register_node_id`](Self::register_node_id) would register a node.
+        has_room_for_node() -> bool, "service.has_room_for_node(), true";
+        /// How many ports of the role there are, or `None` where the pattern has no such ports.
+        count_ports(role) -> Option<usize>, "service.count_ports(Role::Listener), Some(0)";
+        /// How many ports of the role there may be at a time, or `None` where the pattern has no
+        /// such ports.
+        max_ports(role) -> Option<usize>, "service.max_ports(Role::Reader), None";
+        /// Whether [`attach`](Self::attach) would attach a port of the role, if its node is
+        /// registered, or `None` where the pattern has no such ports.
+        has_room(role) -> Option<bool>, "service.has_room(Role::Notifier), Some(true)";
     }
 
     /// The roles of the pattern's two kinds of ports, in the order of [`ports_of`](Self::ports_of).
     ///
     /// ```
-    /// use iox2sd::container::Role;
-    ///
-    /// # use iox2sd::dynamic_config::{event, DynamicConfig, MessagingPatternSettings};
-    /// # let (number_of_listeners, number_of_notifiers) = (2, 3);
-    /// # let ports = event::DynamicConfigSettings { number_of_listeners, number_of_notifiers };
-    /// # let settings = MessagingPatternSettings::Event(ports);
-    /// let service = DynamicConfig::new(&settings, 1, 7)?;
+    /// # use iox2sd::prelude::*;
+    /// let service = DynamicConfig::with_capacities(&Config::default().defaults.event, 7)?;
     /// assert_eq!(service.port_roles(), (Role::Listener, Role::Notifier));
     /// # Ok::<(), Box<dyn std::error::Error>>(())
     /// ```
     #[must_use]
     pub fn port_roles(&self) -> (Role, Role) {
         let (first, second) = self.service().roles();
-        (Role::of(first), Role::of(second))
-    }
-
-    /// Whether the pattern has ports of the role; no for [`Role::Node`].
-    ///
-    /// ```
-    /// use iox2sd::container::Role;
-    ///
-    /// # use iox2sd::dynamic_config::{event, DynamicConfig, MessagingPatternSettings};
-    /// # let (number_of_listeners, number_of_notifiers) = (2, 3);
-    /// # let ports = event::DynamicConfigSettings { number_of_listeners, number_of_notifiers };
-    /// # let settings = MessagingPatternSettings::Event(ports);
-    /// let service = DynamicConfig::new(&settings, 1, 7)?;
-    /// assert!(service.has_role(Role::Notifier));
-    /// assert!(!service.has_role(Role::Reader) && !service.has_role(Role::Node));
-    /// # Ok::<(), Box<dyn std::error::Error>>(())
-    /// ```
-    #[must_use]
-    #[inline]
-    pub fn has_role(&self, role: Role) -> bool {
-        self.service().has_role(role as u64)
-    }
-
-    /// Whether the service is locked for good: it has no node and no port then, and takes none any
-    /// more.
-    ///
-    /// ```
-    /// use iox2sd::identifiers::UniqueNodeId;
-    ///
-    /// # use iox2sd::dynamic_config::{event, DynamicConfig, MessagingPatternSettings};
-    /// # let (number_of_listeners, number_of_notifiers) = (2, 3);
-    /// # let ports = event::DynamicConfigSettings { number_of_listeners, number_of_notifiers };
-    /// # let settings = MessagingPatternSettings::Event(ports);
-    /// let mut service = DynamicConfig::new(&settings, 1, 7)?;
-    /// assert!(!service.is_locked());
-    /// let node = UniqueNodeId::new(1, 0, 0, 1).expect("the id of a node");
-    /// let handle = service.register_node_id(node)?;
-    /// service.deregister_node_id(handle)?;
-    /// assert!(service.is_locked());
-    /// # Ok::<(), Box<dyn std::error::Error>>(())
-    /// ```
-    #[must_use]
-    #[inline]
-    pub fn is_locked(&self) -> bool {
-        self.service().is_locked()
-    }
-
-    /// How many handles of nodes there are: a node that is registered twice counts twice.
-    ///
-    /// ```
-    /// use iox2sd::identifiers::UniqueNodeId;
-    ///
-    /// # use iox2sd::dynamic_config::{event, DynamicConfig, MessagingPatternSettings};
-    /// # let (number_of_listeners, number_of_notifiers) = (2, 3);
-    /// # let ports = event::DynamicConfigSettings { number_of_listeners, number_of_notifiers };
-    /// # let settings = MessagingPatternSettings::Event(ports);
-    /// let mut service = DynamicConfig::new(&settings, 3, 7)?;
-    /// let node = UniqueNodeId::new(1, 0, 0, 1).expect("the id of a node");
-    /// service.register_node_id(node)?;
-    /// service.register_node_id(node)?;
-    /// assert_eq!(service.number_of_nodes(), 2);
-    /// # Ok::<(), Box<dyn std::error::Error>>(())
-    /// ```
-    #[must_use]
-    #[inline]
-    pub fn number_of_nodes(&self) -> usize {
-        self.service().number_of_nodes()
-    }
-
-    /// How many handles of nodes there may be at a time.
-    ///
-    /// ```
-    /// # use iox2sd::dynamic_config::{event, DynamicConfig, MessagingPatternSettings};
-    /// # let (number_of_listeners, number_of_notifiers) = (2, 3);
-    /// # let ports = event::DynamicConfigSettings { number_of_listeners, number_of_notifiers };
-    /// # let settings = MessagingPatternSettings::Event(ports);
-    /// assert_eq!(DynamicConfig::new(&settings, 3, 7)?.max_nodes(), 3);
-    /// # Ok::<(), Box<dyn std::error::Error>>(())
-    /// ```
-    #[must_use]
-    #[inline]
-    pub fn max_nodes(&self) -> usize {
-        self.service().max_nodes()
-    }
-
-    /// Whether [`register_node_id`](Self::register_node_id) would register a node.
-    ///
-    /// ```
-    /// use iox2sd::identifiers::UniqueNodeId;
-    ///
-    /// # use iox2sd::dynamic_config::{event, DynamicConfig, MessagingPatternSettings};
-    /// # let (number_of_listeners, number_of_notifiers) = (2, 3);
-    /// # let ports = event::DynamicConfigSettings { number_of_listeners, number_of_notifiers };
-    /// # let settings = MessagingPatternSettings::Event(ports);
-    /// let mut service = DynamicConfig::new(&settings, 1, 7)?;
-    /// assert!(service.has_room_for_node());
-    /// service.register_node_id(UniqueNodeId::new(1, 0, 0, 1).expect("the id of a node"))?;
-    /// assert!(!service.has_room_for_node());
-    /// # Ok::<(), Box<dyn std::error::Error>>(())
-    /// ```
-    #[must_use]
-    #[inline]
-    pub fn has_room_for_node(&self) -> bool {
-        self.service().has_room_for_node()
-    }
-
-    /// How many ports of the role there are, or `None` where the pattern has no such ports.
-    ///
-    /// ```
-    /// use iox2sd::container::Role;
-    ///
-    /// # use iox2sd::dynamic_config::{event, DynamicConfig, MessagingPatternSettings};
-    /// # let (number_of_listeners, number_of_notifiers) = (2, 3);
-    /// # let ports = event::DynamicConfigSettings { number_of_listeners, number_of_notifiers };
-    /// # let settings = MessagingPatternSettings::Event(ports);
-    /// let service = DynamicConfig::new(&settings, 1, 7)?;
-    /// assert_eq!(service.count_ports(Role::Listener), Some(0));
-    /// assert_eq!(service.count_ports(Role::Reader), None);
-    /// # Ok::<(), Box<dyn std::error::Error>>(())
-    /// ```
-    #[must_use]
-    #[inline]
-    pub fn count_ports(&self, role: Role) -> Option<usize> {
-        self.service().count_ports(role as u64)
-    }
-
-    /// How many ports of the role there may be at a time, or `None` where the pattern has no such
-    /// ports.
-    ///
-    /// ```
-    /// use iox2sd::container::Role;
-    ///
-    /// # use iox2sd::dynamic_config::{event, DynamicConfig, MessagingPatternSettings};
-    /// # let (number_of_listeners, number_of_notifiers) = (2, 3);
-    /// # let ports = event::DynamicConfigSettings { number_of_listeners, number_of_notifiers };
-    /// # let settings = MessagingPatternSettings::Event(ports);
-    /// let service = DynamicConfig::new(&settings, 1, 7)?;
-    /// assert_eq!(service.max_ports(Role::Listener), Some(2));
-    /// assert_eq!(service.max_ports(Role::Reader), None);
-    /// # Ok::<(), Box<dyn std::error::Error>>(())
-    /// ```
-    #[must_use]
-    #[inline]
-    pub fn max_ports(&self, role: Role) -> Option<usize> {
-        self.service().max_ports(role as u64)
-    }
-
-    /// Whether [`attach`](Self::attach) would attach a port of the role, if its node is registered,
-    /// or `None` where the pattern has no such ports.
-    ///
-    /// ```
-    /// use iox2sd::container::Role;
-    ///
-    /// # use iox2sd::dynamic_config::{event, DynamicConfig, MessagingPatternSettings};
-    /// # let (number_of_listeners, number_of_notifiers) = (2, 3);
-    /// # let ports = event::DynamicConfigSettings { number_of_listeners, number_of_notifiers };
-    /// # let settings = MessagingPatternSettings::Event(ports);
-    /// let service = DynamicConfig::new(&settings, 1, 7)?;
-    /// assert_eq!(service.has_room(Role::Notifier), Some(true));
-    /// assert_eq!(service.has_room(Role::Reader), None);
-    /// # Ok::<(), Box<dyn std::error::Error>>(())
-    /// ```
-    #[must_use]
-    #[inline]
-    pub fn has_room(&self, role: Role) -> Option<bool> {
-        self.service().has_room(role as u64)
+        (Role::of_c(&first), Role::of_c(&second))
     }
 
     /// The node that was registered with this handle and is still there, or `None` for each other
     /// handle.
     ///
     /// ```
-    /// use iox2sd::identifiers::UniqueNodeId;
-    ///
-    /// # use iox2sd::dynamic_config::{event, DynamicConfig, MessagingPatternSettings};
-    /// # let (number_of_listeners, number_of_notifiers) = (2, 3);
-    /// # let ports = event::DynamicConfigSettings { number_of_listeners, number_of_notifiers };
-    /// # let settings = MessagingPatternSettings::Event(ports);
-    /// let mut service = DynamicConfig::new(&settings, 1, 7)?;
+    /// # use iox2sd::prelude::*;
+    /// let mut service = DynamicConfig::with_capacities(&Config::default().defaults.event, 7)?;
     /// let node = UniqueNodeId::new(1, 0, 0, 1).expect("the id of a node");
     /// let handle = service.register_node_id(node)?;
     /// assert_eq!(service.node(handle), Some(node));
@@ -710,22 +577,20 @@ impl DynamicConfig {
     /// assert_eq!(service.node(handle), None);
     /// # Ok::<(), Box<dyn std::error::Error>>(())
     /// ```
+    #[must_use]
     #[inline]
     pub fn node(&self, handle: ContainerHandle) -> Option<UniqueNodeId> {
-        self.service().node(handle.parts()).map(UniqueNodeId::of)
+        self.service()
+            .node(handle.as_c())
+            .map(|id| UniqueNodeId::of_c(&id))
     }
 
     /// The port that was attached with this handle and is still there, or `None` for each other
     /// handle, a node's too.
     ///
     /// ```
-    /// # use iox2sd::dynamic_config::ListenerDetails;
-    /// # use iox2sd::identifiers::{UniqueListenerId, UniqueNodeId};
-    /// # use iox2sd::dynamic_config::{event, DynamicConfig, MessagingPatternSettings};
-    /// # let (number_of_listeners, number_of_notifiers) = (2, 3);
-    /// # let ports = event::DynamicConfigSettings { number_of_listeners, number_of_notifiers };
-    /// # let settings = MessagingPatternSettings::Event(ports);
-    /// let mut service = DynamicConfig::new(&settings, 1, 7)?;
+    /// # use iox2sd::prelude::*;
+    /// let mut service = DynamicConfig::with_capacities(&Config::default().defaults.event, 7)?;
     /// let node_id = UniqueNodeId::new(1, 0, 0, 1).expect("the id of a node");
     /// let node = service.register_node_id(node_id)?;
     /// let listener = ListenerDetails { listener_id: UniqueListenerId::new(1, 0, 0, 2), node_id };
@@ -737,19 +602,14 @@ impl DynamicConfig {
     #[must_use]
     #[inline]
     pub fn port(&self, handle: ContainerHandle) -> Option<PortDetails> {
-        self.service().port(handle.parts(), PortDetails::of)
+        self.service().port(handle.as_c(), PortDetails::of)
     }
 
     /// The ids of the nodes that are registered now, by rising slot, one for each handle.
     ///
     /// ```
-    /// use iox2sd::identifiers::UniqueNodeId;
-    ///
-    /// # use iox2sd::dynamic_config::{event, DynamicConfig, MessagingPatternSettings};
-    /// # let (number_of_listeners, number_of_notifiers) = (2, 3);
-    /// # let ports = event::DynamicConfigSettings { number_of_listeners, number_of_notifiers };
-    /// # let settings = MessagingPatternSettings::Event(ports);
-    /// let mut service = DynamicConfig::new(&settings, 2, 7)?;
+    /// # use iox2sd::prelude::*;
+    /// let mut service = DynamicConfig::with_capacities(&Config::default().defaults.event, 7)?;
     /// let node = UniqueNodeId::new(1, 0, 0, 1).expect("the id of a node");
     /// service.register_node_id(node)?;
     /// service.register_node_id(node)?;
@@ -758,25 +618,17 @@ impl DynamicConfig {
     /// ```
     #[must_use]
     #[inline]
-    pub fn nodes(&self) -> vec::IntoIter<UniqueNodeId> {
-        let of_each = |nodes: &[_]| nodes.iter().copied().map(UniqueNodeId::of).collect();
-        let nodes: Vec<_> = self.service().nodes(of_each);
-        nodes.into_iter()
+    pub fn nodes(&self) -> Entries<UniqueNodeId> {
+        let of_each = |nodes: &[_]| nodes.iter().map(UniqueNodeId::of_c).collect();
+        self.service().nodes(of_each)
     }
 
     /// The ports of the role that are attached now, by rising slot, or `None` where the pattern has
     /// no such ports.
     ///
     /// ```
-    /// use iox2sd::container::Role;
-    ///
-    /// # use iox2sd::dynamic_config::ListenerDetails;
-    /// # use iox2sd::identifiers::{UniqueListenerId, UniqueNodeId};
-    /// # use iox2sd::dynamic_config::{event, DynamicConfig, MessagingPatternSettings};
-    /// # let (number_of_listeners, number_of_notifiers) = (2, 3);
-    /// # let ports = event::DynamicConfigSettings { number_of_listeners, number_of_notifiers };
-    /// # let settings = MessagingPatternSettings::Event(ports);
-    /// let mut service = DynamicConfig::new(&settings, 1, 7)?;
+    /// # use iox2sd::prelude::*;
+    /// let mut service = DynamicConfig::with_capacities(&Config::default().defaults.event, 7)?;
     /// let node_id = UniqueNodeId::new(1, 0, 0, 1).expect("the id of a node");
     /// service.register_node_id(node_id)?;
     /// let listener = ListenerDetails { listener_id: UniqueListenerId::new(1, 0, 0, 2), node_id };
@@ -788,23 +640,17 @@ impl DynamicConfig {
     /// ```
     #[must_use]
     #[inline]
-    pub fn ports(&self, role: Role) -> Option<vec::IntoIter<PortDetails>> {
+    pub fn ports(&self, role: Role) -> Option<Entries<PortDetails>> {
         let of_each = |ports: &[_]| ports.iter().map(PortDetails::of).collect();
-        let ports: Vec<_> = self.service().ports(role as u64, of_each)?;
-        Some(ports.into_iter())
+        self.service().ports(role.as_c(), of_each)
     }
 
     /// The ports of the node, by its whole id: those of the pattern's first kind before those of
     /// its second, each kind by rising slot.
     ///
     /// ```
-    /// # use iox2sd::dynamic_config::ListenerDetails;
-    /// # use iox2sd::identifiers::{UniqueListenerId, UniqueNodeId};
-    /// # use iox2sd::dynamic_config::{event, DynamicConfig, MessagingPatternSettings};
-    /// # let (number_of_listeners, number_of_notifiers) = (2, 3);
-    /// # let ports = event::DynamicConfigSettings { number_of_listeners, number_of_notifiers };
-    /// # let settings = MessagingPatternSettings::Event(ports);
-    /// let mut service = DynamicConfig::new(&settings, 1, 7)?;
+    /// # use iox2sd::prelude::*;
+    /// let mut service = DynamicConfig::with_capacities(&Config::default().defaults.event, 7)?;
     /// let node_id = UniqueNodeId::new(1, 0, 0, 1).expect("the id of a node");
     /// service.register_node_id(node_id)?;
     /// let listener = ListenerDetails { listener_id: UniqueListenerId::new(1, 0, 0, 2), node_id };
@@ -816,24 +662,17 @@ impl DynamicConfig {
     /// ```
     #[must_use]
     #[inline]
-    pub fn ports_of(&self, node: &UniqueNodeId) -> vec::IntoIter<PortDetails> {
+    pub fn ports_of(&self, node: &UniqueNodeId) -> Entries<PortDetails> {
         let of_each = |ports: &[_]| ports.iter().map(PortDetails::of).collect();
-        let ports: Vec<_> = self.service().ports_of(node.parts, of_each);
-        ports.into_iter()
+        self.service().ports_of(node.as_c(), of_each)
     }
 
     /// Calls the callback on the nodes by rising slot, once for each handle, up to and with the
     /// first answer [`Stop`](CallbackProgression::Stop).
     ///
     /// ```
-    /// use iox2sd::identifiers::UniqueNodeId;
-    /// use iox2sd::CallbackProgression;
-    ///
-    /// # use iox2sd::dynamic_config::{event, DynamicConfig, MessagingPatternSettings};
-    /// # let (number_of_listeners, number_of_notifiers) = (2, 3);
-    /// # let ports = event::DynamicConfigSettings { number_of_listeners, number_of_notifiers };
-    /// # let settings = MessagingPatternSettings::Event(ports);
-    /// let mut service = DynamicConfig::new(&settings, 2, 7)?;
+    /// # use iox2sd::prelude::*;
+    /// let mut service = DynamicConfig::with_capacities(&Config::default().defaults.event, 7)?;
     /// let node = UniqueNodeId::new(1, 0, 0, 1).expect("the id of a node");
     /// service.register_node_id(node)?;
     /// service.register_node_id(node)?;
@@ -847,7 +686,7 @@ impl DynamicConfig {
     /// ```
     #[inline]
     pub fn list_node_ids<F: FnMut(&UniqueNodeId) -> CallbackProgression>(&self, mut callback: F) {
-        let show = |nodes: &[_]| visit(nodes, |node| callback(&UniqueNodeId::of(*node)));
+        let show = |nodes: &[_]| visit(nodes, |node| callback(&UniqueNodeId::of_c(node)));
         self.service().nodes(show);
     }
 
@@ -856,16 +695,8 @@ impl DynamicConfig {
     /// ports.
     ///
     /// ```
-    /// use iox2sd::container::Role;
-    /// use iox2sd::CallbackProgression;
-    ///
-    /// # use iox2sd::dynamic_config::ListenerDetails;
-    /// # use iox2sd::identifiers::{UniqueListenerId, UniqueNodeId};
-    /// # use iox2sd::dynamic_config::{event, DynamicConfig, MessagingPatternSettings};
-    /// # let (number_of_listeners, number_of_notifiers) = (2, 3);
-    /// # let ports = event::DynamicConfigSettings { number_of_listeners, number_of_notifiers };
-    /// # let settings = MessagingPatternSettings::Event(ports);
-    /// let mut service = DynamicConfig::new(&settings, 1, 7)?;
+    /// # use iox2sd::prelude::*;
+    /// let mut service = DynamicConfig::with_capacities(&Config::default().defaults.event, 7)?;
     /// let node_id = UniqueNodeId::new(1, 0, 0, 1).expect("the id of a node");
     /// service.register_node_id(node_id)?;
     /// let listener = ListenerDetails { listener_id: UniqueListenerId::new(1, 0, 0, 2), node_id };
@@ -887,37 +718,61 @@ impl DynamicConfig {
         mut callback: F,
     ) -> bool {
         let show = |ports: &[_]| visit(ports, |port| callback(&PortDetails::of(port)));
-        self.service().ports(role as u64, show).is_some()
+        self.service().ports(role.as_c(), show).is_some()
     }
 }
 
 /// Defines, for one pattern, whether a service has it and the queries about its ports.
 macro_rules! of_pattern {
-    ($kind:literal $variant:ident $module:ident $is:ident $number:ident $(#[$made:meta])*) => {
+    ($kind:literal $variant:ident $module:ident $is:ident $as:ident $all:ident) => {
         #[doc = concat!("Whether it is ", $kind, " service.")]
         ///
         /// ```
-        $(#[$made])*
+        /// # use iox2sd::prelude::*;
+        #[doc = concat!("let settings = Config::default().defaults.", stringify!($module), ";")]
+        /// let service = DynamicConfig::with_capacities(&settings, 7)?;
         #[doc = concat!("assert!(service.", stringify!($is), "());")]
         /// # Ok::<(), iox2sd::dynamic_config::AllocError>(())
         /// ```
+        #[must_use]
         pub fn $is(&self) -> bool {
-            matches!(self.messaging_pattern, MessagingPattern::$variant(_))
+            self.$as().is_some()
+        }
+
+        #[doc = concat!("The ports of ", $kind, " service; `None` for each other pattern.")]
+        ///
+        /// ```
+        /// # use iox2sd::prelude::*;
+        #[doc = concat!("let settings = Config::default().defaults.", stringify!($module), ";")]
+        /// let service = DynamicConfig::with_capacities(&settings, 7)?;
+        #[doc = concat!("let ports = service.", stringify!($as), "().ok_or(\"another pattern\")?;")]
+        #[doc = concat!("assert_eq!(ports.", stringify!($all), "().len(), 0);")]
+        /// # Ok::<(), Box<dyn std::error::Error>>(())
+        /// ```
+        #[must_use]
+        pub fn $as(&self) -> Option<&$module::DynamicConfig> {
+            match &self.messaging_pattern {
+                MessagingPattern::$variant(ports) => Some(ports),
+                _ => None,
+            }
         }
 
         #[doc = concat!("The ports of ", $kind, " service.")]
         ///
         /// # Panics
         ///
-        #[doc = concat!("Where [`Self::", stringify!($is), "`] says no.")]
+        #[doc = concat!("Where [`Self::", stringify!($as), "`] is `None`.")]
         ///
         /// ```
-        $(#[$made])*
+        /// # use iox2sd::prelude::*;
+        #[doc = concat!("let settings = Config::default().defaults.", stringify!($module), ";")]
+        /// let service = DynamicConfig::with_capacities(&settings, 7)?;
         #[doc = concat!(
-            "assert_eq!(service.", stringify!($module), "().", stringify!($number), "(), 0);"
+            "assert_eq!(service.", stringify!($module), "().", stringify!($all), "().len(), 0);"
         )]
         /// # Ok::<(), iox2sd::dynamic_config::AllocError>(())
         /// ```
+        #[must_use]
         pub fn $module(&self) -> &$module::DynamicConfig {
             match &self.messaging_pattern {
                 MessagingPattern::$variant(ports) => ports,
@@ -933,57 +788,18 @@ macro_rules! of_pattern {
 /// The ports of each pattern, by their types.
 impl DynamicConfig {
     of_pattern! {
-        "a request-response" RequestResponse request_response is_request_response
-        number_of_servers
-        /// use iox2sd::dynamic_config::{request_response, DynamicConfig, MessagingPatternSettings};
-        ///
-        /// let ports = request_response::DynamicConfigSettings {
-        ///     number_of_servers: 2,
-        ///     number_of_clients: 2,
-        /// };
-        /// let settings = MessagingPatternSettings::RequestResponse(ports);
-        /// let service = DynamicConfig::new(&settings, 1, 7)?;
+        "a request-response" RequestResponse request_response
+        is_request_response as_request_response servers
     }
 
     of_pattern! {
-        "a publish-subscribe" PublishSubscribe publish_subscribe is_publish_subscribe
-        number_of_publishers
-        /// use iox2sd::dynamic_config::publish_subscribe;
-        /// use iox2sd::dynamic_config::{DynamicConfig, MessagingPatternSettings};
-        ///
-        /// let ports = publish_subscribe::DynamicConfigSettings {
-        ///     number_of_publishers: 2,
-        ///     number_of_subscribers: 2,
-        /// };
-        /// let settings = MessagingPatternSettings::PublishSubscribe(ports);
-        /// let service = DynamicConfig::new(&settings, 1, 7)?;
+        "a publish-subscribe" PublishSubscribe publish_subscribe
+        is_publish_subscribe as_publish_subscribe publishers
     }
 
-    of_pattern! {
-        "an event" Event event is_event
-        number_of_listeners
-        /// use iox2sd::dynamic_config::{event, DynamicConfig, MessagingPatternSettings};
-        ///
-        /// let ports = event::DynamicConfigSettings {
-        ///     number_of_listeners: 2,
-        ///     number_of_notifiers: 2,
-        /// };
-        /// let settings = MessagingPatternSettings::Event(ports);
-        /// let service = DynamicConfig::new(&settings, 1, 7)?;
-    }
+    of_pattern! { "an event" Event event is_event as_event listeners }
 
-    of_pattern! {
-        "a blackboard" Blackboard blackboard is_blackboard
-        number_of_readers
-        /// use iox2sd::dynamic_config::{blackboard, DynamicConfig, MessagingPatternSettings};
-        ///
-        /// let ports = blackboard::DynamicConfigSettings {
-        ///     number_of_readers: 2,
-        ///     number_of_writers: 2,
-        /// };
-        /// let settings = MessagingPatternSettings::Blackboard(ports);
-        /// let service = DynamicConfig::new(&settings, 1, 7)?;
-    }
+    of_pattern! { "a blackboard" Blackboard blackboard is_blackboard as_blackboard readers }
 }
 
 impl fmt::Debug for DynamicConfig {

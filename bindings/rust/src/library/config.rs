@@ -1,6 +1,5 @@
 //! Calls on the file of settings.
 
-use super::descriptions::{blackboard, event, publish_subscribe, request_response};
 use crate::config::Config;
 use crate::sys;
 use std::mem::MaybeUninit;
@@ -96,76 +95,13 @@ pub(crate) fn config_write(config: &Config) -> Result<String, Unwritten> {
     }
 }
 
-/// Writes a text into a struct of zeros.
-fn lend(text: &[u8], out: &mut sys::iox2sd_config_text) {
-    out.bytes[..text.len()].copy_from_slice(text);
-    out.length = text.len();
-}
-
 /// Settings as the library takes them.
 fn as_c(config: &Config) -> Settings {
     let mut made: Settings = Box::new(zeroed());
-    let global = &config.global;
-    let (service, node) = (&global.service, &global.node);
-    made.global = sys::iox2sd_global_settings {
-        creation_timeout: sys::iox2sd_duration {
-            seconds: global.creation_timeout.as_secs(),
-            nanoseconds: global.creation_timeout.subsec_nanos(),
-        },
-        cleanup_dead_nodes_on_open: service.cleanup_dead_nodes_on_open,
-        cleanup_dead_nodes_on_creation: node.cleanup_dead_nodes_on_creation,
-        cleanup_dead_nodes_on_destruction: node.cleanup_dead_nodes_on_destruction,
-    };
-    let texts = &mut made.texts;
-    lend(global.root_path().as_bytes(), &mut texts.root_path);
-    lend(global.prefix.as_bytes(), &mut texts.prefix);
-    lend(service.directory.as_bytes(), &mut texts.service_directory);
-    lend(
-        service.data_segment_suffix.as_bytes(),
-        &mut texts.data_segment_suffix,
-    );
-    lend(
-        service.static_config_storage_suffix.as_bytes(),
-        &mut texts.static_config_storage_suffix,
-    );
-    lend(
-        service.dynamic_config_storage_suffix.as_bytes(),
-        &mut texts.dynamic_config_storage_suffix,
-    );
-    lend(
-        service.connection_suffix.as_bytes(),
-        &mut texts.connection_suffix,
-    );
-    lend(
-        service.event_connection_suffix.as_bytes(),
-        &mut texts.event_connection_suffix,
-    );
-    lend(
-        service.blackboard_mgmt_suffix.as_bytes(),
-        &mut texts.blackboard_mgmt_suffix,
-    );
-    lend(
-        service.blackboard_data_suffix.as_bytes(),
-        &mut texts.blackboard_data_suffix,
-    );
-    lend(node.directory.as_bytes(), &mut texts.node_directory);
-    lend(node.monitor_suffix.as_bytes(), &mut texts.monitor_suffix);
-    lend(
-        node.static_config_suffix.as_bytes(),
-        &mut texts.node_static_config_suffix,
-    );
-    lend(
-        node.service_tag_suffix.as_bytes(),
-        &mut texts.service_tag_suffix,
-    );
-    lend(node.port_tag_suffix.as_bytes(), &mut texts.port_tag_suffix);
-    lend(
-        node.global_mgmt_suffix.as_bytes(),
-        &mut texts.global_mgmt_suffix,
-    );
-    made.publish_subscribe = publish_subscribe(&config.defaults.publish_subscribe);
-    made.event = event(&config.defaults.event);
-    made.request_response = request_response(&config.defaults.request_response);
-    made.blackboard = blackboard(&config.defaults.blackboard);
+    config.global.lend(&mut made);
+    made.publish_subscribe = config.defaults.publish_subscribe.as_c();
+    made.event = config.defaults.event.as_c();
+    made.request_response = config.defaults.request_response.as_c();
+    made.blackboard = config.defaults.blackboard.as_c();
     made
 }

@@ -42,9 +42,26 @@ macro_rules! ask {
     }};
 }
 
+/// Defines queries of one number or flag, by the field of the answer that has it, and by what
+/// becomes of a status.
+macro_rules! queries {
+    (
+        $read:ident:
+        $($name:ident($($role:ident)?) -> $type:ty = $export:ident $field:ident;)*
+    ) => {
+        $(
+            #[inline]
+            pub(crate) fn $name(&self $(, $role: u64)?) -> $type {
+                let answer = ask!(self, $export $(, $role)?);
+                $read(answer.status, answer.$field)
+            }
+        )*
+    };
+}
+
 impl Service {
     pub(crate) fn make(
-        pattern: u32,
+        pattern: u64,
         number: u64,
         capacities: sys::iox2sd_capacities,
         tickets: u64,
@@ -113,10 +130,21 @@ impl Service {
         )
     }
 
-    #[inline]
-    pub(crate) fn number(&self) -> u64 {
-        let answer = ask!(self, iox2sd_service_number_at);
-        granted(answer.status, answer.number)
+    queries! {
+        granted:
+        service_number() -> u64 = iox2sd_service_number_at number;
+        has_role(role) -> bool = iox2sd_has_role_at yes;
+        is_locked() -> bool = iox2sd_is_locked_at yes;
+        number_of_nodes() -> usize = iox2sd_number_of_nodes_at count;
+        max_nodes() -> usize = iox2sd_max_nodes_at count;
+        has_room_for_node() -> bool = iox2sd_has_room_for_node_at yes;
+    }
+
+    queries! {
+        of_role:
+        count_ports(role) -> Option<usize> = iox2sd_count_ports_at count;
+        max_ports(role) -> Option<usize> = iox2sd_max_ports_at count;
+        has_room(role) -> Option<bool> = iox2sd_has_room_at yes;
     }
 
     /// The roles of the two kinds of ports.
@@ -124,54 +152,6 @@ impl Service {
     pub(crate) fn roles(&self) -> (u64, u64) {
         let answer = ask!(self, iox2sd_port_roles_at);
         granted(answer.status, (answer.first, answer.second))
-    }
-
-    #[inline]
-    pub(crate) fn has_role(&self, role: u64) -> bool {
-        let answer = ask!(self, iox2sd_has_role_at, role);
-        granted(answer.status, answer.yes)
-    }
-
-    #[inline]
-    pub(crate) fn is_locked(&self) -> bool {
-        let answer = ask!(self, iox2sd_is_locked_at);
-        granted(answer.status, answer.yes)
-    }
-
-    #[inline]
-    pub(crate) fn number_of_nodes(&self) -> usize {
-        let answer = ask!(self, iox2sd_number_of_nodes_at);
-        granted(answer.status, answer.count)
-    }
-
-    #[inline]
-    pub(crate) fn max_nodes(&self) -> usize {
-        let answer = ask!(self, iox2sd_max_nodes_at);
-        granted(answer.status, answer.count)
-    }
-
-    #[inline]
-    pub(crate) fn has_room_for_node(&self) -> bool {
-        let answer = ask!(self, iox2sd_has_room_for_node_at);
-        granted(answer.status, answer.yes)
-    }
-
-    #[inline]
-    pub(crate) fn count_ports(&self, role: u64) -> Option<usize> {
-        let answer = ask!(self, iox2sd_count_ports_at, role);
-        of_role(answer.status, answer.count)
-    }
-
-    #[inline]
-    pub(crate) fn max_ports(&self, role: u64) -> Option<usize> {
-        let answer = ask!(self, iox2sd_max_ports_at, role);
-        of_role(answer.status, answer.count)
-    }
-
-    #[inline]
-    pub(crate) fn has_room(&self, role: u64) -> Option<bool> {
-        let answer = ask!(self, iox2sd_has_room_at, role);
-        of_role(answer.status, answer.yes)
     }
 
     #[inline]

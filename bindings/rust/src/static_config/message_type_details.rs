@@ -18,8 +18,9 @@
 //! # Ok::<(), Box<dyn std::error::Error>>(())
 //! ```
 
-use crate::display::{error_by_path, shown_by_name};
+use crate::display::{choices, error_by_path, errors, getters, padded};
 use crate::library;
+use crate::plain::Plain;
 use crate::semantic_string::StringModificationError;
 use crate::sys;
 use crate::text::{shown_as_text, Text};
@@ -30,25 +31,24 @@ use std::fmt;
 use std::mem::{align_of, size_of};
 use std::str::FromStr;
 
-/// How many values of a type a message has.
-///
-/// ```
-/// use iox2sd::static_config::message_type_details::TypeVariant;
-///
-/// assert_eq!(TypeVariant::default(), TypeVariant::FixedSize);
-/// assert_eq!(TypeVariant::Dynamic.to_string(), "Dynamic");
-/// ```
-#[derive(Clone, Copy, Debug, Default, PartialEq, Eq, Hash)]
-#[repr(u32)]
-pub enum TypeVariant {
-    /// One.
-    #[default]
-    FixedSize = sys::IOX2SD_VARIANT_FIXED_SIZE,
-    /// A number that is known only at run time, one after another.
-    Dynamic = sys::IOX2SD_VARIANT_DYNAMIC,
+choices! {
+    /// How many values of a type a message has.
+    ///
+    /// ```
+    /// use iox2sd::static_config::message_type_details::TypeVariant;
+    ///
+    /// assert_eq!(TypeVariant::default(), TypeVariant::FixedSize);
+    /// assert_eq!(TypeVariant::Dynamic.to_string(), "Dynamic");
+    /// ```
+    #[derive(Default)]
+    TypeVariant of u32 in "static_config::message_type_details" {
+        /// One.
+        #[default]
+        FixedSize = IOX2SD_VARIANT_FIXED_SIZE;
+        /// A number that is known only at run time, one after another.
+        Dynamic = IOX2SD_VARIANT_DYNAMIC;
+    }
 }
-
-shown_by_name!(TypeVariant);
 
 /// The name of a type. The default is the empty one.
 ///
@@ -121,9 +121,7 @@ impl TryFrom<&str> for TypeName {
             sys::IOX2SD_DONE => Ok(TypeName {
                 text: Text::copy_of(name),
             }),
-            sys::IOX2SD_TOO_LONG => Err(StringModificationError::InsertWouldExceedCapacity),
-            sys::IOX2SD_ILLEGAL_BYTE => Err(StringModificationError::InvalidCharacter),
-            other => library::unexpected(other),
+            refusal => Err(StringModificationError::of(refusal)),
         }
     }
 }
@@ -141,6 +139,7 @@ shown_as_text!(TypeName);
 /// assert_eq!(refused, Err(TypeDetailError::Name(cause)));
 /// ```
 #[derive(Clone, Copy, Debug, PartialEq, Eq, Hash)]
+#[non_exhaustive]
 pub enum TypeDetailError {
     /// The text is no name of a type.
     Name(StringModificationError),
@@ -233,60 +232,22 @@ impl TypeDetail {
         }
     }
 
-    /// How many values of the type a message has.
-    ///
-    /// ```
-    /// use iox2sd::static_config::message_type_details::{TypeDetail, TypeVariant};
-    ///
-    /// let detail = TypeDetail::from_parts(TypeVariant::Dynamic, "Point", 12, 4)?;
-    /// assert_eq!(detail.variant(), TypeVariant::Dynamic);
-    /// # Ok::<(), iox2sd::static_config::message_type_details::TypeDetailError>(())
-    /// ```
-    #[must_use]
-    pub fn variant(&self) -> TypeVariant {
-        self.variant
-    }
-
-    /// The name of the type.
-    ///
-    /// ```
-    /// use iox2sd::static_config::message_type_details::{TypeDetail, TypeVariant};
-    ///
-    /// let detail = TypeDetail::from_parts(TypeVariant::Dynamic, "Point", 12, 4)?;
-    /// assert_eq!(detail.type_name(), &"Point");
-    /// # Ok::<(), iox2sd::static_config::message_type_details::TypeDetailError>(())
-    /// ```
-    #[must_use]
-    pub fn type_name(&self) -> &TypeName {
-        &self.type_name
-    }
-
-    /// How many bytes a value takes.
-    ///
-    /// ```
-    /// use iox2sd::static_config::message_type_details::{TypeDetail, TypeVariant};
-    ///
-    /// let detail = TypeDetail::from_parts(TypeVariant::Dynamic, "Point", 12, 4)?;
-    /// assert_eq!(detail.size(), 12);
-    /// # Ok::<(), iox2sd::static_config::message_type_details::TypeDetailError>(())
-    /// ```
-    #[must_use]
-    pub fn size(&self) -> usize {
-        self.size
-    }
-
-    /// The alignment of each value: a power of two, or 0 in the default details.
-    ///
-    /// ```
-    /// use iox2sd::static_config::message_type_details::{TypeDetail, TypeVariant};
-    ///
-    /// let detail = TypeDetail::from_parts(TypeVariant::Dynamic, "Point", 12, 4)?;
-    /// assert_eq!(detail.alignment(), 4);
-    /// # Ok::<(), iox2sd::static_config::message_type_details::TypeDetailError>(())
-    /// ```
-    #[must_use]
-    pub fn alignment(&self) -> usize {
-        self.alignment
+    getters! {
+        {
+            /// use iox2sd::static_config::message_type_details::{TypeDetail, TypeVariant};
+            ///
+            /// let (variant, name, size, alignment) = (TypeVariant::Dynamic, "Point", 12, 4);
+            /// let detail = TypeDetail::from_parts(variant, name, size, alignment)?;
+        }
+        /// How many values of the type a message has.
+        variant -> TypeVariant = |detail| detail.variant,
+            "detail.variant(), variant";
+        /// The name of the type.
+        type_name -> &TypeName = |detail| &detail.type_name, "detail.type_name(), &name";
+        /// How many bytes a value takes.
+        size -> usize = |detail| detail.size, "detail.size(), size";
+        /// The alignment of each value: a power of two, or 0 in the default details.
+        alignment -> usize = |detail| detail.alignment, "detail.alignment(), alignment";
     }
 }
 
@@ -310,33 +271,23 @@ pub struct MessageTypeDetails {
     pub payload: TypeDetail,
 }
 
-/// Why a message has no layout or no offsets.
-///
-/// ```
-/// use iox2sd::static_config::message_type_details::{LayoutError, MessageTypeDetails};
-///
-/// let refused = MessageTypeDetails::default().sample_layout(1).unwrap_err();
-/// assert_eq!(refused, LayoutError::DetailsNotGiven);
-/// assert_eq!(refused.to_string(), "LayoutError::DetailsNotGiven");
-/// ```
-#[derive(Clone, Copy, Debug, PartialEq, Eq, Hash)]
-pub enum LayoutError {
-    /// The details of a part were not given: they are the default ones.
-    DetailsNotGiven,
-    /// A message would need more than 2^63 - 1 bytes, or the offset of its payload would pass
-    /// 2^64 - 1.
-    TooLarge,
-}
-
-error_by_path!(LayoutError);
-
-impl LayoutError {
-    fn of(status: u32) -> Self {
-        match status {
-            sys::IOX2SD_BAD_ALIGNMENT => LayoutError::DetailsNotGiven,
-            sys::IOX2SD_TOO_LARGE => LayoutError::TooLarge,
-            other => library::unexpected(other),
-        }
+errors! {
+    /// Why a message has no layout or no offsets.
+    ///
+    /// ```
+    /// use iox2sd::static_config::message_type_details::{LayoutError, MessageTypeDetails};
+    ///
+    /// let refused = MessageTypeDetails::default().sample_layout(1).unwrap_err();
+    /// assert_eq!(refused, LayoutError::DetailsNotGiven);
+    /// assert_eq!(refused.to_string(), "LayoutError::DetailsNotGiven");
+    /// ```
+    #[non_exhaustive]
+    LayoutError {
+        /// The details of a part were not given: they are the default ones.
+        DetailsNotGiven = IOX2SD_BAD_ALIGNMENT,
+        /// A message would need more than 2^63 - 1 bytes, or the offset of its payload would pass
+        /// 2^64 - 1.
+        TooLarge = IOX2SD_TOO_LARGE,
     }
 }
 
@@ -367,6 +318,15 @@ impl MessageTypeDetails {
             user_header: TypeDetail::new::<UserHeader>(TypeVariant::FixedSize)?,
             payload: TypeDetail::new::<Payload>(payload_variant)?,
         })
+    }
+
+    /// Those of a message that has one type in each part, of which the header is compared first.
+    pub(super) fn of_one(detail: &TypeDetail) -> Self {
+        MessageTypeDetails {
+            header: *detail,
+            user_header: *detail,
+            payload: *detail,
+        }
     }
 
     /// Whether the details of all parts were given.
@@ -517,105 +477,54 @@ impl MessageTypeDetails {
     /// ```
     pub fn check_compatible_to(&self, rhs: &Self) -> Result<(), Incompatibility> {
         let answer = library::compatible(self, rhs);
-        let cause = match answer.status {
-            sys::IOX2SD_DONE => return Ok(()),
-            sys::IOX2SD_BAD_ALIGNMENT => IncompatibilityCause::DetailsNotGiven,
-            sys::IOX2SD_OTHER_NAME => IncompatibilityCause::OtherName,
-            sys::IOX2SD_OTHER_VARIANT => IncompatibilityCause::OtherVariant,
-            sys::IOX2SD_OTHER_SIZE => IncompatibilityCause::OtherSize,
-            sys::IOX2SD_OTHER_ALIGNMENT => IncompatibilityCause::OtherAlignment,
-            sys::IOX2SD_GREATER_ALIGNMENT => IncompatibilityCause::GreaterAlignment,
-            other => library::unexpected(other),
-        };
+        if answer.status == sys::IOX2SD_DONE {
+            return Ok(());
+        }
         Err(Incompatibility {
-            part: MessagePart::of(answer.part),
-            cause,
+            part: MessagePart::of_c(&answer.part),
+            cause: IncompatibilityCause::of_c(&answer.status),
         })
     }
 }
 
-/// A part of a message.
-///
-/// ```
-/// use iox2sd::static_config::message_type_details::{MessagePart, MessageTypeDetails, TypeVariant};
-///
-/// let opener = MessageTypeDetails::from::<u64, u8, u8>(TypeVariant::FixedSize)?;
-/// let service = MessageTypeDetails::from::<u64, i8, u8>(TypeVariant::FixedSize)?;
-/// let refused = opener.check_compatible_to(&service).unwrap_err();
-/// assert_eq!(refused.part, MessagePart::UserHeader);
-/// assert_eq!(refused.part.to_string(), "user header");
-/// # Ok::<(), iox2sd::static_config::message_type_details::TypeDetailError>(())
-/// ```
-#[derive(Clone, Copy, Debug, PartialEq, Eq, Hash)]
-#[repr(u32)]
-pub enum MessagePart {
-    /// The header, which belongs to the system.
-    Header = sys::IOX2SD_HEADER,
-    /// The user header.
-    UserHeader = sys::IOX2SD_USER_HEADER,
-    /// The payload.
-    Payload = sys::IOX2SD_PAYLOAD,
-}
-
-impl MessagePart {
-    fn of(number: u32) -> Self {
-        let all = [Self::Header, Self::UserHeader, Self::Payload];
-        library::choice(&all, |part| part as u32, number)
+choices! {
+    /// A part of a message, which prints in words.
+    ///
+    /// ```
+    /// use iox2sd::static_config::message_type_details::MessagePart;
+    /// assert_eq!(MessagePart::UserHeader.to_string(), "user header");
+    /// ```
+    MessagePart of u32 in "static_config::message_type_details" {
+        /// The header, which belongs to the system.
+        Header = IOX2SD_HEADER, "header";
+        /// The user header.
+        UserHeader = IOX2SD_USER_HEADER, "user header";
+        /// The payload.
+        Payload = IOX2SD_PAYLOAD, "payload";
     }
 }
 
-/// The part in words.
-impl fmt::Display for MessagePart {
-    fn fmt(&self, f: &mut fmt::Formatter<'_>) -> fmt::Result {
-        f.pad(match self {
-            MessagePart::Header => "header",
-            MessagePart::UserHeader => "user header",
-            MessagePart::Payload => "payload",
-        })
-    }
-}
-
-/// What of a part keeps an opener out.
-///
-/// ```
-/// use iox2sd::static_config::message_type_details::{
-///     IncompatibilityCause, MessageTypeDetails, TypeVariant,
-/// };
-///
-/// let opener = MessageTypeDetails::from::<u64, u8, u8>(TypeVariant::FixedSize)?;
-/// let service = MessageTypeDetails::from::<u64, i8, u8>(TypeVariant::FixedSize)?;
-/// let refused = opener.check_compatible_to(&service).unwrap_err();
-/// assert_eq!(refused.cause, IncompatibilityCause::OtherName);
-/// assert_eq!(refused.cause.to_string(), "another type name");
-/// # Ok::<(), iox2sd::static_config::message_type_details::TypeDetailError>(())
-/// ```
-#[derive(Clone, Copy, Debug, PartialEq, Eq, Hash)]
-pub enum IncompatibilityCause {
-    /// Its details were not given, by the opener or by the service.
-    DetailsNotGiven,
-    /// The names of the types differ.
-    OtherName,
-    /// The numbers of values differ: one, and any number.
-    OtherVariant,
-    /// The sizes differ.
-    OtherSize,
-    /// The alignments of the headers differ.
-    OtherAlignment,
-    /// The opener's alignment is greater than the service's.
-    GreaterAlignment,
-}
-
-/// What the part has, in words.
-impl fmt::Display for IncompatibilityCause {
-    fn fmt(&self, f: &mut fmt::Formatter<'_>) -> fmt::Result {
-        f.pad(match self {
-            IncompatibilityCause::DetailsNotGiven => "no details",
-            IncompatibilityCause::OtherName => "another type name",
-            IncompatibilityCause::OtherVariant => "another variant",
-            IncompatibilityCause::OtherSize => "another size",
-            IncompatibilityCause::OtherAlignment => "another alignment",
-            IncompatibilityCause::GreaterAlignment => "a greater alignment than the service's",
-        })
+choices! {
+    /// What of a part keeps an opener out: what the part has, in words.
+    ///
+    /// ```
+    /// use iox2sd::static_config::message_type_details::IncompatibilityCause;
+    /// assert_eq!(IncompatibilityCause::OtherName.to_string(), "another type name");
+    /// ```
+    #[non_exhaustive]
+    IncompatibilityCause of u32 in "static_config::message_type_details" {
+        /// Its details were not given, by the opener or by the service.
+        DetailsNotGiven = IOX2SD_BAD_ALIGNMENT, "no details";
+        /// The names of the types differ.
+        OtherName = IOX2SD_OTHER_NAME, "another type name";
+        /// The numbers of values differ: one, and any number.
+        OtherVariant = IOX2SD_OTHER_VARIANT, "another variant";
+        /// The sizes differ.
+        OtherSize = IOX2SD_OTHER_SIZE, "another size";
+        /// The alignments of the headers differ.
+        OtherAlignment = IOX2SD_OTHER_ALIGNMENT, "another alignment";
+        /// The opener's alignment is greater than the service's.
+        GreaterAlignment = IOX2SD_GREATER_ALIGNMENT, "a greater alignment than the service's";
     }
 }
 
@@ -640,7 +549,7 @@ pub struct Incompatibility {
 
 impl fmt::Display for Incompatibility {
     fn fmt(&self, f: &mut fmt::Formatter<'_>) -> fmt::Result {
-        write!(f, "the {} has {}", self.part, self.cause)
+        padded(f, format_args!("the {} has {}", self.part, self.cause))
     }
 }
 

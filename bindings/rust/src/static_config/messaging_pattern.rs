@@ -9,6 +9,7 @@
 //! assert_eq!(pattern.to_string(), "Event");
 //! ```
 
+use super::opener::Both;
 use super::{blackboard, event, publish_subscribe, request_response};
 use crate::messaging_pattern::MessagingPattern as Kind;
 use std::fmt;
@@ -31,6 +32,7 @@ use std::fmt;
 /// ```
 #[derive(Clone, Copy, Debug, PartialEq, Eq, Hash)]
 #[allow(clippy::large_enum_variant)] // Texts are copied by value, and none is boxed.
+#[non_exhaustive]
 pub enum MessagingPattern {
     /// Clients send requests, and servers answer them.
     RequestResponse(request_response::StaticConfig),
@@ -47,6 +49,37 @@ impl fmt::Display for MessagingPattern {
     fn fmt(&self, f: &mut fmt::Formatter<'_>) -> fmt::Result {
         fmt::Display::fmt(&self.kind(), f)
     }
+}
+
+/// Defines the getter of what is fixed by one pattern.
+macro_rules! getter {
+    ($kind:literal $variant:ident $module:ident) => {
+        #[doc = concat!("What is fixed of ", $kind, " service.")]
+        ///
+        /// # Panics
+        ///
+        /// Where the pattern is another, as [`kind`](Self::kind) says.
+        ///
+        /// ```
+        /// use iox2sd::config::Config;
+        /// use iox2sd::static_config::messaging_pattern::MessagingPattern;
+        #[doc = concat!("use iox2sd::static_config::", stringify!($module), "::StaticConfig;")]
+        ///
+        /// let fixed = StaticConfig::new(&Config::default());
+        #[doc = concat!("let pattern = MessagingPattern::", stringify!($variant), "(fixed);")]
+        #[doc = concat!("assert_eq!(pattern.", stringify!($module), "(), &fixed);")]
+        /// ```
+        #[must_use]
+        pub fn $module(&self) -> &$module::StaticConfig {
+            match self {
+                MessagingPattern::$variant(fixed) => fixed,
+                other => panic!(
+                    concat!("the pattern is {}, not ", stringify!($variant)),
+                    other
+                ),
+            }
+        }
+    };
 }
 
 impl MessagingPattern {
@@ -89,47 +122,24 @@ impl MessagingPattern {
         self.kind() == rhs.kind()
     }
 
-    /// What is fixed of a request-response service.
-    ///
-    /// # Panics
-    ///
-    /// Where the pattern is another, as [`kind`](Self::kind) says.
+    /// Whether a service with this pattern meets what an opener requires: the pattern is the same,
+    /// and its settings satisfy those of the opener. Types are no part of it.
     ///
     /// ```
     /// use iox2sd::config::Config;
     /// use iox2sd::static_config::messaging_pattern::MessagingPattern;
-    /// use iox2sd::static_config::request_response::StaticConfig;
+    /// use iox2sd::static_config::{blackboard, event};
     ///
-    /// let fixed = StaticConfig::new(&Config::default());
-    /// assert_eq!(MessagingPattern::RequestResponse(fixed).request_response(), &fixed);
+    /// let config = Config::default();
+    /// let events = MessagingPattern::Event(event::StaticConfig::new(&config));
+    /// let board = MessagingPattern::Blackboard(blackboard::StaticConfig::new(&config));
+    /// assert!(events.satisfies(&events) && !events.satisfies(&board));
     /// ```
     #[must_use]
-    pub fn request_response(&self) -> &request_response::StaticConfig {
-        match self {
-            MessagingPattern::RequestResponse(config) => config,
-            other => panic!("the pattern is {other}, not RequestResponse"),
-        }
+    pub fn satisfies(&self, required: &Self) -> bool {
+        Both::of(self, required).is_some_and(|both| both.first_unmet().is_none())
     }
 
-    /// What is fixed of a publish-subscribe service.
-    ///
-    /// # Panics
-    ///
-    /// Where the pattern is another, as [`kind`](Self::kind) says.
-    ///
-    /// ```
-    /// use iox2sd::config::Config;
-    /// use iox2sd::static_config::messaging_pattern::MessagingPattern;
-    /// use iox2sd::static_config::publish_subscribe::StaticConfig;
-    ///
-    /// let fixed = StaticConfig::new(&Config::default());
-    /// assert_eq!(MessagingPattern::PublishSubscribe(fixed).publish_subscribe(), &fixed);
-    /// ```
-    #[must_use]
-    pub fn publish_subscribe(&self) -> &publish_subscribe::StaticConfig {
-        match self {
-            MessagingPattern::PublishSubscribe(config) => config,
-            other => panic!("the pattern is {other}, not PublishSubscribe"),
-        }
-    }
+    getter!("a request-response" RequestResponse request_response);
+    getter!("a publish-subscribe" PublishSubscribe publish_subscribe);
 }

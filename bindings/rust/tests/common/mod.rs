@@ -1,6 +1,16 @@
 //! Services and ports for tests.
 #![allow(dead_code)] // Not every test needs all of it.
 
+/// A value with some fields changed, where it cannot be written out.
+#[allow(unused_macros)]
+macro_rules! with {
+    ($value:expr; $($field:ident: $new:expr),* $(,)?) => {{
+        let mut value = $value;
+        $(value.$field = $new;)*
+        value
+    }};
+}
+
 use iox2sd::config::DataSegmentType;
 use iox2sd::container::Role;
 use iox2sd::dynamic_config::{
@@ -63,7 +73,7 @@ pub fn settings(kind: MessagingPattern, [first, second]: [usize; 2]) -> Messagin
 
 /// A service with the number 7.
 pub fn service(kind: MessagingPattern, nodes: usize, ports: [usize; 2]) -> DynamicConfig {
-    DynamicConfig::new(&settings(kind, ports), nodes, 7).unwrap()
+    DynamicConfig::new(settings(kind, ports), nodes, 7).unwrap()
 }
 
 /// A port of each kind of a pattern, with no two fields alike.
