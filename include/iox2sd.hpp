@@ -3,7 +3,7 @@
 ///
 /// Headers alone, over those for C; link libiox2sd.a or libiox2sd.so. Names are those of the ported
 /// middleware. This one includes iox2sd_result.hpp, iox2sd_text.hpp, iox2sd_values.hpp and
-/// iox2sd_service.hpp, each of which may be included alone, and iox2sd_fwd.hpp declares their types.
+/// iox2sd_service.hpp, each of which may be included alone. iox2sd_fwd.hpp declares their types,
 /// iox2sd_config.hpp reads and writes the file of settings, iox2sd_conform.hpp judges logs, and
 /// iox2sd_format.hpp has `std::format`.
 ///
@@ -25,7 +25,6 @@
 #ifndef IOX2SD_HPP
 #define IOX2SD_HPP
 
-#include "iox2sd_script.h"
 #include "iox2sd_service.hpp"
 #include "iox2sd_values.hpp"
 

@@ -9,7 +9,12 @@
 #include <cerrno>
 
 #include "iox2sd.hpp"
+// Headers of C have the casts and the NULL of C.
+#pragma GCC diagnostic push
+#pragma GCC diagnostic ignored "-Wold-style-cast"
+#pragma GCC diagnostic ignored "-Wzero-as-null-pointer-constant"
 #include "iox2sd_config.h"
+#pragma GCC diagnostic pop
 
 namespace iox2sd {
 

@@ -13,7 +13,12 @@
 #include <vector>
 
 #include "iox2sd.hpp"
+// Headers of C have the casts and the NULL of C.
+#pragma GCC diagnostic push
+#pragma GCC diagnostic ignored "-Wold-style-cast"
+#pragma GCC diagnostic ignored "-Wzero-as-null-pointer-constant"
 #include "iox2sd_conform.h"
+#pragma GCC diagnostic pop
 
 namespace iox2sd {
 

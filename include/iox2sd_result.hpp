@@ -19,7 +19,13 @@
 #include <compare>
 #endif
 
+// Headers of C have the casts and the NULL of C.
+#pragma GCC diagnostic push
+#pragma GCC diagnostic ignored "-Wold-style-cast"
+#pragma GCC diagnostic ignored "-Wzero-as-null-pointer-constant"
+#include "iox2sd_script.h"
 #include "iox2sd_values.h"
+#pragma GCC diagnostic pop
 
 /// A getter of what lasts as long as its object. That of a temporary does not compile.
 #define IOX2SD_LENDS(Type, name, value)         \

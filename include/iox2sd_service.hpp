@@ -529,7 +529,7 @@ private:
     /// Frees what the object holds, if it holds a service.
     void free() noexcept { iox2sd_service_free(&object_); }
 
-    iox2sd_service object_ = IOX2SD_SERVICE_NONE;
+    iox2sd_service object_{};
 };
 
 /// The ported middleware's word for a `Service`.

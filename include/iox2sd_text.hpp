@@ -70,9 +70,11 @@ public:
             number /= 10;
         } while (number != 0);
     }
-    IOX2SD_LENDS(std::string_view, view, std::string_view(digits_ + first_, sizeof digits_ - first_));
+    IOX2SD_LENDS(std::string_view, view, std::string_view(digits_ + first_, size()));
 
 private:
+    std::size_t size() const noexcept { return sizeof digits_ - first_; }
+
     char digits_[20];
     std::size_t first_ = sizeof digits_;
 };
@@ -91,9 +93,11 @@ struct TextError {
     Text<127> text() const noexcept {
         const detail::Digits digits(at);
         const std::string_view words = iox2sd::text(status);
-        if (status == Status::IllegalByte) return Text<127>::joined({words, ": at ", digits.view()});
-        if (status != Status::TooLong) return Text<127>::joined({words});
-        return Text<127>::joined({words, ": at most ", digits.view(), " bytes"});
+        if (status == Status::TooLong) {
+            return Text<127>::joined({words, ": at most ", digits.view(), " bytes"});
+        }
+        if (status != Status::IllegalByte) return Text<127>::joined({words});
+        return Text<127>::joined({words, ": at ", digits.view()});
     }
 };
 
@@ -127,8 +131,8 @@ struct ServiceNameContent {
 
 }  // namespace detail
 
-/// A text that a check of the library lets through: `AttributeKey`, `AttributeValue`, `FileName` and
-/// `RestrictedFileName`.
+/// A text that a check of the library lets through: `AttributeKey`, `AttributeValue`, `FileName`
+/// and `RestrictedFileName`.
 ///
 /// A key has 1 to 64 bytes, each from 1 to 127, and a value 1 to 256. The name of a file has 1 to
 /// 255, none of them a `/`, and is neither "." nor "..". A restricted one, as hash texts are, has 1

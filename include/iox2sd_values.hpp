@@ -495,41 +495,20 @@ enum class SettingsField : std::uint32_t {
 
 /// The name of a field, as "max_subscribers", in a static text.
 inline std::string_view text(SettingsField field) noexcept {
-    switch (field) {
-        case SettingsField::BackpressureStrategy: return "backpressure_strategy";
-        case SettingsField::PublisherAllocationStrategy: return "publisher_allocation_strategy";
-        case SettingsField::Deadline: return "deadline";
-        case SettingsField::ClientBackpressureStrategy: return "client_backpressure_strategy";
-        case SettingsField::ServerBackpressureStrategy: return "server_backpressure_strategy";
-        case SettingsField::ClientAllocationStrategy: return "client_allocation_strategy";
-        case SettingsField::ServerAllocationStrategy: return "server_allocation_strategy";
-        case SettingsField::CreationTimeout: return "creation_timeout";
-        case SettingsField::MaxSubscribers: return "max_subscribers";
-        case SettingsField::MaxPublishers: return "max_publishers";
-        case SettingsField::HistorySize: return "history_size";
-        case SettingsField::SubscriberMaxBufferSize: return "subscriber_max_buffer_size";
-        case SettingsField::SubscriberMaxBorrowedSamples: return "subscriber_max_borrowed_samples";
-        case SettingsField::EnableSafeOverflow: return "enable_safe_overflow";
-        case SettingsField::MaxNotifiers: return "max_notifiers";
-        case SettingsField::MaxListeners: return "max_listeners";
-        case SettingsField::EventIdMaxValue: return "event_id_max_value";
-        case SettingsField::NotifierCreatedEvent: return "notifier_created_event";
-        case SettingsField::NotifierDroppedEvent: return "notifier_dropped_event";
-        case SettingsField::NotifierDeadEvent: return "notifier_dead_event";
-        case SettingsField::EnableSafeOverflowForRequests: return "enable_safe_overflow_for_requests";
-        case SettingsField::EnableSafeOverflowForResponses: return "enable_safe_overflow_for_responses";
-        case SettingsField::EnableFireAndForgetRequests: return "enable_fire_and_forget_requests";
-        case SettingsField::MaxActiveRequestsPerClient: return "max_active_requests_per_client";
-        case SettingsField::MaxLoanedRequests: return "max_loaned_requests";
-        case SettingsField::MaxResponseBufferSize: return "max_response_buffer_size";
-        case SettingsField::MaxServers: return "max_servers";
-        case SettingsField::MaxClients: return "max_clients";
-        case SettingsField::MaxBorrowedResponsesPerPendingResponse: return "max_borrowed_responses_per_pending_response";
-        case SettingsField::MaxReaders: return "max_readers";
-        case SettingsField::MaxWriters: return "max_writers";
-        case SettingsField::MaxNodes: return "max_nodes";
-    }
-    return "unknown field";
+    constexpr std::string_view names[] = {
+        "backpressure_strategy", "publisher_allocation_strategy", "deadline",
+        "client_backpressure_strategy", "server_backpressure_strategy",
+        "client_allocation_strategy", "server_allocation_strategy", "creation_timeout",
+        "max_subscribers", "max_publishers", "history_size", "subscriber_max_buffer_size",
+        "subscriber_max_borrowed_samples", "enable_safe_overflow", "max_notifiers",
+        "max_listeners", "event_id_max_value", "notifier_created_event",
+        "notifier_dropped_event", "notifier_dead_event", "enable_safe_overflow_for_requests",
+        "enable_safe_overflow_for_responses", "enable_fire_and_forget_requests",
+        "max_active_requests_per_client", "max_loaned_requests", "max_response_buffer_size",
+        "max_servers", "max_clients", "max_borrowed_responses_per_pending_response",
+        "max_readers", "max_writers", "max_nodes"};
+    const auto number = static_cast<std::uint32_t>(field);
+    return number < std::size(names) ? names[number] : "unknown field";
 }
 template <>
 inline constexpr bool detail::is_written<SettingsField> = true;
