@@ -53,72 +53,31 @@ using AttributeKey = SemanticString<detail::KeyContent, 64>;
 using AttributeValue = SemanticString<detail::ValueContent, 256>;
 using FileName = SemanticString<detail::FileNameContent, 255>;
 using RestrictedFileName = SemanticString<detail::RestrictedContent, 64>;
-class Path;
-class FilePath;
-class ServiceName;
-class ServiceHash;
-struct TextError;
+class Path; class FilePath; class ServiceName; class ServiceHash; struct TextError;
 
 template <class Kind>
 class UniqueId;
 using UniqueServiceId = UniqueId<detail::ServiceIdKind>;
-class UniqueNodeId;
-class UniquePortId;
+class UniqueNodeId; class UniquePortId;
 
-class Attribute;
-class AttributeSet;
-class AttributeVerifier;
-struct AttributeVerificationError;
-class TypeDetail;
-struct MessageTypeDetails;
-struct Layout;
-struct MessagePlaces;
-struct IncompatibleTypes;
-struct Duration;
-struct EventId;
-struct GlobalSettings;
-struct PublishSubscribeSettings;
-struct EventSettings;
-struct RequestResponseSettings;
-struct BlackboardSettings;
-struct SettingsError;
-struct PublishSubscribeStaticConfig;
-struct RequestResponseStaticConfig;
-struct BlackboardStaticConfig;
-class StaticConfig;
-struct Requirements;
-struct OpenError;
+class Attribute; class AttributeSet; class AttributeVerifier; struct AttributeVerificationError;
+class TypeDetail; struct MessageTypeDetails; struct Layout; struct MessagePlaces;
+struct IncompatibleTypes; struct Duration; struct EventId; struct GlobalSettings;
+struct PublishSubscribeSettings; struct EventSettings; struct RequestResponseSettings;
+struct BlackboardSettings; struct SettingsError; struct PublishSubscribeStaticConfig;
+struct RequestResponseStaticConfig; struct BlackboardStaticConfig; class StaticConfig;
+struct Requirements; struct OpenError;
 
-struct PublisherDetails;
-struct SubscriberDetails;
-struct NotifierDetails;
-struct ListenerDetails;
-struct ClientDetails;
-struct ServerDetails;
-struct ReaderDetails;
-struct WriterDetails;
-struct ContainerHandle;
-struct Capacities;
-struct PublishSubscribeCapacities;
-struct EventCapacities;
-struct RequestResponseCapacities;
-struct BlackboardCapacities;
-struct PortRoles;
-struct DeadNodeRemoval;
-class ServiceNumbers;
-class Service;
-struct ScriptRun;
+struct PublisherDetails; struct SubscriberDetails; struct NotifierDetails; struct ListenerDetails;
+struct ClientDetails; struct ServerDetails; struct ReaderDetails; struct WriterDetails;
+struct ContainerHandle; struct Capacities; struct PublishSubscribeCapacities;
+struct EventCapacities; struct RequestResponseCapacities; struct BlackboardCapacities;
+struct PortRoles; struct DeadNodeRemoval; class ServiceNumbers; class Service; struct ScriptRun;
 
-struct ConfigTexts;
-struct Config;
-struct ConfigFile;
-struct ConfigFault;
-struct ConfigError;
-struct ConfigWriteError;
-struct UnknownKey;
+struct ConfigTexts; struct Config; struct ConfigFile; struct ConfigFault; struct ConfigError;
+struct ConfigWriteError; struct UnknownKey;
 
-struct LogVerdict;
-class Recorder;
+struct LogVerdict; class Recorder;
 
 }  // namespace iox2sd
 
