@@ -24,9 +24,11 @@ run() {
     fi
 }
 
+races() { valgrind --quiet --tool=helgrind --error-exitcode=9 "$@"; }
+
 leaks() { valgrind --quiet --leak-check=full --show-leak-kinds=all --error-exitcode=9 "$@"; }
 
-warnings=(-Wall -Wextra -Wpedantic -Werror)
+warnings=(-Wall -Wextra -Wpedantic -Wconversion -Werror)
 
 # compiler, library, source, standard and further options
 runs() {
@@ -147,6 +149,10 @@ for compiler in gcc clang; do
         sanitized "$compiler" address,undefined "$source" -std=c99
     done
     sanitized "$compiler" thread c/test_threads.c -std=c99
+    if has valgrind; then
+        runs "$compiler" iox2sd c/test_threads.c -std=c99 -g &&
+            run "$compiler c/test_threads.c under helgrind" races "$work/caller"
+    fi
     for source in c/test_script.c c/test_conform.c c/test_config.c; do
         caller "$compiler" iox2sd "$source" -std=c99 -Wl,--wrap=malloc,--wrap=realloc
     done
@@ -156,6 +162,9 @@ for compiler in gcc clang; do
         runs "$compiler" iox2sd "$source" -std=c99 -D_GNU_SOURCE "$wrapped"
     done
     runs "$compiler" iox2sd c/test_stack.c -std=c99 -D_GNU_SOURCE
+    for source in ../examples/{builder,monitor,settings}.c; do
+        example "$compiler" "$source" c99
+    done
 done
 wrapped_settings=-Wl,--wrap=iox2sd_script_run_at,--wrap=iox2sd_service_create_at
 for name in {global,publish_subscribe,event,request_response}_{defaults,settings_check_at} \
@@ -221,7 +230,7 @@ for compiler in g++ clang++; do
     for standard in c++17 c++20 c++2b; do
         for header in iox2sd{,_fwd,_result,_text,_values,_service,_config,_conform}.hpp; do
             run "$compiler -std=$standard has no warning about $header" "$compiler" \
-                -std=$standard "${warnings[@]}" -Wconversion -Wshadow -fsyntax-only -I../include \
+                -std=$standard "${warnings[@]}" -Wshadow -fsyntax-only -I../include \
                 -x c++ "../include/$header"
         done
     done
@@ -239,6 +248,10 @@ for compiler in g++ clang++; do
     runs "$compiler" iox2sd cpp/test_memory.cpp -std=c++17
     sanitized "$compiler" address,undefined cpp/test_memory.cpp -std=c++17
     sanitized "$compiler" thread cpp/test_service.cpp -std=c++17
+    if has valgrind; then
+        runs "$compiler" iox2sd cpp/test_service.cpp -std=c++17 -g &&
+            run "$compiler cpp/test_service.cpp under helgrind" races "$work/caller"
+    fi
     runs "$compiler" iox2sd cpp/test_service.cpp -std=c++17 -fno-exceptions -fno-rtti
     for source in cpp/examples/*.cpp ../examples/{builder,monitor,settings}.cpp; do
         example "$compiler" "$source" c++17

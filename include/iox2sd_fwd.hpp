@@ -27,6 +27,7 @@ enum class TomlType : std::uint32_t;
 enum class SettingKind : std::uint32_t;
 enum class DataSegmentType : std::uint32_t;
 enum class DeregisterNodeState;
+enum class Requirement;
 
 template <class T, class E = Status>
 class Result;

@@ -281,7 +281,7 @@ void kept_ranges() {
         CHECK(service.remove_dead_node_id(a, kept));
         return *service.count_ports(Role::Listener);
     };
-    for (std::uint32_t last : {0, 1, 15, 16, 17, 33, 40}) {
+    for (const std::uint32_t last : {0u, 1u, 15u, 16u, 17u, 33u, 40u}) {
         CHECK(left(Counting{1, last}) == last);
     }
     const UniquePortId two[] = {listener(3), listener(4)};
