@@ -573,7 +573,7 @@ private:                                                                        
     static Settings defaults() noexcept { return from_c(iox2sd_##pattern##_defaults()); }         \
     static_assert(true, "a semicolon follows")
 /// `check` is whether all fields are valid.
-#define IOX2SD_CHECKED(pattern)                                                                   \
+#define IOX2SD_CHECK_OF(pattern)                                                                   \
     Result<void, SettingsError> check() const noexcept {                                          \
         const iox2sd_##pattern##_settings c = as_c();                                             \
         return detail::valid(iox2sd_##pattern##_settings_check(&c));                              \
@@ -591,7 +591,7 @@ struct GlobalSettings {
 
     IOX2SD_SETTINGS(GlobalSettings, global, creation_timeout, cleanup_dead_nodes_on_open,
                     cleanup_dead_nodes_on_creation, cleanup_dead_nodes_on_destruction);
-    IOX2SD_CHECKED(global);
+    IOX2SD_CHECK_OF(global);
 };
 
 /// The settings of a publish-subscribe service.
@@ -613,7 +613,7 @@ struct PublishSubscribeSettings {
                     publisher_max_loaned_samples, publisher_history_size,
                     subscriber_expired_connection_buffer, backpressure_strategy,
                     publisher_allocation_strategy, enable_safe_overflow);
-    IOX2SD_CHECKED(publish_subscribe);
+    IOX2SD_CHECK_OF(publish_subscribe);
 
     /// The greatest number of one publisher's samples that can be in use at once, which its data
     /// segment is made for. Error: `TooLarge` past 2^64 - 1.
@@ -639,7 +639,7 @@ struct EventSettings {
     IOX2SD_SETTINGS(EventSettings, event, max_listeners, max_notifiers, max_nodes,
                     event_id_max_value, deadline, notifier_created_event, notifier_dropped_event,
                     notifier_dead_event);
-    IOX2SD_CHECKED(event);
+    IOX2SD_CHECK_OF(event);
 
     IOX2SD_FIXED(EventSettings, event, max_notifiers, max_listeners, max_nodes, event_id_max_value,
                  deadline, notifier_created_event, notifier_dropped_event, notifier_dead_event);
@@ -673,7 +673,7 @@ struct RequestResponseSettings {
                     server_backpressure_strategy, client_allocation_strategy,
                     server_allocation_strategy, enable_safe_overflow_for_requests,
                     enable_safe_overflow_for_responses, enable_fire_and_forget_requests);
-    IOX2SD_CHECKED(request_response);
+    IOX2SD_CHECK_OF(request_response);
 
     /// The greatest number of one client's requests, and of one server's responses, that can be in
     /// use at once. Error: `TooLarge` past 2^64 - 1.
@@ -698,7 +698,7 @@ struct BlackboardSettings {
     IOX2SD_SETTINGS(BlackboardSettings, blackboard, max_readers, max_nodes);
 };
 #undef IOX2SD_SETTINGS
-#undef IOX2SD_CHECKED
+#undef IOX2SD_CHECK_OF
 
 /// The capacities with which a service of these settings is made, and its pattern. A blackboard has
 /// one writer.
@@ -966,7 +966,7 @@ struct OpenError {
             case Requirement::Messages:
                 return Text<383>::joined({iox2sd::text(part), ": ", words});
             case Requirement::Responses:
-                return Text<383>::joined({"response, ", iox2sd::text(part), ": ", words});
+                return Text<383>::joined({"responses, ", iox2sd::text(part), ": ", words});
             case Requirement::Keys: return Text<383>::joined({"key: ", words});
             case Requirement::Settings: break;
         }

@@ -398,7 +398,7 @@ void requirements() {
     CHECK(streamed(types) == "payload: " + string(text(Status::OtherSize)));
     const OpenError responses = error(requests(more, message, other), none);
     CHECK(responses.status == Status::OtherSize && responses.requirement == Requirement::Responses);
-    CHECK(streamed(responses) == "response, payload: " + string(text(Status::OtherSize)));
+    CHECK(streamed(responses) == "responses, payload: " + string(text(Status::OtherSize)));
     const OpenError unmet = error(requests(more, message, message), none);
     CHECK(unmet.status == Status::Unmet && unmet.field == SettingsField::MaxClients);
     CHECK(streamed(unmet) == "max_clients: a setting is not what the opener requires");
