@@ -51,8 +51,8 @@ inline ScriptRun run_script(std::string_view script) noexcept {
         answer = iox2sd_script_run(detail::bytes(script), script.size(), bytes, capacity);
         const bool has_ended = answer.status == IOX2SD_BAD_LINE ||
                                (out != nullptr && answer.status == IOX2SD_NO_MEMORY);
-        return iox2sd_count_answer{has_ended ? std::uint32_t{IOX2SD_DONE} : answer.status,
-                                   answer.length};
+        return detail::counted(has_ended ? std::uint32_t{IOX2SD_DONE} : answer.status,
+                               answer.length);
     });
     if (!output) return {output.error(), 0, List<char>()};
     return {Status{answer.status}, answer.line, std::move(output).value()};

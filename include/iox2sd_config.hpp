@@ -241,7 +241,7 @@ struct Config {
         iox2sd_config_write_answer answer{};
         auto written = List<char>::written_by([&](char* out, std::size_t capacity) {
             answer = iox2sd_config_write(&c, reinterpret_cast<std::uint8_t*>(out), capacity);
-            return iox2sd_count_answer{answer.status, answer.length};
+            return detail::counted(answer.status, answer.length);
         });
         if (written) return std::move(written).value();
         return ConfigWriteError{written.status(), SettingsField{answer.field},
@@ -290,17 +290,17 @@ inline Result<List<iox2sd_unknown_key>> unknown_keys(std::string_view text,
     const iox2sd_unknown_answer needed =
         iox2sd_config_unknown(bytes(text), text.size(), nullptr, 0, nullptr, 0);
     return List<iox2sd_unknown_key>::written_by([&](iox2sd_unknown_key* keys, std::size_t size) {
-        if (keys == nullptr) return iox2sd_count_answer{needed.status, needed.count};
+        if (keys == nullptr) return detail::counted(needed.status, needed.count);
         auto written = List<char>::written_by([&](char* out, std::size_t capacity) {
-            if (out == nullptr) return iox2sd_count_answer{IOX2SD_BUFFER_TOO_SHORT, needed.length};
+            if (out == nullptr) return detail::counted(IOX2SD_BUFFER_TOO_SHORT, needed.length);
             const iox2sd_unknown_answer answer =
                 iox2sd_config_unknown(bytes(text), text.size(), keys, size,
                                       reinterpret_cast<std::uint8_t*>(out), capacity);
-            return iox2sd_count_answer{answer.status, answer.length};
+            return detail::counted(answer.status, answer.length);
         });
-        if (!written) return iox2sd_count_answer{static_cast<std::uint32_t>(written.status()), 0};
+        if (!written) return detail::counted(static_cast<std::uint32_t>(written.status()), 0);
         paths = std::move(written).value();
-        return iox2sd_count_answer{IOX2SD_DONE, size};
+        return detail::counted(IOX2SD_DONE, size);
     });
 }
 

@@ -765,6 +765,14 @@ inline Result<void> result(std::uint32_t status) noexcept {
     return {};
 }
 
+/// What a call of the C headers returns of so many items.
+inline iox2sd_count_answer counted(std::uint32_t status, std::size_t count) noexcept {
+    iox2sd_count_answer answer{};
+    answer.status = status;
+    answer.count = count;
+    return answer;
+}
+
 /// Whether a range says how many items it has.
 template <class Range, class = void>
 inline constexpr bool is_sized = false;
