@@ -116,12 +116,10 @@ install -m 644 out/libiox2sd.a "$dev/lib/$triplet"
 strip --strip-debug "$dev/lib/$triplet/libiox2sd.a"
 ln -s libiox2sd.so.2 "$dev/lib/$triplet/libiox2sd.so"
 # Where the system finds the library without a path in the program.
-sed -e 's|^prefix=.*|prefix=/usr|' -e "s|^libdir=.*|libdir=\${prefix}/lib/$triplet|" \
-    -e 's| -Wl,-rpath,[^ ]*||' \
-    "$prefix/lib/pkgconfig/iox2sd.pc" > "$dev/lib/$triplet/pkgconfig/iox2sd.pc"
-sed -e 's|/../../.."|/../../../.."|' -e "s|/lib/libiox2sd|/lib/$triplet/libiox2sd|" \
-    "$prefix/lib/cmake/iox2sd/iox2sdConfig.cmake" > "$dev/lib/$triplet/cmake/iox2sd/iox2sdConfig.cmake"
-install -m 644 "$prefix/lib/cmake/iox2sd/iox2sdConfigVersion.cmake" "$dev/lib/$triplet/cmake/iox2sd"
+DESTDIR=$work/usr LIBDIR=lib/$triplet ./install.sh /usr > "$work/log"
+sed -e 's|^prefix=.*|prefix=/usr|' -e 's| -Wl,-rpath,[^ ]*||' \
+    "$work/usr/usr/lib/$triplet/pkgconfig/iox2sd.pc" > "$dev/lib/$triplet/pkgconfig/iox2sd.pc"
+install -m 644 "$work/usr/usr/lib/$triplet"/cmake/iox2sd/* "$dev/lib/$triplet/cmake/iox2sd"
 deb libiox2sd-dev
 
 python=$work/deb/python3-iox2sd/usr/lib/python3/dist-packages

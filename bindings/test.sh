@@ -24,9 +24,11 @@ run() {
     fi
 }
 
+races() { valgrind --quiet --tool=helgrind --error-exitcode=9 "$@"; }
+
 leaks() { valgrind --quiet --leak-check=full --show-leak-kinds=all --error-exitcode=9 "$@"; }
 
-warnings=(-Wall -Wextra -Wpedantic -Werror)
+warnings=(-Wall -Wextra -Wpedantic -Wconversion -Werror)
 
 # compiler, library, source, standard and further options
 runs() {
@@ -66,7 +68,7 @@ prints_what_it_says() {
 
 example() {
     has "$1" || return 0
-    run "$1 $2 compiles" "$1" -std=c++17 "${warnings[@]}" -O2 -I../include "$2" out/libiox2sd.a \
+    run "$1 $2 compiles" "$1" "-std=$3" "${warnings[@]}" -O2 -I../include "$2" out/libiox2sd.a \
         -o "$work/caller" && run "$1 $2 prints what it says" prints_what_it_says "$2" "$work/caller"
 }
 
@@ -160,6 +162,10 @@ for compiler in gcc clang; do
         sanitized "$compiler" address,undefined "$source" -std=c99
     done
     sanitized "$compiler" thread c/test_threads.c -std=c99
+    if has valgrind; then
+        runs "$compiler" iox2sd c/test_threads.c -std=c99 -g &&
+            run "$compiler c/test_threads.c under helgrind" races "$work/caller"
+    fi
     for source in c/test_script.c c/test_conform.c c/test_config.c; do
         caller "$compiler" iox2sd "$source" -std=c99 -Wl,--wrap=malloc,--wrap=realloc
     done
@@ -169,6 +175,9 @@ for compiler in gcc clang; do
         runs "$compiler" iox2sd "$source" -std=c99 -D_GNU_SOURCE "$wrapped"
     done
     runs "$compiler" iox2sd c/test_stack.c -std=c99 -D_GNU_SOURCE
+    for source in ../examples/{builder,monitor,settings}.c; do
+        example "$compiler" "$source" c99
+    done
 done
 wrapped_settings=-Wl,--wrap=iox2sd_script_run_at,--wrap=iox2sd_service_create_at
 for name in {global,publish_subscribe,event,request_response}_{defaults,settings_check_at} \
@@ -189,31 +198,77 @@ include_costs() {
         echo "$taken kB, at most $most" && [ "$taken" -le "$most" ]
 }
 
+# The least processor time of seven compilations of a source, in hundredths of a second.
+hundredths() {
+    for _ in 1 2 3 4 5 6 7; do
+        /usr/bin/time -f '%U %S' "$@" 2>&1
+    done | awk '{ taken = 100 * ($1 + $2); if (NR == 1 || taken < least) least = taken }
+                END { print int(least) }'
+}
+
+# A header that is included takes at most so many hundredths of a second more than <iostream> alone.
+include_takes() {
+    local most=$1 alone taken
+    echo '#include <iostream>' > "$work/alone.cpp"
+    printf '#include <iostream>\n#include "iox2sd.hpp"\n' > "$work/beside.cpp"
+    alone=$(hundredths "${@:2}" -fsyntax-only -I../include "$work/alone.cpp")
+    taken=$(hundredths "${@:2}" -fsyntax-only -I../include "$work/beside.cpp")
+    echo "$((taken - alone)) hundredths beside $alone, at most $most"
+    [ "$((taken - alone))" -le "$most" ]
+}
+
+# Of all warnings of clang++ -Weverything, those about older standards and about padding alone are
+# left to the headers.
+named=(-Wno-c++98-compat -Wno-c++98-compat-pedantic -Wno-c++98-compat-local-type-template-args
+    -Wno-pre-c++14-compat -Wno-pre-c++17-compat -Wno-padded)
+
 if has g++ && has /usr/bin/time; then
     run "an include of iox2sd.hpp takes at most 100 MB" include_costs 102400 g++ -std=c++17
+    for compiler in g++ clang++; do
+        if has "$compiler"; then
+            run "$compiler: an include of iox2sd.hpp takes at most 0.25 s beside <iostream>" \
+                include_takes 25 "$compiler" -std=c++17
+        fi
+    done
+fi
+if has clang++; then
+    for header in ../include/*.hpp; do
+        [ "$header" = ../include/iox2sd_format.hpp ] && continue
+        echo "#include \"${header##*/}\"" > "$work/everything.cpp"
+        run "clang++ -Weverything has no warning about $header but those named" clang++ -std=c++17 \
+            -Weverything -Werror "${named[@]}" -fsyntax-only -I../include "$work/everything.cpp"
+    done
 fi
 for compiler in g++ clang++; do
     for standard in c++17 c++20 c++2b; do
-        for header in iox2sd.hpp iox2sd_config.hpp iox2sd_conform.hpp; do
+        for header in iox2sd{,_fwd,_result,_text,_values,_service,_config,_conform}.hpp; do
             run "$compiler -std=$standard has no warning about $header" "$compiler" \
-                -std=$standard "${warnings[@]}" -Wconversion -Wshadow -fsyntax-only -I../include \
+                -std=$standard "${warnings[@]}" -Wshadow -fsyntax-only -I../include \
                 -x c++ "../include/$header"
         done
     done
     if has_format "$compiler"; then runs "$compiler" iox2sd cpp/test_format.cpp -std=c++20; fi
     runs "$compiler" iox2sd cpp/test_enumerators.cpp -std=c++17
+    runs "$compiler" iox2sd cpp/test_fwd.cpp -std=c++17
     runs "$compiler" iox2sd cpp/test_fields.cpp -std=c++17 "$wrapped_settings"
     caller "$compiler" iox2sd c/test_values.cpp -std=c++11
-    for source in cpp/test_values.cpp cpp/test_satisfies.cpp cpp/test_service.cpp \
-        cpp/test_config.cpp cpp/test_conform.cpp; do
+    for source in cpp/test_values.cpp cpp/test_results.cpp cpp/test_satisfies.cpp \
+        cpp/test_service.cpp cpp/test_config.cpp cpp/test_conform.cpp; do
         caller "$compiler" iox2sd "$source" -std=c++17
         runs "$compiler" iox2sd "$source" -std=c++20
         sanitized "$compiler" address,undefined "$source" -std=c++17
     done
+    runs "$compiler" iox2sd cpp/test_memory.cpp -std=c++17
     sanitized "$compiler" address,undefined cpp/test_memory.cpp -std=c++17
     sanitized "$compiler" thread cpp/test_service.cpp -std=c++17
+    if has valgrind; then
+        runs "$compiler" iox2sd cpp/test_service.cpp -std=c++17 -g &&
+            run "$compiler cpp/test_service.cpp under helgrind" races "$work/caller"
+    fi
     runs "$compiler" iox2sd cpp/test_service.cpp -std=c++17 -fno-exceptions -fno-rtti
-    for source in cpp/examples/*.cpp; do example "$compiler" "$source"; done
+    for source in cpp/examples/*.cpp ../examples/{builder,monitor,settings}.cpp; do
+        example "$compiler" "$source" c++17
+    done
 done
 run "statuses agree" same_statuses
 if has python3; then run "the structs are those of the table" ./fields; fi
@@ -306,7 +361,7 @@ outside() {
 
 by_pkg_config() {
     local flags
-    flags=$(PKG_CONFIG_PATH=$1/lib/pkgconfig pkg-config --cflags --libs 'iox2sd >= 0.1') &&
+    flags=$(PKG_CONFIG_PATH=$1/${2:-lib}/pkgconfig pkg-config --cflags --libs 'iox2sd >= 0.1') &&
         outside $flags
 }
 
@@ -314,7 +369,7 @@ by_find_package() {
     cp install/consumer/CMakeLists.txt ../examples/first.c ../examples/first.cpp "$work/outside" &&
         cmake -S "$work/outside" -B "$work/outside/build" -DCMAKE_PREFIX_PATH="$1" &&
         cmake --build "$work/outside/build" --parallel 1 &&
-        for program in c_static c_shared cpp_static cpp_shared; do
+        for program in {c,cpp}_{static,shared,iox2sd}; do
             alike first "$work/outside/build/$program" || return 1
         done
 }
@@ -341,6 +396,13 @@ installation() {
     run "install.sh installs into a stage" env DESTDIR="$work/stage" ./install.sh /usr &&
         run "a stage has the same files" same_files "$prefix" "$work/stage/usr"
     run "install.sh wants an absolute path" bash -c '! ./install.sh prefix'
+    # The directories of a distribution, as GNUInstallDirs names them.
+    if run "install.sh installs into other directories" env LIBDIR=lib/x86_64-linux-gnu \
+        INCLUDEDIR=include/iox2sd ./install.sh "$work/debian" && has gcc && has g++ && has cmake; then
+        run "find_package, in other directories" by_find_package "$work/debian"
+        run "pkg-config, in other directories" by_pkg_config "$work/debian" lib/x86_64-linux-gnu
+        rm -rf "$work/outside"/*
+    fi
     if has gcc && has g++; then
         run "plain flags, static" outside "-I$prefix/include" "$prefix/lib/libiox2sd.a"
         run "plain flags, shared" outside "-I$prefix/include" "-L$prefix/lib" -liox2sd \

@@ -23,13 +23,13 @@ TypeDetail type(std::string_view name, std::size_t size, std::size_t alignment) 
 }
 
 /// What the service is: its name, hash text, settings and attributes.
-void describe(const StaticConfig& description, std::size_t loans) {
+void describe(const StaticConfig& description, const PublishSubscribeSettings& settings) {
     const PublishSubscribeStaticConfig& config = *description.publish_subscribe();
     std::cout << "service: " << description.name() << '\n'
               << "hash: " << description.service_hash() << '\n'
               << "capacities: " << config.max_nodes << " nodes, " << config.max_publishers
               << " publishers, " << config.max_subscribers << " subscribers\n"
-              << "samples: " << config.required_amount_of_samples_per_data_segment(loans).value()
+              << "samples: " << settings.required_amount_of_samples_per_data_segment().value()
               << '\n';
     for (const Attribute& each : description.attributes()) {
         std::cout << "attribute: " << each.key() << " = " << each.value() << '\n';
@@ -92,8 +92,8 @@ int main() {
         StaticConfig::create(ServiceName::create("My/Service").value(), UniqueServiceId(1, 0, 0, 1),
                              attributes, PublishSubscribeStaticConfig(settings, types))
             .value();
-    describe(description, settings.publisher_max_loaned_samples);
+    describe(description, settings);
     verify(description, verifier);
-    Service service = Service::create(description.messaging_pattern(), 7).value();
+    Service service = Service::create(description, 7).value();
     live(service);
 }

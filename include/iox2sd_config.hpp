@@ -9,7 +9,12 @@
 #include <cerrno>
 
 #include "iox2sd.hpp"
+// Headers of C have the casts and the NULL of C.
+#pragma GCC diagnostic push
+#pragma GCC diagnostic ignored "-Wold-style-cast"
+#pragma GCC diagnostic ignored "-Wzero-as-null-pointer-constant"
 #include "iox2sd_config.h"
+#pragma GCC diagnostic pop
 
 namespace iox2sd {
 
@@ -56,24 +61,16 @@ namespace detail {
 /// The bytes at the front of an array, of which there may be more than it holds.
 template <std::size_t Capacity, std::size_t Size>
 Text<Capacity> front(const std::uint8_t (&bytes)[Size], std::size_t length) noexcept {
-    static_assert(Size <= Capacity);
-    return *Text<Capacity>::written_by([&](std::uint8_t* out, std::size_t) {
-        const std::size_t held = length < Size ? length : Size;
-        copy_items(bytes, held, out);
-        return iox2sd_text_answer{IOX2SD_DONE, held};
-    });
+    const std::size_t held = length < Size ? length : Size;
+    return Text<Capacity>::joined({{reinterpret_cast<const char*>(bytes), held}});
 }
 
-/// A path or the name of a file that the library gave.
+/// A path or the name of a file that the library gave, and such a text for the library.
 template <class Kind>
-Kind from_c(const iox2sd_config_text& c) noexcept {
-    return Kind(*Text<255>::written_by([&c](std::uint8_t* out, std::size_t) {
-        copy_items(c.bytes, c.length, out);
-        return iox2sd_text_answer{IOX2SD_DONE, c.length};
-    }), FromLibrary{});
+Kind text_from_c(const iox2sd_config_text& c) noexcept {
+    return Kind(front<255>(c.bytes, c.length), {});
 }
-
-inline iox2sd_config_text as_c(const Text<255>& text) noexcept {
+inline iox2sd_config_text text_as_c(const Text<255>& text) noexcept {
     iox2sd_config_text c{};
     copy_items(bytes(text.view()), text.size(), c.bytes);
     c.length = text.size();
@@ -82,7 +79,7 @@ inline iox2sd_config_text as_c(const Text<255>& text) noexcept {
 
 }  // namespace detail
 
-/// What is wrong with a file, and with which key. `<<` writes both in words.
+/// What is wrong with a file, and with which key.
 struct ConfigFault {
     Status status;
     ConfigTable table;   ///< The table of the key.
@@ -91,8 +88,13 @@ struct ConfigFault {
     Text<80> key;        ///< The path of the key, as "defaults.event.deadline".
     Text<256> reason;    ///< What is wrong, in words.
 
-    template <class F>
-    auto fields(F f) const noexcept { return f(status, table, found, wanted, key, reason); }
+    IOX2SD_FIELDS(status, table, found, wanted, key, reason);
+
+    /// The key, where there is one, and what is wrong.
+    Text<338> text() const noexcept {
+        if (key.empty()) return Text<338>::joined({reason});
+        return Text<338>::joined({key, ": ", reason});
+    }
 
     /// The fault that the C header gives.
     static ConfigFault from_c(const iox2sd_config_fault& c) noexcept {
@@ -105,13 +107,8 @@ struct ConfigFault {
     }
 };
 
-/// Writes the key, where there is one, and what is wrong.
-template <class Traits>
-std::basic_ostream<char, Traits>& operator<<(std::basic_ostream<char, Traits>& out,
-                                             const ConfigFault& fault) {
-    if (!fault.key.empty()) out << fault.key << ": ";
-    return out << fault.reason;
-}
+template <>
+inline constexpr bool detail::is_written<ConfigFault> = true;
 
 /// Why the text of a file gives no settings.
 struct ConfigError {
@@ -120,7 +117,15 @@ struct ConfigError {
     /// Every fault, in the order of the settings; one without a key where the text is no TOML.
     List<ConfigFault> faults;
     int system_error = 0;  ///< With `NoFile`, the system's number of the error.
+
+    /// The first fault in words, or what the status says.
+    Text<338> text() const noexcept {
+        if (!faults.empty()) return faults.front().text();
+        return Text<338>::joined({iox2sd::text(status)});
+    }
 };
+template <>
+inline constexpr bool detail::is_written<ConfigError> = true;
 
 /// Why settings give no text.
 struct ConfigWriteError {
@@ -128,9 +133,18 @@ struct ConfigWriteError {
     SettingsField field;  ///< With `BadDuration`, the field that is invalid.
     Text<80> key;         ///< With `NoTomlInteger`, the path of the first such key.
 
-    template <class F>
-    auto fields(F f) const noexcept { return f(status, field, key); }
+    IOX2SD_FIELDS(status, field, key);
+
+    /// The key or the field, and what is wrong with it.
+    Text<255> text() const noexcept {
+        const std::string_view words = iox2sd::text(status);
+        if (!key.empty()) return Text<255>::joined({key, ": ", words});
+        if (status != Status::BadDuration) return Text<255>::joined({words});
+        return Text<255>::joined({iox2sd::text(field), ": ", words});
+    }
 };
+template <>
+inline constexpr bool detail::is_written<ConfigWriteError> = true;
 
 /// A key of a file that no setting has.
 struct UnknownKey {
@@ -138,8 +152,7 @@ struct UnknownKey {
     std::string_view key;  ///< Its path, which lasts as long as its `ConfigFile`.
     Text<80> meant;        ///< The path of the known key that was probably meant, or nothing.
 
-    template <class F>
-    auto fields(F f) const noexcept { return f(table, key, meant); }
+    IOX2SD_FIELDS(table, key, meant);
 };
 
 /// The texts of the settings.
@@ -161,44 +174,42 @@ struct ConfigTexts {
     FileName port_tag_suffix;
     FileName global_mgmt_suffix;
 
-    template <class F>
-    auto fields(F f) const noexcept {
-        return f(root_path, prefix, service_directory, data_segment_suffix,
-                 static_config_storage_suffix, dynamic_config_storage_suffix, connection_suffix,
-                 event_connection_suffix, blackboard_mgmt_suffix, blackboard_data_suffix,
-                 node_directory, monitor_suffix, node_static_config_suffix, service_tag_suffix,
-                 port_tag_suffix, global_mgmt_suffix);
-    }
+#define IOX2SD_TEXTS                                                                          \
+    root_path, prefix, service_directory, data_segment_suffix, static_config_storage_suffix,  \
+        dynamic_config_storage_suffix, connection_suffix, event_connection_suffix,            \
+        blackboard_mgmt_suffix, blackboard_data_suffix, node_directory, monitor_suffix,       \
+        node_static_config_suffix, service_tag_suffix, port_tag_suffix, global_mgmt_suffix
+#define IOX2SD_TEXT_FROM_C(name) detail::text_from_c<decltype(name)>(c.name),
+#define IOX2SD_TEXT_AS_C(name) c.name = detail::text_as_c(name);
+    IOX2SD_FIELDS(IOX2SD_TEXTS);
 
-    /// The texts that the C header gives.
+    /// The texts that the C header has, and the texts as it takes them.
     static ConfigTexts from_c(const iox2sd_config_texts& c) noexcept {
-        return {detail::from_c<Path>(c.root_path),
-                detail::from_c<FileName>(c.prefix),
-                detail::from_c<Path>(c.service_directory),
-                detail::from_c<FileName>(c.data_segment_suffix),
-                detail::from_c<FileName>(c.static_config_storage_suffix),
-                detail::from_c<FileName>(c.dynamic_config_storage_suffix),
-                detail::from_c<FileName>(c.connection_suffix),
-                detail::from_c<FileName>(c.event_connection_suffix),
-                detail::from_c<FileName>(c.blackboard_mgmt_suffix),
-                detail::from_c<FileName>(c.blackboard_data_suffix),
-                detail::from_c<Path>(c.node_directory),
-                detail::from_c<FileName>(c.monitor_suffix),
-                detail::from_c<FileName>(c.node_static_config_suffix),
-                detail::from_c<FileName>(c.service_tag_suffix),
-                detail::from_c<FileName>(c.port_tag_suffix),
-                detail::from_c<FileName>(c.global_mgmt_suffix)};
+        return {IOX2SD_EACH(IOX2SD_TEXT_FROM_C, IOX2SD_TEXTS)};
     }
-
-    /// The texts as the C header takes them.
     iox2sd_config_texts as_c() const noexcept {
-        return fields([](const auto&... texts) {
-            return iox2sd_config_texts{detail::as_c(texts)...};
-        });
+        iox2sd_config_texts c{};
+        IOX2SD_EACH(IOX2SD_TEXT_AS_C, IOX2SD_TEXTS)
+        return c;
     }
+#undef IOX2SD_TEXTS
+#undef IOX2SD_TEXT_FROM_C
+#undef IOX2SD_TEXT_AS_C
 };
 
-struct ConfigFile;
+namespace detail {
+
+/// The bytes of a path: all of them, where a `c_str` ends at the first zero byte.
+template <class File>
+std::string_view native(const File& path) noexcept {
+    if constexpr (std::is_convertible_v<const File&, std::string_view>) {
+        return path;
+    } else {
+        return path.native();
+    }
+}
+
+}  // namespace detail
 
 /// All settings: those of the system, and those that services get by default.
 struct Config {
@@ -209,10 +220,8 @@ struct Config {
     RequestResponseSettings request_response;
     BlackboardSettings blackboard;
 
-    template <class F>
-    auto fields(F f) const noexcept {
-        return f(global, texts, publish_subscribe, event, request_response, blackboard);
-    }
+    IOX2SD_OF_C(Config, iox2sd_config, global, texts, publish_subscribe, event, request_response,
+                blackboard);
 
     /// The settings of the text of a file, where each key that it does not have has its default.
     static Result<ConfigFile, ConfigError> from_toml(std::string_view text) noexcept;
@@ -220,13 +229,19 @@ struct Config {
     /// The same of a file, which is read whole.
     static Result<ConfigFile, ConfigError> from_toml_file(const char* path) noexcept;
 
+    /// The same of a file whose path is a `std::filesystem::path` or a `std::string`. One with a
+    /// zero byte is that of no file.
+    template <class File,
+              class = std::enable_if_t<std::is_same_v<typename File::value_type, char>>>
+    static Result<ConfigFile, ConfigError> from_toml_file(const File& path) noexcept;
+
     /// The settings as the text of a file, each below a comment with what it is and its default.
     Result<List<char>, ConfigWriteError> to_toml() const noexcept {
         const iox2sd_config c = as_c();
         iox2sd_config_write_answer answer{};
         auto written = List<char>::written_by([&](char* out, std::size_t capacity) {
             answer = iox2sd_config_write(&c, reinterpret_cast<std::uint8_t*>(out), capacity);
-            return iox2sd_count_answer{answer.status, answer.length};
+            return detail::counted(answer.status, answer.length);
         });
         if (written) return std::move(written).value();
         return ConfigWriteError{written.status(), SettingsField{answer.field},
@@ -239,26 +254,10 @@ struct Config {
     /// The directory of nodes: the root path and theirs, joined. Error: `TooLong`.
     Result<Path> node_dir() const noexcept { return below(texts.node_directory); }
 
-    /// The settings that the C header gives.
-    static Config from_c(const iox2sd_config& c) noexcept {
-        return {GlobalSettings::from_c(c.global),
-                ConfigTexts::from_c(c.texts),
-                PublishSubscribeSettings::from_c(c.publish_subscribe),
-                EventSettings::from_c(c.event),
-                RequestResponseSettings::from_c(c.request_response),
-                BlackboardSettings::from_c(c.blackboard)};
-    }
-
-    /// The settings as the C header takes them.
-    iox2sd_config as_c() const noexcept {
-        return {global.as_c(), texts.as_c(),            publish_subscribe.as_c(),
-                event.as_c(),  request_response.as_c(), blackboard.as_c()};
-    }
-
 private:
     Result<Path> below(const Path& directory) const noexcept {
         Path path = texts.root_path;
-        return path.add_path_entry(directory).transform([&path] { return path; });
+        return path.add_path_entry(directory).transform([&path]() noexcept { return path; });
     }
 };
 
@@ -291,17 +290,17 @@ inline Result<List<iox2sd_unknown_key>> unknown_keys(std::string_view text,
     const iox2sd_unknown_answer needed =
         iox2sd_config_unknown(bytes(text), text.size(), nullptr, 0, nullptr, 0);
     return List<iox2sd_unknown_key>::written_by([&](iox2sd_unknown_key* keys, std::size_t size) {
-        if (keys == nullptr) return iox2sd_count_answer{needed.status, needed.count};
+        if (keys == nullptr) return detail::counted(needed.status, needed.count);
         auto written = List<char>::written_by([&](char* out, std::size_t capacity) {
-            if (out == nullptr) return iox2sd_count_answer{IOX2SD_BUFFER_TOO_SHORT, needed.length};
+            if (out == nullptr) return detail::counted(IOX2SD_BUFFER_TOO_SHORT, needed.length);
             const iox2sd_unknown_answer answer =
                 iox2sd_config_unknown(bytes(text), text.size(), keys, size,
                                       reinterpret_cast<std::uint8_t*>(out), capacity);
-            return iox2sd_count_answer{answer.status, answer.length};
+            return detail::counted(answer.status, answer.length);
         });
-        if (!written) return iox2sd_count_answer{static_cast<std::uint32_t>(written.status()), 0};
+        if (!written) return detail::counted(static_cast<std::uint32_t>(written.status()), 0);
         paths = std::move(written).value();
-        return iox2sd_count_answer{IOX2SD_DONE, size};
+        return detail::counted(IOX2SD_DONE, size);
     });
 }
 
@@ -365,6 +364,15 @@ inline Result<ConfigFile, ConfigError> Config::from_toml(std::string_view text) 
     return ConfigFile{from_c(made), std::move(unknown).value(), std::move(paths)};
 }
 
+template <class File, class>
+Result<ConfigFile, ConfigError> Config::from_toml_file(const File& path) noexcept {
+    const char* const name = path.c_str();
+    if (std::string_view(name) != detail::native(path)) {
+        return ConfigError{Status::NoFile, {}, EINVAL};
+    }
+    return from_toml_file(name);
+}
+
 inline Result<ConfigFile, ConfigError> Config::from_toml_file(const char* path) noexcept {
     const detail::OpenFile open(path);
     if (open.file == nullptr) return ConfigError{Status::NoFile, {}, errno};
@@ -372,7 +380,7 @@ inline Result<ConfigFile, ConfigError> Config::from_toml_file(const char* path) 
     const auto text = List<char>::of_range(bytes, [](char byte) { return byte; });
     if (std::ferror(open.file) != 0) return ConfigError{Status::NoFile, {}, errno};
     if (!text) return ConfigError{text.status(), {}};
-    return from_toml({text->data(), text->size()});
+    return from_toml(*text);
 }
 
 }  // namespace iox2sd

@@ -8,12 +8,17 @@
 #define IOX2SD_CONFORM_HPP
 
 #include <iterator>
+#include <map>
 #include <string>
-#include <unordered_map>
 #include <vector>
 
 #include "iox2sd.hpp"
+// Headers of C have the casts and the NULL of C.
+#pragma GCC diagnostic push
+#pragma GCC diagnostic ignored "-Wold-style-cast"
+#pragma GCC diagnostic ignored "-Wzero-as-null-pointer-constant"
 #include "iox2sd_conform.h"
+#pragma GCC diagnostic pop
 
 namespace iox2sd {
 
@@ -43,8 +48,7 @@ struct Attached {
     /// others.
     std::string_view ports;
 
-    template <class F>
-    auto fields(F f) const noexcept { return f(nodes, ports); }
+    IOX2SD_FIELDS(nodes, ports);
 };
 
 /// A state that a service may be in. Its texts last as long as their `LogVerdict`.
@@ -52,8 +56,7 @@ struct PossibleState {
     std::string_view possible;  ///< With `NoRun`, every reply that a run gives from it.
     Attached attached;          ///< Who is there.
 
-    template <class F>
-    auto fields(F f) const noexcept { return f(possible, attached); }
+    IOX2SD_FIELDS(possible, attached);
 };
 
 /// The states of a verdict, one after the other. They are read from its report, and last as long
@@ -137,8 +140,7 @@ struct [[nodiscard]] LogVerdict {
     List<char> text;    ///< The report.
 
     /// What iox2-conform writes; nothing with `NoMemory`.
-    std::string_view report() const& noexcept { return {text.data(), text.size()}; }
-    std::string_view report() const&& = delete;
+    IOX2SD_LENDS(std::string_view, report, text);
 
     /// With `NoRun`: the words of the reply that was seen. Else nothing.
     std::string_view seen() const& noexcept {
@@ -170,15 +172,15 @@ inline LogVerdict check_log(std::string_view log) noexcept {
         iox2sd_conform_run(detail::bytes(log), log.size(), front, sizeof front);
     if (answer.status == IOX2SD_NO_MEMORY) return {Status::NoMemory, 0, 0, {}};
     auto report = List<char>::written_by([&](char* out, std::size_t capacity) {
-        if (out == nullptr) return iox2sd_count_answer{IOX2SD_BUFFER_TOO_SHORT, answer.length};
+        if (out == nullptr) return detail::counted(IOX2SD_BUFFER_TOO_SHORT, answer.length);
         if (answer.status != IOX2SD_BUFFER_TOO_SHORT) {
             std::memcpy(out, front, answer.length);
         } else {
             auto* const bytes = reinterpret_cast<std::uint8_t*>(out);
             answer = iox2sd_conform_run(detail::bytes(log), log.size(), bytes, capacity);
-            if (answer.status == IOX2SD_NO_MEMORY) return iox2sd_count_answer{answer.status, 0};
+            if (answer.status == IOX2SD_NO_MEMORY) return detail::counted(answer.status, 0);
         }
-        return iox2sd_count_answer{IOX2SD_DONE, answer.length};
+        return detail::counted(IOX2SD_DONE, answer.length);
     });
     if (!report) return {report.error(), 0, 0, {}};
     return {Status{answer.status}, answer.line, answer.calls, std::move(report).value()};
@@ -197,43 +199,53 @@ public:
                                    const Capacities& capacities) {
         Result<Service> made = Service::create(pattern, number, capacities);
         if (!made) return made.error();
-        Recorder recorder(std::move(made).value());
-        recorder.log_ = std::string("service ") +
-                        iox2sd_pattern_str(static_cast<std::uint32_t>(pattern)) + ' ' +
-                        std::to_string(number) + ' ' + std::to_string(capacities.nodes) + ' ' +
-                        std::to_string(capacities.first) + ' ' +
-                        std::to_string(capacities.second) + '\n';
-        return recorder;
+        std::string line = "service ";
+        line += text(pattern);
+        for (const std::uint64_t each :
+             {number, std::uint64_t{capacities.nodes}, std::uint64_t{capacities.first},
+              std::uint64_t{capacities.second}}) {
+            line += ' ' + std::to_string(each);
+        }
+        return Recorder(std::move(made).value(), line + '\n');
     }
 
-    /// The service, for queries that are not written down.
-    const Service& service() const& noexcept { return service_; }
-    const Service& service() const&& = delete;
+    /// The same of what `Service::create` makes a service of.
+    template <class Described, class = decltype(capacities(std::declval<const Described&>()))>
+    static Result<Recorder> create(const Described& described, std::uint64_t number) {
+        return create(detail::pattern_of(described), number, capacities(described));
+    }
 
-    /// The log so far.
-    const std::string& log() const& noexcept { return log_; }
-    const std::string& log() const&& = delete;
+    /// The service, for queries that are not written down, and the log so far.
+    IOX2SD_LENDS(const Service&, service, service_);
+    IOX2SD_LENDS(const std::string&, log, log_);
+
+    // Each of the next five calls changes the service. So each takes the memory for its line first,
+    // and the line cannot be missing.
 
     Result<ContainerHandle> register_node_id(const UniqueNodeId& node) {
-        return written_made("register " + dotted(node.parts()), service_.register_node_id(node));
+        Line line(*this, "register " + dotted(node.parts()));
+        return line.write_made(service_.register_node_id(node));
     }
 
     Result<DeregisterNodeState> deregister_node_id(const ContainerHandle& handle) {
+        Line line(*this, "deregister", handle);
         const auto state = service_.deregister_node_id(handle);
-        write_removed("deregister", handle, state ? words(*state) : words(state.error()));
+        line.write(state ? words(*state) : words(state.error()));
         return state;
     }
 
     Result<ContainerHandle> attach(const PortDetails& details) {
-        const std::string port = dotted(port_id(details).parts());
-        const std::string node = dotted(node_id(details).parts());
-        return written_made("add " + word(role(details)) + ' ' + port + ' ' + node,
-                            service_.attach(details));
+        std::string command = "add ";
+        command += text(role(details));
+        command += ' ' + dotted(port_id(details).parts()) + ' ' + dotted(node_id(details).parts());
+        Line line(*this, command);
+        return line.write_made(service_.attach(details));
     }
 
     Result<void> release_port(const ContainerHandle& handle) {
+        Line line(*this, "release", handle);
         const auto released = service_.release_port(handle);
-        write_removed("release", handle, released ? "released" : words(released.error()));
+        line.write(released ? "released" : words(released.error()));
         return released;
     }
 
@@ -245,8 +257,9 @@ public:
             command += (ports.empty() ? " skip " : " ") + dotted(port.parts());
             ports.push_back(port);
         }
+        Line line(*this, command);
         const auto removal = service_.remove_dead_node_id(dead, ports);
-        if (removal) write(command, words(removal->state));
+        if (removal) line.write(words(removal->state));
         return removal;
     }
     Result<DeadNodeRemoval> remove_dead_node_id(
@@ -256,54 +269,105 @@ public:
 
     Result<List<UniqueNodeId>> nodes() {
         auto nodes = service_.nodes();
-        if (nodes) write("nodes", listed(*nodes, [](const UniqueNodeId& node) { return node; }));
+        if (!nodes) return nodes;
+        const auto reply = listed(*nodes, [](const UniqueNodeId& node) { return node; });
+        Line(*this, "nodes", reply.size()).write(reply);
         return nodes;
     }
 
     /// `Role::Node` has no line.
     Result<List<PortDetails>> ports(Role role) {
         auto ports = service_.ports(role);
-        if (ports) {
-            write("list " + word(role), listed(*ports, port_id));
-        } else {
-            write_refused("list ", role, ports.error());
-        }
+        const auto id = [](const PortDetails& port) { return port_id(port); };
+        write_query("list ", role,
+                    ports ? listed(*ports, id) : std::string(words(ports.error())));
         return ports;
     }
 
     /// `Role::Node` has no line.
     Result<std::size_t> count_ports(Role role) {
         const auto count = service_.count_ports(role);
-        if (count) {
-            write("count " + word(role), "count " + std::to_string(*count));
-        } else {
-            write_refused("count ", role, count.error());
-        }
+        write_query("count ", role,
+                    count ? "count " + std::to_string(*count) : std::string(words(count.error())));
         return count;
     }
 
 private:
-    explicit Recorder(Service&& service) noexcept : service_(std::move(service)) {}
+    Recorder(Service&& service, const std::string& line)
+        : service_(std::move(service)), log_(line) {}
 
-    static std::string word(Role role) {
-        return iox2sd_role_str(static_cast<std::uint64_t>(role));
-    }
+    /// The line of a call before it is made, with memory for its reply. Writing it takes no more.
+    class Line {
+    public:
+        Line(Recorder& recorder, const std::string& command, std::size_t longest_reply = 64)
+            : recorder_(recorder) {
+            made_.emplace(ContainerHandle(), recorder.calls_);
+            take(command + "\n= ", longest_reply);
+        }
 
-    static std::string words(DeregisterNodeState state) {
+        /// Of a call that takes a handle: the line names the call that returned it. Where none did,
+        /// the line is a comment.
+        Line(Recorder& recorder, const std::string& command, const ContainerHandle& handle)
+            : recorder_(recorder) {
+            const auto found = recorder.returned_by_.find(handle);
+            is_comment_ = found == recorder.returned_by_.end();
+            take(is_comment_ ? "# " + command + ": no call returned the handle\n"
+                             : command + ' ' + std::to_string(found->second) + "\n= ",
+                 64);
+        }
+
+        /// Writes the line with its reply; nothing where no reply says what was returned.
+        void write(std::string_view reply) {
+            if (is_comment_) {
+                recorder_.log_ += line_;
+            } else if (!reply.empty()) {
+                recorder_.log_.append(line_).append(reply) += '\n';
+                ++recorder_.calls_;
+            }
+        }
+
+        /// The same of a call that returns a handle, which later lines may name.
+        Result<ContainerHandle> write_made(const Result<ContainerHandle>& made) {
+            if (made) {
+                auto returned = made_.extract(made_.begin());
+                returned.key() = *made;
+                recorder_.returned_by_.insert(std::move(returned));
+                const detail::Digits slot(made->slot), ticket(made->ticket);
+                const auto reply = Text<64>::joined({"handle ", slot.view(), " ", ticket.view()});
+                write(reply);
+            } else {
+                write(words(made.error()));
+            }
+            return made;
+        }
+
+    private:
+        void take(std::string line, std::size_t longest_reply) {
+            const std::size_t size = recorder_.log_.size();
+            recorder_.log_.append(line.size() + longest_reply + 1, ' ').resize(size);
+            line_ = std::move(line);
+        }
+
+        Recorder& recorder_;
+        std::string line_;
+        bool is_comment_ = false;
+        /// What `returned_by_` will have of the call.
+        std::map<ContainerHandle, std::size_t> made_;
+    };
+
+    static std::string_view words(DeregisterNodeState state) noexcept {
         return state == DeregisterNodeState::HasOwners ? "has-owners" : "no-owners";
     }
 
     /// The reply of a call that is refused; nothing where no reply says so.
-    static std::string words(Status status) {
-        switch (status) {
-            case Status::IsLocked: return "locked";
-            case Status::NodeNotRegistered: return "not-registered";
-            case Status::OutOfSpace: return "full";
-            case Status::RoleNotInPattern: return "wrong-pattern";
-            case Status::ForeignHandle: return "not-owned";
-            case Status::PortsStillAttached: return "ports-attached";
-            default: return {};
-        }
+    static std::string_view words(Status status) noexcept {
+        if (status == Status::IsLocked) return "locked";
+        if (status == Status::NodeNotRegistered) return "not-registered";
+        if (status == Status::OutOfSpace) return "full";
+        if (status == Status::RoleNotInPattern) return "wrong-pattern";
+        if (status == Status::ForeignHandle) return "not-owned";
+        if (status == Status::PortsStillAttached) return "ports-attached";
+        return {};
     }
 
     /// An id as commands have it.
@@ -324,45 +388,17 @@ private:
         return found;
     }
 
-    void write(const std::string& command, const std::string& reply) {
-        if (reply.empty()) return;
-        log_ += command + "\n= " + reply + '\n';
-        ++calls_;
-    }
-
-    /// Writes a call that returns a handle, and returns what it returned.
-    Result<ContainerHandle> written_made(const std::string& command,
-                                         const Result<ContainerHandle>& made) {
-        if (made) {
-            returned_by_.emplace(*made, calls_);
-            write(command, "handle " + std::to_string(made->slot) + ' ' +
-                               std::to_string(made->ticket));
-        } else {
-            write(command, words(made.error()));
-        }
-        return made;
-    }
-
-    /// Writes a call that takes a handle. Its line names the call that returned it.
-    void write_removed(const std::string& command, const ContainerHandle& handle,
-                       const std::string& reply) {
-        const auto found = returned_by_.find(handle);
-        if (found == returned_by_.end()) {
-            log_ += "# " + command + ": no call returned the handle\n";
-        } else {
-            write(command + ' ' + std::to_string(found->second), reply);
-        }
-    }
-
-    void write_refused(const std::string& command, Role role, Status status) {
-        if (role != Role::Node) write(command + word(role), words(status));
+    void write_query(std::string command, Role role, const std::string& reply) {
+        if (role == Role::Node) return;
+        command += text(role);
+        Line(*this, command, reply.size()).write(reply);
     }
 
     Service service_;
     std::string log_;
     std::size_t calls_ = 0;
     /// The number of the call that returned each handle.
-    std::unordered_map<ContainerHandle, std::size_t> returned_by_;
+    std::map<ContainerHandle, std::size_t> returned_by_;
 };
 
 }  // namespace iox2sd

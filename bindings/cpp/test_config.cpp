@@ -2,6 +2,7 @@
 // is 'N checks, N failed'.
 #include <unistd.h>
 
+#include <filesystem>
 #include <sstream>
 #include <string>
 #include <string_view>
@@ -144,8 +145,18 @@ void files() {
     CHECK(missing.status() == Status::NoFile && missing.error().system_error == ENOENT);
     const auto folder = Config::from_toml_file("/tmp");
     CHECK(folder.status() == Status::NoFile && folder.error().system_error == EISDIR);
+    const std::filesystem::path no_path = "/nowhere/iceoryx2.toml";
+    CHECK(Config::from_toml_file(no_path).error().system_error == ENOENT);
+    CHECK(Config::from_toml_file(no_path.string()).error().system_error == ENOENT);
+    const string with_zero("/dev/null\0more", 14);
+    for (const auto& read_zero : {Config::from_toml_file(std::filesystem::path(with_zero)).status(),
+                                  Config::from_toml_file(with_zero).status()}) {
+        CHECK(read_zero == Status::NoFile);
+    }
+    CHECK(Config::from_toml_file(with_zero).error().system_error == EINVAL);
+    CHECK(Config::from_toml_file(std::filesystem::path("/dev/null")));
     const auto empty = Config::from_toml_file("/dev/null");
-    CHECK(empty.has_value() && empty->config == Config::from_toml("")->config);
+    CHECK(empty.has_value() && empty->config == Config::from_toml("").value().config);
 }
 
 static_assert(std::is_nothrow_move_constructible_v<ConfigFile>);

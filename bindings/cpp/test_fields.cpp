@@ -412,7 +412,7 @@ void handles() {
 void fronts() {
     std::uint8_t bytes[80];
     for (std::uint8_t& byte : bytes) byte = 'x';
-    for (std::size_t length : {0, 1, 79, 80, 81, 300}) {
+    for (const std::size_t length : {0u, 1u, 79u, 80u, 81u, 300u}) {
         CHECK(detail::front<80>(bytes, length) == string(length < 80 ? length : 80, 'x'));
     }
 }

@@ -1,5 +1,8 @@
-// Refuses each request for memory of each call of iox2sd.hpp, and of check_log, in turn. The last
-// line is 'N checks, N failed'.
+// Refuses each request for memory of each call of iox2sd.hpp, of check_log and of a Recorder, in
+// turn. The last line is 'N checks, N failed'.
+#include <cstdlib>
+#include <new>
+
 #include "check.hpp"
 #include "iox2sd_conform.hpp"
 
@@ -13,12 +16,18 @@ bool is_refused() { return refused_request >= 0 && refused_request-- == 0; }
 }  // namespace
 
 void* operator new(std::size_t size, const std::nothrow_t&) noexcept {
-    return is_refused() ? nullptr : ::operator new(size);
+    return is_refused() ? nullptr : std::malloc(size);
 }
 
-void* operator new[](std::size_t size, const std::nothrow_t&) noexcept {
-    return is_refused() ? nullptr : ::operator new[](size);
+void* operator new(std::size_t size) {
+    void* const memory = is_refused() ? nullptr : std::malloc(size);
+    if (memory == nullptr) throw std::bad_alloc();
+    return memory;
 }
+
+void operator delete(void* memory) noexcept { std::free(memory); }
+void operator delete(void* memory, std::size_t) noexcept { std::free(memory); }
+void operator delete(void* memory, const std::nothrow_t&) noexcept { std::free(memory); }
 
 namespace {
 
@@ -56,8 +65,9 @@ void lists_of(std::uint32_t count, int requests) {
         CHECK(refused([&] { return service.ports_of(node); }) == is_refused);
         CHECK(refused([&] { return service.list_listeners(); }) == is_refused);
         CHECK(!refused([&] { return service.list_notifiers(); }));
-        CHECK(service.nodes()->size() == count && service.ports_of(node)->size() == count);
-        CHECK(service.list_listeners()->back().listener_id == UniqueListenerId(1, 2, 3, count - 1));
+        CHECK(service.nodes().value().size() == count);
+        CHECK(service.ports_of(node).value().size() == count);
+        CHECK(service.list_listeners().value().back().listener_id == UniqueListenerId(1, 2, 3, count - 1));
     }
 }
 
@@ -105,11 +115,53 @@ void values() {
     }));
 }
 
+/// Each call on a Recorder that changes its service.
+void record(Recorder& recorder) {
+    const UniqueNodeId one = UniqueNodeId::create(1, 2, 3, 4).value();
+    const UniqueNodeId two = UniqueNodeId::create(1, 2, 3, 5).value();
+    const UniqueListenerId kept(1, 2, 3, 6);
+    const ContainerHandle first = recorder.register_node_id(one).value();
+    CHECK(recorder.register_node_id(two));
+    CHECK(recorder.attach(ListenerDetails{kept, one}));
+    const UniqueNotifierId notifier(4000000001, 4000000002, 4000000003, 4000000004);
+    const ContainerHandle port = recorder.attach(NotifierDetails{notifier, two}).value();
+    CHECK(recorder.attach(NotifierDetails{notifier, two}).status() == Status::OutOfSpace);
+    CHECK(recorder.deregister_node_id(first).status() == Status::PortsStillAttached);
+    CHECK(recorder.release_port(port));
+    CHECK(recorder.remove_dead_node_id(one, {kept}));
+    CHECK(recorder.remove_dead_node_id(one));
+    CHECK(recorder.remove_dead_node_id(two));
+    CHECK(recorder.ports(Role::Listener) && recorder.count_ports(Role::Notifier));
+}
+
+/// A Recorder whose memory is refused has written down each change of its service: its log, with
+/// the lines of who is there now, conforms.
+void recorders() {
+    const auto attempt = [](int request) {
+        Recorder recorder = Recorder::create(EventCapacities{2, 1, 1}, 7).value();
+        bool was_refused = false;
+        refused_request = request;
+        try {
+            record(recorder);
+        } catch (const std::bad_alloc&) {
+            was_refused = true;
+        }
+        refused_request = -1;
+        CHECK(recorder.nodes() && recorder.ports(Role::Listener) && recorder.ports(Role::Notifier));
+        CHECK(check_log(recorder.log()).status == Status::Done);
+        return was_refused;
+    };
+    int requests = 0;
+    while (attempt(requests)) ++requests;
+    CHECK(requests > 20);
+}
+
 }  // namespace
 
 int main() {
     lists();
     deaths();
+    recorders();
     values();
     return end_of_checks();
 }

@@ -18,8 +18,8 @@ template <class Fixed, class Change>
 bool is_unmet(const Fixed& service, SettingsField field, Change change) {
     Fixed required = service;
     change(required);
-    const Result<void, SettingsError> answer = satisfies(service, required);
-    return satisfies(service, service).has_value() && !answer.has_value() &&
+    const Result<void, SettingsError> answer = service.satisfies(required);
+    return service.satisfies(service).has_value() && !answer.has_value() &&
            answer.error() == SettingsError{Status::Unmet, field};
 }
 
@@ -38,7 +38,7 @@ void publish_subscribe() {
                    [](Fixed& r) { r.enable_safe_overflow = false; }));
     Fixed fewer = service;
     --fewer.max_nodes;
-    CHECK(satisfies(service, fewer).has_value());
+    CHECK(service.satisfies(fewer).has_value());
 }
 
 void event() {
@@ -61,8 +61,8 @@ void event() {
     Fixed required = service;
     required.deadline = Duration(1, 1000000000);
     const SettingsError invalid{Status::BadDuration, SettingsField::Deadline};
-    CHECK(satisfies(service, required).error() == invalid);
-    CHECK(satisfies(required, service).error() == invalid);
+    CHECK(service.satisfies(required).error() == invalid);
+    CHECK(required.satisfies(service).error() == invalid);
 }
 
 void request_response() {

@@ -220,7 +220,7 @@ template <class Details, class Call>
 void listing(std::size_t pattern, Call call) {
     Service service = make(patterns[pattern], {1, 1, 1});
     const PortDetails port = port_of(Details::role, 20, a);
-    CHECK(service.register_node_id(a) && call(service)->empty() && service.attach(port));
+    CHECK(service.register_node_id(a) && call(service).value().empty() && service.attach(port));
     CHECK(lists(call(service), std::get<Details>(port)));
     const Service other = make(patterns[(pattern + 1) % 4], {1, 1, 1});
     CHECK(call(other).status() == Status::RoleNotInPattern);
@@ -281,7 +281,7 @@ void kept_ranges() {
         CHECK(service.remove_dead_node_id(a, kept));
         return *service.count_ports(Role::Listener);
     };
-    for (std::uint32_t last : {0, 1, 15, 16, 17, 33, 40}) {
+    for (const std::uint32_t last : {0u, 1u, 15u, 16u, 17u, 33u, 40u}) {
         CHECK(left(Counting{1, last}) == last);
     }
     const UniquePortId two[] = {listener(3), listener(4)};
@@ -303,7 +303,8 @@ void segments() {
 
 void moved_lists() {
     Service service = make(PatternKind::Event, {1, 1, 1});
-    CHECK(service.nodes()->empty() && service.nodes()->data() == nullptr);
+    const List<UniqueNodeId> none = service.nodes().value();
+    CHECK(none.empty() && none.data() == nullptr);
     CHECK(service.register_node_id(a));
     List<UniqueNodeId> list = service.nodes().value();
     const List<UniqueNodeId> moved = std::move(list);
@@ -346,7 +347,7 @@ bool works(Service& service, std::uint64_t rounds) {
         const auto first = service.register_node_id(a);
         const auto second = service.register_node_id(b);
         const auto port = service.attach(port_of(Role::Subscriber, 20, b));
-        good = good && first && second && port && service.ports_of(b)->size() == 1;
+        good = good && first && second && port && service.ports_of(b).value().size() == 1;
         good = good && service.release_port(*port) && service.deregister_node_id(*second);
         const auto back = service.register_node_id(stranger);
         good = good && service.deregister_node_id(*first) &&
@@ -413,7 +414,7 @@ void questions_at_once() {
                        *service.max_ports(Role::Notifier) == 1 &&
                        *service.has_room(Role::Notifier) && !*service.has_room(Role::Listener);
                 each = each && *service.port(port) == PortDetails(listener) &&
-                       lists(service.nodes(), a, b) && service.ports_of(b)->empty() &&
+                       lists(service.nodes(), a, b) && service.ports_of(b).value().empty() &&
                        lists(service.ports(Role::Listener), PortDetails(listener)) &&
                        lists(service.ports_of(a), PortDetails(listener)) &&
                        lists(service.list_listeners(), listener);

@@ -241,7 +241,7 @@ void texts() {
     CHECK(ServiceName::internal_new("iox2://x").value() == "iox2://x");
     CHECK(ServiceName::internal_new_prefixed("ab").value() == "iox2://ab");
     CHECK(ServiceName::internal_new_prefixed("").value() == "iox2://");
-    CHECK(ServiceName::internal_new_prefixed(string(248, 'x'))->size() == 255);
+    CHECK(ServiceName::internal_new_prefixed(string(248, 'x')).value().size() == 255);
     CHECK(ServiceName::internal_new_prefixed(string(249, 'x')).status() == Status::TooLong);
     CHECK(ServiceName::internal_new_prefixed(with_byte(9, 3, '\0')).status() ==
           Status::IllegalByte);
@@ -353,7 +353,7 @@ void ids() {
 
     const std::string widest(32, 'f');
     CHECK(UniqueServiceId::from_text("0") == UniqueServiceId(0, 0, 0, 0));
-    CHECK(UniqueServiceId::from_text(widest)->text() == widest);
+    CHECK(UniqueServiceId::from_text(widest).value().text() == widest);
     const auto shown = a.text();
     CHECK(UniqueNodeId::from_text(shown) == *node);
     CHECK(UniqueServiceId::from_text("").error() == Status::Empty);

@@ -1,7 +1,7 @@
 // Discovery: who is attached to a service, by node, and its available capacities.
 //
 // It prints:
-//     pattern 2, 2 of 3 nodes, 1 of 1 servers, 2 of 8 clients
+//     request-response, 2 of 3 nodes, 1 of 1 servers, 2 of 8 clients
 //     node 1000000000000000000000001
 //       server 100000000000000000000000a
 //       client 100000000000000000000000b
@@ -17,17 +17,6 @@ using namespace iox2sd;
 
 namespace {
 
-const char* name_of(Role role) {
-    switch (role) {
-        case Role::Server:
-            return "server";
-        case Role::Client:
-            return "client";
-        default:
-            return "other port";
-    }
-}
-
 Result<void> print(const Service& service) {
     const auto nodes = service.nodes();
     if (!nodes) return nodes.error();
@@ -39,7 +28,7 @@ Result<void> print(const Service& service) {
         const auto ports = service.ports_of(node);
         if (!ports) return ports.error();
         for (const PortDetails& port : *ports) {
-            std::cout << "  " << name_of(role(port)) << ' ' << port_id(port) << '\n';
+            std::cout << "  " << role(port) << ' ' << port_id(port) << '\n';
         }
     }
     return {};
@@ -50,15 +39,14 @@ Result<void> print(const Service& service) {
 int main() {
     const UniqueNodeId one = UniqueNodeId::create(1, 0, 0, 1).value();
     const UniqueNodeId two = UniqueNodeId::create(2, 0, 0, 2).value();
-    Service service = Service::create(PatternKind::RequestResponse, 7, {3, 1, 8}).value();
+    Service service = Service::create(RequestResponseCapacities{3, 1, 8}, 7).value();
     if (!service.register_node_id(two) || !service.register_node_id(one)) return 1;
     if (!service.attach(ClientDetails{UniqueClientId(2, 0, 0, 12), two})) return 1;
     if (!service.attach(ClientDetails{UniqueClientId(1, 0, 0, 11), one})) return 1;
     if (!service.attach(ServerDetails{UniqueServerId(1, 0, 0, 10), one})) return 1;
 
     const PortRoles roles = service.port_roles().value();
-    std::cout << "pattern " << static_cast<unsigned>(service.kind().value()) << ", "
-              << service.number_of_nodes().value() << " of " << service.max_nodes().value()
+    std::cout << service.kind().value() << ", " << service.number_of_nodes().value() << " of " << service.max_nodes().value()
               << " nodes, " << service.count_ports(roles.first).value() << " of "
               << service.max_ports(roles.first).value() << " servers, "
               << service.count_ports(roles.second).value() << " of "

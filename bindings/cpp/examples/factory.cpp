@@ -75,6 +75,6 @@ int main() {
         report(attach_publisher(config, service, UniquePublisherId(1, 0, 0, counter), node, loans,
                                 elements));
     };
-    for (std::uint32_t counter : {10, 11, 12}) make(counter, 128);
+    for (const std::uint32_t counter : {10u, 11u, 12u}) make(counter, 128);
     make(13, SIZE_MAX);
 }

@@ -12,7 +12,7 @@
 int main() {
     using namespace iox2sd;
     // One node, two listeners and two notifiers at a time; the service has the number 7.
-    Service service = Service::create(PatternKind::Event, 7, {1, 2, 2}).value();
+    Service service = Service::create(EventCapacities{1, 2, 2}, 7).value();
 
     const UniqueNodeId one = UniqueNodeId::create(1, 0, 0, 1).value();
     const UniqueNodeId two = UniqueNodeId::create(2, 0, 0, 2).value();

@@ -1,0 +1,53 @@
+// A liveness monitor: removes dead nodes with their ports, but keeps the ports that are still being
+// read. The service is locked when its last node is removed.
+//
+// It prints:
+//     dead node 10: 1 publishers, 0 subscribers removed, nodes are left
+//       kept: subscriber 21
+//     dead node 10: 0 publishers, 1 subscribers removed, nodes are left
+//     dead node 11: 1 publishers, 0 subscribers removed, the service is locked
+//     a late node: the service is locked for good
+#include "iox2sd.h"
+
+#include <stdio.h>
+#include <stdlib.h>
+
+static void remove_dead(iox2sd_service *service, iox2sd_id dead, const iox2sd_id *kept,
+                        size_t kept_count) {
+    const iox2sd_dead_node_removal gone =
+        iox2sd_remove_dead_node_id(service, dead, kept, kept_count);
+    iox2sd_port_details ports[4];
+    const iox2sd_count_answer left = iox2sd_ports_of(service, dead, ports, 4);
+    printf("dead node %u: %zu publishers, %zu subscribers removed, %s\n", (unsigned)dead.counter,
+           gone.first, gone.second,
+           gone.status == IOX2SD_DONE_LOCKED ? "the service is locked" : "nodes are left");
+    for (size_t i = 0; i < left.count; i++) {
+        printf("  kept: %s %u\n", iox2sd_role_str(ports[i].role), (unsigned)ports[i].port.counter);
+    }
+}
+
+int main(void) {
+    const iox2sd_id camera = {1, 0, 0, 10}, lidar = {2, 0, 0, 11}, read = {1, 0, 0, 21};
+    const iox2sd_publish_subscribe_capacities four = {4, 4, 4};
+    const iox2sd_port_details ports[] = {
+        {.role = IOX2SD_PUBLISHER, .port = {1, 0, 0, 20}, .node = camera},
+        {.role = IOX2SD_SUBSCRIBER, .port = read, .node = camera, .buffer_size = 2},
+        {.role = IOX2SD_PUBLISHER, .port = {2, 0, 0, 22}, .node = lidar}};
+    iox2sd_service service = IOX2SD_SERVICE_NONE;
+    if (iox2sd_service_create(&service, IOX2SD_PUBLISH_SUBSCRIBE, 7,
+                              iox2sd_capacities_of_publish_subscribe(four), UINT64_MAX) !=
+        IOX2SD_DONE) {
+        return EXIT_FAILURE;
+    }
+    if (iox2sd_register_node_id(&service, camera).status != IOX2SD_DONE) return EXIT_FAILURE;
+    if (iox2sd_register_node_id(&service, lidar).status != IOX2SD_DONE) return EXIT_FAILURE;
+    for (size_t i = 0; i < 3; i++) {
+        if (iox2sd_attach(&service, &ports[i]).status != IOX2SD_DONE) return EXIT_FAILURE;
+    }
+    remove_dead(&service, camera, &read, 1);
+    remove_dead(&service, camera, NULL, 0);
+    remove_dead(&service, lidar, NULL, 0);
+    printf("a late node: %s\n",
+           iox2sd_status_str(iox2sd_register_node_id(&service, camera).status));
+    return iox2sd_service_free(&service) == IOX2SD_DONE ? EXIT_SUCCESS : EXIT_FAILURE;
+}

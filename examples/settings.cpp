@@ -1,0 +1,39 @@
+// Reads a file of settings: what it says, which keys no setting has, and what is wrong with it. The
+// file is the first argument; without one there are two texts.
+#include <iostream>
+
+#include "iox2sd_config.hpp"
+
+using namespace iox2sd;
+
+namespace {
+
+int report(const Result<ConfigFile, ConfigError>& file) {
+    if (!file) {
+        std::cout << "refused: " << file.error() << '\n';
+        for (const ConfigFault& fault : file.error().faults) std::cout << "  " << fault << '\n';
+        return 1;
+    }
+    const PublishSubscribeSettings& samples = file->config.publish_subscribe;
+    std::cout << "services are in " << file->config.service_dir().value() << '\n'
+              << "a publisher needs memory for "
+              << samples.required_amount_of_samples_per_data_segment().value() << " samples\n";
+    for (const UnknownKey& unknown : file->unknown) {
+        std::cout << "unknown: " << unknown.key;
+        if (!unknown.meant.empty()) std::cout << ", meant is " << unknown.meant;
+        std::cout << '\n';
+    }
+    return 0;
+}
+
+}  // namespace
+
+int main(int count, char** arguments) {
+    if (count > 1) return report(Config::from_toml_file(arguments[1]));
+    const int good = report(Config::from_toml("[global]\nroot-path = '/run/my'\n"
+                                              "[defaults.publish-subscribe]\n"
+                                              "max-subscribers = 16\nmax-publisher = 3\n"));
+    const int bad = report(Config::from_toml("[global]\ncreation-timeout = 5\n"
+                                             "[defaults.event]\nmax-nodes = -1\n"));
+    return good == 0 && bad == 1 ? 0 : 1;
+}
