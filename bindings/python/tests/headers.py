@@ -13,11 +13,19 @@ CONSTANTS = {
 }
 """The members of all enums."""
 
-_ENUM = re.search(r"enum iox2sd_status \{(.*?)\};", TEXT, re.DOTALL)
+_ENUM = re.search(r"enum iox2sd_status(?:_number)? \{(.*?)\};", TEXT, re.DOTALL)
 assert _ENUM is not None
 STATUSES = {
-    name: int(number) for name, number in re.findall(r"IOX2SD_(\w+) = (\d+)", _ENUM.group(1))
+    name.removeprefix("STATUS_"): int(number)
+    for name, number in re.findall(r"IOX2SD_(\w+) = (\d+)", _ENUM.group(1))
 }
+
+
+def constant(kind: str, name: str) -> int:
+    """The number of a member of an enum, whose name the enum may be a part of."""
+    names = (f"{kind}_{name}", name, f"{name}_{kind}")
+    return next(CONSTANTS[one] for one in names if one in CONSTANTS)
+
 
 ABI = re.search(r"#define IOX2SD_ABI (\d+)", TEXT)
 
