@@ -1,6 +1,6 @@
 #!/usr/bin/env bash
-# Builds into bindings/out the library for C: libiox2sd.a and libiox2sd.so.0, of which iox2sd_* alone can be seen from
-# outside. It needs the C library alone. The first time takes as long as the proof of all crates below.
+# Builds into bindings/out the library for C: libiox2sd.a and libiox2sd.so.2, of which the functions
+# of the headers alone can be seen from outside. It needs the C library alone. The first time takes as long as the proof of all crates below.
 # With --after-gate it proves the exports alone, over what `rt ci` left of the crates below, which
 # it has just proved. `rt ci` keeps nothing of the exports that it proves, so they are proved again,
 # but for what checks before the gate kept in out/incremental.
@@ -44,9 +44,12 @@ for crate in iox2sd iox2sd_values iox2sd_script iox2sd_conform iox2sd_config; do
     objcopy --wildcard --keep-global-symbol='iox2sd_*' "out/$crate.o"
     objects+=("out/$crate.o")
 done
+# The functions of the headers that check pointers and call the exports.
+"$CC" -std=c99 -O2 -fPIC -Wall -Wextra -Werror -I../include -c library/iox2sd.c -o out/library.o
+objects+=(out/library.o)
 ar rcs out/libiox2sd.a "${objects[@]}"
-"$CC" -shared -o out/libiox2sd.so.0 "${objects[@]}" \
-    -Wl,-soname,libiox2sd.so.0 -Wl,--version-script=c/iox2sd.map -Wl,-z,defs -Wl,-z,now
-ln -s libiox2sd.so.0 out/libiox2sd.so
+"$CC" -shared -o out/libiox2sd.so.2 "${objects[@]}" \
+    -Wl,-soname,libiox2sd.so.2 -Wl,--version-script=library/iox2sd.map -Wl,-z,defs -Wl,-z,now
+ln -s libiox2sd.so.2 out/libiox2sd.so
 rm out/*.o
 ls -l out

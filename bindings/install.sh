@@ -14,7 +14,7 @@ if [ $# -ne 1 ] || [[ $1 != /* ]]; then
 fi
 prefix=${DESTDIR:-}$1
 cd "$(dirname "$0")"
-for library in out/libiox2sd.a out/libiox2sd.so.0; do
+for library in out/libiox2sd.a out/libiox2sd.so.2; do
     [ -f "$library" ] || { echo "$library is missing: bindings/build.sh builds it" >&2; exit 1; }
 done
 source=../crates/iox2sd_values/src/version.rt
@@ -29,8 +29,8 @@ cmake=$lib/cmake/iox2sd
 install -d "$include" "$lib/pkgconfig" "$cmake"
 install -m 644 ../include/iox2sd*.h ../include/iox2sd*.hpp "$include"
 install -m 644 out/libiox2sd.a "$lib"
-install -m 755 out/libiox2sd.so.0 "$lib"
-ln -sf libiox2sd.so.0 "$lib/libiox2sd.so"
+install -m 755 out/libiox2sd.so.2 "$lib"
+ln -sf libiox2sd.so.2 "$lib/libiox2sd.so"
 versioned iox2sd.pc "$lib/pkgconfig"
 versioned iox2sdConfigVersion.cmake "$cmake"
 install -m 644 install/iox2sdConfig.cmake "$cmake"
@@ -44,7 +44,7 @@ rm -rf "$share"
 if python3 -c 'import tomllib' 2> /dev/null; then
     made=$(mktemp -d)
     trap 'rm -rf "$made"' EXIT
-    IOX2SD_LIBRARY=$PWD/out/libiox2sd.so.0 python3 -B python/build_wheel.py "$made" > /dev/null
+    IOX2SD_LIBRARY=$PWD/out/libiox2sd.so.2 python3 -B python/build_wheel.py "$made" > /dev/null
     install -D -m 644 -t "$share/python" "$made"/*.whl
 else
     echo "Python 3.11 was not found, so no wheel was installed" >&2

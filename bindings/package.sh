@@ -8,7 +8,7 @@
 # - iox2sd-VERSION-rust.tar.gz: the crate for cargo, with the static library beside it;
 # - a wheel for pip with the shared library in it, and an archive of sources, of which pip makes one
 #   with the library that is installed;
-# - Debian packages: libiox2sd0, libiox2sd-dev, python3-iox2sd, iox2sd-tools;
+# - Debian packages: libiox2sd2, libiox2sd-dev, python3-iox2sd, iox2sd-tools;
 # - PROVENANCE and SHA256SUMS.
 #
 # All times are those of the last commit (SOURCE_DATE_EPOCH), and names are sorted, so that two runs
@@ -87,7 +87,7 @@ deb() {
     install -m 644 "$work/md5sums" "$root/DEBIAN/md5sums"
     sed -e "s/@VERSION@/$version/g" "$top/debian/$1.control" > "$root/DEBIAN/control"
     echo "Installed-Size: $(du -k -s --apparent-size "$root/usr" | cut -f 1)" >> "$root/DEBIAN/control"
-    for script in triggers shlibs; do
+    for script in triggers shlibs symbols; do
         if [ -f "$top/debian/$1.$script" ]; then
             install -m 644 "$top/debian/$1.$script" "$root/DEBIAN/$script"
         fi
@@ -98,18 +98,18 @@ deb() {
 }
 
 triplet=x86_64-linux-gnu
-lib=$work/deb/libiox2sd0/usr/lib/$triplet
+lib=$work/deb/libiox2sd2/usr/lib/$triplet
 install -d "$lib"
-install -m 644 out/libiox2sd.so.0 "$lib"
-strip --strip-unneeded "$lib/libiox2sd.so.0"
-deb libiox2sd0
+install -m 644 out/libiox2sd.so.2 "$lib"
+strip --strip-unneeded "$lib/libiox2sd.so.2"
+deb libiox2sd2
 
 dev=$work/deb/libiox2sd-dev/usr
 install -d "$dev/include" "$dev/lib/$triplet/pkgconfig" "$dev/lib/$triplet/cmake/iox2sd"
 install -m 644 "$prefix"/include/* "$dev/include"
 install -m 644 out/libiox2sd.a "$dev/lib/$triplet"
 strip --strip-debug "$dev/lib/$triplet/libiox2sd.a"
-ln -s libiox2sd.so.0 "$dev/lib/$triplet/libiox2sd.so"
+ln -s libiox2sd.so.2 "$dev/lib/$triplet/libiox2sd.so"
 # Where the system finds the library without a path in the program.
 sed -e 's|^prefix=.*|prefix=/usr|' -e "s|^libdir=.*|libdir=\${prefix}/lib/$triplet|" \
     -e 's| -Wl,-rpath,[^ ]*||' \
@@ -124,11 +124,11 @@ install -d "$python"
 python3 - "$dist"/iox2sd-*.whl "$python" << 'END'
 import sys, zipfile
 with zipfile.ZipFile(sys.argv[1]) as wheel:
-    wheel.extractall(sys.argv[2], [n for n in wheel.namelist() if not n.endswith(".so.0")])
+    wheel.extractall(sys.argv[2], [n for n in wheel.namelist() if not n.endswith(".so.2")])
 END
 rm -f "$python"/*.dist-info/RECORD
 find "$python" -type d -exec chmod 755 {} + -o -type f -exec chmod 644 {} +
-ln -s "../../../$triplet/libiox2sd.so.0" "$python/iox2sd/libiox2sd.so.0"
+ln -s "../../../$triplet/libiox2sd.so.2" "$python/iox2sd/libiox2sd.so.2"
 deb python3-iox2sd
 
 tools=$work/deb/iox2sd-tools/usr

@@ -52,9 +52,10 @@ exported() { nm "$@" | awk 'NF == 3 { print $3 }' | sort -u; }
 
 same_exports() {
     exported -g --defined-only out/libiox2sd.a > "$work/archive"
-    exported -D --defined-only out/libiox2sd.so.0 > "$work/shared"
+    exported -D --defined-only out/libiox2sd.so.2 > "$work/shared"
     [ -s "$work/archive" ] && ! grep -v '^iox2sd_' "$work/archive" &&
-        diff "$work/archive" "$work/shared"
+        diff "$work/archive" <(sed -n 's/^\(iox2sd_[a-z0-9_]*\)@@IOX2SD_.*/\1/p' "$work/shared") &&
+        ./symbols out/libiox2sd.so.2
 }
 
 # An example prints the lines that stand below 'It prints:' at its head.
@@ -72,7 +73,7 @@ example() {
 # The statuses of the header are those of the crate that has them: a number has one name, and a name
 # one number.
 same_statuses() {
-    sed -n '/^enum iox2sd_status {/,/^}/s/^ *IOX2SD_\([A-Z0-9_]*\) = \([0-9]*\).*/\2 \1/p' ../include/iox2sd.h |
+    sed -n '/^enum iox2sd_status_number {/,/^}/s/^ *IOX2SD_\([A-Z0-9_]*\) = \([0-9]*\).*/\2 \1/p' ../include/iox2sd.h |
         awk '{ n = split($2, words, "_"); name = ""
                for (i = 1; i <= n; i++) name = name substr(words[i], 1, 1) tolower(substr(words[i], 2))
                print $1, name }' | sort > "$work/header"
@@ -195,7 +196,7 @@ if has objdump && [ "$(uname -m)" = x86_64 ]; then
     run "libiox2sd runs on every x86-64" baseline
 fi
 if has nm; then
-    run "libiox2sd exports iox2sd_* alone" same_exports
+    run "libiox2sd exports the functions of the headers alone" same_exports
 fi
 
 # ---- The same programs in each language ----
@@ -239,7 +240,7 @@ END
 }
 
 of_python() {
-    PYTHONDONTWRITEBYTECODE=1 PYTHONPATH=python IOX2SD_LIBRARY=$PWD/out/libiox2sd.so.0 \
+    PYTHONDONTWRITEBYTECODE=1 PYTHONPATH=python IOX2SD_LIBRARY=$PWD/out/libiox2sd.so.2 \
         python3 "../examples/$1.py"
 }
 

@@ -144,7 +144,7 @@ used() {
             python3 "$work/examples/short.py"
 }
 removed() {
-    debs --purge libiox2sd0 libiox2sd-dev python3-iox2sd iox2sd-tools &&
+    debs --purge libiox2sd2 libiox2sd-dev python3-iox2sd iox2sd-tools &&
         left=$(find "$root" -path "$root/var/lib/dpkg" -prune -o ! -type d -print) && echo "$left" &&
         [ -z "$left" ]
 }

@@ -5,9 +5,9 @@
  *
  * - Values are plain structs, which may be kept, copied and compared. iox2sd_id and iox2sd_handle
  *   have no padding, so memcmp compares them; compare the others by their fields.
- * - A call returns a status (enum iox2sd_status), alone or as the first field of a struct. Each
- *   function lists its errors in the order in which they are checked. After an error nothing has
- *   changed, and the other fields are 0, unless a function says otherwise. A handle is then
+ * - A call returns a status (enum iox2sd_status_number), alone or as the first field of a struct.
+ *   Each function lists its errors in the order in which they are checked. After an error nothing
+ *   has changed, and the other fields are 0, unless a function says otherwise. A handle is then
  *   IOX2SD_HANDLE_NONE, which no call accepts.
  * - An array, a buffer or a text is a pointer and a number of elements. NULL is an empty one where
  *   the number is 0. With another number, NULL is IOX2SD_NULL, and so it is where one struct is
@@ -63,13 +63,20 @@
  * most, in bytes. Calls of the other headers take more, as they say. It is measured, not proved. */
 #define IOX2SD_STACK_BYTES 8192
 
+/* The compiler warns where what such a call returns is not looked at. */
+#if defined(__GNUC__)
+#define IOX2SD_CHECKED __attribute__((warn_unused_result))
+#else
+#define IOX2SD_CHECKED
+#endif
+
 #ifdef __cplusplus
 extern "C" {
 #endif
 
 /* What a call of this header, or of another C header here, returns. iox2sd_status_text has a text
  * for each. */
-enum iox2sd_status {
+enum iox2sd_status_number {
     IOX2SD_DONE = 0,
     /* Success, and the service is locked for good: no node registers any more. */
     IOX2SD_DONE_LOCKED = 1,
@@ -125,12 +132,16 @@ enum iox2sd_status {
     IOX2SD_UNKNOWN_STRATEGY = 67,
     IOX2SD_BAD_DURATION = 68, /* The nanoseconds beside the seconds are 1,000,000,000 or more. */
     IOX2SD_UNMET = 69,        /* A setting of a service is not what an opener requires. */
+    /* A service has another messaging pattern than an opener requires. */
+    IOX2SD_OTHER_PATTERN = 70,
     IOX2SD_NOT_TOML = 80,
     IOX2SD_WRONG_TYPE = 81,     /* The value of a key is of another type than the wanted one. */
     IOX2SD_BELOW_ZERO = 82,     /* The value of a key is below 0. */
     IOX2SD_NO_DURATION = 83,    /* The value of a key is no table of the integers secs and nanos. */
     IOX2SD_NO_TOML_INTEGER = 84, /* A number is above 2^63 - 1. */
     IOX2SD_NO_FILE = 85,         /* A file cannot be read: C++ alone returns it. */
+    /* Tables and arrays of a file are more than 80 deep in one another. */
+    IOX2SD_TOO_DEEP = 86,
     IOX2SD_NO_RUN = 90,          /* No run of the proved machine gives a reply of a log. */
     /* A line of a log is not what is expected, or the log ends before it. */
     IOX2SD_NO_SERVICE_LINE = 91,
@@ -141,6 +152,7 @@ enum iox2sd_status {
     IOX2SD_NO_GROUP_LINE = 96,   /* A call of a group, or the end of the group, is expected. */
     IOX2SD_NO_GROUP_END = 97     /* The end of a group of eight calls is expected. */
 };
+typedef uint32_t iox2sd_status;
 
 /* Whether a call succeeded: with IOX2SD_DONE or IOX2SD_DONE_LOCKED. */
 #define IOX2SD_OK(status) ((uint32_t)(status) <= 1)
@@ -152,11 +164,12 @@ enum iox2sd_pattern_number {
     IOX2SD_REQUEST_RESPONSE = 2,
     IOX2SD_BLACKBOARD = 3
 };
+typedef uint64_t iox2sd_pattern;
 
 /* What an entry of a service is. Each pattern has two kinds of ports: publishers and subscribers,
  * listeners and notifiers, servers and clients, readers and writers. The ports of a dead node are
  * removed in this order. */
-enum iox2sd_role {
+enum iox2sd_role_number {
     IOX2SD_NODE = 0,
     IOX2SD_PUBLISHER = 1,
     IOX2SD_SUBSCRIBER = 2,
@@ -167,16 +180,18 @@ enum iox2sd_role {
     IOX2SD_READER = 7,
     IOX2SD_WRITER = 8
 };
+typedef uint64_t iox2sd_role;
 
 /* The role of no entry and of no port. Each call with it, or with a handle that has it, is refused
  * with IOX2SD_UNKNOWN_ROLE. */
 #define IOX2SD_NO_ROLE UINT64_MAX
 
 /* Whether a data segment may grow. */
-enum iox2sd_segment {
+enum iox2sd_segment_number {
     IOX2SD_DYNAMIC_SEGMENT = 0, /* It may be replaced by a larger one. */
     IOX2SD_STATIC_SEGMENT = 1   /* It keeps its size. */
 };
+typedef uint32_t iox2sd_segment;
 
 /* The id of a node, of a port or of a service. */
 typedef struct iox2sd_id {
@@ -189,18 +204,28 @@ typedef struct iox2sd_id {
 /* Registering and attaching return a handle; deregistering and releasing take it. */
 typedef struct iox2sd_handle {
     uint64_t service; /* The number of the service. */
-    uint64_t role;    /* Of enum iox2sd_role; IOX2SD_NO_ROLE in a handle of no entry. */
+    iox2sd_role role; /* IOX2SD_NO_ROLE in a handle of no entry. */
     size_t slot;
     uint64_t ticket; /* How many entries of its kind were made before it. */
 } iox2sd_handle;
 
+/* The id of a port, and what the port is. It has no padding, so memcmp compares it. */
+typedef struct iox2sd_port_id {
+    iox2sd_role role; /* Not IOX2SD_NODE. */
+    iox2sd_id port;
+} iox2sd_port_id;
+
 /* A handle of no entry. A handle whose bytes are all 0 is that of the first node of a service with
  * the number 0. */
 #define IOX2SD_HANDLE_NONE {0, IOX2SD_NO_ROLE, 0, 0}
+iox2sd_handle iox2sd_handle_none(void);
+
+/* Whether a handle is that of no entry: its role is IOX2SD_NO_ROLE. */
+bool iox2sd_handle_is_none(iox2sd_handle handle);
 
 /* The details of a port. A field that its kind does not have is ignored, and is 0 in an answer. */
 typedef struct iox2sd_port_details {
-    uint64_t role; /* Of enum iox2sd_role, but not IOX2SD_NODE. */
+    iox2sd_role role; /* Not IOX2SD_NODE. */
     iox2sd_id port;
     iox2sd_id node;
     size_t number_of_samples;       /* Of publishers. */
@@ -210,7 +235,7 @@ typedef struct iox2sd_port_details {
     size_t number_of_requests;      /* Of clients. */
     size_t response_buffer_size;    /* Of clients. */
     size_t max_slice_len;           /* Of publishers, servers and clients. */
-    uint32_t data_segment;          /* Of publishers, servers and clients: enum iox2sd_segment. */
+    iox2sd_segment data_segment;    /* Of publishers, servers and clients. */
     uint8_t max_number_of_segments; /* Of publishers, servers and clients. */
 } iox2sd_port_details;
 
@@ -244,37 +269,12 @@ typedef struct iox2sd_blackboard_capacities {
 } iox2sd_blackboard_capacities;
 
 /* The capacities with which a service of the pattern is made. */
-static inline iox2sd_capacities
-iox2sd_capacities_of_publish_subscribe(iox2sd_publish_subscribe_capacities capacities) {
-    iox2sd_capacities made;
-    made.nodes = capacities.nodes;
-    made.first = capacities.publishers;
-    made.second = capacities.subscribers;
-    return made;
-}
-static inline iox2sd_capacities iox2sd_capacities_of_event(iox2sd_event_capacities capacities) {
-    iox2sd_capacities made;
-    made.nodes = capacities.nodes;
-    made.first = capacities.listeners;
-    made.second = capacities.notifiers;
-    return made;
-}
-static inline iox2sd_capacities
-iox2sd_capacities_of_request_response(iox2sd_request_response_capacities capacities) {
-    iox2sd_capacities made;
-    made.nodes = capacities.nodes;
-    made.first = capacities.servers;
-    made.second = capacities.clients;
-    return made;
-}
-static inline iox2sd_capacities
-iox2sd_capacities_of_blackboard(iox2sd_blackboard_capacities capacities) {
-    iox2sd_capacities made;
-    made.nodes = capacities.nodes;
-    made.first = capacities.readers;
-    made.second = capacities.writers;
-    return made;
-}
+iox2sd_capacities
+iox2sd_capacities_of_publish_subscribe(iox2sd_publish_subscribe_capacities capacities);
+iox2sd_capacities iox2sd_capacities_of_event(iox2sd_event_capacities capacities);
+iox2sd_capacities
+iox2sd_capacities_of_request_response(iox2sd_request_response_capacities capacities);
+iox2sd_capacities iox2sd_capacities_of_blackboard(iox2sd_blackboard_capacities capacities);
 
 /* A service object. An all-zero one (IOX2SD_SERVICE_NONE, a memset) holds no service. The caller
  * owns these bytes, zeroes them before the first call, and does not read or change them otherwise.
@@ -289,57 +289,59 @@ typedef struct iox2sd_service {
 
 /* A handle; IOX2SD_HANDLE_NONE where the status is not IOX2SD_DONE. */
 typedef struct iox2sd_handle_answer {
-    uint32_t status;
+    iox2sd_status status;
     iox2sd_handle handle;
 } iox2sd_handle_answer;
 
 /* A number of things. */
 typedef struct iox2sd_count_answer {
-    uint32_t status;
+    iox2sd_status status;
+    iox2sd_status cause; /* Why a key or a value is refused; 0 where none is. */
     size_t count; /* Also with IOX2SD_BUFFER_TOO_SHORT: so many are needed. */
 } iox2sd_count_answer;
 
 /* A text for a buffer. */
 typedef struct iox2sd_text_answer {
-    uint32_t status;
+    iox2sd_status status;
+    iox2sd_status
+        cause;     /* Why another text, which the status names, is refused; 0 where none is. */
     size_t length; /* The text's bytes, also with IOX2SD_BUFFER_TOO_SHORT. */
 } iox2sd_text_answer;
 
 /* A number of a service; 0 where the status is not IOX2SD_DONE. */
 typedef struct iox2sd_number_answer {
-    uint32_t status;
+    iox2sd_status status;
     uint64_t number;
 } iox2sd_number_answer;
 
-/* The roles of the two kinds of ports of a pattern, of enum iox2sd_role; 0 where the status is not
- * IOX2SD_DONE. */
+/* The roles of the two kinds of ports of a pattern; 0 where the status is not IOX2SD_DONE. */
 typedef struct iox2sd_roles_answer {
-    uint32_t status;
-    uint64_t first;
-    uint64_t second;
+    iox2sd_status status;
+    iox2sd_role first;
+    iox2sd_role second;
 } iox2sd_roles_answer;
 
 /* Yes or no; no where the status is not IOX2SD_DONE. */
 typedef struct iox2sd_flag_answer {
-    uint32_t status;
+    iox2sd_status status;
     bool yes;
 } iox2sd_flag_answer;
 
 /* An id; all 0 where the status is not IOX2SD_DONE. */
 typedef struct iox2sd_id_answer {
-    uint32_t status;
+    iox2sd_status status;
     iox2sd_id id;
 } iox2sd_id_answer;
 
 /* A port; all 0 where the status is not IOX2SD_DONE. */
 typedef struct iox2sd_port_answer {
-    uint32_t status;
+    iox2sd_status status;
     iox2sd_port_details port;
 } iox2sd_port_answer;
 
 /* How many ports of a dead node were removed, also with IOX2SD_DONE_LOCKED. */
 typedef struct iox2sd_dead_node_removal {
-    uint32_t status;
+    iox2sd_status status;
     size_t first;  /* Publishers, listeners, servers or readers. */
     size_t second; /* Subscribers, notifiers, clients or writers. */
 } iox2sd_dead_node_removal;
@@ -351,119 +353,19 @@ uint32_t iox2sd_abi(void);
 /* Writes the text of a status to the front of `out`, without a zero byte, where all of it fits.
  * Errors: IOX2SD_NULL; IOX2SD_UNKNOWN_STATUS; IOX2SD_BUFFER_TOO_SHORT with the length that it
  * needs. */
-static inline iox2sd_text_answer iox2sd_status_text(uint32_t status, uint8_t *out,
-                                                    size_t capacity) {
-    iox2sd_text_answer refused = {IOX2SD_NULL, 0};
-    if (out == NULL && capacity != 0) return refused;
-    return iox2sd_status_text_at(status, out, capacity);
-}
+IOX2SD_CHECKED iox2sd_text_answer iox2sd_status_text(uint32_t status, uint8_t *out,
+                                                     size_t capacity);
 
 /* The text of a status, that of iox2sd_status_text, ended by a zero byte; "unknown status" for any
  * other number. */
-static inline const char *iox2sd_status_str(uint32_t status) {
-    switch (status) {
-        case IOX2SD_DONE: return "done";
-        case IOX2SD_DONE_LOCKED: return "done, and the service is locked for good";
-        case IOX2SD_BUFFER_TOO_SHORT: return "the buffer is too short";
-        case IOX2SD_NO_MEMORY: return "no memory";
-        case IOX2SD_NO_SERVICE: return "the object holds no service";
-        case IOX2SD_HAS_SERVICE: return "the object holds a service already";
-        case IOX2SD_UNKNOWN_PATTERN: return "unknown messaging pattern";
-        case IOX2SD_UNKNOWN_ROLE: return "unknown role";
-        case IOX2SD_NO_NODE: return "not the id of a node";
-        case IOX2SD_IS_LOCKED: return "the service is locked for good";
-        case IOX2SD_OUT_OF_SPACE: return "no slot or no ticket is left";
-        case IOX2SD_FOREIGN_HANDLE: return "no entry has the handle";
-        case IOX2SD_PORTS_STILL_ATTACHED: return "ports are still attached";
-        case IOX2SD_NODE_NOT_REGISTERED: return "the node is not registered";
-        case IOX2SD_ROLE_NOT_IN_PATTERN: return "the pattern has no ports of the role";
-        case IOX2SD_UNKNOWN_SEGMENT: return "unknown kind of data segment";
-        case IOX2SD_BAD_KEY: return "not a key of a pair";
-        case IOX2SD_BAD_VALUE: return "not a value of a pair";
-        case IOX2SD_TOO_MANY: return "more than sixteen pairs";
-        case IOX2SD_NULL: return "NULL";
-        case IOX2SD_UNKNOWN_STATUS: return "unknown status";
-        case IOX2SD_EMPTY: return "the text is empty";
-        case IOX2SD_TOO_LONG: return "the text is too long";
-        case IOX2SD_ILLEGAL_BYTE: return "a byte may not stand in the text";
-        case IOX2SD_NO_FILE_NAME: return "not the name of a file";
-        case IOX2SD_RESERVED_PREFIX: return "the name begins with a reserved prefix";
-        case IOX2SD_NOT_UTF8: return "not UTF-8";
-        case IOX2SD_BAD_SERVICE_NAME: return "not the name of a service";
-        case IOX2SD_BAD_PATH: return "not a path";
-        case IOX2SD_BAD_ENTRY: return "the text may not be joined to a path";
-        case IOX2SD_ILLEGAL_HASH: return "the hash text cannot be the name of a file";
-        case IOX2SD_BAD_REQUIRED_KEY: return "not a key of a required pair";
-        case IOX2SD_BAD_REQUIRED_VALUE: return "not a value of a required pair";
-        case IOX2SD_BAD_ASKED_KEY: return "not a key that may be searched for";
-        case IOX2SD_TOO_MANY_REQUIRED: return "more than sixteen pairs and keys are required";
-        case IOX2SD_MISSING_PAIR: return "a required pair is not in the set";
-        case IOX2SD_MISSING_KEY: return "no pair of the set has a required key";
-        case IOX2SD_NO_SUCH_VALUE: return "the key has no value of this index";
-        case IOX2SD_BAD_ALIGNMENT: return "an alignment is not a power of two";
-        case IOX2SD_TOO_LARGE: return "the answer would pass its range";
-        case IOX2SD_UNKNOWN_VARIANT: return "unknown variant";
-        case IOX2SD_OTHER_NAME: return "the types of a part have other names";
-        case IOX2SD_OTHER_VARIANT: return "the types of a part are of other variants";
-        case IOX2SD_OTHER_SIZE: return "the types of a part have other sizes";
-        case IOX2SD_OTHER_ALIGNMENT: return "the types of the headers have other alignments";
-        case IOX2SD_GREATER_ALIGNMENT:
-            return "the opener's type has a greater alignment than the service's";
-        case IOX2SD_UNKNOWN_TEXT: return "unknown text of the configuration";
-        case IOX2SD_BAD_LINE: return "a line of the script is not valid";
-        case IOX2SD_UNKNOWN_STRATEGY: return "unknown strategy";
-        case IOX2SD_BAD_DURATION: return "the nanoseconds of a duration are a second or more";
-        case IOX2SD_UNMET: return "a setting is not what the opener requires";
-        case IOX2SD_NOT_TOML: return "not TOML";
-        case IOX2SD_WRONG_TYPE: return "a value of another type is wanted";
-        case IOX2SD_BELOW_ZERO: return "the number is below 0";
-        case IOX2SD_NO_DURATION: return "not a duration: the integers secs and nanos";
-        case IOX2SD_NO_TOML_INTEGER: return "TOML has no integer above 2^63 - 1";
-        case IOX2SD_NO_FILE: return "the file cannot be read";
-        case IOX2SD_NO_RUN: return "no run gives the reply";
-        case IOX2SD_NO_SERVICE_LINE: return "the line of a service is expected";
-        case IOX2SD_NO_COMMAND_LINE: return "the line of a command is expected";
-        case IOX2SD_NO_REPLY_LINE: return "the line of a reply is expected";
-        case IOX2SD_NO_ORDER: return "no order of the group gives the replies";
-        case IOX2SD_TOO_MANY_STATES: return "orders of the group lead to more than 64 states";
-        case IOX2SD_NO_GROUP_LINE:
-            return "the line of a call of the group, or its end, is expected";
-        case IOX2SD_NO_GROUP_END: return "the end of the group is expected, which has 8 calls";
-        default: return "unknown status";
-    }
-}
+const char *iox2sd_status_str(iox2sd_status status);
 
-/* The word for a role of enum iox2sd_role, ended by a zero byte; "unknown role" for any other
- * number. */
-static inline const char *iox2sd_role_str(uint64_t role) {
-    switch (role) {
-        case IOX2SD_NODE: return "node";
-        case IOX2SD_PUBLISHER: return "publisher";
-        case IOX2SD_SUBSCRIBER: return "subscriber";
-        case IOX2SD_NOTIFIER: return "notifier";
-        case IOX2SD_LISTENER: return "listener";
-        case IOX2SD_CLIENT: return "client";
-        case IOX2SD_SERVER: return "server";
-        case IOX2SD_READER: return "reader";
-        case IOX2SD_WRITER: return "writer";
-        default: return "unknown role";
-    }
-}
+/* The word for a role, ended by a zero byte; "unknown role" for any other number. */
+const char *iox2sd_role_str(iox2sd_role role);
 
-/* The word for a pattern of enum iox2sd_pattern_number, ended by a zero byte; "unknown messaging
- * pattern" for any other number. */
-static inline const char *iox2sd_pattern_str(uint64_t pattern) {
-    switch (pattern) {
-        case IOX2SD_PUBLISH_SUBSCRIBE: return "publish-subscribe";
-        case IOX2SD_EVENT: return "event";
-        case IOX2SD_REQUEST_RESPONSE: return "request-response";
-        case IOX2SD_BLACKBOARD: return "blackboard";
-        default: return "unknown messaging pattern";
-    }
-}
-
-/* How many bytes a text has that ends in a zero byte. NULL has one, so that calls refuse it. */
-static inline size_t iox2sd_length(const char *text) { return text != NULL ? strlen(text) : 1; }
+/* The word for a pattern, ended by a zero byte; "unknown messaging pattern" for any other number.
+ */
+const char *iox2sd_pattern_str(iox2sd_pattern pattern);
 
 /* Whether an id is that of a node: its process or its counter is not 0. */
 bool iox2sd_id_is_node(iox2sd_id id);
@@ -479,23 +381,13 @@ bool iox2sd_id_is_before(iox2sd_id id, iox2sd_id other);
 /* Writes that number in lower-case hexadecimal digits without leading zeros, at most 32 bytes,
  * without a zero byte.
  * Errors: IOX2SD_NULL; IOX2SD_BUFFER_TOO_SHORT with the length that it needs. */
-static inline iox2sd_text_answer iox2sd_id_text(iox2sd_id id, uint8_t *out, size_t capacity) {
-    iox2sd_text_answer refused = {IOX2SD_NULL, 0};
-    if (out == NULL && capacity != 0) return refused;
-    return iox2sd_id_text_at(id, out, capacity);
-}
+IOX2SD_CHECKED iox2sd_text_answer iox2sd_id_text(iox2sd_id id, uint8_t *out, size_t capacity);
 
 /* The id of which iox2sd_id_text writes this text. It may be that of no node.
  * Errors: IOX2SD_NULL; IOX2SD_EMPTY; IOX2SD_TOO_LONG, for more than 32 bytes; IOX2SD_ILLEGAL_BYTE,
  * where a byte is not one of the digits 0 to 9 and a to f, or 0 stands before other digits. */
-static inline iox2sd_id_answer iox2sd_id_from_text(const uint8_t *text, size_t length) {
-    iox2sd_id_answer refused = {IOX2SD_NULL, {0, 0, 0, 0}};
-    if (text == NULL && length != 0) return refused;
-    return iox2sd_id_from_text_at(text, length);
-}
-static inline iox2sd_id_answer iox2sd_id_from_text_str(const char *text) {
-    return iox2sd_id_from_text((const uint8_t *)text, iox2sd_length(text));
-}
+IOX2SD_CHECKED iox2sd_id_answer iox2sd_id_from_text(const uint8_t *text, size_t length);
+IOX2SD_CHECKED iox2sd_id_answer iox2sd_id_from_text_str(const char *text);
 
 /* Numbers for services, for a caller who has none: those above the last one that was returned. They
  * begin all-zero. Two objects return the same numbers, and so does a copy. */
@@ -507,87 +399,81 @@ typedef struct iox2sd_service_numbers {
 
 /* The next number: 1, 2, 3, .., each once. A service numbered so has no handle that is all-zero.
  * Errors: IOX2SD_NULL; IOX2SD_OUT_OF_SPACE after UINT64_MAX. */
-static inline iox2sd_number_answer iox2sd_next_service_number(iox2sd_service_numbers *numbers) {
-    return iox2sd_next_service_number_at(numbers, numbers != NULL);
-}
+IOX2SD_CHECKED iox2sd_number_answer iox2sd_next_service_number(iox2sd_service_numbers *numbers);
 
 /* Creates a service with nothing attached. `number` is part of its handles. It has `tickets`
  * tickets for nodes, and as many for each kind of ports: each registering and each attaching uses
  * one, and tickets are never reused. UINT64_MAX is no limit.
  * Errors: IOX2SD_NULL; IOX2SD_HAS_SERVICE, and the object keeps what it holds;
  * IOX2SD_UNKNOWN_PATTERN; IOX2SD_NO_MEMORY. */
-static inline uint32_t iox2sd_service_create(iox2sd_service *service, uint32_t pattern,
-                                             uint64_t number, iox2sd_capacities capacities,
-                                             uint64_t tickets) {
-    return iox2sd_service_create_at(service, service != NULL, pattern, number, capacities, tickets);
-}
+IOX2SD_CHECKED iox2sd_status iox2sd_service_create(iox2sd_service *service, iox2sd_pattern pattern,
+                                              uint64_t number, iox2sd_capacities capacities,
+                                              uint64_t tickets);
+
+/* Creates a service of each pattern in the same way, by the names of its ports, with as many
+ * tickets as there are numbers. Errors: IOX2SD_NULL; IOX2SD_HAS_SERVICE; IOX2SD_NO_MEMORY. */
+IOX2SD_CHECKED iox2sd_status
+iox2sd_service_create_publish_subscribe(iox2sd_service *service, uint64_t number,
+                                        iox2sd_publish_subscribe_capacities capacities);
+IOX2SD_CHECKED iox2sd_status iox2sd_service_create_event(iox2sd_service *service, uint64_t number,
+                                                         iox2sd_event_capacities capacities);
+IOX2SD_CHECKED iox2sd_status
+iox2sd_service_create_request_response(iox2sd_service *service, uint64_t number,
+                                       iox2sd_request_response_capacities capacities);
+IOX2SD_CHECKED iox2sd_status
+iox2sd_service_create_blackboard(iox2sd_service *service, uint64_t number,
+                                 iox2sd_blackboard_capacities capacities);
 
 /* Frees a service. The object is IOX2SD_SERVICE_NONE afterwards, and may be used for another
  * service; a second call reports IOX2SD_NO_SERVICE.
  * Errors: IOX2SD_NULL; IOX2SD_NO_SERVICE. */
-static inline uint32_t iox2sd_service_free(iox2sd_service *service) {
-    const uint32_t status = iox2sd_service_free_at(service, service != NULL);
-    if (status == IOX2SD_DONE) service->at = NULL;
-    return status;
-}
+iox2sd_status iox2sd_service_free(iox2sd_service *service);
 
 /* Registers a node, which may have several handles.
  * Errors: IOX2SD_NULL; IOX2SD_NO_SERVICE; IOX2SD_NO_NODE; IOX2SD_IS_LOCKED; IOX2SD_OUT_OF_SPACE. */
-static inline iox2sd_handle_answer
-iox2sd_register_node_id(iox2sd_service *service, iox2sd_id node) {
-    return iox2sd_register_node_id_at(service, service != NULL, node);
-}
+IOX2SD_CHECKED iox2sd_handle_answer iox2sd_register_node_id(iox2sd_service *service,
+                                                            iox2sd_id node);
 
 /* Deregisters the node with this handle. IOX2SD_DONE_LOCKED where it was the last one: the service
  * is locked for good.
  * Errors: IOX2SD_NULL; IOX2SD_NO_SERVICE; IOX2SD_UNKNOWN_ROLE; IOX2SD_FOREIGN_HANDLE, also for a
  * port's handle; IOX2SD_PORTS_STILL_ATTACHED where it is the only handle of its node and some port
  * has that node. */
-static inline uint32_t iox2sd_deregister_node_id(iox2sd_service *service, iox2sd_handle handle) {
-    return iox2sd_deregister_node_id_at(service, service != NULL, handle);
-}
+IOX2SD_CHECKED iox2sd_status iox2sd_deregister_node_id(iox2sd_service *service,
+                                                       iox2sd_handle handle);
 
 /* Attaches a port.
  * Errors: IOX2SD_NULL; IOX2SD_NO_SERVICE; IOX2SD_NO_NODE for the port's node; IOX2SD_UNKNOWN_ROLE,
  * also for IOX2SD_NODE; IOX2SD_UNKNOWN_SEGMENT; IOX2SD_ROLE_NOT_IN_PATTERN; IOX2SD_IS_LOCKED;
  * IOX2SD_NODE_NOT_REGISTERED, by the whole id; IOX2SD_OUT_OF_SPACE. */
-static inline iox2sd_handle_answer
-iox2sd_attach(iox2sd_service *service, const iox2sd_port_details *port) {
-    return iox2sd_attach_at(service, service != NULL, port, port != NULL);
-}
+IOX2SD_CHECKED iox2sd_handle_answer iox2sd_attach(iox2sd_service *service,
+                                                  const iox2sd_port_details *port);
 
 /* Releases the port with this handle.
  * Errors: IOX2SD_NULL; IOX2SD_NO_SERVICE; IOX2SD_UNKNOWN_ROLE; IOX2SD_FOREIGN_HANDLE, also for a
  * node's handle. */
-static inline uint32_t iox2sd_release_port(iox2sd_service *service, iox2sd_handle handle) {
-    return iox2sd_release_port_at(service, service != NULL, handle);
-}
+IOX2SD_CHECKED iox2sd_status iox2sd_release_port(iox2sd_service *service, iox2sd_handle handle);
 
-/* Removes those ports of a dead node whose ids are not among `kept`, and returns how many it
- * removed. Where none of its ports is left, the node is removed too, with all its handles.
- * IOX2SD_DONE_LOCKED where the service is locked: it has no node any more.
- * `kept` may be in any order. Sorted as by iox2sd_id_is_before it is fast: each port of the node is
- * then searched for by halves, and otherwise one by one.
- * Errors: IOX2SD_NULL; IOX2SD_NO_SERVICE; IOX2SD_NO_NODE. */
-static inline iox2sd_dead_node_removal
-iox2sd_remove_dead_node_id(iox2sd_service *service, iox2sd_id dead, const iox2sd_id *kept,
-                           size_t kept_count) {
-    iox2sd_dead_node_removal refused = {IOX2SD_NULL, 0, 0};
-    if (kept == NULL && kept_count != 0) return refused;
-    return iox2sd_remove_dead_node_id_at(service, service != NULL, dead, kept, kept_count);
-}
+/* Removes those ports of a dead node that are not among `kept`, by their kinds and their ids, and
+ * returns how many it removed. Where none of its ports is left, the node is removed too, with all
+ * its handles. IOX2SD_DONE_LOCKED where the service is locked: it has no node any more. `kept` may
+ * be in any order, and may have ports that the node has not. Where it is sorted as by
+ * iox2sd_id_is_before, and by roles where ids are the same, each port of the node is searched for
+ * by halves, and otherwise one by one.
+ * Errors: IOX2SD_NULL; IOX2SD_NO_SERVICE; IOX2SD_NO_NODE; IOX2SD_UNKNOWN_ROLE, of any of `kept`,
+ * also for IOX2SD_NODE. */
+IOX2SD_CHECKED iox2sd_dead_node_removal iox2sd_remove_dead_node_id(iox2sd_service *service,
+                                                                   iox2sd_id dead,
+                                                                   const iox2sd_port_id *kept,
+                                                                   size_t kept_count);
 
 /* Writes the ports of a role to the front of `out`, by rising slot. The other elements stay as they
  * were.
  * Errors: IOX2SD_NULL; IOX2SD_NO_SERVICE; IOX2SD_UNKNOWN_ROLE; IOX2SD_ROLE_NOT_IN_PATTERN, also for
  * IOX2SD_NODE; IOX2SD_BUFFER_TOO_SHORT with the number of ports that there are. Then `out` is as it
  * was. */
-static inline iox2sd_count_answer iox2sd_ports(const iox2sd_service *service, uint64_t role,
-                                               iox2sd_port_details *out, size_t capacity) {
-    iox2sd_count_answer refused = {IOX2SD_NULL, 0};
-    if (out == NULL && capacity != 0) return refused;
-    return iox2sd_ports_at(service, service != NULL, role, out, capacity);
-}
+IOX2SD_CHECKED iox2sd_count_answer iox2sd_ports(const iox2sd_service *service, iox2sd_role role,
+                                                iox2sd_port_details *out, size_t capacity);
 
 /* Writes the ports of a node, by its whole id, to the front of `out`: those of the pattern's first
  * kind before those of its second, each kind by rising slot. The other elements of `out` stay as
@@ -595,104 +481,72 @@ static inline iox2sd_count_answer iox2sd_ports(const iox2sd_service *service, ui
  * Errors: IOX2SD_NULL; IOX2SD_NO_SERVICE; IOX2SD_NO_NODE; IOX2SD_BUFFER_TOO_SHORT with the number
  * of ports that there are, or IOX2SD_TOO_LARGE where that number passes SIZE_MAX. Then `out` is as
  * it was. */
-static inline iox2sd_count_answer iox2sd_ports_of(const iox2sd_service *service, iox2sd_id node,
-                                                  iox2sd_port_details *out, size_t capacity) {
-    iox2sd_count_answer refused = {IOX2SD_NULL, 0};
-    if (out == NULL && capacity != 0) return refused;
-    return iox2sd_ports_of_at(service, service != NULL, node, out, capacity);
-}
+IOX2SD_CHECKED iox2sd_count_answer iox2sd_ports_of(const iox2sd_service *service, iox2sd_id node,
+                                                   iox2sd_port_details *out, size_t capacity);
 
-/* The messaging pattern, of enum iox2sd_pattern_number. Errors: IOX2SD_NULL; IOX2SD_NO_SERVICE. */
-static inline iox2sd_number_answer iox2sd_messaging_pattern(const iox2sd_service *service) {
-    return iox2sd_messaging_pattern_at(service, service != NULL);
-}
+/* The messaging pattern. Errors: IOX2SD_NULL; IOX2SD_NO_SERVICE. */
+IOX2SD_CHECKED iox2sd_number_answer iox2sd_messaging_pattern(const iox2sd_service *service);
 
 /* The service's number, which each of its handles has. Errors: IOX2SD_NULL; IOX2SD_NO_SERVICE. */
-static inline iox2sd_number_answer iox2sd_service_number(const iox2sd_service *service) {
-    return iox2sd_service_number_at(service, service != NULL);
-}
+IOX2SD_CHECKED iox2sd_number_answer iox2sd_service_number(const iox2sd_service *service);
 
 /* The roles of the pattern's two kinds of ports, in the order in which a dead node's ports are
  * removed. Errors: IOX2SD_NULL; IOX2SD_NO_SERVICE. */
-static inline iox2sd_roles_answer iox2sd_port_roles(const iox2sd_service *service) {
-    return iox2sd_port_roles_at(service, service != NULL);
-}
+IOX2SD_CHECKED iox2sd_roles_answer iox2sd_port_roles(const iox2sd_service *service);
 
 /* Whether the pattern has ports of the role; no for IOX2SD_NODE.
  * Errors: IOX2SD_NULL; IOX2SD_NO_SERVICE; IOX2SD_UNKNOWN_ROLE. */
-static inline iox2sd_flag_answer iox2sd_has_role(const iox2sd_service *service, uint64_t role) {
-    return iox2sd_has_role_at(service, service != NULL, role);
-}
+IOX2SD_CHECKED iox2sd_flag_answer iox2sd_has_role(const iox2sd_service *service, iox2sd_role role);
 
 /* Whether the service is locked for good: it has no node and no port, and none can join it.
  * Errors: IOX2SD_NULL; IOX2SD_NO_SERVICE. */
-static inline iox2sd_flag_answer iox2sd_is_locked(const iox2sd_service *service) {
-    return iox2sd_is_locked_at(service, service != NULL);
-}
+IOX2SD_CHECKED iox2sd_flag_answer iox2sd_is_locked(const iox2sd_service *service);
 
 /* How many handles of nodes there are: a node that is registered twice counts twice. Errors:
  * IOX2SD_NULL; IOX2SD_NO_SERVICE. */
-static inline iox2sd_count_answer iox2sd_number_of_nodes(const iox2sd_service *service) {
-    return iox2sd_number_of_nodes_at(service, service != NULL);
-}
+IOX2SD_CHECKED iox2sd_count_answer iox2sd_number_of_nodes(const iox2sd_service *service);
 
 /* How many handles of nodes there may be at a time. Errors: IOX2SD_NULL; IOX2SD_NO_SERVICE. */
-static inline iox2sd_count_answer iox2sd_max_nodes(const iox2sd_service *service) {
-    return iox2sd_max_nodes_at(service, service != NULL);
-}
+IOX2SD_CHECKED iox2sd_count_answer iox2sd_max_nodes(const iox2sd_service *service);
 
 /* Whether iox2sd_register_node_id would register a node: the service is not locked, and a slot and
  * a ticket are left.
  * Errors: IOX2SD_NULL; IOX2SD_NO_SERVICE. */
-static inline iox2sd_flag_answer iox2sd_has_room_for_node(const iox2sd_service *service) {
-    return iox2sd_has_room_for_node_at(service, service != NULL);
-}
+IOX2SD_CHECKED iox2sd_flag_answer iox2sd_has_room_for_node(const iox2sd_service *service);
 
 /* How many ports of the role there are.
  * Errors: IOX2SD_NULL; IOX2SD_NO_SERVICE; IOX2SD_UNKNOWN_ROLE; IOX2SD_ROLE_NOT_IN_PATTERN, also for
  * IOX2SD_NODE. */
-static inline iox2sd_count_answer iox2sd_count_ports(const iox2sd_service *service, uint64_t role) {
-    return iox2sd_count_ports_at(service, service != NULL, role);
-}
+IOX2SD_CHECKED iox2sd_count_answer iox2sd_count_ports(const iox2sd_service *service,
+                                                      iox2sd_role role);
 
 /* How many ports of the role there may be at a time.
  * Errors: IOX2SD_NULL; IOX2SD_NO_SERVICE; IOX2SD_UNKNOWN_ROLE; IOX2SD_ROLE_NOT_IN_PATTERN, also for
  * IOX2SD_NODE. */
-static inline iox2sd_count_answer iox2sd_max_ports(const iox2sd_service *service, uint64_t role) {
-    return iox2sd_max_ports_at(service, service != NULL, role);
-}
+IOX2SD_CHECKED iox2sd_count_answer iox2sd_max_ports(const iox2sd_service *service,
+                                                    iox2sd_role role);
 
 /* Whether iox2sd_attach would attach a port of the role, if its node is registered.
  * Errors: IOX2SD_NULL; IOX2SD_NO_SERVICE; IOX2SD_UNKNOWN_ROLE; IOX2SD_ROLE_NOT_IN_PATTERN, also for
  * IOX2SD_NODE. */
-static inline iox2sd_flag_answer iox2sd_has_room(const iox2sd_service *service, uint64_t role) {
-    return iox2sd_has_room_at(service, service != NULL, role);
-}
+IOX2SD_CHECKED iox2sd_flag_answer iox2sd_has_room(const iox2sd_service *service, iox2sd_role role);
 
 /* The node that was registered with this handle and is still there.
  * Errors: IOX2SD_NULL; IOX2SD_NO_SERVICE; IOX2SD_UNKNOWN_ROLE; IOX2SD_FOREIGN_HANDLE, also for a
  * port's handle. */
-static inline iox2sd_id_answer iox2sd_node(const iox2sd_service *service, iox2sd_handle handle) {
-    return iox2sd_node_at(service, service != NULL, handle);
-}
+IOX2SD_CHECKED iox2sd_id_answer iox2sd_node(const iox2sd_service *service, iox2sd_handle handle);
 
 /* The port that was attached with this handle and is still there.
  * Errors: IOX2SD_NULL; IOX2SD_NO_SERVICE; IOX2SD_UNKNOWN_ROLE; IOX2SD_FOREIGN_HANDLE, also for a
  * node's handle. */
-static inline iox2sd_port_answer iox2sd_port(const iox2sd_service *service, iox2sd_handle handle) {
-    return iox2sd_port_at(service, service != NULL, handle);
-}
+iox2sd_port_answer iox2sd_port(const iox2sd_service *service, iox2sd_handle handle);
 
 /* Writes the ids of the nodes to the front of `out`, by rising slot, one for each handle. The other
  * elements of `out` stay as they were.
  * Errors: IOX2SD_NULL; IOX2SD_NO_SERVICE; IOX2SD_BUFFER_TOO_SHORT with the number of handles that
  * there are. Then `out` is as it was. */
-static inline iox2sd_count_answer
-iox2sd_nodes(const iox2sd_service *service, iox2sd_id *out, size_t capacity) {
-    iox2sd_count_answer refused = {IOX2SD_NULL, 0};
-    if (out == NULL && capacity != 0) return refused;
-    return iox2sd_nodes_at(service, service != NULL, out, capacity);
-}
+IOX2SD_CHECKED iox2sd_count_answer iox2sd_nodes(const iox2sd_service *service, iox2sd_id *out,
+                                                size_t capacity);
 
 #ifdef __cplusplus
 }

@@ -53,7 +53,7 @@ namespace iox2sd {
 
 // ---- Statuses and results ----
 
-/// What a call answers, with the numbers of `enum iox2sd_status`. `text` says it in words.
+/// What a call answers, with the numbers of `enum iox2sd_status_number`. `text` says it in words.
 enum class Status : std::uint32_t {
     Done = IOX2SD_DONE,
     DoneLocked = IOX2SD_DONE_LOCKED,
@@ -1429,7 +1429,7 @@ struct MessageTypeDetails {
     Result<void, IncompatibleTypes> is_compatible_to(
         const MessageTypeDetails& service) const noexcept {
         const iox2sd_message_details opener = as_c(), other = service.as_c();
-        const iox2sd_part_answer answer = iox2sd_message_is_compatible_to(&opener, &other);
+        const iox2sd_part_answer answer = iox2sd_message_is_compatible_to(&other, &opener);
         if (answer.status == IOX2SD_DONE) return {};
         return IncompatibleTypes{Status{answer.status}, MessagePart{answer.part}};
     }
@@ -2772,8 +2772,9 @@ public:
     /// Error: `NoMemory`, before `NoService`; never where nothing is to be kept.
     template <class Range>
     Result<DeadNodeRemoval> remove_dead_node_id(const UniqueNodeId& dead, Range&& kept) noexcept {
-        const auto ids = List<iox2sd_id>::of_range(
-            kept, [](const UniquePortId& port) { return port.parts(); });
+        const auto ids = List<iox2sd_port_id>::of_range(kept, [](const UniquePortId& port) {
+            return iox2sd_port_id{static_cast<std::uint64_t>(port.role()), port.parts()};
+        });
         if (!ids) return ids.error();
         const iox2sd_dead_node_removal answer =
             iox2sd_remove_dead_node_id(&place_, dead.parts(), ids->data(), ids->size());

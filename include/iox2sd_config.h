@@ -56,7 +56,7 @@ typedef struct iox2sd_config {
 } iox2sd_config;
 
 /* The tables of the file. */
-enum iox2sd_config_table {
+enum iox2sd_config_table_number {
     IOX2SD_TABLE_ROOT = 0, /* The whole file. */
     IOX2SD_TABLE_GLOBAL = 1,
     IOX2SD_TABLE_SERVICE = 2,  /* global.service */
@@ -67,9 +67,10 @@ enum iox2sd_config_table {
     IOX2SD_TABLE_REQUEST_RESPONSE = 7,
     IOX2SD_TABLE_BLACKBOARD = 8
 };
+typedef uint32_t iox2sd_config_table;
 
 /* The types of TOML. */
-enum iox2sd_toml_type {
+enum iox2sd_toml_type_number {
     IOX2SD_TOML_NONE = 0,
     IOX2SD_TOML_STRING = 1,
     IOX2SD_TOML_INTEGER = 2,
@@ -79,9 +80,10 @@ enum iox2sd_toml_type {
     IOX2SD_TOML_ARRAY = 6,
     IOX2SD_TOML_TABLE = 7
 };
+typedef uint32_t iox2sd_toml_type;
 
 /* What the value of a key may be. */
-enum iox2sd_setting_kind {
+enum iox2sd_setting_kind_number {
     IOX2SD_KIND_NONE = 0,
     IOX2SD_KIND_TABLE = 1,
     IOX2SD_KIND_NUMBER = 2, /* An integer from 0 to 2^63 - 1. */
@@ -92,13 +94,14 @@ enum iox2sd_setting_kind {
     IOX2SD_KIND_ALLOCATION = 7,   /* The name of an allocation strategy. */
     IOX2SD_KIND_DURATION = 8      /* A table of the integers `secs` and `nanos`. */
 };
+typedef uint32_t iox2sd_setting_kind;
 
 /* What is wrong with a file, and with which key. */
 typedef struct iox2sd_config_fault {
-    uint32_t status;
-    uint32_t table;  /* The table of the key. */
-    uint32_t found;  /* The type of its value, with IOX2SD_WRONG_TYPE; 0 otherwise. */
-    uint32_t wanted; /* What its value may be; 0 where nothing is wrong with a key. */
+    iox2sd_status status;
+    iox2sd_config_table table;  /* The table of the key. */
+    iox2sd_toml_type found;     /* The type of its value, with IOX2SD_WRONG_TYPE; 0 otherwise. */
+    iox2sd_setting_kind wanted; /* What its value may be; 0 where nothing is wrong with a key. */
     uint8_t key[80]; /* The path of the key, as "defaults.event.deadline", then zeros. */
     size_t key_length;
     uint8_t reason[256]; /* The beginning of what is wrong, in words, then zeros. */
@@ -107,14 +110,14 @@ typedef struct iox2sd_config_fault {
 
 /* What reading a file gave. */
 typedef struct iox2sd_config_answer {
-    uint32_t status;
+    iox2sd_status status;
     size_t unknown;            /* How many keys no setting has. */
-    iox2sd_config_fault fault; /* Where the status is not IOX2SD_DONE, the first fault. */
+    iox2sd_config_fault fault; /* The first fault; all 0 where the status is IOX2SD_DONE. */
 } iox2sd_config_answer;
 
 /* A key of a file that no setting has. */
 typedef struct iox2sd_unknown_key {
-    uint32_t table;
+    iox2sd_config_table table;
     size_t key_length; /* The bytes of its path, in the buffer of all paths. */
     uint8_t meant[80]; /* The path of the known key that was probably meant, then zeros. */
     size_t meant_length; /* 0 where no known key of the table is near. */
@@ -122,50 +125,43 @@ typedef struct iox2sd_unknown_key {
 
 /* How many keys of a file no setting has. */
 typedef struct iox2sd_unknown_answer {
-    uint32_t status;
+    iox2sd_status status;
     size_t count;
     size_t length; /* The bytes of all their paths. */
 } iox2sd_unknown_answer;
 
 /* What writing settings gave. */
 typedef struct iox2sd_config_write_answer {
-    uint32_t status;
-    uint32_t field;  /* The field of settings that is invalid; 0 where the status has no field. */
-    size_t length;   /* The bytes of the text, also with IOX2SD_BUFFER_TOO_SHORT. */
-    uint8_t key[80]; /* With IOX2SD_NO_TOML_INTEGER the path of the key, then zeros. */
+    iox2sd_status status;
+    iox2sd_settings_field field; /* The field that is invalid; 0 where the status has none. */
+    size_t length;               /* The bytes of the text, also with IOX2SD_BUFFER_TOO_SHORT. */
+    uint8_t key[80]; /* The path of the key whose text or number is refused, then zeros. */
     size_t key_length;
 } iox2sd_config_write_answer;
 
-/* Reads the text of a file of settings. A key that it does not have has its default, and all bytes
- * of `out` are written. A text of NULL and 0 is an empty one.
- * Errors, after which `out` is as it was: IOX2SD_NULL; IOX2SD_NOT_UTF8; IOX2SD_NOT_TOML, whose
- * `reason` has the line and the column; and of the first key, in the order of the settings, whose
- * value is not allowed: IOX2SD_WRONG_TYPE; IOX2SD_BELOW_ZERO; IOX2SD_TOO_LONG and IOX2SD_BAD_PATH
- * of a path; IOX2SD_TOO_LONG and IOX2SD_NO_FILE_NAME of the name of a file; IOX2SD_UNKNOWN_VARIANT
- * of a strategy; IOX2SD_NO_DURATION; IOX2SD_BAD_DURATION. At any point: IOX2SD_NO_MEMORY. */
-static inline iox2sd_config_answer
-iox2sd_config_read(const uint8_t *text, size_t length, iox2sd_config *out) {
-    if (text == NULL && length != 0) return iox2sd_config_read_at(NULL, 0, NULL, 0);
-    return iox2sd_config_read_at(text, length, out, out != NULL);
-}
-static inline iox2sd_config_answer iox2sd_config_read_str(const char *text, iox2sd_config *out) {
-    return iox2sd_config_read((const uint8_t *)text, iox2sd_length(text), out);
-}
+/* Reads the text of a file of settings, which is TOML 1.1. Its tables and arrays may be at most 80
+ * deep in one another: so many parts of the line's header, dots of its keys, arrays and inline
+ * tables. A key that it does not have has its default, and all bytes of `out` are written. A text
+ * of NULL and 0 is an empty one.
+ * Errors, after which `out` is as it was: IOX2SD_NULL; IOX2SD_NOT_UTF8; IOX2SD_TOO_DEEP and then
+ * IOX2SD_NOT_TOML, whose `reason` has the line and the column; and of the first key, in the order
+ * of the settings, whose value is not allowed: IOX2SD_WRONG_TYPE; IOX2SD_BELOW_ZERO;
+ * IOX2SD_TOO_LONG and IOX2SD_BAD_PATH of a path; IOX2SD_TOO_LONG and IOX2SD_NO_FILE_NAME of the
+ * name of a file; IOX2SD_UNKNOWN_VARIANT of a strategy; IOX2SD_NO_DURATION; IOX2SD_BAD_DURATION. At
+ * any point: IOX2SD_NO_MEMORY. */
+IOX2SD_CHECKED iox2sd_config_answer iox2sd_config_read(const uint8_t *text, size_t length,
+                                                       iox2sd_config *out);
+IOX2SD_CHECKED iox2sd_config_answer iox2sd_config_read_str(const char *text, iox2sd_config *out);
 
 /* Writes all faults of a file, in the order of the settings, to the front of `out`, where they fit.
- * Errors, after which `out` is as it was: IOX2SD_NULL; IOX2SD_NOT_UTF8; IOX2SD_NOT_TOML;
- * IOX2SD_BUFFER_TOO_SHORT, with the number of faults. At any point: IOX2SD_NO_MEMORY. */
-static inline iox2sd_count_answer iox2sd_config_faults(const uint8_t *text, size_t length,
-                                                       iox2sd_config_fault *out, size_t capacity) {
-    iox2sd_count_answer refused = {IOX2SD_NULL, 0};
-    if (text == NULL && length != 0) return refused;
-    if (out == NULL && capacity != 0) return refused;
-    return iox2sd_config_faults_at(text, length, out, capacity);
-}
-static inline iox2sd_count_answer
-iox2sd_config_faults_str(const char *text, iox2sd_config_fault *out, size_t capacity) {
-    return iox2sd_config_faults((const uint8_t *)text, iox2sd_length(text), out, capacity);
-}
+ * Errors, after which `out` is as it was: IOX2SD_NULL; IOX2SD_NOT_UTF8; IOX2SD_TOO_DEEP;
+ * IOX2SD_NOT_TOML; IOX2SD_BUFFER_TOO_SHORT, with the number of faults. At any point:
+ * IOX2SD_NO_MEMORY. */
+IOX2SD_CHECKED iox2sd_count_answer iox2sd_config_faults(const uint8_t *text, size_t length,
+                                                        iox2sd_config_fault *out, size_t capacity);
+IOX2SD_CHECKED iox2sd_count_answer iox2sd_config_faults_str(const char *text,
+                                                            iox2sd_config_fault *out,
+                                                            size_t capacity);
 
 /* Writes the keys of a file that no setting has, in the order of the tables and of the keys in
  * each, to the front of `out`, and their paths, one after the other, to the front of `paths`, where
@@ -173,34 +169,24 @@ iox2sd_config_faults_str(const char *text, iox2sd_config_fault *out, size_t capa
  * that is at most 2.
  * Errors, after which both are as they were: those of iox2sd_config_read; IOX2SD_BUFFER_TOO_SHORT,
  * with the lengths that they need. At any point: IOX2SD_NO_MEMORY. */
-static inline iox2sd_unknown_answer
-iox2sd_config_unknown(const uint8_t *text, size_t length, iox2sd_unknown_key *out, size_t capacity,
-                      uint8_t *paths, size_t paths_capacity) {
-    iox2sd_unknown_answer refused = {IOX2SD_NULL, 0, 0};
-    if (text == NULL && length != 0) return refused;
-    if (out == NULL && capacity != 0) return refused;
-    if (paths == NULL && paths_capacity != 0) return refused;
-    return iox2sd_config_unknown_at(text, length, out, capacity, paths, paths_capacity);
-}
-static inline iox2sd_unknown_answer
-iox2sd_config_unknown_str(const char *text, iox2sd_unknown_key *out, size_t capacity,
-                          uint8_t *paths, size_t paths_capacity) {
-    return iox2sd_config_unknown((const uint8_t *)text, iox2sd_length(text), out, capacity, paths,
-                                 paths_capacity);
-}
+IOX2SD_CHECKED iox2sd_unknown_answer iox2sd_config_unknown(const uint8_t *text, size_t length,
+                                                           iox2sd_unknown_key *out, size_t capacity,
+                                                           uint8_t *paths, size_t paths_capacity);
+IOX2SD_CHECKED iox2sd_unknown_answer iox2sd_config_unknown_str(const char *text,
+                                                               iox2sd_unknown_key *out,
+                                                               size_t capacity, uint8_t *paths,
+                                                               size_t paths_capacity);
 
 /* Writes all settings as the text of a file, each below a comment with what it is and its default,
  * to the front of `out`, without a zero byte, where all of it fits.
- * Errors, after which `out` is as it was: IOX2SD_NULL; IOX2SD_BAD_PATH, of a text that is no path;
- * IOX2SD_NO_FILE_NAME, of another text that is not the name of a file; of the first invalid field,
- * which is returned: IOX2SD_BAD_DURATION, IOX2SD_UNKNOWN_STRATEGY; IOX2SD_NO_TOML_INTEGER, of a
- * number, or of the seconds of a duration, above 2^63 - 1; IOX2SD_BUFFER_TOO_SHORT. At any point
+ * Errors, after which `out` is as it was: IOX2SD_NULL; of the first path that is none, with its
+ * key: IOX2SD_TOO_LONG, IOX2SD_BAD_PATH; of the first other text that is not the name of a file,
+ * with its key: IOX2SD_TOO_LONG, IOX2SD_NO_FILE_NAME; of the first invalid field, which is
+ * returned: IOX2SD_BAD_DURATION, IOX2SD_UNKNOWN_STRATEGY; IOX2SD_NO_TOML_INTEGER, of a number, or
+ * of the seconds of a duration, above 2^63 - 1, with its key; IOX2SD_BUFFER_TOO_SHORT. At any point
  * after the fields: IOX2SD_NO_MEMORY. */
-static inline iox2sd_config_write_answer
-iox2sd_config_write(const iox2sd_config *settings, uint8_t *out, size_t capacity) {
-    if (out == NULL && capacity != 0) return iox2sd_config_write_at(NULL, 0, NULL, 0);
-    return iox2sd_config_write_at(settings, settings != NULL, out, capacity);
-}
+iox2sd_config_write_answer iox2sd_config_write(const iox2sd_config *settings, uint8_t *out,
+                                               size_t capacity);
 
 #ifdef __cplusplus
 }

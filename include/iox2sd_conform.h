@@ -20,7 +20,8 @@ extern "C" {
 
 /* What a log was judged to be. */
 typedef struct iox2sd_conform_answer {
-    uint32_t status;
+    iox2sd_status status;
+    iox2sd_status verdict; /* What the status is with a longer buffer. */
     size_t line;   /* The number of the line that the status is about, from 1 on; 0 where the log
                     * conforms, and with IOX2SD_NO_MEMORY. */
     size_t calls;  /* The calls of a log that conforms; 0 of another one. */
@@ -39,17 +40,10 @@ typedef struct iox2sd_conform_answer {
  * their orders lead to more than 64 states; IOX2SD_NO_SERVICE_LINE, IOX2SD_NO_COMMAND_LINE,
  * IOX2SD_NO_REPLY_LINE, IOX2SD_NO_GROUP_LINE and IOX2SD_NO_GROUP_END where it is not what is
  * expected, or has no newline, or the log ends before it. */
-static inline iox2sd_conform_answer iox2sd_conform_run(const uint8_t *log, size_t length,
-                                                       uint8_t *out, size_t capacity) {
-    iox2sd_conform_answer refused = {IOX2SD_NULL, 0, 0, 0};
-    if (log == NULL && length != 0) return refused;
-    if (out == NULL && capacity != 0) return refused;
-    return iox2sd_conform_run_at(log, length, out, capacity);
-}
-static inline iox2sd_conform_answer iox2sd_conform_run_str(const char *log, uint8_t *out,
-                                                           size_t capacity) {
-    return iox2sd_conform_run((const uint8_t *)log, iox2sd_length(log), out, capacity);
-}
+IOX2SD_CHECKED iox2sd_conform_answer iox2sd_conform_run(const uint8_t *log, size_t length,
+                                                        uint8_t *out, size_t capacity);
+IOX2SD_CHECKED iox2sd_conform_answer iox2sd_conform_run_str(const char *log, uint8_t *out,
+                                                            size_t capacity);
 
 #ifdef __cplusplus
 }

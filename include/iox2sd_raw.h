@@ -1,4 +1,4 @@
-/* The exports by count, for C99 and C++: the library's own functions, which the inline functions of
+/* The exports by count, for C99 and C++: the proved functions of the library, which the functions of
  * the other headers and the wrappers of other languages call. In C, call the functions of iox2sd.h,
  * iox2sd_values.h, iox2sd_config.h, iox2sd_script.h and iox2sd_conform.h, which include this header
  * and say what each one does.
@@ -58,6 +58,7 @@ struct iox2sd_place_answer;
 struct iox2sd_places_answer;
 struct iox2sd_port_answer;
 struct iox2sd_port_details;
+struct iox2sd_port_id;
 struct iox2sd_publish_subscribe_capacities;
 struct iox2sd_publish_subscribe_config;
 struct iox2sd_publish_subscribe_settings;
@@ -79,7 +80,7 @@ struct iox2sd_text_answer iox2sd_id_text_at(struct iox2sd_id id, uint8_t *out, s
 struct iox2sd_id_answer iox2sd_id_from_text_at(const uint8_t *text, size_t length);
 struct iox2sd_number_answer iox2sd_next_service_number_at(struct iox2sd_service_numbers *numbers,
                                                           size_t count);
-uint32_t iox2sd_service_create_at(struct iox2sd_service *places, size_t count, uint32_t pattern,
+uint32_t iox2sd_service_create_at(struct iox2sd_service *places, size_t count, uint64_t pattern,
                                   uint64_t number, struct iox2sd_capacities capacities,
                                   uint64_t tickets);
 uint32_t iox2sd_service_free_at(struct iox2sd_service *places, size_t count);
@@ -94,7 +95,7 @@ uint32_t iox2sd_release_port_at(struct iox2sd_service *places, size_t count,
                                 struct iox2sd_handle handle);
 struct iox2sd_dead_node_removal
 iox2sd_remove_dead_node_id_at(struct iox2sd_service *places, size_t count, struct iox2sd_id dead,
-                              const struct iox2sd_id *kept, size_t kept_count);
+                              const struct iox2sd_port_id *kept, size_t kept_count);
 struct iox2sd_number_answer iox2sd_messaging_pattern_at(const struct iox2sd_service *places,
                                                         size_t count);
 struct iox2sd_number_answer iox2sd_service_number_at(const struct iox2sd_service *places,
@@ -146,9 +147,9 @@ struct iox2sd_text_answer iox2sd_path_add_path_entry_at(const uint8_t *path, siz
 struct iox2sd_text_answer
 iox2sd_file_path_from_path_and_file_at(const uint8_t *path, size_t path_length, const uint8_t *file,
                                        size_t file_length, uint8_t *out, size_t capacity);
-struct iox2sd_text_answer iox2sd_hash_text_at(uint32_t pattern, const uint8_t *name, size_t length,
+struct iox2sd_text_answer iox2sd_hash_text_at(uint64_t pattern, const uint8_t *name, size_t length,
                                               uint8_t *out, size_t capacity);
-struct iox2sd_text_answer iox2sd_internal_hash_text_at(uint32_t pattern, const uint8_t *name,
+struct iox2sd_text_answer iox2sd_internal_hash_text_at(uint64_t pattern, const uint8_t *name,
                                                        size_t length, uint8_t *out,
                                                        size_t capacity);
 struct iox2sd_text_answer iox2sd_default_text_at(uint32_t which, uint8_t *out, size_t capacity);
@@ -179,9 +180,10 @@ iox2sd_message_sample_layout_at(const struct iox2sd_message_details *details, si
 struct iox2sd_places_answer iox2sd_message_places_at(const struct iox2sd_message_details *details,
                                                      size_t count, size_t header);
 struct iox2sd_part_answer
-iox2sd_message_is_compatible_to_at(const struct iox2sd_message_details *opener, size_t opener_count,
-                                   const struct iox2sd_message_details *service,
-                                   size_t service_count);
+iox2sd_message_is_compatible_to_at(const struct iox2sd_message_details *service,
+                                   size_t service_count,
+                                   const struct iox2sd_message_details *opener,
+                                   size_t opener_count);
 struct iox2sd_field_answer
 iox2sd_global_settings_check_at(const struct iox2sd_global_settings *settings, size_t count);
 struct iox2sd_field_answer

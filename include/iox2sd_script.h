@@ -16,7 +16,8 @@ extern "C" {
 
 /* How a script ended. */
 typedef struct iox2sd_script_answer {
-    uint32_t status;
+    iox2sd_status status;
+    iox2sd_status verdict; /* What the status is with a longer buffer. */
     size_t line;   /* The number of the bad line, from 1 on; 0 where none is bad. */
     size_t length; /* The bytes of all reply lines, also with IOX2SD_BUFFER_TOO_SHORT; with
                     * IOX2SD_NO_MEMORY, of those that were written. */
@@ -28,17 +29,10 @@ typedef struct iox2sd_script_answer {
  * commands. IOX2SD_BUFFER_TOO_SHORT, with `line` and `length` as they would be with a longer
  * buffer; then `out` is as it was, and a call with a longer buffer runs the script again from its
  * start. IOX2SD_BAD_LINE, with `line` and the reply lines to the commands before it. */
-static inline iox2sd_script_answer iox2sd_script_run(const uint8_t *script, size_t length,
-                                                     uint8_t *out, size_t capacity) {
-    iox2sd_script_answer refused = {IOX2SD_NULL, 0, 0};
-    if (script == NULL && length != 0) return refused;
-    if (out == NULL && capacity != 0) return refused;
-    return iox2sd_script_run_at(script, length, out, capacity);
-}
-static inline iox2sd_script_answer iox2sd_script_run_str(const char *script, uint8_t *out,
-                                                         size_t capacity) {
-    return iox2sd_script_run((const uint8_t *)script, iox2sd_length(script), out, capacity);
-}
+IOX2SD_CHECKED iox2sd_script_answer iox2sd_script_run(const uint8_t *script, size_t length,
+                                                      uint8_t *out, size_t capacity);
+IOX2SD_CHECKED iox2sd_script_answer iox2sd_script_run_str(const char *script, uint8_t *out,
+                                                          size_t capacity);
 
 #ifdef __cplusplus
 }

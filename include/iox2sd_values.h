@@ -32,7 +32,8 @@ extern "C" {
 
 /* An index in an argument: of a byte in a text, or of an element in an array. */
 typedef struct iox2sd_place_answer {
-    uint32_t status;
+    iox2sd_status status;
+    iox2sd_status cause; /* Why a key or a value of a pair is refused; 0 where none is. */
     size_t at; /* 0 where the status has no index. */
 } iox2sd_place_answer;
 
@@ -42,188 +43,101 @@ typedef struct iox2sd_place_answer {
  * not beginning with "iox2://".
  * Errors: IOX2SD_RESERVED_PREFIX; IOX2SD_EMPTY; IOX2SD_TOO_LONG, with `at` 255;
  * IOX2SD_ILLEGAL_BYTE, with the index of the first one. */
-static inline iox2sd_place_answer iox2sd_service_name_check(const uint8_t *text, size_t length) {
-    iox2sd_place_answer refused = {IOX2SD_NULL, 0};
-    if (text == NULL && length != 0) return refused;
-    return iox2sd_service_name_check_at(text, length);
-}
-static inline iox2sd_place_answer iox2sd_service_name_check_str(const char *text) {
-    return iox2sd_service_name_check((const uint8_t *)text, iox2sd_length(text));
-}
+IOX2SD_CHECKED iox2sd_place_answer iox2sd_service_name_check(const uint8_t *text, size_t length);
+IOX2SD_CHECKED iox2sd_place_answer iox2sd_service_name_check_str(const char *text);
 
 /* Whether a text is the name of a service, which may be one of the system's own.
  * Errors: as above, but for IOX2SD_RESERVED_PREFIX. */
-static inline iox2sd_place_answer
-iox2sd_internal_service_name_check(const uint8_t *text, size_t length) {
-    iox2sd_place_answer refused = {IOX2SD_NULL, 0};
-    if (text == NULL && length != 0) return refused;
-    return iox2sd_internal_service_name_check_at(text, length);
-}
-static inline iox2sd_place_answer iox2sd_internal_service_name_check_str(const char *text) {
-    return iox2sd_internal_service_name_check((const uint8_t *)text, iox2sd_length(text));
-}
+IOX2SD_CHECKED iox2sd_place_answer iox2sd_internal_service_name_check(const uint8_t *text,
+                                                                      size_t length);
+IOX2SD_CHECKED iox2sd_place_answer iox2sd_internal_service_name_check_str(const char *text);
 
 /* Whether a text begins with "iox2://", as the names of the system's services do; no for NULL. */
-static inline bool iox2sd_has_iox2_prefix(const uint8_t *text, size_t length) {
-    return text != NULL && iox2sd_has_iox2_prefix_at(text, length);
-}
-static inline bool iox2sd_has_iox2_prefix_str(const char *text) {
-    return iox2sd_has_iox2_prefix((const uint8_t *)text, iox2sd_length(text));
-}
+bool iox2sd_has_iox2_prefix(const uint8_t *text, size_t length);
+bool iox2sd_has_iox2_prefix_str(const char *text);
 
 /* Writes the name of one of the system's own services: "iox2://" and the text.
  * Errors: IOX2SD_NOT_UTF8; IOX2SD_TOO_LONG, for more than 248 bytes; IOX2SD_ILLEGAL_BYTE;
  * IOX2SD_BUFFER_TOO_SHORT. */
-static inline iox2sd_text_answer
-iox2sd_internal_service_name(const uint8_t *text, size_t length, uint8_t *out, size_t capacity) {
-    iox2sd_text_answer refused = {IOX2SD_NULL, 0};
-    if (text == NULL && length != 0) return refused;
-    if (out == NULL && capacity != 0) return refused;
-    return iox2sd_internal_service_name_at(text, length, out, capacity);
-}
-static inline iox2sd_text_answer
-iox2sd_internal_service_name_str(const char *text, uint8_t *out, size_t capacity) {
-    return iox2sd_internal_service_name((const uint8_t *)text, iox2sd_length(text), out, capacity);
-}
+IOX2SD_CHECKED iox2sd_text_answer iox2sd_internal_service_name(const uint8_t *text, size_t length,
+                                                               uint8_t *out, size_t capacity);
+IOX2SD_CHECKED iox2sd_text_answer iox2sd_internal_service_name_str(const char *text, uint8_t *out,
+                                                                   size_t capacity);
 
 /* Whether a text is the key of an attribute: 1 to 64 bytes, each from 1 to 127.
  * Errors: IOX2SD_EMPTY; IOX2SD_TOO_LONG, with `at` 64; IOX2SD_ILLEGAL_BYTE, with the index of the
  * first one. */
-static inline iox2sd_place_answer iox2sd_attribute_key_check(const uint8_t *text, size_t length) {
-    iox2sd_place_answer refused = {IOX2SD_NULL, 0};
-    if (text == NULL && length != 0) return refused;
-    return iox2sd_attribute_key_check_at(text, length);
-}
-static inline iox2sd_place_answer iox2sd_attribute_key_check_str(const char *text) {
-    return iox2sd_attribute_key_check((const uint8_t *)text, iox2sd_length(text));
-}
+IOX2SD_CHECKED iox2sd_place_answer iox2sd_attribute_key_check(const uint8_t *text, size_t length);
+IOX2SD_CHECKED iox2sd_place_answer iox2sd_attribute_key_check_str(const char *text);
 
 /* Whether a text is the value of an attribute: 1 to 256 bytes, each from 1 to 127. Errors as of a
  * key, with `at` 256. */
-static inline iox2sd_place_answer iox2sd_attribute_value_check(const uint8_t *text, size_t length) {
-    iox2sd_place_answer refused = {IOX2SD_NULL, 0};
-    if (text == NULL && length != 0) return refused;
-    return iox2sd_attribute_value_check_at(text, length);
-}
-static inline iox2sd_place_answer iox2sd_attribute_value_check_str(const char *text) {
-    return iox2sd_attribute_value_check((const uint8_t *)text, iox2sd_length(text));
-}
+IOX2SD_CHECKED iox2sd_place_answer iox2sd_attribute_value_check(const uint8_t *text, size_t length);
+IOX2SD_CHECKED iox2sd_place_answer iox2sd_attribute_value_check_str(const char *text);
 
 /* Whether a text is a path: at most 255 bytes, each from 1 to 127. It may be empty.
  * Errors: IOX2SD_TOO_LONG, with `at` 255; IOX2SD_ILLEGAL_BYTE, with the index of the first one. */
-static inline iox2sd_place_answer iox2sd_path_check(const uint8_t *text, size_t length) {
-    iox2sd_place_answer refused = {IOX2SD_NULL, 0};
-    if (text == NULL && length != 0) return refused;
-    return iox2sd_path_check_at(text, length);
-}
-static inline iox2sd_place_answer iox2sd_path_check_str(const char *text) {
-    return iox2sd_path_check((const uint8_t *)text, iox2sd_length(text));
-}
+IOX2SD_CHECKED iox2sd_place_answer iox2sd_path_check(const uint8_t *text, size_t length);
+IOX2SD_CHECKED iox2sd_place_answer iox2sd_path_check_str(const char *text);
 
 /* Whether a text is the name of a file: 1 to 255 bytes, each from 1 to 127 and none a `/`, and
  * neither "." nor "..".
  * Errors: IOX2SD_EMPTY; IOX2SD_TOO_LONG, with `at` 255; IOX2SD_ILLEGAL_BYTE, with the index of the
  * first one; IOX2SD_NO_FILE_NAME. */
-static inline iox2sd_place_answer iox2sd_file_name_check(const uint8_t *text, size_t length) {
-    iox2sd_place_answer refused = {IOX2SD_NULL, 0};
-    if (text == NULL && length != 0) return refused;
-    return iox2sd_file_name_check_at(text, length);
-}
-static inline iox2sd_place_answer iox2sd_file_name_check_str(const char *text) {
-    return iox2sd_file_name_check((const uint8_t *)text, iox2sd_length(text));
-}
+IOX2SD_CHECKED iox2sd_place_answer iox2sd_file_name_check(const uint8_t *text, size_t length);
+IOX2SD_CHECKED iox2sd_place_answer iox2sd_file_name_check_str(const char *text);
 
 /* Whether a text is the path of a file: 1 to 255 bytes, each from 1 to 127, of which those after
  * the last `/` are the name of a file. Errors as of the name of a file; `/` is no illegal byte. */
-static inline iox2sd_place_answer iox2sd_file_path_check(const uint8_t *text, size_t length) {
-    iox2sd_place_answer refused = {IOX2SD_NULL, 0};
-    if (text == NULL && length != 0) return refused;
-    return iox2sd_file_path_check_at(text, length);
-}
-static inline iox2sd_place_answer iox2sd_file_path_check_str(const char *text) {
-    return iox2sd_file_path_check((const uint8_t *)text, iox2sd_length(text));
-}
+IOX2SD_CHECKED iox2sd_place_answer iox2sd_file_path_check(const uint8_t *text, size_t length);
+IOX2SD_CHECKED iox2sd_place_answer iox2sd_file_path_check_str(const char *text);
 
 /* Whether a text is a restricted name of a file, as hash texts are: 1 to 64 letters A to Z and a to
  * z, digits, `-`, `.`, `:` and `_`, and neither "." nor "..". Errors as of the name of a file, with
  * `at` 64 for IOX2SD_TOO_LONG. */
-static inline iox2sd_place_answer
-iox2sd_restricted_file_name_check(const uint8_t *text, size_t length) {
-    iox2sd_place_answer refused = {IOX2SD_NULL, 0};
-    if (text == NULL && length != 0) return refused;
-    return iox2sd_restricted_file_name_check_at(text, length);
-}
-static inline iox2sd_place_answer iox2sd_restricted_file_name_check_str(const char *text) {
-    return iox2sd_restricted_file_name_check((const uint8_t *)text, iox2sd_length(text));
-}
+IOX2SD_CHECKED iox2sd_place_answer iox2sd_restricted_file_name_check(const uint8_t *text,
+                                                                     size_t length);
+IOX2SD_CHECKED iox2sd_place_answer iox2sd_restricted_file_name_check_str(const char *text);
 
 /* Writes an entry, which is a path too, joined to a path, with one `/` between them unless the path
  * is empty or ends in `/`.
- * Errors: IOX2SD_BAD_PATH; IOX2SD_BAD_ENTRY; IOX2SD_TOO_LONG, past 255 bytes;
- * IOX2SD_BUFFER_TOO_SHORT. */
-static inline iox2sd_text_answer
-iox2sd_path_add_path_entry(const uint8_t *path, size_t path_length, const uint8_t *entry,
-                           size_t entry_length, uint8_t *out, size_t capacity) {
-    iox2sd_text_answer refused = {IOX2SD_NULL, 0};
-    if (path == NULL && path_length != 0) return refused;
-    if (entry == NULL && entry_length != 0) return refused;
-    if (out == NULL && capacity != 0) return refused;
-    return iox2sd_path_add_path_entry_at(path, path_length, entry, entry_length, out, capacity);
-}
-static inline iox2sd_text_answer
-iox2sd_path_add_path_entry_str(const char *path, const char *entry, uint8_t *out, size_t capacity) {
-    return iox2sd_path_add_path_entry((const uint8_t *)path, iox2sd_length(path),
-                                      (const uint8_t *)entry, iox2sd_length(entry), out, capacity);
-}
+ * Errors: IOX2SD_BAD_PATH and IOX2SD_BAD_ENTRY, with the status of iox2sd_path_check as the cause;
+ * IOX2SD_TOO_LONG, past 255 bytes; IOX2SD_BUFFER_TOO_SHORT. */
+IOX2SD_CHECKED iox2sd_text_answer iox2sd_path_add_path_entry(const uint8_t *path,
+                                                             size_t path_length,
+                                                             const uint8_t *entry,
+                                                             size_t entry_length, uint8_t *out,
+                                                             size_t capacity);
+IOX2SD_CHECKED iox2sd_text_answer iox2sd_path_add_path_entry_str(const char *path,
+                                                                 const char *entry, uint8_t *out,
+                                                                 size_t capacity);
 
-/* Writes the path of a file in a directory, joined in the same way. Errors as above. */
-static inline iox2sd_text_answer
+/* Writes the path of a file in a directory, joined in the same way. Errors as above; the cause of
+ * IOX2SD_BAD_ENTRY is the status of iox2sd_file_name_check. */
+IOX2SD_CHECKED iox2sd_text_answer
 iox2sd_file_path_from_path_and_file(const uint8_t *path, size_t path_length, const uint8_t *file,
-                                    size_t file_length, uint8_t *out, size_t capacity) {
-    iox2sd_text_answer refused = {IOX2SD_NULL, 0};
-    if (path == NULL && path_length != 0) return refused;
-    if (file == NULL && file_length != 0) return refused;
-    if (out == NULL && capacity != 0) return refused;
-    return iox2sd_file_path_from_path_and_file_at(path, path_length, file, file_length, out,
-                                                  capacity);
-}
-static inline iox2sd_text_answer
-iox2sd_file_path_from_path_and_file_str(const char *path, const char *file, uint8_t *out,
-                                        size_t capacity) {
-    return iox2sd_file_path_from_path_and_file((const uint8_t *)path, iox2sd_length(path),
-                                               (const uint8_t *)file, iox2sd_length(file), out,
-                                               capacity);
-}
+                                    size_t file_length, uint8_t *out, size_t capacity);
+IOX2SD_CHECKED iox2sd_text_answer iox2sd_file_path_from_path_and_file_str(const char *path,
+                                                                          const char *file,
+                                                                          uint8_t *out,
+                                                                          size_t capacity);
 
 /* Writes the hash text of a service's pattern and name, under which its files are found: 27 bytes.
- * Errors: IOX2SD_UNKNOWN_PATTERN; IOX2SD_NOT_UTF8; IOX2SD_BAD_SERVICE_NAME, of which
- * iox2sd_service_name_check has the reason; IOX2SD_ILLEGAL_HASH; IOX2SD_BUFFER_TOO_SHORT. */
-static inline iox2sd_text_answer iox2sd_hash_text(uint32_t pattern, const uint8_t *name,
-                                                  size_t length, uint8_t *out, size_t capacity) {
-    iox2sd_text_answer refused = {IOX2SD_NULL, 0};
-    if (name == NULL && length != 0) return refused;
-    if (out == NULL && capacity != 0) return refused;
-    return iox2sd_hash_text_at(pattern, name, length, out, capacity);
-}
-static inline iox2sd_text_answer
-iox2sd_hash_text_str(uint32_t pattern, const char *name, uint8_t *out, size_t capacity) {
-    return iox2sd_hash_text(pattern, (const uint8_t *)name, iox2sd_length(name), out, capacity);
-}
+ * Errors: IOX2SD_UNKNOWN_PATTERN; IOX2SD_NOT_UTF8; IOX2SD_BAD_SERVICE_NAME, with the status of
+ * iox2sd_service_name_check as the cause; IOX2SD_ILLEGAL_HASH; IOX2SD_BUFFER_TOO_SHORT. */
+IOX2SD_CHECKED iox2sd_text_answer iox2sd_hash_text(iox2sd_pattern pattern, const uint8_t *name,
+                                                   size_t length, uint8_t *out, size_t capacity);
+IOX2SD_CHECKED iox2sd_text_answer iox2sd_hash_text_str(iox2sd_pattern pattern, const char *name,
+                                                       uint8_t *out, size_t capacity);
 
-/* The same for a name that may be one of the system's own. */
-static inline iox2sd_text_answer iox2sd_internal_hash_text(uint32_t pattern, const uint8_t *name,
-                                                           size_t length, uint8_t *out,
-                                                           size_t capacity) {
-    iox2sd_text_answer refused = {IOX2SD_NULL, 0};
-    if (name == NULL && length != 0) return refused;
-    if (out == NULL && capacity != 0) return refused;
-    return iox2sd_internal_hash_text_at(pattern, name, length, out, capacity);
-}
-static inline iox2sd_text_answer
-iox2sd_internal_hash_text_str(uint32_t pattern, const char *name, uint8_t *out, size_t capacity) {
-    return iox2sd_internal_hash_text(pattern, (const uint8_t *)name, iox2sd_length(name), out,
-                                     capacity);
-}
+/* The same for a name that may be one of the system's own; the cause is the status of
+ * iox2sd_internal_service_name_check. */
+IOX2SD_CHECKED iox2sd_text_answer iox2sd_internal_hash_text(iox2sd_pattern pattern,
+                                                            const uint8_t *name, size_t length,
+                                                            uint8_t *out, size_t capacity);
+IOX2SD_CHECKED iox2sd_text_answer iox2sd_internal_hash_text_str(iox2sd_pattern pattern,
+                                                                const char *name, uint8_t *out,
+                                                                size_t capacity);
 
 /* ---- Attributes ---- */
 
@@ -243,64 +157,34 @@ typedef struct iox2sd_key {
 
 /* A pair, a key of texts that end in a zero byte, to which they point. NULL makes an empty text,
  * which no key and no value is. */
-static inline iox2sd_attribute iox2sd_attribute_str(const char *key, const char *value) {
-    iox2sd_attribute made;
-    made.key = (const uint8_t *)key;
-    made.key_length = key != NULL ? strlen(key) : 0;
-    made.value = (const uint8_t *)value;
-    made.value_length = value != NULL ? strlen(value) : 0;
-    return made;
-}
-static inline iox2sd_key iox2sd_key_str(const char *text) {
-    iox2sd_key made;
-    made.text = (const uint8_t *)text;
-    made.length = text != NULL ? strlen(text) : 0;
-    return made;
-}
+iox2sd_attribute iox2sd_attribute_str(const char *key, const char *value);
+iox2sd_key iox2sd_key_str(const char *text);
 
 /* Whether pairs are a set: at most sixteen, each of legal texts, in any order and with repeats.
- * Errors: IOX2SD_NULL; of the first pair that is wrong, with its index: IOX2SD_BAD_KEY;
- * IOX2SD_BAD_VALUE; IOX2SD_TOO_MANY, of the seventeenth. */
-static inline iox2sd_place_answer
-iox2sd_attributes_check(const iox2sd_attribute *pairs, size_t length) {
-    iox2sd_place_answer refused = {IOX2SD_NULL, 0};
-    if (pairs == NULL && length != 0) return refused;
-    return iox2sd_attributes_check_at(pairs, length);
-}
+ * Errors: IOX2SD_NULL; of the first pair that is wrong, with its index: IOX2SD_BAD_KEY, with the
+ * status of iox2sd_attribute_key_check as the cause; IOX2SD_BAD_VALUE, with that of
+ * iox2sd_attribute_value_check; IOX2SD_TOO_MANY, of the seventeenth. */
+IOX2SD_CHECKED iox2sd_place_answer iox2sd_attributes_check(const iox2sd_attribute *pairs,
+                                                           size_t length);
 
 /* Sorts the pairs of a set by the bytes of their keys, and then of their values. Only the elements
  * of the array are moved; the texts stay where they are. Errors as above; the array is then as it
  * was. */
-static inline iox2sd_place_answer iox2sd_attributes_sort(iox2sd_attribute *pairs, size_t length) {
-    iox2sd_place_answer refused = {IOX2SD_NULL, 0};
-    if (pairs == NULL && length != 0) return refused;
-    return iox2sd_attributes_sort_at(pairs, length);
-}
+IOX2SD_CHECKED iox2sd_place_answer iox2sd_attributes_sort(iox2sd_attribute *pairs, size_t length);
 
 /* How many values a key has in a set. Errors: those of iox2sd_attributes_check, without an index;
  * IOX2SD_BAD_ASKED_KEY. */
-static inline iox2sd_count_answer
-iox2sd_attributes_number_of_key_values(const iox2sd_attribute *pairs, size_t length,
-                                       const uint8_t *key, size_t key_length) {
-    iox2sd_count_answer refused = {IOX2SD_NULL, 0};
-    if (pairs == NULL && length != 0) return refused;
-    if (key == NULL && key_length != 0) return refused;
-    return iox2sd_attributes_number_of_key_values_at(pairs, length, key, key_length);
-}
+IOX2SD_CHECKED iox2sd_count_answer iox2sd_attributes_number_of_key_values(
+    const iox2sd_attribute *pairs, size_t length, const uint8_t *key, size_t key_length);
 
 /* Writes the value at `index`, counted from 0, of the values that a key has in a set, by their
  * bytes from the least.
  * Errors: those of iox2sd_attributes_check, without an index; IOX2SD_BAD_ASKED_KEY;
  * IOX2SD_NO_SUCH_VALUE; IOX2SD_BUFFER_TOO_SHORT. */
-static inline iox2sd_text_answer
-iox2sd_attributes_key_value(const iox2sd_attribute *pairs, size_t length, const uint8_t *key,
-                            size_t key_length, size_t index, uint8_t *out, size_t capacity) {
-    iox2sd_text_answer refused = {IOX2SD_NULL, 0};
-    if (pairs == NULL && length != 0) return refused;
-    if (key == NULL && key_length != 0) return refused;
-    if (out == NULL && capacity != 0) return refused;
-    return iox2sd_attributes_key_value_at(pairs, length, key, key_length, index, out, capacity);
-}
+IOX2SD_CHECKED iox2sd_text_answer iox2sd_attributes_key_value(const iox2sd_attribute *pairs,
+                                                              size_t length, const uint8_t *key,
+                                                              size_t key_length, size_t index,
+                                                              uint8_t *out, size_t capacity);
 
 /* Whether a set has each required pair, and for each required key some pair with it.
  * Errors, in this order:
@@ -315,46 +199,33 @@ iox2sd_attributes_key_value(const iox2sd_attribute *pairs, size_t length, const 
  *   `required`;
  * - IOX2SD_MISSING_KEY, of the first required key that the set lacks, with its first index in
  *   `keys`.
- * So an invalid required key is not reported after a seventeenth required pair. */
-static inline iox2sd_place_answer
-iox2sd_attributes_verify(const iox2sd_attribute *pairs, size_t length,
-                         const iox2sd_attribute *required, size_t required_length,
-                         const iox2sd_key *keys, size_t keys_length) {
-    iox2sd_place_answer refused = {IOX2SD_NULL, 0};
-    if (pairs == NULL && length != 0) return refused;
-    if (required == NULL && required_length != 0) return refused;
-    if (keys == NULL && keys_length != 0) return refused;
-    return iox2sd_attributes_verify_at(pairs, length, required, required_length, keys, keys_length);
-}
+ * So an invalid required key is not reported after a seventeenth required pair. The cause of an
+ * invalid key or value is the status of its check. */
+IOX2SD_CHECKED iox2sd_place_answer iox2sd_attributes_verify(
+    const iox2sd_attribute *pairs, size_t length, const iox2sd_attribute *required,
+    size_t required_length, const iox2sd_key *keys, size_t keys_length);
 
 /* ---- Messages ---- */
 
 /* How many values of a type a message has. */
-enum iox2sd_type_variant {
+enum iox2sd_type_variant_number {
     IOX2SD_VARIANT_FIXED_SIZE = 0, /* One. */
     IOX2SD_VARIANT_DYNAMIC = 1     /* Any number, one after another. */
 };
+typedef uint32_t iox2sd_type_variant;
 
 /* The type of one part of a message. */
 typedef struct iox2sd_type_detail {
     const uint8_t *name; /* UTF-8, at most 256 bytes, each from 1 to 127. */
     size_t name_length;
-    uint32_t variant; /* Of enum iox2sd_type_variant. */
+    iox2sd_type_variant variant;
     size_t size;      /* In bytes. */
     size_t alignment; /* A power of two. */
 } iox2sd_type_detail;
 
 /* A type with a name that ends in a zero byte, to which it points. NULL makes an empty name. */
-static inline iox2sd_type_detail iox2sd_type_detail_str(const char *name, uint32_t variant,
-                                                        size_t size, size_t alignment) {
-    iox2sd_type_detail made;
-    made.name = (const uint8_t *)name;
-    made.name_length = name != NULL ? strlen(name) : 0;
-    made.variant = variant;
-    made.size = size;
-    made.alignment = alignment;
-    return made;
-}
+iox2sd_type_detail iox2sd_type_detail_str(const char *name, uint32_t variant, size_t size,
+                                          size_t alignment);
 
 /* The parts of a message, which lie one after another. */
 typedef struct iox2sd_message_details {
@@ -365,69 +236,66 @@ typedef struct iox2sd_message_details {
 
 /* The layout of a message. */
 typedef struct iox2sd_layout_answer {
-    uint32_t status;
+    iox2sd_status status;
     size_t size;      /* In bytes, at most 2^63 - 1. */
     size_t alignment; /* The alignment of the message. */
 } iox2sd_layout_answer;
 
 /* The offsets of two parts of a message. */
 typedef struct iox2sd_places_answer {
-    uint32_t status;
+    iox2sd_status status;
     size_t user_header;
     size_t payload;
 } iox2sd_places_answer;
 
 /* The parts of a message, as results name them. */
-enum iox2sd_message_part {
+enum iox2sd_message_part_number {
     IOX2SD_HEADER = 0,
     IOX2SD_USER_HEADER = 1,
     IOX2SD_PAYLOAD = 2
 };
+typedef uint32_t iox2sd_message_part;
 
 /* An error with the side and the part of the message that it is about. */
 typedef struct iox2sd_part_answer {
-    uint32_t status;
+    iox2sd_status status;
     uint32_t side; /* 0: of the opener's details, or between both. 1: of the service's. */
-    uint32_t part; /* IOX2SD_HEADER, IOX2SD_USER_HEADER or IOX2SD_PAYLOAD. */
+    iox2sd_message_part part;
 } iox2sd_part_answer;
+
+/* The words for a part of a message, ended by a zero byte: "header", "user header", "payload", and
+ * "unknown part" for any other number. */
+const char *iox2sd_part_str(iox2sd_message_part part);
 
 /* Whether the type of a part of a message is valid.
  * Errors: IOX2SD_NULL; IOX2SD_UNKNOWN_VARIANT; IOX2SD_NOT_UTF8, IOX2SD_TOO_LONG and
  * IOX2SD_ILLEGAL_BYTE of its name; IOX2SD_BAD_ALIGNMENT. */
-static inline uint32_t iox2sd_type_detail_check(const iox2sd_type_detail *detail) {
-    return iox2sd_type_detail_check_at(detail, detail != NULL);
-}
+IOX2SD_CHECKED iox2sd_status iox2sd_type_detail_check(const iox2sd_type_detail *detail);
 
 /* The layout of a message whose payload has so many elements. All parts lie in it, apart and
  * aligned, for the service and for every compatible opener. Names and variants are ignored.
  * Errors: IOX2SD_NULL; IOX2SD_BAD_ALIGNMENT; IOX2SD_TOO_LARGE past 2^63 - 1 bytes. */
-static inline iox2sd_layout_answer
-iox2sd_message_sample_layout(const iox2sd_message_details *details, size_t elements) {
-    return iox2sd_message_sample_layout_at(details, details != NULL, elements);
-}
+IOX2SD_CHECKED iox2sd_layout_answer
+iox2sd_message_sample_layout(const iox2sd_message_details *details, size_t elements);
 
 /* The offsets of user header and payload in a message whose header is at the offset or address
  * `header`. Nothing is read there. Names and variants are ignored.
  * Errors: IOX2SD_NULL; IOX2SD_BAD_ALIGNMENT; IOX2SD_TOO_LARGE where the payload's offset would pass
  * 2^64 - 1. */
-static inline iox2sd_places_answer
-iox2sd_message_places(const iox2sd_message_details *details, size_t header) {
-    return iox2sd_message_places_at(details, details != NULL, header);
-}
+IOX2SD_CHECKED iox2sd_places_answer iox2sd_message_places(const iox2sd_message_details *details,
+                                                          size_t header);
 
-/* Whether an opener with these details may use the messages of a service with those. The headers
- * must be equal. User headers and payloads must be equal but for their alignments, which are at
- * most those of the service.
+/* Whether the messages of a service with these details may be used by an opener with those. The
+ * headers must be equal. User headers and payloads must be equal but for their alignments, which
+ * are at most those of the service.
  * Errors, each with its side and its part: IOX2SD_NULL, the opener's before the service's; of the
  * first invalid part, the opener's before the service's: IOX2SD_UNKNOWN_VARIANT; IOX2SD_NOT_UTF8,
  * IOX2SD_TOO_LONG, IOX2SD_ILLEGAL_BYTE of its name; IOX2SD_BAD_ALIGNMENT; and of the first part
  * that differs: IOX2SD_OTHER_NAME; IOX2SD_OTHER_VARIANT; IOX2SD_OTHER_SIZE; IOX2SD_OTHER_ALIGNMENT
  * of the header; IOX2SD_GREATER_ALIGNMENT of another part. */
-static inline iox2sd_part_answer
-iox2sd_message_is_compatible_to(const iox2sd_message_details *opener,
-                                const iox2sd_message_details *service) {
-    return iox2sd_message_is_compatible_to_at(opener, opener != NULL, service, service != NULL);
-}
+IOX2SD_CHECKED iox2sd_part_answer
+iox2sd_message_is_compatible_to(const iox2sd_message_details *service,
+                                const iox2sd_message_details *opener);
 
 /* How many chunks the data segment of a port needs: the greatest number of one publisher's samples,
  * one client's requests or one server's responses that can be in use at once. The arguments are the
@@ -436,29 +304,31 @@ iox2sd_message_is_compatible_to(const iox2sd_message_details *opener,
  * max_loaned_requests or server_max_loaned_responses_per_request of the settings, or another
  * number.
  * Error: IOX2SD_TOO_LARGE past 2^64 - 1. */
-iox2sd_count_answer iox2sd_required_amount_of_samples_per_data_segment(
+IOX2SD_CHECKED iox2sd_count_answer iox2sd_required_amount_of_samples_per_data_segment(
     size_t max_subscribers, size_t subscriber_max_buffer_size,
     size_t subscriber_max_borrowed_samples, size_t history_size, size_t loaned_samples);
-iox2sd_count_answer iox2sd_required_amount_of_chunks_per_client_data_segment(
+IOX2SD_CHECKED iox2sd_count_answer iox2sd_required_amount_of_chunks_per_client_data_segment(
     size_t max_servers, size_t max_active_requests_per_client, size_t loaned_requests);
-iox2sd_count_answer iox2sd_required_amount_of_chunks_per_server_data_segment(
+IOX2SD_CHECKED iox2sd_count_answer iox2sd_required_amount_of_chunks_per_server_data_segment(
     size_t max_clients, size_t max_active_requests_per_client, size_t max_response_buffer_size,
     size_t max_borrowed_responses_per_pending_response, size_t loaned_responses);
 
 /* ---- Settings ---- */
 
 /* What a sender does where a receiver's buffer is full and may not overflow. */
-enum iox2sd_backpressure_strategy {
+enum iox2sd_backpressure_strategy_number {
     IOX2SD_RETRY_UNTIL_DELIVERED = 0, /* It tries again until the receiver can take the message. */
     IOX2SD_DISCARD_DATA = 1           /* It skips this receiver. */
 };
+typedef uint32_t iox2sd_backpressure_strategy;
 
 /* How a data segment grows for messages whose length is known only at run time. */
-enum iox2sd_allocation_strategy {
+enum iox2sd_allocation_strategy_number {
     IOX2SD_ALLOCATION_BEST_FIT = 0,     /* By as much as the message needs. */
     IOX2SD_ALLOCATION_POWER_OF_TWO = 1, /* To the next power of two. */
     IOX2SD_ALLOCATION_STATIC = 2        /* It does not grow. */
 };
+typedef uint32_t iox2sd_allocation_strategy;
 
 /* A span of time, or none: then all fields are 0. */
 typedef struct iox2sd_optional_duration {
@@ -504,8 +374,8 @@ typedef struct iox2sd_publish_subscribe_settings {
     size_t publisher_history_size;
     /* How many connections of publishers that are gone it keeps. */
     size_t subscriber_expired_connection_buffer;
-    uint32_t backpressure_strategy;
-    uint32_t publisher_allocation_strategy;
+    iox2sd_backpressure_strategy backpressure_strategy;
+    iox2sd_allocation_strategy publisher_allocation_strategy;
     /* Whether a new sample replaces the oldest one where a buffer is full. */
     bool enable_safe_overflow;
 } iox2sd_publish_subscribe_settings;
@@ -539,10 +409,10 @@ typedef struct iox2sd_request_response_settings {
     /* How many connections of servers that are gone it keeps. */
     size_t client_expired_connection_buffer;
     size_t server_expired_connection_buffer;
-    uint32_t client_backpressure_strategy;
-    uint32_t server_backpressure_strategy;
-    uint32_t client_allocation_strategy;
-    uint32_t server_allocation_strategy;
+    iox2sd_backpressure_strategy client_backpressure_strategy;
+    iox2sd_backpressure_strategy server_backpressure_strategy;
+    iox2sd_allocation_strategy client_allocation_strategy;
+    iox2sd_allocation_strategy server_allocation_strategy;
     bool enable_safe_overflow_for_requests;
     bool enable_safe_overflow_for_responses;
     /* Whether a client may send a request and take no response. */
@@ -555,6 +425,15 @@ typedef struct iox2sd_blackboard_settings {
     size_t max_nodes;
 } iox2sd_blackboard_settings;
 
+/* How many chunks the data segment of a publisher, of a client or of a server needs with these
+ * settings, by the functions above. Errors: IOX2SD_NULL; IOX2SD_TOO_LARGE. */
+IOX2SD_CHECKED iox2sd_count_answer
+iox2sd_samples_of(const iox2sd_publish_subscribe_settings *settings);
+IOX2SD_CHECKED iox2sd_count_answer
+iox2sd_requests_of(const iox2sd_request_response_settings *settings);
+IOX2SD_CHECKED iox2sd_count_answer
+iox2sd_responses_of(const iox2sd_request_response_settings *settings);
+
 /* The default settings of a system. */
 iox2sd_global_settings iox2sd_global_defaults(void);
 
@@ -565,7 +444,7 @@ iox2sd_request_response_settings iox2sd_request_response_defaults(void);
 iox2sd_blackboard_settings iox2sd_blackboard_defaults(void);
 
 /* The fields of settings and of what is fixed of a service, as results name them. */
-enum iox2sd_settings_field {
+enum iox2sd_settings_field_number {
     IOX2SD_BACKPRESSURE_STRATEGY = 0, /* Of publish-subscribe; so is the next. */
     IOX2SD_PUBLISHER_ALLOCATION_STRATEGY = 1,
     IOX2SD_DEADLINE = 2,                     /* Of an event service. */
@@ -600,52 +479,41 @@ enum iox2sd_settings_field {
     IOX2SD_MAX_WRITERS = 30,
     IOX2SD_MAX_NODES = 31
 };
+typedef uint32_t iox2sd_settings_field;
+
+/* The name of a field, as "max_nodes", ended by a zero byte; "unknown field" for any other number.
+ */
+const char *iox2sd_field_str(iox2sd_settings_field field);
 
 /* Which field is invalid or is not met, and why. */
 typedef struct iox2sd_field_answer {
-    uint32_t status;
-    uint32_t field; /* 0 where the status has no field. */
+    iox2sd_status status;
+    iox2sd_settings_field field; /* 0 where the status has no field. */
+    iox2sd_status cause;         /* Why a service's name is refused; 0 where it is not. */
 } iox2sd_field_answer;
 
 /* Whether settings are valid. Where `is_some` of a deadline or an event is false, there is none,
  * whatever the other fields are. The settings of a blackboard service are always valid.
  * Errors: IOX2SD_NULL; of the first invalid field, which is returned: IOX2SD_UNKNOWN_STRATEGY;
  * IOX2SD_BAD_DURATION, of nanoseconds of 1,000,000,000 or more. */
-static inline iox2sd_field_answer
-iox2sd_global_settings_check(const iox2sd_global_settings *settings) {
-    return iox2sd_global_settings_check_at(settings, settings != NULL);
-}
-static inline iox2sd_field_answer
-iox2sd_publish_subscribe_settings_check(const iox2sd_publish_subscribe_settings *settings) {
-    return iox2sd_publish_subscribe_settings_check_at(settings, settings != NULL);
-}
-static inline iox2sd_field_answer
-iox2sd_event_settings_check(const iox2sd_event_settings *settings) {
-    return iox2sd_event_settings_check_at(settings, settings != NULL);
-}
-static inline iox2sd_field_answer
-iox2sd_request_response_settings_check(const iox2sd_request_response_settings *settings) {
-    return iox2sd_request_response_settings_check_at(settings, settings != NULL);
-}
+IOX2SD_CHECKED iox2sd_field_answer
+iox2sd_global_settings_check(const iox2sd_global_settings *settings);
+IOX2SD_CHECKED iox2sd_field_answer
+iox2sd_publish_subscribe_settings_check(const iox2sd_publish_subscribe_settings *settings);
+IOX2SD_CHECKED iox2sd_field_answer
+iox2sd_event_settings_check(const iox2sd_event_settings *settings);
+IOX2SD_CHECKED iox2sd_field_answer
+iox2sd_request_response_settings_check(const iox2sd_request_response_settings *settings);
 
 /* The capacities with which a service of these settings is made; all 0 for NULL. A blackboard has
  * one writer. */
-static inline iox2sd_publish_subscribe_capacities
-iox2sd_publish_subscribe_capacities_of_settings(const iox2sd_publish_subscribe_settings *settings) {
-    return iox2sd_publish_subscribe_capacities_of_settings_at(settings, settings != NULL);
-}
-static inline iox2sd_event_capacities
-iox2sd_event_capacities_of_settings(const iox2sd_event_settings *settings) {
-    return iox2sd_event_capacities_of_settings_at(settings, settings != NULL);
-}
-static inline iox2sd_request_response_capacities
-iox2sd_request_response_capacities_of_settings(const iox2sd_request_response_settings *settings) {
-    return iox2sd_request_response_capacities_of_settings_at(settings, settings != NULL);
-}
-static inline iox2sd_blackboard_capacities
-iox2sd_blackboard_capacities_of_settings(const iox2sd_blackboard_settings *settings) {
-    return iox2sd_blackboard_capacities_of_settings_at(settings, settings != NULL);
-}
+iox2sd_publish_subscribe_capacities
+iox2sd_publish_subscribe_capacities_of_settings(const iox2sd_publish_subscribe_settings *settings);
+iox2sd_event_capacities iox2sd_event_capacities_of_settings(const iox2sd_event_settings *settings);
+iox2sd_request_response_capacities
+iox2sd_request_response_capacities_of_settings(const iox2sd_request_response_settings *settings);
+iox2sd_blackboard_capacities
+iox2sd_blackboard_capacities_of_settings(const iox2sd_blackboard_settings *settings);
 
 /* The texts of the configuration. */
 enum iox2sd_text_number {
@@ -674,42 +542,26 @@ enum iox2sd_text_number {
     /* The configuration file below a user's directory for configurations. */
     IOX2SD_USER_CONFIG_FILE_PATH = 19
 };
+typedef uint32_t iox2sd_text;
 
 /* Writes a default text of the configuration.
  * Errors: IOX2SD_UNKNOWN_TEXT; IOX2SD_BUFFER_TOO_SHORT. */
-static inline iox2sd_text_answer
-iox2sd_default_text(uint32_t which, uint8_t *out, size_t capacity) {
-    iox2sd_text_answer refused = {IOX2SD_NULL, 0};
-    if (out == NULL && capacity != 0) return refused;
-    return iox2sd_default_text_at(which, out, capacity);
-}
+IOX2SD_CHECKED iox2sd_text_answer iox2sd_default_text(iox2sd_text which, uint8_t *out,
+                                                      size_t capacity);
 
 /* Writes the directory of services below a root path.
- * Errors: IOX2SD_BAD_PATH; IOX2SD_TOO_LONG, past 255 bytes; IOX2SD_BUFFER_TOO_SHORT. */
-static inline iox2sd_text_answer
-iox2sd_service_dir(const uint8_t *root, size_t length, uint8_t *out, size_t capacity) {
-    iox2sd_text_answer refused = {IOX2SD_NULL, 0};
-    if (root == NULL && length != 0) return refused;
-    if (out == NULL && capacity != 0) return refused;
-    return iox2sd_service_dir_at(root, length, out, capacity);
-}
-static inline iox2sd_text_answer
-iox2sd_service_dir_str(const char *root, uint8_t *out, size_t capacity) {
-    return iox2sd_service_dir((const uint8_t *)root, iox2sd_length(root), out, capacity);
-}
+ * Errors: IOX2SD_BAD_PATH, with the status of iox2sd_path_check as the cause; IOX2SD_TOO_LONG, past
+ * 255 bytes; IOX2SD_BUFFER_TOO_SHORT. */
+IOX2SD_CHECKED iox2sd_text_answer iox2sd_service_dir(const uint8_t *root, size_t length,
+                                                     uint8_t *out, size_t capacity);
+IOX2SD_CHECKED iox2sd_text_answer iox2sd_service_dir_str(const char *root, uint8_t *out,
+                                                         size_t capacity);
 
 /* Writes the directory of nodes below a root path. Errors as above. */
-static inline iox2sd_text_answer
-iox2sd_node_dir(const uint8_t *root, size_t length, uint8_t *out, size_t capacity) {
-    iox2sd_text_answer refused = {IOX2SD_NULL, 0};
-    if (root == NULL && length != 0) return refused;
-    if (out == NULL && capacity != 0) return refused;
-    return iox2sd_node_dir_at(root, length, out, capacity);
-}
-static inline iox2sd_text_answer
-iox2sd_node_dir_str(const char *root, uint8_t *out, size_t capacity) {
-    return iox2sd_node_dir((const uint8_t *)root, iox2sd_length(root), out, capacity);
-}
+IOX2SD_CHECKED iox2sd_text_answer iox2sd_node_dir(const uint8_t *root, size_t length, uint8_t *out,
+                                                  size_t capacity);
+IOX2SD_CHECKED iox2sd_text_answer iox2sd_node_dir_str(const char *root, uint8_t *out,
+                                                      size_t capacity);
 
 /* ---- Descriptions ---- */
 
@@ -765,7 +617,7 @@ typedef struct iox2sd_description {
     iox2sd_id id;
     uint8_t hash[64]; /* The hash text, then zeros. It has 27 bytes. */
     size_t hash_length;
-    uint32_t pattern; /* Its number. */
+    iox2sd_pattern pattern;
     /* That of the pattern; all fields of the others are 0. */
     iox2sd_publish_subscribe_config publish_subscribe;
     iox2sd_event_config event;
@@ -777,138 +629,52 @@ typedef struct iox2sd_description {
  * name may be one of the system's own. The hash text is that of iox2sd_internal_hash_text, which
  * for a name that a user may give is that of iox2sd_hash_text.
  * Errors, after which `out` is as it was: IOX2SD_NULL, of the settings or of `out`;
- * IOX2SD_NOT_UTF8; IOX2SD_BAD_SERVICE_NAME, of which iox2sd_service_name_check has the reason, or
- * iox2sd_internal_service_name_check where `internal` is true; IOX2SD_UNKNOWN_STRATEGY or
- * IOX2SD_BAD_DURATION with the field, as the checks of settings report; IOX2SD_ILLEGAL_HASH. */
-static inline iox2sd_field_answer
-iox2sd_describe_publish_subscribe(const iox2sd_publish_subscribe_settings *settings,
-                                  const uint8_t *name, size_t length, bool internal, iox2sd_id id,
-                                  iox2sd_description *out) {
-    iox2sd_field_answer refused = {IOX2SD_NULL, 0};
-    if (name == NULL && length != 0) return refused;
-    return iox2sd_describe_publish_subscribe_at(settings, settings != NULL, name, length, internal,
-                                                id, out, out != NULL);
-}
-static inline iox2sd_field_answer
-iox2sd_describe_publish_subscribe_str(const iox2sd_publish_subscribe_settings *settings,
-                                      const char *name, bool internal, iox2sd_id id,
-                                      iox2sd_description *out) {
-    return iox2sd_describe_publish_subscribe(settings, (const uint8_t *)name, iox2sd_length(name),
-                                             internal, id, out);
-}
-static inline iox2sd_field_answer
-iox2sd_describe_event(const iox2sd_event_settings *settings, const uint8_t *name, size_t length,
-                      bool internal, iox2sd_id id, iox2sd_description *out) {
-    iox2sd_field_answer refused = {IOX2SD_NULL, 0};
-    if (name == NULL && length != 0) return refused;
-    return iox2sd_describe_event_at(settings, settings != NULL, name, length, internal, id, out,
-                                    out != NULL);
-}
-static inline iox2sd_field_answer iox2sd_describe_event_str(const iox2sd_event_settings *settings,
-                                                            const char *name, bool internal,
-                                                            iox2sd_id id, iox2sd_description *out) {
-    return iox2sd_describe_event(settings, (const uint8_t *)name, iox2sd_length(name), internal, id,
-                                 out);
-}
-static inline iox2sd_field_answer
-iox2sd_describe_request_response(const iox2sd_request_response_settings *settings,
-                                 const uint8_t *name, size_t length, bool internal, iox2sd_id id,
-                                 iox2sd_description *out) {
-    iox2sd_field_answer refused = {IOX2SD_NULL, 0};
-    if (name == NULL && length != 0) return refused;
-    return iox2sd_describe_request_response_at(settings, settings != NULL, name, length, internal,
-                                               id, out, out != NULL);
-}
-static inline iox2sd_field_answer
-iox2sd_describe_request_response_str(const iox2sd_request_response_settings *settings,
-                                     const char *name, bool internal, iox2sd_id id,
-                                     iox2sd_description *out) {
-    return iox2sd_describe_request_response(settings, (const uint8_t *)name, iox2sd_length(name),
-                                            internal, id, out);
-}
-static inline iox2sd_field_answer
+ * IOX2SD_NOT_UTF8; IOX2SD_BAD_SERVICE_NAME, with the status of iox2sd_service_name_check as the
+ * cause, or of iox2sd_internal_service_name_check where `internal` is true; IOX2SD_UNKNOWN_STRATEGY
+ * or IOX2SD_BAD_DURATION with the field, as the checks of settings report; IOX2SD_ILLEGAL_HASH. */
+IOX2SD_CHECKED iox2sd_field_answer iox2sd_describe_publish_subscribe(
+    const iox2sd_publish_subscribe_settings *settings, const uint8_t *name, size_t length,
+    bool internal, iox2sd_id id, iox2sd_description *out);
+IOX2SD_CHECKED iox2sd_field_answer iox2sd_describe_publish_subscribe_str(
+    const iox2sd_publish_subscribe_settings *settings, const char *name, bool internal,
+    iox2sd_id id, iox2sd_description *out);
+IOX2SD_CHECKED iox2sd_field_answer iox2sd_describe_event(const iox2sd_event_settings *settings,
+                                                         const uint8_t *name, size_t length,
+                                                         bool internal, iox2sd_id id,
+                                                         iox2sd_description *out);
+IOX2SD_CHECKED iox2sd_field_answer iox2sd_describe_event_str(const iox2sd_event_settings *settings,
+                                                             const char *name, bool internal,
+                                                             iox2sd_id id, iox2sd_description *out);
+IOX2SD_CHECKED iox2sd_field_answer iox2sd_describe_request_response(
+    const iox2sd_request_response_settings *settings, const uint8_t *name, size_t length,
+    bool internal, iox2sd_id id, iox2sd_description *out);
+IOX2SD_CHECKED iox2sd_field_answer iox2sd_describe_request_response_str(
+    const iox2sd_request_response_settings *settings, const char *name, bool internal, iox2sd_id id,
+    iox2sd_description *out);
+IOX2SD_CHECKED iox2sd_field_answer
 iox2sd_describe_blackboard(const iox2sd_blackboard_settings *settings, const uint8_t *name,
-                           size_t length, bool internal, iox2sd_id id, iox2sd_description *out) {
-    iox2sd_field_answer refused = {IOX2SD_NULL, 0};
-    if (name == NULL && length != 0) return refused;
-    return iox2sd_describe_blackboard_at(settings, settings != NULL, name, length, internal, id,
-                                         out, out != NULL);
-}
-static inline iox2sd_field_answer
+                           size_t length, bool internal, iox2sd_id id, iox2sd_description *out);
+IOX2SD_CHECKED iox2sd_field_answer
 iox2sd_describe_blackboard_str(const iox2sd_blackboard_settings *settings, const char *name,
-                               bool internal, iox2sd_id id, iox2sd_description *out) {
-    return iox2sd_describe_blackboard(settings, (const uint8_t *)name, iox2sd_length(name),
-                                      internal, id, out);
-}
+                               bool internal, iox2sd_id id, iox2sd_description *out);
 
 /* The capacities with which the described service is made; all 0 for NULL or an unknown pattern. */
-static inline iox2sd_capacities
-iox2sd_capacities_of_description(const iox2sd_description *description) {
-    iox2sd_capacities made = {0, 0, 0};
-    if (description == NULL) return made;
-    switch (description->pattern) {
-        case IOX2SD_PUBLISH_SUBSCRIBE:
-            made.nodes = description->publish_subscribe.max_nodes;
-            made.first = description->publish_subscribe.max_publishers;
-            made.second = description->publish_subscribe.max_subscribers;
-            break;
-        case IOX2SD_EVENT:
-            made.nodes = description->event.max_nodes;
-            made.first = description->event.max_listeners;
-            made.second = description->event.max_notifiers;
-            break;
-        case IOX2SD_REQUEST_RESPONSE:
-            made.nodes = description->request_response.max_nodes;
-            made.first = description->request_response.max_servers;
-            made.second = description->request_response.max_clients;
-            break;
-        case IOX2SD_BLACKBOARD:
-            made.nodes = description->blackboard.max_nodes;
-            made.first = description->blackboard.max_readers;
-            made.second = description->blackboard.max_writers;
-            break;
-        default: break;
-    }
-    return made;
-}
+iox2sd_capacities iox2sd_capacities_of_description(const iox2sd_description *description);
+
+/* Creates a service as it is described, with as many tickets as there are numbers.
+ * Errors: IOX2SD_NULL, of either; IOX2SD_HAS_SERVICE; IOX2SD_UNKNOWN_PATTERN; IOX2SD_NO_MEMORY. */
+IOX2SD_CHECKED iox2sd_status
+iox2sd_service_create_of_description(iox2sd_service *service, uint64_t number,
+                                     const iox2sd_description *description);
 
 /* The same by the names of the pattern's ports, from what is fixed of a service; all 0 for NULL. */
-static inline iox2sd_publish_subscribe_capacities
-iox2sd_publish_subscribe_capacities_of_config(const iox2sd_publish_subscribe_config *config) {
-    iox2sd_publish_subscribe_capacities made = {0, 0, 0};
-    if (config == NULL) return made;
-    made.nodes = config->max_nodes;
-    made.publishers = config->max_publishers;
-    made.subscribers = config->max_subscribers;
-    return made;
-}
-static inline iox2sd_event_capacities
-iox2sd_event_capacities_of_config(const iox2sd_event_config *config) {
-    iox2sd_event_capacities made = {0, 0, 0};
-    if (config == NULL) return made;
-    made.nodes = config->max_nodes;
-    made.listeners = config->max_listeners;
-    made.notifiers = config->max_notifiers;
-    return made;
-}
-static inline iox2sd_request_response_capacities
-iox2sd_request_response_capacities_of_config(const iox2sd_request_response_config *config) {
-    iox2sd_request_response_capacities made = {0, 0, 0};
-    if (config == NULL) return made;
-    made.nodes = config->max_nodes;
-    made.servers = config->max_servers;
-    made.clients = config->max_clients;
-    return made;
-}
-static inline iox2sd_blackboard_capacities
-iox2sd_blackboard_capacities_of_config(const iox2sd_blackboard_config *config) {
-    iox2sd_blackboard_capacities made = {0, 0, 0};
-    if (config == NULL) return made;
-    made.nodes = config->max_nodes;
-    made.readers = config->max_readers;
-    made.writers = config->max_writers;
-    return made;
-}
+iox2sd_publish_subscribe_capacities
+iox2sd_publish_subscribe_capacities_of_config(const iox2sd_publish_subscribe_config *config);
+iox2sd_event_capacities iox2sd_event_capacities_of_config(const iox2sd_event_config *config);
+iox2sd_request_response_capacities
+iox2sd_request_response_capacities_of_config(const iox2sd_request_response_config *config);
+iox2sd_blackboard_capacities
+iox2sd_blackboard_capacities_of_config(const iox2sd_blackboard_config *config);
 
 /* Whether what is fixed of a service meets what an opener requires: each number is at least the
  * required one, and each choice, each event and the deadline are the same. Types and attributes are
@@ -916,47 +682,86 @@ iox2sd_blackboard_capacities_of_config(const iox2sd_blackboard_config *config) {
  * Errors: IOX2SD_NULL; IOX2SD_BAD_DURATION with IOX2SD_DEADLINE, of nanoseconds of 1,000,000,000 or
  * more, the service's before the opener's; IOX2SD_UNMET with the first field that is not met. The
  * fields are compared in the order of the struct; of request-response, flags first. */
-static inline iox2sd_field_answer
+IOX2SD_CHECKED iox2sd_field_answer
 iox2sd_publish_subscribe_satisfies(const iox2sd_publish_subscribe_config *service,
-                                   const iox2sd_publish_subscribe_config *required) {
-    return iox2sd_publish_subscribe_satisfies_at(service, service != NULL, required,
-                                                 required != NULL);
-}
-static inline iox2sd_field_answer
-iox2sd_event_satisfies(const iox2sd_event_config *service, const iox2sd_event_config *required) {
-    return iox2sd_event_satisfies_at(service, service != NULL, required, required != NULL);
-}
-static inline iox2sd_field_answer
-iox2sd_request_response_satisfies(const iox2sd_request_response_config *service,
-                                  const iox2sd_request_response_config *required) {
-    return iox2sd_request_response_satisfies_at(service, service != NULL, required,
-                                                required != NULL);
-}
-static inline iox2sd_field_answer
-iox2sd_blackboard_satisfies(const iox2sd_blackboard_config *service,
-                            const iox2sd_blackboard_config *required) {
-    return iox2sd_blackboard_satisfies_at(service, service != NULL, required, required != NULL);
-}
+                                   const iox2sd_publish_subscribe_config *required);
+IOX2SD_CHECKED iox2sd_field_answer iox2sd_event_satisfies(const iox2sd_event_config *service,
+                                                          const iox2sd_event_config *required);
+IOX2SD_CHECKED iox2sd_field_answer iox2sd_request_response_satisfies(
+    const iox2sd_request_response_config *service, const iox2sd_request_response_config *required);
+IOX2SD_CHECKED iox2sd_field_answer iox2sd_blackboard_satisfies(
+    const iox2sd_blackboard_config *service, const iox2sd_blackboard_config *required);
 
 /* Whether two numbers are those of one messaging pattern, as those of two descriptions.
  * Error: IOX2SD_UNKNOWN_PATTERN, of either. */
-iox2sd_flag_answer iox2sd_has_same_messaging_pattern(uint32_t left, uint32_t right);
+IOX2SD_CHECKED iox2sd_flag_answer iox2sd_has_same_messaging_pattern(iox2sd_pattern left,
+                                                                    iox2sd_pattern right);
+
+/* ---- Opening a service ---- */
+
+/* What a service has. What is NULL is not compared. */
+typedef struct iox2sd_offer {
+    const iox2sd_description *description;
+    const iox2sd_attribute *attributes;
+    size_t attributes_length;
+    const iox2sd_message_details *messages;  /* Of publish-subscribe, or of requests. */
+    const iox2sd_message_details *responses; /* Of request-response. */
+} iox2sd_offer;
+
+/* What its opener requires. Of the description, the name, the id and the hash text are not
+ * compared. */
+typedef struct iox2sd_requirements {
+    const iox2sd_description *description;
+    const iox2sd_attribute *pairs;
+    size_t pairs_length;
+    const iox2sd_key *keys;
+    size_t keys_length;
+    const iox2sd_message_details *messages;
+    const iox2sd_message_details *responses;
+} iox2sd_requirements;
+
+/* What a reason is about. */
+enum iox2sd_open_subject_number {
+    IOX2SD_OPEN_PATTERN = 0,
+    IOX2SD_OPEN_ATTRIBUTES = 1,
+    IOX2SD_OPEN_MESSAGES = 2,
+    IOX2SD_OPEN_RESPONSES = 3,
+    IOX2SD_OPEN_SETTINGS = 4
+};
+typedef uint32_t iox2sd_open_subject;
+
+/* The first reason for which a service does not suit an opener. */
+typedef struct iox2sd_open_answer {
+    iox2sd_status status;
+    iox2sd_status cause;         /* Of attributes. */
+    iox2sd_open_subject subject; /* 0 where the status is IOX2SD_DONE. */
+    uint32_t side;               /* Of messages and responses. */
+    iox2sd_message_part part;    /* Of messages and responses. */
+    iox2sd_settings_field field; /* Of settings. */
+    size_t at;                   /* Of attributes. */
+} iox2sd_open_answer;
+
+/* Whether a service has all that an opener requires. Compared are, in this order, the patterns, the
+ * attributes as by iox2sd_attributes_verify, the types of messages and then of responses as by
+ * iox2sd_message_is_compatible_to where both have them, and the settings as by
+ * iox2sd_event_satisfies and its like.
+ * Errors: IOX2SD_NULL, of either or of a description; IOX2SD_UNKNOWN_PATTERN, of either;
+ * IOX2SD_OTHER_PATTERN; then those of these calls. */
+IOX2SD_CHECKED iox2sd_open_answer iox2sd_open_check(const iox2sd_offer *service,
+                                                    const iox2sd_requirements *required);
+
+/* Writes the reason in words, as "max_nodes: a setting is not what the opener requires".
+ * Errors: IOX2SD_NULL; IOX2SD_BUFFER_TOO_SHORT. */
+IOX2SD_CHECKED iox2sd_text_answer iox2sd_open_text(iox2sd_open_answer answer, uint8_t *out,
+                                                   size_t capacity);
 
 /* ---- Versions ---- */
 
 /* Writes the version of this library, as "0.1.0". */
-static inline iox2sd_text_answer iox2sd_version(uint8_t *out, size_t capacity) {
-    iox2sd_text_answer refused = {IOX2SD_NULL, 0};
-    if (out == NULL && capacity != 0) return refused;
-    return iox2sd_version_at(out, capacity);
-}
+IOX2SD_CHECKED iox2sd_text_answer iox2sd_version(uint8_t *out, size_t capacity);
 
 /* Writes the version of iceoryx2 whose layer this is, as "0.9.3". */
-static inline iox2sd_text_answer iox2sd_layer_version(uint8_t *out, size_t capacity) {
-    iox2sd_text_answer refused = {IOX2SD_NULL, 0};
-    if (out == NULL && capacity != 0) return refused;
-    return iox2sd_layer_version_at(out, capacity);
-}
+IOX2SD_CHECKED iox2sd_text_answer iox2sd_layer_version(uint8_t *out, size_t capacity);
 
 #ifdef __cplusplus
 }

@@ -21,7 +21,7 @@ typedef struct attached {
     size_t nodes, subscribers, publishers;
     iox2sd_handle *of_nodes, *of_subscribers;
     iox2sd_port_details *out;
-    iox2sd_id *kept; /* Those of the subscribers. */
+    iox2sd_port_id *kept; /* Those of the subscribers. */
 } attached;
 
 static void *array(size_t count, size_t size) {
@@ -83,7 +83,8 @@ static uint64_t attach_one(attached *all, size_t number) {
     iox2sd_port_details port = subscriber(all, number);
     iox2sd_handle_answer made = SERVICE(attach)(&all->service, &port);
     all->of_subscribers[number] = made.handle;
-    all->kept[number] = port.port;
+    all->kept[number].role = port.role;
+    all->kept[number].port = port.port;
     return done(made.status);
 }
 

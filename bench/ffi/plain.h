@@ -21,7 +21,7 @@ uint32_t plain_deregister_node_id(plain_service *service, iox2sd_handle handle);
 iox2sd_handle_answer plain_attach(plain_service *service, const iox2sd_port_details *port);
 uint32_t plain_release_port(plain_service *service, iox2sd_handle handle);
 iox2sd_dead_node_removal plain_remove_dead_node_id(plain_service *service, iox2sd_id dead,
-                                                   const iox2sd_id *kept, size_t kept_count);
+                                                   const iox2sd_port_id *kept, size_t kept_count);
 iox2sd_flag_answer plain_is_locked(const plain_service *service);
 iox2sd_count_answer plain_count_ports(const plain_service *service, uint64_t role);
 iox2sd_port_answer plain_port(const plain_service *service, iox2sd_handle handle);

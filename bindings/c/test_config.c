@@ -64,6 +64,7 @@ static void defaults(void) {
     iox2sd_config_answer answer = iox2sd_config_read(NULL, 0, soiled(&made, 0xAA));
     CHECK(answer.status == IOX2SD_DONE && answer.unknown == 0);
     CHECK(answer.fault.status == IOX2SD_DONE && has_key(&answer.fault, ""));
+    CHECK(has_reason(&answer.fault, ""));
     CHECK(answer.fault.table == 0 && answer.fault.found == 0 && answer.fault.wanted == 0);
     const iox2sd_config_text *const texts[] = {
         &made.texts.root_path,
@@ -329,6 +330,12 @@ static bool refuses(const iox2sd_config *settings, uint32_t status, uint32_t fie
     return answer.status == status && answer.field == field && answer.length == 0;
 }
 
+static bool refuses_text(const iox2sd_config *settings, uint32_t status, const char *key) {
+    iox2sd_config_write_answer answer = iox2sd_config_write(settings, out, MOST);
+    return answer.status == status && answer.field == 0 && answer.length == 0 &&
+           is_front(answer.key, sizeof answer.key, answer.key_length, key);
+}
+
 static void writing(void) {
     static iox2sd_config made, bad;
     CHECK(iox2sd_config_read_str("", &made).status == IOX2SD_DONE);
@@ -345,14 +352,42 @@ static void writing(void) {
     CHECK(iox2sd_config_write(&made, NULL, 1).status == IOX2SD_NULL);
     bad = made;
     set(&bad.texts.service_directory, "\x80");
-    CHECK(refuses(&bad, IOX2SD_BAD_PATH, 0));
+    CHECK(refuses_text(&bad, IOX2SD_BAD_PATH, "global.service.directory"));
     set(&bad.texts.prefix, "a/b");
-    CHECK(refuses(&bad, IOX2SD_BAD_PATH, 0));
+    CHECK(refuses_text(&bad, IOX2SD_BAD_PATH, "global.service.directory"));
     bad.texts.service_directory = made.texts.service_directory;
-    CHECK(refuses(&bad, IOX2SD_NO_FILE_NAME, 0));
-    bad = made;
-    bad.texts.global_mgmt_suffix.length = SIZE_MAX;
-    CHECK(refuses(&bad, IOX2SD_NO_FILE_NAME, 0));
+    CHECK(refuses_text(&bad, IOX2SD_NO_FILE_NAME, "global.prefix"));
+    /* each text in turn, with too many bytes and with a byte that is not allowed */
+    static const char *const keys[16] = {
+        "global.root-path",
+        "global.prefix",
+        "global.service.directory",
+        "global.service.data-segment-suffix",
+        "global.service.static-config-storage-suffix",
+        "global.service.dynamic-config-storage-suffix",
+        "global.service.connection-suffix",
+        "global.service.event-connection-suffix",
+        "global.service.blackboard-mgmt-suffix",
+        "global.service.blackboard-data-suffix",
+        "global.node.directory",
+        "global.node.monitor-suffix",
+        "global.node.static-config-suffix",
+        "global.node.service-tag-suffix",
+        "global.node.port-tag-suffix",
+        "global.node.global-mgmt-suffix",
+    };
+    for (size_t i = 0; i < 16; i++) {
+        const uint32_t status =
+            i == 0 || i == 2 || i == 10 ? IOX2SD_BAD_PATH : IOX2SD_NO_FILE_NAME;
+        bad = made;
+        iox2sd_config_text *const text = &bad.texts.root_path + i;
+        text->length = SIZE_MAX;
+        CHECK(refuses_text(&bad, IOX2SD_TOO_LONG, keys[i]));
+        text->length = 256;
+        CHECK(refuses_text(&bad, IOX2SD_TOO_LONG, keys[i]));
+        set(text, "\x7f\x80");
+        CHECK(refuses_text(&bad, status, keys[i]));
+    }
     bad = made;
     bad.request_response.server_allocation_strategy = 3;
     CHECK(refuses(&bad, IOX2SD_UNKNOWN_STRATEGY, IOX2SD_SERVER_ALLOCATION_STRATEGY));
@@ -369,6 +404,87 @@ static void writing(void) {
     iox2sd_config_write_answer answer = iox2sd_config_write(&bad, out, MOST);
     CHECK(is_front(answer.key, sizeof answer.key, answer.key_length,
                    "defaults.blackboard.max-readers"));
+}
+
+/* Whether all bytes of a struct are as `soiled` set them. */
+static bool is_soiled(const iox2sd_config *config) {
+    const uint8_t *const bytes = (const uint8_t *)config;
+    for (size_t i = 0; i < sizeof *config; i++) {
+        if (bytes[i] != 0xAA) return false;
+    }
+    return true;
+}
+
+static char deep[1 << 14];
+
+/* Appends a text so many times. */
+static void repeat(const char *text, int times) {
+    for (int i = 0; i < times; i++) strcat(deep, text);
+}
+
+/* Whether the file that was put together is read, or where it is too deep. */
+static bool is_deep(const char *place) {
+    static iox2sd_config made;
+    iox2sd_config_fault faults[1];
+    char reason[99];
+    iox2sd_config_answer answer = iox2sd_config_read_str(deep, soiled(&made, 0xAA));
+    iox2sd_count_answer listed = iox2sd_config_faults_str(deep, faults, 1);
+    iox2sd_unknown_answer unknown = iox2sd_config_unknown_str(deep, NULL, 0, NULL, 0);
+    deep[0] = 0;
+    if (place == NULL)
+        return answer.status == IOX2SD_DONE && listed.status == IOX2SD_DONE &&
+               unknown.status != IOX2SD_TOO_DEEP;
+    sprintf(reason, "%s: tables and arrays are more than 80 deep in one another", place);
+    return answer.status == IOX2SD_TOO_DEEP && has_reason(&answer.fault, reason) &&
+           has_key(&answer.fault, "") && answer.unknown == 0 && is_soiled(&made) &&
+           listed.status == IOX2SD_TOO_DEEP && listed.count == 0 &&
+           unknown.status == IOX2SD_TOO_DEEP && unknown.count == 0;
+}
+
+/* Tables and arrays as deep as they may be, and one deeper. */
+static void depth(void) {
+    for (int more = 0; more < 2; more++) {
+        repeat("a.", 79 + 2 * more); /* TOML's parser refuses a key of 81 parts. */
+        repeat("a = 1\n", 1);
+        CHECK(is_deep(more ? "line 1, column 162" : NULL));
+        repeat("[a", 1);
+        repeat(".a", 79 + more);
+        repeat("]\n", 1);
+        CHECK(is_deep(more ? "line 1, column 161" : NULL));
+        repeat("# [[[[ ....\nx = ", 1);
+        repeat("[", 80 + more);
+        repeat("]", 80 + more);
+        CHECK(is_deep(more ? "line 2, column 85" : NULL));
+        repeat("x = ", 1);
+        repeat("{a = ", 80 + more);
+        repeat("1", 1);
+        repeat("}", 80 + more);
+        CHECK(is_deep(more ? "line 1, column 405" : NULL));
+        repeat("[a", 1);
+        repeat(".a", 19);
+        repeat("]\n", 1);
+        repeat("b.", 20);
+        repeat("b = ", 1);
+        repeat("[{\na.b = ", 13);
+        repeat("[", 1 + more);
+        repeat("]", 1 + more);
+        repeat("}]", 13);
+        CHECK(is_deep(more ? "line 15, column 8" : NULL));
+    }
+    /* what is in texts and comments is not counted, nor what is closed */
+    repeat("\xef\xbb\xbf[a]\n", 1);
+    repeat("x = ['\\', \"\\\"[[[\", '''[ ''[['''', \"\"\"\\\"\"\"[ \"\"\"\"\"] # [[[\n", 1);
+    repeat("y = [1.5, 1979-05-27T07:32:00.5, {a.b.c = 1, d.e = {}}, {a.b.c = 1}]\n", 1);
+    for (int i = 0; i < 90; i++) repeat("[[t.'a.b'.\"c[\"]]\n", 1);
+    CHECK(is_deep(NULL));
+    for (int i = 0; i < 200; i++) repeat(i ? ", {a.b = [[1.5]]}" : "x = [{a.b = [[1.5]]}", 1);
+    repeat("]\n", 1);
+    CHECK(is_deep(NULL));
+    repeat("\xef\xbb\xbf[a", 1);
+    repeat(".a", 40);
+    repeat("]\n\n'\xc3\xa4'", 1);
+    repeat(".b", 40);
+    CHECK(is_deep("line 3, column 82"));
 }
 
 static void nulls(void) {
@@ -428,7 +544,7 @@ static uint32_t writes(void) {
     if (made.texts.root_path.length == 0) {
         long was = left;
         left = -1;
-        iox2sd_config_read_str("", &made);
+        CHECK(iox2sd_config_read_str("", &made).status == IOX2SD_DONE);
         left = was;
     }
     return iox2sd_config_write(&made, out, MOST).status;
@@ -483,6 +599,7 @@ int main(void) {
     all_faults();
     unknown_keys();
     writing();
+    depth();
     nulls();
     no_memory(reads);
     no_memory(reads_a_fault);

@@ -7,6 +7,11 @@
 
 #include <string.h>
 
+static bool is_written(iox2sd_text_answer answer, const uint8_t *out, const char *text) {
+    return answer.status == IOX2SD_DONE && answer.length == strlen(text) &&
+           memcmp(out, text, answer.length) == 0;
+}
+
 static bool at(iox2sd_place_answer answer, uint32_t status, size_t place) {
     return answer.status == status && answer.at == place;
 }
@@ -71,6 +76,119 @@ static void refused_handles(void) {
     CHECK(iox2sd_service_free(&service) == IOX2SD_DONE);
 }
 
+/* Handles of no entry, the words for parts and fields, and services of each pattern by the names of
+ * its ports. */
+static void words_and_makers(void) {
+    const iox2sd_handle none = iox2sd_handle_none();
+    const iox2sd_handle literal = IOX2SD_HANDLE_NONE;
+    iox2sd_handle first = {0, IOX2SD_NODE, 0, 0};
+    CHECK(memcmp(&none, &literal, sizeof none) == 0 && iox2sd_handle_is_none(none));
+    CHECK(!iox2sd_handle_is_none(first));
+    CHECK(strcmp(iox2sd_part_str(IOX2SD_HEADER), "header") == 0);
+    CHECK(strcmp(iox2sd_part_str(IOX2SD_USER_HEADER), "user header") == 0);
+    CHECK(strcmp(iox2sd_part_str(IOX2SD_PAYLOAD), "payload") == 0);
+    CHECK(strcmp(iox2sd_part_str(3), "unknown part") == 0);
+    CHECK(strcmp(iox2sd_field_str(IOX2SD_BACKPRESSURE_STRATEGY), "backpressure_strategy") == 0);
+    CHECK(strcmp(iox2sd_field_str(IOX2SD_MAX_SUBSCRIBERS), "max_subscribers") == 0);
+    CHECK(strcmp(iox2sd_field_str(IOX2SD_MAX_NODES), "max_nodes") == 0);
+    CHECK(strcmp(iox2sd_field_str(32), "unknown field") == 0);
+    for (uint32_t one = 0; one < 32; one++) {
+        for (uint32_t other = 0; other < one; other++)
+            CHECK(strcmp(iox2sd_field_str(one), iox2sd_field_str(other)) != 0);
+    }
+    iox2sd_service services[4] = {IOX2SD_SERVICE_NONE, IOX2SD_SERVICE_NONE, IOX2SD_SERVICE_NONE,
+                                  IOX2SD_SERVICE_NONE};
+    const iox2sd_publish_subscribe_capacities publishers = {1, 2, 3};
+    const iox2sd_event_capacities listeners = {1, 2, 3};
+    const iox2sd_request_response_capacities servers = {1, 2, 3};
+    const iox2sd_blackboard_capacities readers = {1, 2, 3};
+    CHECK(iox2sd_service_create_publish_subscribe(&services[0], 7, publishers) == IOX2SD_DONE);
+    CHECK(iox2sd_service_create_event(&services[1], 7, listeners) == IOX2SD_DONE);
+    CHECK(iox2sd_service_create_request_response(&services[2], 7, servers) == IOX2SD_DONE);
+    CHECK(iox2sd_service_create_blackboard(&services[3], 7, readers) == IOX2SD_DONE);
+    for (uint64_t pattern = 0; pattern < 4; pattern++) {
+        iox2sd_service *const service = &services[pattern];
+        const iox2sd_roles_answer roles = iox2sd_port_roles(service);
+        CHECK(iox2sd_messaging_pattern(service).number == pattern);
+        CHECK(iox2sd_service_number(service).number == 7);
+        CHECK(iox2sd_max_nodes(service).count == 1);
+        CHECK(iox2sd_max_ports(service, roles.first).count == 2);
+        CHECK(iox2sd_max_ports(service, roles.second).count == 3);
+        CHECK(iox2sd_service_create_event(service, 7, listeners) == IOX2SD_HAS_SERVICE);
+        CHECK(iox2sd_service_free(service) == IOX2SD_DONE);
+    }
+    CHECK(iox2sd_service_create_event(NULL, 7, listeners) == IOX2SD_NULL);
+}
+
+/* A service as it is described, and the first reason for which an opener is refused. */
+static void openers(void) {
+    iox2sd_service service = IOX2SD_SERVICE_NONE;
+    iox2sd_event_settings settings = iox2sd_event_defaults();
+    iox2sd_publish_subscribe_settings samples = iox2sd_publish_subscribe_defaults();
+    iox2sd_description events, others;
+    iox2sd_message_details details, wider;
+    iox2sd_attribute pair = iox2sd_attribute_str("k", "v"), wanted = iox2sd_attribute_str("k", "w");
+    iox2sd_key key = iox2sd_key_str("");
+    uint8_t out[80];
+    CHECK(iox2sd_describe_event_str(&settings, "a", false, id(1, 2, 3, 4), &events).status ==
+          IOX2SD_DONE);
+    CHECK(iox2sd_service_create_of_description(&service, 9, &events) == IOX2SD_DONE);
+    CHECK(iox2sd_max_ports(&service, IOX2SD_LISTENER).count == settings.max_listeners);
+    CHECK(iox2sd_service_create_of_description(&service, 9, NULL) == IOX2SD_NULL);
+    CHECK(iox2sd_service_free(&service) == IOX2SD_DONE);
+    others = events;
+    others.pattern = UINT64_C(1) << 32;
+    CHECK(iox2sd_service_create_of_description(&service, 9, &others) == IOX2SD_UNKNOWN_PATTERN);
+    memset(&details, 0, sizeof details);
+    details.header = iox2sd_type_detail_str("H", IOX2SD_VARIANT_FIXED_SIZE, 8, 8);
+    details.user_header = iox2sd_type_detail_str("U", IOX2SD_VARIANT_FIXED_SIZE, 4, 4);
+    details.payload = iox2sd_type_detail_str("P", IOX2SD_VARIANT_DYNAMIC, 16, 8);
+    wider = details;
+    wider.payload.size = 24;
+    iox2sd_offer offer = {&events, &pair, 1, &details, NULL};
+    iox2sd_requirements required = {&events, &pair, 1, NULL, 0, &details, &wider};
+    CHECK(iox2sd_open_check(&offer, &required).status == IOX2SD_DONE);
+    CHECK(iox2sd_open_check(NULL, &required).status == IOX2SD_NULL);
+    CHECK(iox2sd_open_check(&offer, NULL).status == IOX2SD_NULL);
+    /* each reason, with all that come after it */
+    iox2sd_description more = events;
+    more.event.max_nodes++;
+    required.description = &more;
+    iox2sd_open_answer answer = iox2sd_open_check(&offer, &required);
+    CHECK(answer.status == IOX2SD_UNMET && answer.subject == IOX2SD_OPEN_SETTINGS);
+    CHECK(answer.field == IOX2SD_MAX_NODES);
+    CHECK(is_written(iox2sd_open_text(answer, out, sizeof out), out,
+                     "max_nodes: a setting is not what the opener requires"));
+    offer.responses = &details;
+    answer = iox2sd_open_check(&offer, &required);
+    CHECK(answer.status == IOX2SD_OTHER_SIZE && answer.subject == IOX2SD_OPEN_RESPONSES);
+    CHECK(answer.part == IOX2SD_PAYLOAD && answer.side == 0 && answer.field == 0);
+    CHECK(is_written(iox2sd_open_text(answer, out, sizeof out), out,
+                     "responses, payload: the types of a part have other sizes"));
+    required.messages = &wider;
+    answer = iox2sd_open_check(&offer, &required);
+    CHECK(answer.status == IOX2SD_OTHER_SIZE && answer.subject == IOX2SD_OPEN_MESSAGES);
+    required.pairs = &wanted;
+    answer = iox2sd_open_check(&offer, &required);
+    CHECK(answer.status == IOX2SD_MISSING_PAIR && answer.subject == IOX2SD_OPEN_ATTRIBUTES);
+    required.keys = &key;
+    required.keys_length = 1;
+    answer = iox2sd_open_check(&offer, &required);
+    CHECK(answer.status == IOX2SD_BAD_ASKED_KEY && answer.cause == IOX2SD_EMPTY && answer.at == 0);
+    CHECK(iox2sd_describe_publish_subscribe_str(&samples, "a", false, id(1, 2, 3, 4), &others)
+              .status == IOX2SD_DONE);
+    required.description = &others;
+    answer = iox2sd_open_check(&offer, &required);
+    CHECK(answer.status == IOX2SD_OTHER_PATTERN && answer.subject == IOX2SD_OPEN_PATTERN);
+    CHECK(is_written(iox2sd_open_text(answer, out, sizeof out), out,
+                     "the service has another messaging pattern"));
+    others.pattern = 4;
+    CHECK(iox2sd_open_check(&offer, &required).status == IOX2SD_UNKNOWN_PATTERN);
+    iox2sd_text_answer text = iox2sd_open_text(answer, NULL, 0);
+    CHECK(text.status == IOX2SD_BUFFER_TOO_SHORT && text.length == 41);
+    CHECK(iox2sd_open_text(answer, NULL, 1).status == IOX2SD_NULL);
+}
+
 static void statuses_are_ok(void) {
     CHECK(IOX2SD_OK(IOX2SD_DONE) && IOX2SD_OK(IOX2SD_DONE_LOCKED));
     for (uint32_t status = 2; status < 1000; status++) CHECK(!IOX2SD_OK(status));
@@ -95,7 +213,7 @@ static void static_texts(void) {
             CHECK(strcmp(text, "unknown status") == 0);
         }
     }
-    CHECK(known == 65 && strcmp(iox2sd_status_str(UINT32_MAX), "unknown status") == 0);
+    CHECK(known == 67 && strcmp(iox2sd_status_str(UINT32_MAX), "unknown status") == 0);
     for (uint64_t i = 0; i < 9; i++) CHECK(strcmp(iox2sd_role_str(i), roles[i]) == 0);
     CHECK(strcmp(iox2sd_role_str(9), "unknown role") == 0);
     CHECK(strcmp(iox2sd_role_str(IOX2SD_NO_ROLE), "unknown role") == 0);
@@ -379,6 +497,8 @@ static void version(void) {
 
 int main(void) {
     refused_handles();
+    words_and_makers();
+    openers();
     statuses_are_ok();
     static_texts();
     arrays_of_null();

@@ -50,6 +50,7 @@ static iox2sd_script_answer run(const char *text, size_t capacity) {
 }
 
 static bool answers(iox2sd_script_answer answer, uint32_t status, size_t line, size_t length) {
+    if (answer.status != IOX2SD_BUFFER_TOO_SHORT && answer.verdict != answer.status) return false;
     return answer.status == status && answer.line == line && answer.length == length;
 }
 

@@ -291,12 +291,19 @@ static void ports_of_pattern(uint32_t pattern) {
     CHECK(iox2sd_release_port(&service, handle(77, second, 2, 2)) == IOX2SD_DONE);
     CHECK(iox2sd_release_port(&service, handle(77, second, 2, 2)) == IOX2SD_FOREIGN_HANDLE);
     CHECK(iox2sd_deregister_node_id(&service, handle(77, IOX2SD_NODE, 0, 0)) == IOX2SD_PORTS_STILL_ATTACHED);
-    /* a death of which one port is kept, then of which none is */
-    iox2sd_id kept[2] = {id(99, 99, 99, 99), id(11, 12, 13, 31)};
-    CHECK(went(iox2sd_remove_dead_node_id(&service, id(0, 2, 3, 0), kept, 2), IOX2SD_NO_NODE, 0, 0));
+    /* a death of which one port is kept, by its kind and its id, then of which none is */
+    iox2sd_port_id kept[3] = {{second, id(99, 99, 99, 99)},
+                              {second, id(11, 12, 13, 31)},
+                              {IOX2SD_NODE, id(11, 12, 13, 31)}};
+    const iox2sd_port_id other_kind = {first, id(11, 12, 13, 31)};
+    CHECK(went(iox2sd_remove_dead_node_id(&service, id(0, 2, 3, 0), kept, 3), IOX2SD_NO_NODE, 0, 0));
+    CHECK(went(iox2sd_remove_dead_node_id(&service, node, kept, 3), IOX2SD_UNKNOWN_ROLE, 0, 0));
+    kept[2].role = 9;
+    CHECK(went(iox2sd_remove_dead_node_id(&service, node, kept, 3), IOX2SD_UNKNOWN_ROLE, 0, 0));
     CHECK(went(iox2sd_remove_dead_node_id(&service, node, kept, 2), IOX2SD_DONE, 1, 0));
+    CHECK(went(iox2sd_remove_dead_node_id(&service, node, kept, 2), IOX2SD_DONE, 0, 0));
     CHECK(iox2sd_deregister_node_id(&service, handle(77, IOX2SD_NODE, 0, 0)) == IOX2SD_PORTS_STILL_ATTACHED);
-    CHECK(went(iox2sd_remove_dead_node_id(&service, node, kept, 1), IOX2SD_DONE, 0, 1));
+    CHECK(went(iox2sd_remove_dead_node_id(&service, node, &other_kind, 1), IOX2SD_DONE, 0, 1));
     CHECK(iox2sd_deregister_node_id(&service, handle(77, IOX2SD_NODE, 0, 0)) == IOX2SD_FOREIGN_HANDLE);
     CHECK(went(iox2sd_remove_dead_node_id(&service, other, NULL, 0), IOX2SD_DONE_LOCKED, 1, 1));
     CHECK(went(iox2sd_remove_dead_node_id(&service, other, NULL, 0), IOX2SD_DONE_LOCKED, 0, 0));
@@ -406,10 +413,10 @@ static void questions_of_pattern(uint32_t pattern) {
     CHECK(memcmp(out, before, sizeof out) == 0);
     CHECK(counts(iox2sd_nodes(&service, out, 2), IOX2SD_DONE, 2));
     CHECK(same_id(out[0], a) && same_id(out[1], b) && same_id(out[2], before[2]));
-    iox2sd_remove_dead_node_id(&service, a, NULL, 0);
+    CHECK(IOX2SD_OK(iox2sd_remove_dead_node_id(&service, a, NULL, 0).status));
     CHECK(counts(iox2sd_nodes(&service, out, 4), IOX2SD_DONE, 1));
     CHECK(same_id(out[0], b) && same_id(out[1], b) && same_id(out[3], before[3]));
-    iox2sd_remove_dead_node_id(&service, b, NULL, 0);
+    CHECK(IOX2SD_OK(iox2sd_remove_dead_node_id(&service, b, NULL, 0).status));
     CHECK(says(iox2sd_is_locked(&service), IOX2SD_DONE, true));
     CHECK(says(iox2sd_has_room_for_node(&service), IOX2SD_DONE, false));
     CHECK(says(iox2sd_has_room(&service, first), IOX2SD_DONE, false));

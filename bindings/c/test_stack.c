@@ -49,6 +49,15 @@ static iox2sd_service service = IOX2SD_SERVICE_NONE, made = IOX2SD_SERVICE_NONE;
 static iox2sd_handle node_handle, port_handle;
 static iox2sd_port_details port, ports[4];
 static iox2sd_id ids[4];
+static iox2sd_port_id kept[4];
+static iox2sd_service_numbers numbers;
+static const iox2sd_publish_subscribe_config publish_subscribe_config = {1, 1, 1, 1, 1, 1, true};
+static iox2sd_event_config event_config;
+static iox2sd_request_response_config request_response_config;
+static iox2sd_blackboard_config blackboard_config;
+static iox2sd_offer offer;
+static iox2sd_requirements required;
+static iox2sd_open_answer reason;
 static iox2sd_attribute pairs[16];
 static iox2sd_key key;
 static iox2sd_description described;
@@ -61,6 +70,8 @@ static iox2sd_blackboard_settings blackboard;
 static iox2sd_config config;
 static iox2sd_config_fault faults[4];
 static iox2sd_unknown_key unknown[4];
+static iox2sd_count_answer samples;
+static iox2sd_text_answer text;
 static uint8_t out[1 << 16], name[255], value[256], path[120];
 
 static const char *const faulty = "[global]\nprefix = 2\n[defaults.event]\nmax-nodes = ''\n";
@@ -118,7 +129,7 @@ static char nested[3][1024];
     CALL(ports, iox2sd_ports_at(&service, 1, IOX2SD_SUBSCRIBER, ALL(ports))) \
     CALL(ports_of, iox2sd_ports_of_at(&service, 1, node, ALL(ports))) \
     CALL(release_port, iox2sd_release_port_at(&service, 1, port_handle)) \
-    CALL(remove_dead_node_id, iox2sd_remove_dead_node_id_at(&service, 1, dead, &node, 1)) \
+    CALL(remove_dead_node_id, iox2sd_remove_dead_node_id_at(&service, 1, dead, kept, 4)) \
     CALL(deregister_node_id, iox2sd_deregister_node_id_at(&service, 1, node_handle)) \
     CALL(service_name_check, iox2sd_service_name_check_at(ALL(name))) \
     CALL(internal_service_name_check, iox2sd_internal_service_name_check_at(ALL(name))) \
@@ -173,6 +184,27 @@ static char nested[3][1024];
         ALL(name), false, node, &described, 1)) \
     CALL(describe_blackboard, iox2sd_describe_blackboard_at(&blackboard, 1, ALL(name), false, \
         node, &described, 1)) \
+    CALL(next_service_number, iox2sd_next_service_number_at(&numbers, 1)) \
+    CALL(publish_subscribe_satisfies, iox2sd_publish_subscribe_satisfies_at( \
+        &publish_subscribe_config, 1, &publish_subscribe_config, 1)) \
+    CALL(event_satisfies, iox2sd_event_satisfies_at(&event_config, 1, &event_config, 1)) \
+    CALL(request_response_satisfies, iox2sd_request_response_satisfies_at( \
+        &request_response_config, 1, &request_response_config, 1)) \
+    CALL(blackboard_satisfies, iox2sd_blackboard_satisfies_at(&blackboard_config, 1, \
+        &blackboard_config, 1)) \
+    CALL(publish_subscribe_capacities, \
+        iox2sd_publish_subscribe_capacities_of_settings_at(&publish_subscribe, 1)) \
+    CALL(event_capacities, iox2sd_event_capacities_of_settings_at(&event, 1)) \
+    CALL(request_response_capacities, \
+        iox2sd_request_response_capacities_of_settings_at(&request_response, 1)) \
+    CALL(blackboard_capacities, iox2sd_blackboard_capacities_of_settings_at(&blackboard, 1)) \
+    CALL(id_is_node, iox2sd_id_is_node(node)) \
+    CALL(id_owner_id, iox2sd_id_owner_id(node)) \
+    CALL(id_is_before, iox2sd_id_is_before(node, dead)) \
+    CALL(samples_of, samples = iox2sd_samples_of(&publish_subscribe)) \
+    CALL(responses_of, samples = iox2sd_responses_of(&request_response)) \
+    CALL(open_check, reason = iox2sd_open_check(&offer, &required)) \
+    CALL(open_text, text = iox2sd_open_text(reason, ALL(out))) \
     CALL(global_defaults, iox2sd_global_defaults()) \
     CALL(publish_subscribe_defaults, iox2sd_publish_subscribe_defaults()) \
     CALL(event_defaults, iox2sd_event_defaults()) \
@@ -223,6 +255,94 @@ static void nest(char *text, size_t depth, const char *open, const char *close) 
     for (size_t i = 0; i < depth; i++) strcat(text, close);
 }
 
+/* Files of each form whose tables and arrays are as deep as they may be, and deeper: what a call on
+ * each takes is bounded alike. */
+static char deep[1 << 15];
+
+static void repeat(const char *piece, size_t times) {
+    for (size_t i = 0; i < times; i++) strcat(deep, piece);
+}
+
+static void read_deep(void) { (void)iox2sd_config_read_at(TEXT(deep), &config, 1); }
+static void list_deep(void) { (void)iox2sd_config_faults_at(TEXT(deep), ALL(faults)); }
+static void name_deep(void) { (void)iox2sd_config_unknown_at(TEXT(deep), ALL(unknown), ALL(out)); }
+
+enum { FORMS = 12 };
+
+static void make_form(size_t form, size_t depth) {
+    const size_t half = depth / 2;
+    deep[0] = 0;
+    if (form == 0 || form == 1) { /* a key; a key of a known table */
+        repeat(form == 0 ? "" : "global.", 1);
+        repeat("a.", depth - 1 - form);
+        repeat("a = 1\n", 1);
+    } else if (form == 2) { /* a header */
+        repeat("[a", 1);
+        repeat(".a", depth - 1);
+        repeat("]\n", 1);
+    } else if (form == 3) { /* headers of arrays of tables, each part one */
+        for (size_t parts = 1; parts <= depth; parts++) {
+            repeat("[[a", 1);
+            repeat(".a", parts - 1);
+            repeat("]]\n", 1);
+        }
+    } else if (form == 4 || form == 5) { /* arrays, inline tables */
+        repeat("x = ", 1);
+        repeat(form == 4 ? "[" : "{a = ", depth);
+        repeat(form == 4 ? "" : "1", 1);
+        repeat(form == 4 ? "]" : "}", depth);
+    } else if (form == 6 || form == 7) { /* inline tables of keys with a dot; with arrays */
+        repeat("x = ", 1);
+        repeat(form == 6 ? "{a.a = " : "[{a = ", half);
+        repeat("1", 1);
+        repeat(form == 6 ? "}" : "}]", half);
+    } else if (form < 11) { /* a header with a key, with arrays, with inline tables */
+        repeat("[a", 1);
+        repeat(".a", half - 1);
+        repeat("]\nb", 1);
+        repeat(form == 8 ? ".b" : "", half);
+        repeat(" = ", 1);
+        repeat(form == 8 ? "" : form == 9 ? "[" : "{a = ", half);
+        repeat(form == 9 ? "" : "1", 1);
+        repeat(form == 8 ? "" : form == 9 ? "]" : "}", half);
+    } else { /* arrays of tables with keys and inline tables in them */
+        for (size_t parts = 1; parts <= depth / 3; parts++) {
+            repeat("[[a", 1);
+            repeat(".a", parts - 1);
+            repeat("]]\n", 1);
+        }
+        repeat("b", 1);
+        repeat(".b", depth / 3);
+        repeat(" = ", 1);
+        repeat("{a = ", depth / 3);
+        repeat("1", 1);
+        repeat("}", depth / 3);
+    }
+    repeat("\n", 1);
+}
+
+/* Each form at the depths before and past the limit, and at those with which files once passed what
+ * is promised. */
+static void deep_files(bool told) {
+    static const size_t depths[] = {55, 72, 78, 80, 82, 160};
+    size_t most = 0;
+    for (size_t form = 0; form < FORMS; form++) {
+        for (size_t i = 0; i < sizeof depths / sizeof depths[0]; i++) {
+            make_form(form, depths[i]);
+            const size_t taken[] = {depth_of(read_deep), depth_of(list_deep), depth_of(name_deep)};
+            const iox2sd_config_answer answer = iox2sd_config_read_str(deep, &config);
+            CHECK(answer.status == (depths[i] <= 80 ? IOX2SD_DONE : IOX2SD_TOO_DEEP));
+            for (size_t call = 0; call < 3; call++) {
+                CHECK(taken[call] <= IOX2SD_CONFIG_STACK_BYTES);
+                if (taken[call] > most) most = taken[call];
+                if (told || taken[call] > IOX2SD_CONFIG_STACK_BYTES)
+                    printf("form %zu at %zu: %zu bytes\n", form, depths[i], taken[call]);
+            }
+        }
+    }
+    CHECK(most > 4096);
+}
+
 static void prepare(void) {
     memset(name, 'n', sizeof name);
     memset(value, 'v', sizeof value);
@@ -251,6 +371,13 @@ static void prepare(void) {
     port.node = node;
     port_handle = iox2sd_attach(&service, &port).handle;
     CHECK(iox2sd_config_read(NULL, 0, &config).status == IOX2SD_DONE);
+    kept[0].role = kept[1].role = kept[2].role = kept[3].role = IOX2SD_SUBSCRIBER;
+    CHECK(iox2sd_describe_publish_subscribe_str(&publish_subscribe, "a", false, node, &described)
+              .status == IOX2SD_DONE);
+    offer.description = required.description = &described;
+    offer.messages = required.messages = &details;
+    offer.attributes = required.pairs = pairs;
+    offer.attributes_length = required.pairs_length = 16;
     nest(nested[0], 80, "[", "]");
     nest(nested[1], 250, "[", "]");
     nest(nested[2], 80, "{a=", "}");
@@ -266,6 +393,8 @@ int main(int count, char **words) {
             printf("%s: %zu bytes, at most %zu\n", rows[i].name, depth, rows[i].bound);
         }
     }
+    deep_files(told);
+    CHECK(iox2sd_open_check(&offer, &required).status == IOX2SD_DONE);
     CHECK(iox2sd_script_run_str(script, ALL(out)).status == IOX2SD_DONE);
     CHECK(iox2sd_script_run_str(refusals, ALL(out)).line == 14);
     CHECK(iox2sd_service_free(&service) == IOX2SD_DONE);

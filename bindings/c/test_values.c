@@ -370,43 +370,43 @@ static void compatible(void) {
     char long_name[258];
     memset(long_name, 'x', sizeof long_name);
     long_name[257] = 0;
-    CHECK(is_part(iox2sd_message_is_compatible_to(&opener, &service), IOX2SD_DONE, 0, 0));
-    CHECK(is_part(iox2sd_message_is_compatible_to(&service, &opener), IOX2SD_GREATER_ALIGNMENT, 0,
+    CHECK(is_part(iox2sd_message_is_compatible_to(&service, &opener), IOX2SD_DONE, 0, 0));
+    CHECK(is_part(iox2sd_message_is_compatible_to(&opener, &service), IOX2SD_GREATER_ALIGNMENT, 0,
                   IOX2SD_PAYLOAD));
     CHECK(is_part(iox2sd_message_is_compatible_to(NULL, NULL), IOX2SD_NULL, 0, 0));
-    CHECK(is_part(iox2sd_message_is_compatible_to(&opener, NULL), IOX2SD_NULL, 1, 0));
+    CHECK(is_part(iox2sd_message_is_compatible_to(NULL, &opener), IOX2SD_NULL, 1, 0));
 
     opener.payload.size = 9;
-    CHECK(is_part(iox2sd_message_is_compatible_to(&opener, &service), IOX2SD_OTHER_SIZE, 0,
+    CHECK(is_part(iox2sd_message_is_compatible_to(&service, &opener), IOX2SD_OTHER_SIZE, 0,
                   IOX2SD_PAYLOAD));
     opener.payload.variant = IOX2SD_VARIANT_DYNAMIC;
-    CHECK(is_part(iox2sd_message_is_compatible_to(&opener, &service), IOX2SD_OTHER_VARIANT, 0,
+    CHECK(is_part(iox2sd_message_is_compatible_to(&service, &opener), IOX2SD_OTHER_VARIANT, 0,
                   IOX2SD_PAYLOAD));
     opener.user_header.name = bytes("Userheader");
-    CHECK(is_part(iox2sd_message_is_compatible_to(&opener, &service), IOX2SD_OTHER_NAME, 0,
+    CHECK(is_part(iox2sd_message_is_compatible_to(&service, &opener), IOX2SD_OTHER_NAME, 0,
                   IOX2SD_USER_HEADER));
     opener.header.alignment = 4;
-    CHECK(is_part(iox2sd_message_is_compatible_to(&opener, &service), IOX2SD_OTHER_ALIGNMENT, 0,
+    CHECK(is_part(iox2sd_message_is_compatible_to(&service, &opener), IOX2SD_OTHER_ALIGNMENT, 0,
                   IOX2SD_HEADER));
     opener.header.size = 4;
-    CHECK(is_part(iox2sd_message_is_compatible_to(&opener, &service), IOX2SD_OTHER_SIZE, 0,
+    CHECK(is_part(iox2sd_message_is_compatible_to(&service, &opener), IOX2SD_OTHER_SIZE, 0,
                   IOX2SD_HEADER));
 
     service.payload.alignment = 12;
-    CHECK(is_part(iox2sd_message_is_compatible_to(&opener, &service), IOX2SD_BAD_ALIGNMENT, 1,
+    CHECK(is_part(iox2sd_message_is_compatible_to(&service, &opener), IOX2SD_BAD_ALIGNMENT, 1,
                   IOX2SD_PAYLOAD));
     service.user_header.name = bytes("\xc3\xa4");
     service.user_header.name_length = 2;
-    CHECK(is_part(iox2sd_message_is_compatible_to(&opener, &service), IOX2SD_ILLEGAL_BYTE, 1,
+    CHECK(is_part(iox2sd_message_is_compatible_to(&service, &opener), IOX2SD_ILLEGAL_BYTE, 1,
                   IOX2SD_USER_HEADER));
     service.header = type_of(long_name, 8, 8);
-    CHECK(is_part(iox2sd_message_is_compatible_to(&opener, &service), IOX2SD_TOO_LONG, 1,
+    CHECK(is_part(iox2sd_message_is_compatible_to(&service, &opener), IOX2SD_TOO_LONG, 1,
                   IOX2SD_HEADER));
     opener.payload = type_of("\xff", 8, 3);
-    CHECK(is_part(iox2sd_message_is_compatible_to(&opener, &service), IOX2SD_NOT_UTF8, 0,
+    CHECK(is_part(iox2sd_message_is_compatible_to(&service, &opener), IOX2SD_NOT_UTF8, 0,
                   IOX2SD_PAYLOAD));
     opener.user_header.variant = 2;
-    CHECK(is_part(iox2sd_message_is_compatible_to(&opener, &service), IOX2SD_UNKNOWN_VARIANT, 0,
+    CHECK(is_part(iox2sd_message_is_compatible_to(&service, &opener), IOX2SD_UNKNOWN_VARIANT, 0,
                   IOX2SD_USER_HEADER));
 }
 
@@ -790,7 +790,107 @@ static void same_patterns(void) {
     CHECK(is_flag(iox2sd_has_same_messaging_pattern(4, 4), IOX2SD_UNKNOWN_PATTERN, false));
 }
 
+/* Why a text is refused, where the status says which one: the status of the check of that text. */
+static void causes(void) {
+    static const struct {
+        const char *text;
+        size_t length;
+    } texts[] = {{"", 0}, {"\xff", 1}, {"a/b", 3}, {".", 1}, {"a", 1}, {"iox2://a", 8}};
+    uint8_t long_text[300], out[300];
+    memset(long_text, 'a', sizeof long_text);
+    const iox2sd_publish_subscribe_settings settings = iox2sd_publish_subscribe_defaults();
+    const iox2sd_id service = {1, 2, 3, 4};
+    for (size_t i = 0; i < 7; i++) {
+        const uint8_t *const text = i < 6 ? bytes(texts[i].text) : long_text;
+        const size_t length = i < 6 ? texts[i].length : sizeof long_text;
+        const uint32_t path = iox2sd_path_check(text, length).status;
+        const uint32_t file = iox2sd_file_name_check(text, length).status;
+        const uint32_t key = iox2sd_attribute_key_check(text, length).status;
+        const uint32_t value = iox2sd_attribute_value_check(text, length).status;
+        const uint32_t name = iox2sd_service_name_check(text, length).status;
+        const uint32_t internal = iox2sd_internal_service_name_check(text, length).status;
+        iox2sd_text_answer told = iox2sd_path_add_path_entry(text, length, bytes("p"), 1, out, 300);
+        CHECK(told.cause == path && (told.status == IOX2SD_BAD_PATH) == (path != IOX2SD_DONE));
+        told = iox2sd_path_add_path_entry(bytes("p"), 1, text, length, out, 300);
+        CHECK(told.cause == path && (told.status == IOX2SD_BAD_ENTRY) == (path != IOX2SD_DONE));
+        told = iox2sd_file_path_from_path_and_file(bytes("p"), 1, text, length, out, 300);
+        CHECK(told.cause == file && (told.status == IOX2SD_BAD_ENTRY) == (file != IOX2SD_DONE));
+        told = iox2sd_service_dir(text, length, out, 300);
+        CHECK(told.cause == path && (told.status == IOX2SD_BAD_PATH) == (path != IOX2SD_DONE));
+        told = iox2sd_node_dir(text, length, out, 300);
+        CHECK(told.cause == path && (told.status == IOX2SD_BAD_PATH) == (path != IOX2SD_DONE));
+        const bool is_utf8 = i != 1;
+        told = iox2sd_hash_text(IOX2SD_EVENT, text, length, out, 300);
+        CHECK(told.cause == (is_utf8 ? name : IOX2SD_DONE));
+        CHECK((told.status == IOX2SD_BAD_SERVICE_NAME) == (is_utf8 && name != IOX2SD_DONE));
+        told = iox2sd_internal_hash_text(IOX2SD_EVENT, text, length, out, 300);
+        CHECK(told.cause == (is_utf8 ? internal : IOX2SD_DONE));
+        iox2sd_description made;
+        iox2sd_field_answer field = iox2sd_describe_publish_subscribe(&settings, text, length,
+                                                                      false, service, &made);
+        CHECK(field.cause == (is_utf8 ? name : IOX2SD_DONE) && field.field == 0);
+        field = iox2sd_describe_publish_subscribe(&settings, text, length, true, service, &made);
+        CHECK(field.cause == (is_utf8 ? internal : IOX2SD_DONE));
+        iox2sd_attribute pairs[2] = {iox2sd_attribute_str("k", "v"), {text, length, bytes("v"), 1}};
+        iox2sd_key keys[2] = {iox2sd_key_str("k"), {text, length}};
+        const iox2sd_attribute good = pairs[0];
+        iox2sd_place_answer place = iox2sd_attributes_check(pairs, 2);
+        CHECK(place.cause == key && place.at == (key != IOX2SD_DONE));
+        place = iox2sd_attributes_sort(pairs, 2);
+        CHECK(place.cause == key);
+        pairs[0] = good;
+        pairs[1].key = text;
+        pairs[1].key_length = length;
+        place = iox2sd_attributes_verify(&good, 1, pairs, 2, NULL, 0);
+        CHECK(place.cause == key && (place.status == IOX2SD_BAD_REQUIRED_KEY) == (key != 0));
+        place = iox2sd_attributes_verify(&good, 1, NULL, 0, keys, 2);
+        CHECK(place.cause == key && (place.status == IOX2SD_BAD_ASKED_KEY) == (key != 0));
+        CHECK(iox2sd_attributes_number_of_key_values(&good, 1, text, length).cause == key);
+        CHECK(iox2sd_attributes_number_of_key_values(pairs, 2, bytes("k"), 1).cause == key);
+        CHECK(iox2sd_attributes_key_value(&good, 1, text, length, 0, out, 300).cause == key);
+        CHECK(iox2sd_attributes_key_value(pairs, 2, bytes("k"), 1, 0, out, 300).cause == key);
+        pairs[1] = iox2sd_attribute_str("k", "v");
+        pairs[1].value = text;
+        pairs[1].value_length = length;
+        CHECK(iox2sd_attributes_check(pairs, 2).cause == value);
+        CHECK(iox2sd_attributes_verify(pairs, 2, &good, 1, NULL, 0).cause == value);
+        CHECK(iox2sd_attributes_number_of_key_values(pairs, 2, bytes("k"), 1).cause == value);
+        place = iox2sd_attributes_verify(&good, 1, pairs, 2, NULL, 0);
+        CHECK(place.cause == value && (place.status == IOX2SD_BAD_REQUIRED_VALUE) == (value != 0));
+    }
+}
+
+/* The counts of settings are those of the functions that take the numbers one by one. */
+static void counts_of_settings(void) {
+    iox2sd_publish_subscribe_settings samples = iox2sd_publish_subscribe_defaults();
+    iox2sd_request_response_settings requests = iox2sd_request_response_defaults();
+    samples.max_subscribers = 3, samples.subscriber_max_buffer_size = 5;
+    samples.subscriber_max_borrowed_samples = 7, samples.publisher_history_size = 11;
+    samples.publisher_max_loaned_samples = 13;
+    iox2sd_count_answer one = iox2sd_samples_of(&samples);
+    iox2sd_count_answer other =
+        iox2sd_required_amount_of_samples_per_data_segment(3, 5, 7, 11, 13);
+    CHECK(one.status == IOX2SD_DONE && one.count == other.count);
+    requests.max_servers = 3, requests.max_clients = 5, requests.max_loaned_requests = 7;
+    requests.max_active_requests_per_client = 11, requests.max_response_buffer_size = 13;
+    requests.max_borrowed_responses_per_pending_response = 17;
+    requests.server_max_loaned_responses_per_request = 19;
+    one = iox2sd_requests_of(&requests);
+    other = iox2sd_required_amount_of_chunks_per_client_data_segment(3, 11, 7);
+    CHECK(one.status == IOX2SD_DONE && one.count == other.count);
+    one = iox2sd_responses_of(&requests);
+    other = iox2sd_required_amount_of_chunks_per_server_data_segment(5, 11, 13, 17, 19);
+    CHECK(one.status == IOX2SD_DONE && one.count == other.count);
+    CHECK(iox2sd_samples_of(NULL).status == IOX2SD_NULL);
+    CHECK(iox2sd_requests_of(NULL).status == IOX2SD_NULL);
+    CHECK(iox2sd_responses_of(NULL).status == IOX2SD_NULL);
+    samples.max_subscribers = SIZE_MAX, samples.subscriber_max_buffer_size = SIZE_MAX;
+    CHECK(iox2sd_samples_of(&samples).status == IOX2SD_TOO_LARGE);
+}
+
 int main(void) {
+    causes();
+    counts_of_settings();
     checks();
     names();
     paths();

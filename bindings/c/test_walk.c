@@ -200,7 +200,8 @@ static void count_ports(walk *w) {
  * with the listings. */
 static void die(walk *w) {
     char out[48];
-    iox2sd_id dead = some_node(), kept[2];
+    iox2sd_id dead = some_node();
+    iox2sd_port_id kept[4];
     size_t number = below(3), its = 0;
     iox2sd_port_details ports[MOST_LISTED], of_node[2 * MOST_LISTED];
     iox2sd_roles_answer of = iox2sd_port_roles(&w->service);
@@ -218,11 +219,14 @@ static void die(walk *w) {
     if (asked.status != IOX2SD_DONE || its != asked.count) give_up("more ports of a node");
     add(&w->script, number == 0 ? "dead %s" : "dead %s skip", spelled(dead, out));
     for (size_t i = 0; i < number; i++) {
-        kept[i] = some_port();
-        add(&w->script, " %s", spelled(kept[i], out));
+        /* A script keeps the ports of both kinds. */
+        kept[2 * i].role = of.first;
+        kept[2 * i + 1].role = of.second;
+        kept[2 * i].port = kept[2 * i + 1].port = some_port();
+        add(&w->script, " %s", spelled(kept[2 * i].port, out));
     }
     add(&w->script, "\n");
-    reply_state(w, iox2sd_remove_dead_node_id(&w->service, dead, kept, number).status);
+    reply_state(w, iox2sd_remove_dead_node_id(&w->service, dead, kept, 2 * number).status);
 }
 
 static void step(walk *w) {

@@ -11,8 +11,8 @@ endif()
 if(NOT TARGET iox2sd::shared)
     add_library(iox2sd::shared SHARED IMPORTED)
     set_target_properties(iox2sd::shared PROPERTIES
-        IMPORTED_LOCATION "${iox2sd_prefix}/lib/libiox2sd.so.0"
-        IMPORTED_SONAME libiox2sd.so.0
+        IMPORTED_LOCATION "${iox2sd_prefix}/lib/libiox2sd.so.2"
+        IMPORTED_SONAME libiox2sd.so.2
         INTERFACE_INCLUDE_DIRECTORIES "${iox2sd_prefix}/include")
 endif()
 

@@ -26,7 +26,7 @@ from typing import Any
 
 HERE = Path(__file__).resolve().parent
 PROJECT = HERE.parents[1]
-SHARED = "libiox2sd.so.0"
+SHARED = "libiox2sd.so.2"
 SYSTEM = ("/usr/local/lib", "/usr/lib/x86_64-linux-gnu", "/lib/x86_64-linux-gnu", "/usr/lib64")
 
 Files = dict[str, bytes]

@@ -535,11 +535,14 @@ static void attach(void) {
 }
 
 static void dead(void) {
-    iox2sd_id kept[MOST_PAIRS];
+    iox2sd_port_id kept[MOST_PAIRS];
     iox2sd_id node = id();
     size_t count = number();
     if (count > MOST_PAIRS) give_up("a line has too many ids");
-    for (size_t i = 0; i < count; i++) kept[i] = id();
+    for (size_t i = 0; i < count; i++) {
+        kept[i].role = IOX2SD_PUBLISHER;
+        kept[i].port = id();
+    }
     iox2sd_dead_node_removal answer = iox2sd_remove_dead_node_id(&service, node, kept, count);
     say(answer.status);
     if (answer.status != IOX2SD_DONE && answer.status != IOX2SD_DONE_LOCKED) return;

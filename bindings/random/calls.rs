@@ -863,7 +863,7 @@ fn dead(line: &mut Line, service: &mut DynamicConfig) -> Answer {
         })
         .collect();
     let left = service.remove_dead_node_id(&node, |port| {
-        if kept.contains(&port.value()) {
+        if matches!(port, UniquePortId::Publisher(_)) && kept.contains(&port.value()) {
             PortCleanupAction::SkipPort
         } else {
             PortCleanupAction::RemovePort

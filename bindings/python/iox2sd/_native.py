@@ -29,7 +29,7 @@ DEADLINE = 2
 MAX_SUBSCRIBERS = 8
 
 
-_PATH = os.environ.get("IOX2SD_LIBRARY") or str(Path(__file__).with_name("libiox2sd.so.0"))
+_PATH = os.environ.get("IOX2SD_LIBRARY") or str(Path(__file__).with_name("libiox2sd.so.2"))
 
 
 def _load() -> ctypes.PyDLL:
@@ -64,6 +64,7 @@ def _struct(name: str, members: "list[tuple[str, Any]]") -> Any:
 Id = _struct("Id", [
     ("process", c_uint32), ("seconds", c_uint32), ("nanoseconds", c_uint32), ("counter", c_uint32),
 ])
+PortId = _struct("PortId", [("role", c_uint64), ("port", Id)])
 Handle = _struct("Handle", [
     ("service", c_uint64), ("role", c_uint64), ("slot", c_size_t), ("ticket", c_uint64),
 ])
@@ -94,8 +95,12 @@ BlackboardCapacities = _struct("BlackboardCapacities", [
 ServiceNumbers = _struct("ServiceNumbers", [("last", c_uint64)])
 Service = _struct("Service", [("full", c_bool), ("at", c_void_p)])
 HandleAnswer = _struct("HandleAnswer", [("status", c_uint32), ("handle", Handle)])
-CountAnswer = _struct("CountAnswer", [("status", c_uint32), ("count", c_size_t)])
-TextAnswer = _struct("TextAnswer", [("status", c_uint32), ("length", c_size_t)])
+CountAnswer = _struct("CountAnswer", [
+    ("status", c_uint32), ("cause", c_uint32), ("count", c_size_t),
+])
+TextAnswer = _struct("TextAnswer", [
+    ("status", c_uint32), ("cause", c_uint32), ("length", c_size_t),
+])
 NumberAnswer = _struct("NumberAnswer", [("status", c_uint32), ("number", c_uint64)])
 RolesAnswer = _struct("RolesAnswer", [
     ("status", c_uint32), ("first", c_uint64), ("second", c_uint64),
@@ -107,12 +112,13 @@ DeadNodeRemoval = _struct("DeadNodeRemoval", [
     ("status", c_uint32), ("first", c_size_t), ("second", c_size_t),
 ])
 ScriptAnswer = _struct("ScriptAnswer", [
-    ("status", c_uint32), ("line", c_size_t), ("length", c_size_t),
+    ("status", c_uint32), ("verdict", c_uint32), ("line", c_size_t), ("length", c_size_t),
 ])
 ConformAnswer = _struct("ConformAnswer", [
-    ("status", c_uint32), ("line", c_size_t), ("calls", c_size_t), ("length", c_size_t),
+    ("status", c_uint32), ("verdict", c_uint32), ("line", c_size_t), ("calls", c_size_t),
+    ("length", c_size_t),
 ])
-PlaceAnswer = _struct("PlaceAnswer", [("status", c_uint32), ("at", c_size_t)])
+PlaceAnswer = _struct("PlaceAnswer", [("status", c_uint32), ("cause", c_uint32), ("at", c_size_t)])
 Attribute = _struct("Attribute", [
     ("key", c_char_p), ("key_length", c_size_t), ("value", c_char_p), ("value_length", c_size_t),
 ])
@@ -140,7 +146,9 @@ GlobalSettings = _struct("GlobalSettings", [
     ("creation_timeout", Duration), ("cleanup_dead_nodes_on_open", c_bool),
     ("cleanup_dead_nodes_on_creation", c_bool), ("cleanup_dead_nodes_on_destruction", c_bool),
 ])
-FieldAnswer = _struct("FieldAnswer", [("status", c_uint32), ("field", c_uint32)])
+FieldAnswer = _struct("FieldAnswer", [
+    ("status", c_uint32), ("field", c_uint32), ("cause", c_uint32),
+])
 PublishSubscribeSettings = _struct("PublishSubscribeSettings", [
     ("max_subscribers", c_size_t), ("max_publishers", c_size_t), ("max_nodes", c_size_t),
     ("subscriber_max_buffer_size", c_size_t), ("subscriber_max_borrowed_samples", c_size_t),
@@ -191,7 +199,7 @@ BlackboardConfig = _struct("BlackboardConfig", [
 ])
 Description = _struct("Description", [
     ("name", c_uint8 * 256), ("name_length", c_size_t), ("id", Id), ("hash", c_uint8 * 64),
-    ("hash_length", c_size_t), ("pattern", c_uint32), ("publish_subscribe", PublishSubscribeConfig),
+    ("hash_length", c_size_t), ("pattern", c_uint64), ("publish_subscribe", PublishSubscribeConfig),
     ("event", EventConfig), ("request_response", RequestResponseConfig),
     ("blackboard", BlackboardConfig),
 ])
@@ -249,14 +257,14 @@ _EXPORTS: "dict[str, tuple[Any, ...]]" = {
     "id_is_before": (c_bool, Id, Id),
     "id_from_text_at": (IdAnswer, *_TEXT),
     "id_text_at": (TextAnswer, Id, *_OUT),
-    "service_create_at": (c_uint32, *_SERVICE, c_uint32, c_uint64, Capacities, c_uint64),
+    "service_create_at": (c_uint32, *_SERVICE, c_uint64, c_uint64, Capacities, c_uint64),
     "service_free_at": (c_uint32, *_SERVICE),
     "next_service_number_at": (NumberAnswer, POINTER(ServiceNumbers), c_size_t),
     "register_node_id_at": (HandleAnswer, *_SERVICE, Id),
     "deregister_node_id_at": (c_uint32, *_SERVICE, Handle),
     "attach_at": (HandleAnswer, *_SERVICE, POINTER(PortDetails), c_size_t),
     "release_port_at": (c_uint32, *_SERVICE, Handle),
-    "remove_dead_node_id_at": (DeadNodeRemoval, *_SERVICE, Id, POINTER(Id), c_size_t),
+    "remove_dead_node_id_at": (DeadNodeRemoval, *_SERVICE, Id, POINTER(PortId), c_size_t),
     "messaging_pattern_at": (NumberAnswer, *_SERVICE),
     "service_number_at": (NumberAnswer, *_SERVICE),
     "port_roles_at": (RolesAnswer, *_SERVICE),
@@ -287,8 +295,8 @@ _EXPORTS: "dict[str, tuple[Any, ...]]" = {
     "restricted_file_name_check_at": (PlaceAnswer, *_TEXT),
     "path_add_path_entry_at": (TextAnswer, *_TEXT, *_TEXT, *_OUT),
     "file_path_from_path_and_file_at": (TextAnswer, *_TEXT, *_TEXT, *_OUT),
-    "hash_text_at": (TextAnswer, c_uint32, *_TEXT, *_OUT),
-    "internal_hash_text_at": (TextAnswer, c_uint32, *_TEXT, *_OUT),
+    "hash_text_at": (TextAnswer, c_uint64, *_TEXT, *_OUT),
+    "internal_hash_text_at": (TextAnswer, c_uint64, *_TEXT, *_OUT),
     "attributes_sort_at": (PlaceAnswer, *_PAIRS),
     "attributes_number_of_key_values_at": (CountAnswer, *_PAIRS, *_TEXT),
     "attributes_key_value_at": (TextAnswer, *_PAIRS, *_TEXT, c_size_t, *_OUT),

@@ -273,16 +273,14 @@ class DynamicConfig:
     def remove_dead_node_id(
         self, node_id: UniqueNodeId, keep: Iterable[UniquePortId] = ()
     ) -> DeadNodeRemoval:
-        """Removes the ports of a dead node, but for those whose id has the number of one in `keep`,
-        and returns how many it removed. Numbers are compared, not roles: a listener that is kept
-        keeps the notifier of the same number too, though their ids are not equal. Where no port is
-        left, the node is removed too, with all its handles.
+        """Removes the ports of a dead node, but for those whose id is in `keep`, and returns how many
+        it removed. Where no port is left, the node is removed too, with all its handles.
 
         Raises `NoServiceError`.
         """
         instance(node_id, UniqueNodeId, "remove_dead_node_id")
         kept = items(keep, UniquePortId, "remove_dead_node_id.keep")
-        ids = (_native.Id * len(kept))(*(port_id._lent() for port_id in kept))
+        ids = (_native.PortId * len(kept))(*((one.role.value, one._lent()) for one in kept))
         what, lent = f"remove dead node {node_id}", node_id._lent()
         answer = self._answer(what, _native.remove_dead_node_id_at, lent, ids, len(kept))
         return DeadNodeRemoval(DeregisterNodeState(answer.status), answer.first, answer.second)

@@ -65,12 +65,14 @@ class Status(Choice):
     UNKNOWN_STRATEGY = 67
     BAD_DURATION = 68
     UNMET = 69
+    OTHER_PATTERN = 70
     NOT_TOML = 80
     WRONG_TYPE = 81
     BELOW_ZERO = 82
     NO_DURATION = 83
     NO_TOML_INTEGER = 84
     NO_FILE = 85
+    TOO_DEEP = 86
     NO_RUN = 90
     NO_SERVICE_LINE = 91
     NO_COMMAND_LINE = 92
@@ -225,7 +227,7 @@ class IncompatibleError(RefusedError):
     """A service is not what its opener requires."""
 
 
-class OtherPatternError(IncompatibleError):
+class OtherPatternError(IncompatibleError, status=Status.OTHER_PATTERN):
     """The service has another messaging pattern."""
 
 

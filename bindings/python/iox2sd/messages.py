@@ -103,7 +103,7 @@ class MessageTypeDetails(Checked):
         part: all `IncompatibleError`.
         """
         instance(service, MessageTypeDetails, "MessageTypeDetails.check_compatible_to")
-        answer = _native.message_is_compatible_to_at(self._lent(), 1, service._lent(), 1)
+        answer = _native.message_is_compatible_to_at(service._lent(), 1, self._lent(), 1)
         part = ("header", "user header", "payload")[answer.part]
         check(answer.status, f"the opener's {part}")
 
@@ -123,7 +123,7 @@ class MessageTypeDetails(Checked):
 def check_same(opener: TypeDetail, service: TypeDetail, what: str) -> None:
     """Raises where two types differ: they are compared as those of headers."""
     of_opener, of_service = (MessageTypeDetails(one, one, one)._lent() for one in (opener, service))
-    check(_native.message_is_compatible_to_at(of_opener, 1, of_service, 1).status, what)
+    check(_native.message_is_compatible_to_at(of_service, 1, of_opener, 1).status, what)
 
 
 def counted(what: str, answer: Any) -> int:

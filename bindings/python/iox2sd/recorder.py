@@ -39,8 +39,9 @@ class Recorder(DynamicConfig):
         Conforms(calls=3)
 
     Calls that have no line in a log, as `is_locked`, are not written down. A call with a handle
-    that no call here returned is refused, and stands in the log as a comment. Threads that share a
-    recorder order their calls themselves.
+    that no call here returned is refused, and stands in the log as a comment. A log names the ports
+    that are kept by the numbers of their ids, and not by their kinds. Threads that share a recorder
+    order their calls themselves.
     """
 
     __slots__ = ("_log", "_calls", "_returned_by")

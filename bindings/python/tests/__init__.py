@@ -1,4 +1,4 @@
-"""Tests of iox2sd. They use `bindings/out/libiox2sd.so.0`, or the file IOX2SD_LIBRARY names."""
+"""Tests of iox2sd. They use `bindings/out/libiox2sd.so.2`, or the file IOX2SD_LIBRARY names."""
 
 import os
 from pathlib import Path
@@ -6,5 +6,5 @@ from pathlib import Path
 PACKAGE = Path(__file__).resolve().parents[1]
 PROJECT = PACKAGE.parents[1]
 LIBRARY = os.environ.setdefault(
-    "IOX2SD_LIBRARY", str(PROJECT / "bindings" / "out" / "libiox2sd.so.0")
+    "IOX2SD_LIBRARY", str(PROJECT / "bindings" / "out" / "libiox2sd.so.2")
 )

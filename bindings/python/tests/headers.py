@@ -13,7 +13,7 @@ CONSTANTS = {
 }
 """The members of all enums."""
 
-_ENUM = re.search(r"enum iox2sd_status(?:_number)? \{(.*?)\};", TEXT, re.DOTALL)
+_ENUM = re.search(r"enum iox2sd_status_number \{(.*?)\};", TEXT, re.DOTALL)
 assert _ENUM is not None
 STATUSES = {
     name.removeprefix("STATUS_"): int(number)
@@ -29,7 +29,8 @@ def constant(kind: str, name: str) -> int:
 
 ABI = re.search(r"#define IOX2SD_ABI (\d+)", TEXT)
 
-EXPORTS = set(
-    re.findall(r"^(?!static)(?:struct )?[a-z]\w+\s+iox2sd_(\w+)\([^{]*?\);", TEXT, re.MULTILINE)
-)
-"""The functions that the library has, without the inline ones."""
+FUNCTIONS = set(re.findall(r"\biox2sd_(\w+)\(", re.sub(r"/\*.*?\*/", "", TEXT, flags=re.DOTALL)))
+"""All functions of the library."""
+
+EXPORTS = {name for name in FUNCTIONS if f"{name.removesuffix('_str')}_at" not in FUNCTIONS}
+"""Those that are no other's with checks for NULL, or for texts that end in a zero byte."""

@@ -2,6 +2,7 @@ import copy
 import ctypes
 import pickle
 import tempfile
+import threading
 import unittest
 from dataclasses import replace
 from pathlib import Path as SystemPath
@@ -103,6 +104,25 @@ class ConfigFiles(unittest.TestCase):
         self.assertEqual((refused.status, len(refused.faults)), (Status.NOT_TOML, 1))
         self.assertEqual(refused.faults[0].key, "")
         self.assertIn("line 2", str(refused))
+
+    def test_texts_that_are_too_deep(self):
+        """A thread with a stack of 256 KiB reads them."""
+        key, arrays = ".".join("a" * 40_000), "x = " + "[" * 40_000
+        table = f"[{'.'.join('a' * 81)}]\n"
+        causes: "list[Status]" = []
+
+        def read():
+            for text in (f"{key} = 1\n", f"{arrays}\n", f"{table}b.{key} = 1\n"):
+                causes.append(self.refused(text).status)
+
+        before = threading.stack_size(256 * 1024)
+        try:
+            thread = threading.Thread(target=read)
+            thread.start()
+            thread.join()
+        finally:
+            threading.stack_size(before)
+        self.assertEqual(causes, [Status.TOO_DEEP] * 3)
 
     def test_unknown_keys(self):
         file = Config.from_toml(

@@ -39,6 +39,7 @@ NO_CLASS = {
     "WRONG_TYPE": "",
     "BELOW_ZERO": "",
     "NO_DURATION": "",
+    "TOO_DEEP": "",
     "NO_FILE": "the system's own errors are raised",
     "NO_RUN": "it is a verdict on a log; so are the next seven",
     "NO_SERVICE_LINE": "",
@@ -56,6 +57,12 @@ NOT_CALLED = {
     r"attributes_check_at": "sets are sorted where they are made",
     r"(service|node)_dir_at": "paths are joined",
     r"has_same_messaging_pattern": "patterns are members of an enum",
+    r"(\w+_)?capacities_of_\w+": "those of settings are called",
+    r"service_create_\w+": "services are made of capacities",
+    r"handle_(is_)?none": "a handle is one, or None",
+    r"\w+_str": "texts have their length",
+    r"(samples|requests|responses)_of": "the numbers are passed one by one",
+    r"open_(check|text)": "its parts are called one after another",
 }
 """The exports that the package has no use for."""
 

@@ -370,16 +370,18 @@ class Calls(unittest.TestCase):
 
 
 class Kept(unittest.TestCase):
-    def test_what_is_kept_is_told_by_numbers(self):
+    def test_a_port_that_is_kept_keeps_no_other(self):
+        """A listener and a notifier of one number are two ports."""
         listener = iox2sd.UniqueListenerId(1, 2, 3, 4)
         notifier = iox2sd.UniqueNotifierId(1, 2, 3, 4)
         self.assertNotEqual(listener, notifier)
-        with iox2sd.DynamicConfig.event(
-            7, max_nodes=1, max_listeners=1, max_notifiers=1
-        ) as made:
-            made.register_node_id(NODE)
-            made.attach(iox2sd.ListenerDetails(listener_id=listener, node_id=NODE))
-            made.attach(iox2sd.NotifierDetails(notifier_id=notifier, node_id=NODE))
-            gone = made.remove_dead_node_id(NODE, [listener])
-            self.assertEqual((gone.first, gone.second), (0, 0))
-            self.assertEqual(len(made.ports_of(NODE)), 2)
+        for keep, removed in (([listener], (0, 1)), ([notifier], (1, 0)), ([], (1, 1))):
+            with iox2sd.DynamicConfig.event(
+                7, max_nodes=1, max_listeners=1, max_notifiers=1
+            ) as made:
+                made.register_node_id(NODE)
+                made.attach(iox2sd.ListenerDetails(listener_id=listener, node_id=NODE))
+                made.attach(iox2sd.NotifierDetails(notifier_id=notifier, node_id=NODE))
+                gone = made.remove_dead_node_id(NODE, keep)
+                self.assertEqual((gone.first, gone.second), removed)
+                self.assertEqual([port.port_id for port in made.ports_of(NODE)], keep)

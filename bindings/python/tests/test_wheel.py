@@ -56,7 +56,7 @@ class Wheel(unittest.TestCase):
             found = base64.urlsafe_b64encode(hashlib.sha256(files[name]).digest())
             self.assertEqual(digest, f"sha256={found.rstrip(b'=').decode()}")
             self.assertEqual(int(size), len(files[name]))
-        for name in ("iox2sd/libiox2sd.so.0", "iox2sd/py.typed", "iox2sd/__init__.py"):
+        for name in ("iox2sd/libiox2sd.so.2", "iox2sd/py.typed", "iox2sd/__init__.py"):
             self.assertIn(name, rows)
 
     def test_equal_files_make_equal_wheels(self):

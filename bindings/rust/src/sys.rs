@@ -183,6 +183,13 @@ pub struct iox2sd_port_details {
 }
 
 #[repr(C)]
+#[derive(Clone, Copy, Debug, Default, PartialEq, Eq)]
+pub struct iox2sd_port_id {
+    pub role: u64,
+    pub port: iox2sd_id,
+}
+
+#[repr(C)]
 #[derive(Clone, Copy, Debug)]
 pub struct iox2sd_capacities {
     pub nodes: usize,
@@ -206,12 +213,14 @@ pub struct iox2sd_handle_answer {
 #[repr(C)]
 pub struct iox2sd_count_answer {
     pub status: u32,
+    pub cause: u32,
     pub count: usize,
 }
 
 #[repr(C)]
 pub struct iox2sd_text_answer {
     pub status: u32,
+    pub cause: u32,
     pub length: usize,
 }
 
@@ -256,6 +265,7 @@ pub struct iox2sd_dead_node_removal {
 #[repr(C)]
 pub struct iox2sd_place_answer {
     pub status: u32,
+    pub cause: u32,
     pub at: usize,
 }
 
@@ -314,6 +324,7 @@ pub struct iox2sd_part_answer {
 #[repr(C)]
 pub struct iox2sd_script_answer {
     pub status: u32,
+    pub verdict: u32,
     pub line: usize,
     pub length: usize,
 }
@@ -321,6 +332,7 @@ pub struct iox2sd_script_answer {
 #[repr(C)]
 pub struct iox2sd_conform_answer {
     pub status: u32,
+    pub verdict: u32,
     pub line: usize,
     pub calls: usize,
     pub length: usize,
@@ -444,6 +456,7 @@ pub struct iox2sd_service_numbers {
 pub struct iox2sd_field_answer {
     pub status: u32,
     pub field: u32,
+    pub cause: u32,
 }
 
 #[repr(C)]
@@ -497,7 +510,7 @@ pub struct iox2sd_description {
     pub id: iox2sd_id,
     pub hash: [u8; 64],
     pub hash_length: usize,
-    pub pattern: u32,
+    pub pattern: u64,
     pub publish_subscribe: iox2sd_publish_subscribe_config,
     pub event: iox2sd_event_config,
     pub request_response: iox2sd_request_response_config,
@@ -596,7 +609,7 @@ extern "C" {
     pub fn iox2sd_service_create_at(
         places: *mut iox2sd_service,
         count: usize,
-        pattern: u32,
+        pattern: u64,
         number: u64,
         capacities: iox2sd_capacities,
         tickets: u64,
@@ -631,7 +644,7 @@ extern "C" {
         places: *mut iox2sd_service,
         count: usize,
         dead: iox2sd_id,
-        kept: *const iox2sd_id,
+        kept: *const iox2sd_port_id,
         kept_count: usize,
     ) -> iox2sd_dead_node_removal;
     pub fn iox2sd_service_number_at(
@@ -753,7 +766,7 @@ extern "C" {
         capacity: usize,
     ) -> iox2sd_text_answer;
     pub fn iox2sd_internal_hash_text_at(
-        pattern: u32,
+        pattern: u64,
         name: *const u8,
         length: usize,
         out: *mut u8,
@@ -800,10 +813,10 @@ extern "C" {
         header: usize,
     ) -> iox2sd_places_answer;
     pub fn iox2sd_message_is_compatible_to_at(
-        opener: *const iox2sd_message_details,
-        opener_count: usize,
         service: *const iox2sd_message_details,
         service_count: usize,
+        opener: *const iox2sd_message_details,
+        opener_count: usize,
     ) -> iox2sd_part_answer;
     pub fn iox2sd_required_amount_of_samples_per_data_segment(
         max_subscribers: usize,

@@ -1,4 +1,5 @@
 pub mod Answers
+pub mod Depth
 pub mod Faults
 pub mod Read
 pub mod ReadBack

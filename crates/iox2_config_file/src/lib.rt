@@ -2,6 +2,7 @@
 #![tactic(auto)]
 
 mod build;
+mod depth;
 mod error;
 mod fault;
 mod kind;
@@ -15,6 +16,7 @@ mod unknown;
 mod value;
 mod write;
 
+pub use depth::{TooDeep, too_deep};
 pub use error::ConfigFileError;
 pub use fault::SettingFault;
 pub use kind::{Fault, Kind, TomlType};

@@ -3,7 +3,7 @@ use Rattle.std.proofs.Common.{◌≡◌, ◌≤◌, ◌-◌, ℕ, Bool, List, le
 use Rattle.std.specs.Prelude.{not}
 use Rattle.std.proofs.lemmas.List.Sums.{count_by-le-length, length-filter}
 use Rattle.iox2_ids.specs.declared.identifiers.port_id.UniquePortId.{UniquePortId}
-use Rattle.iox2sd.proofs.Names.{Entry, ContainerState, is_leaving, is_of, PortDetails, node_of, Service, Keeps, Went, Id}
+use Rattle.iox2sd.proofs.Names.{Entry, ContainerState, is_leaving, is_of, PortDetails, node_of, Service, Keeps, Went, PortId}
 use Rattle.iox2_dynamic.specs.declared.dynamic_config.answers.DeregisterNodeState.{DeregisterNodeState}
 use Rattle.iox2_dynamic.specs.declared.dynamic_config.cleanup.PortCleanupAction.{PortCleanupAction}
 use Rattle.iox2_dynamic.specs.Recoveries.{RecoversPorts}
@@ -28,7 +28,7 @@ recovered_fewer calls dead old f new h r =
     )
 
 -- no port comes, by numbers that were counted before and after
-pub fewer : (kept : List Id) (old new : Service) (dead : ℕ) (answer : DeregisterNodeState)
+pub fewer : (kept : List PortId) (old new : Service) (dead : ℕ) (answer : DeregisterNodeState)
     (before after : Counts) → before ≡ counted old → after ≡ counted new
     → DeadStep (Keeps kept) old tt dead answer new tt
     → (after.first ≤ before.first) × (after.second ≤ before.second)
@@ -38,7 +38,7 @@ fewer kept old new dead answer before after b a s =
       recovered_fewer (Keeps kept) dead old.ports.second s.ports.0 new.ports.second tt s.ports.2,
     )
 
-pub so_many_went : (kept : List Id) (old new : Service) (dead : ℕ) (answer : DeregisterNodeState)
+pub so_many_went : (kept : List PortId) (old new : Service) (dead : ℕ) (answer : DeregisterNodeState)
     (before after : Counts) → before ≡ counted old → after ≡ counted new
     → DeadStep (Keeps kept) old tt dead answer new tt
     → Went (counted old)

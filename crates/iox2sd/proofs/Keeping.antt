@@ -1,48 +1,63 @@
--- What a search by halves finds among sorted ids.
-use Rattle.std.proofs.Common.{◌≡◌, ℕ, ◌==◌, ◌<◌, ◌≤◌, Bool, true, false, true≢false, IsTrue, List, Result, Ok, Err, Some, length, get_or, sym, arith}
+-- What a search by halves finds among sorted ports.
+use Rattle.std.proofs.Common.{◌≡◌, ℕ, ◌==◌, ◌<◌, ◌≤◌, Bool, true, false, true≢false, IsTrue, List, Result, Ok, Err, length, get_or, sym, inl, inr, arith}
+use Rattle.std.specs.Prelude.{◌&&◌, if◌then◌else◌}
 use Rattle.std.specs.List.{IsAllAdjacentAnswer}
-use Rattle.std.specs.List.Sorted.{IsSearchInRange, IsBinarySearchResult, IsNonDecreasingBy}
-use Rattle.std.specs.Ordering.{nat_cmp, ordering_index, is_le, is_some_and}
+use Rattle.std.specs.List.Sorted.{IsSearchInRange, IsBinarySearchResult}
+use Rattle.std.specs.Ordering.{is_le, nat_cmp, ordering_index}
 use Rattle.std.specs.Result.{is_ok}
+use Rattle.std.specs.declared.cmp.Ordering.TheVariants.{Less, Equal, Greater}
 use Rattle.std.proofs.lemmas.Bool.Decides.{nat_tests}
-use Rattle.std.proofs.lemmas.Cmp.{ranked}
+use Rattle.std.proofs.lemmas.Bool.{cases_lt}
 use Rattle.std.proofs.lemmas.List.Elements.{All-from_get_or}
 use Rattle.std.proofs.lemmas.List.Folds.{list_any_at, list_any_none}
 use Rattle.std.proofs.lemmas.List.Sorted.{IsNonDecreasingBy-from_all_adjacent}
-use Rattle.iox2sd.proofs.Names.{is_kept, number_of, id_of, Id}
+use Rattle.iox2sd.proofs.Names.{AreSorted, is_at_most, is_kept, number_of, order_at, id_of, PortId}
 
--- ids of which no one is above the next are sorted
-pub sorted_from_adjacent : (kept : List Id) (r : Bool)
-    → IsAllAdjacentAnswer
-    (λ x y b. b ≡ is_some_and is_le (Some (nat_cmp (number_of x) (number_of y)))) kept r
-    → IsTrue r → IsNonDecreasingBy number_of kept
-sorted_from_adjacent kept true adjacent h =
-    IsNonDecreasingBy-from_all_adjacent number_of kept
-    (λ k d lt. let here = adjacent k d lt in grind (arith, nat_tests))
-sorted_from_adjacent kept false adjacent h = absurd (true≢false (sym h))
+-- a port that no list has
+none : PortId
+none = record { role = 0; port = id_of 0 }
 
-module _ (kept : List Id) (value : ℕ) (sorted : IsNonDecreasingBy number_of kept) where
-  comparisons_rise : IsNonDecreasingBy (λ id. ordering_index (nat_cmp (number_of id) value)) kept
-  comparisons_rise i j d le in_range =
-      let rise = sorted i j d le in_range in grind (arith, nat_tests)
+-- the same number and the same role, or another one
+equal_is : (n v a r : ℕ) → (if n == v then nat_cmp a r else nat_cmp n v) ≡ Equal
+    → (a == r && n == v) ≡ true
+equal_is n v a r e = grind (arith, nat_tests)
 
-  pub searched : (r : Result ℕ ℕ) → IsSearchInRange r (length kept)
-      → IsBinarySearchResult (λ id. nat_cmp (number_of id) value) kept r
-      → is_ok r ≡ is_kept kept value
-  searched (Ok at) in_range equal =
-      let same : number_of (get_or kept at (id_of 0)) ≡ value =
-      ranked _ value _ (sym (equal (id_of 0))) in
-      let found : (number_of (get_or kept at (id_of 0)) == value) ≡ true =
-      grind (arith, nat_tests) in
-      sym (list_any_at (λ id. number_of id == value) kept at (id_of 0) in_range found)
-  searched (Err at) in_range parted =
-      let parts = parted comparisons_rise in
-      let other : (i : ℕ) → i < length kept
-      → (number_of (get_or kept i (id_of 0)) == value) ≡ false = λ i below.
-      let lower : i < at → number_of (get_or kept i (id_of 0)) < value =
-      λ lt. ranked _ value _ (sym (parts.0 i (id_of 0) (omega arith) lt)) in
-      let upper : at ≤ i → value < number_of (get_or kept i (id_of 0)) =
-      λ le. ranked _ value _ (sym (parts.1 i (id_of 0) le below)) in
-      grind (arith, nat_tests, lower, upper) in
-      sym (list_any_none (λ id. number_of id == value) kept
-      (All-from_get_or (λ id. (number_of id == value) ≡ false) kept (id_of 0) other))
+less_is : (n v a r : ℕ) → (if n == v then nat_cmp a r else nat_cmp n v) ≡ Less
+    → (a == r && n == v) ≡ false
+less_is n v a r e = grind (arith, nat_tests)
+
+greater_is : (n v a r : ℕ) → (if n == v then nat_cmp a r else nat_cmp n v) ≡ Greater
+    → (a == r && n == v) ≡ false
+greater_is n v a r e = grind (arith, nat_tests)
+
+-- what stands before another port stands no further behind any third one
+rises : (n v m a r s : ℕ) → is_le (if n == m then nat_cmp a s else nat_cmp n m) ≡ true
+    → ordering_index (if n == v then nat_cmp a r else nat_cmp n v)
+    ≤ ordering_index (if m == v then nat_cmp s r else nat_cmp m v)
+rises n v m a r s le = grind (arith, nat_tests)
+
+-- ports of which no one is above the next are sorted
+pub sorted_from_adjacent : (kept : List PortId) (r : Bool)
+    → IsAllAdjacentAnswer (λ x y b. b ≡ is_at_most x y) kept r
+    → IsTrue r → AreSorted kept
+sorted_from_adjacent kept true adjacent h role value =
+    IsNonDecreasingBy-from_all_adjacent (λ p. ordering_index (order_at p role value)) kept
+    (λ k d lt. rises _ value _ _ role _ (sym (adjacent k d lt)))
+sorted_from_adjacent kept false adjacent h role value = absurd (true≢false (sym h))
+
+pub searched : (kept : List PortId) (role value : ℕ) → AreSorted kept → (r : Result ℕ ℕ)
+    → IsSearchInRange r (length kept)
+    → IsBinarySearchResult (λ p. order_at p role value) kept r
+    → is_ok r ≡ is_kept kept role value
+searched kept role value sorted (Ok at) in_range equal =
+    sym (list_any_at (λ p. p.role == role && number_of p.port == value) kept at none in_range
+    (equal_is _ value _ role (equal none)))
+searched kept role value sorted (Err at) in_range parted =
+    let parts = parted (sorted role value) in
+    let Is : PortId → Bool = λ p. p.role == role && number_of p.port == value in
+    let other : (i : ℕ) → i < length kept → Is (get_or kept i none) ≡ false = λ i below.
+    elim (cases_lt i at) [
+      | inl lt ↦ less_is _ value _ role (parts.0 i none (omega arith) lt)
+      | inr le ↦ greater_is _ value _ role (parts.1 i none le below)
+    ] in
+    sym (list_any_none Is kept (All-from_get_or (λ p. Is p ≡ false) kept none other))

@@ -8,6 +8,7 @@ pub mod Places
 pub mod Services
 pub mod Changes
 pub mod Counts
+pub mod Kept
 pub mod Deaths
 pub mod Queries
 pub mod Finding

@@ -105,6 +105,16 @@ impl Handle {
     }
 }
 
+/// The id of a port, and what the port is. It has no padding, so C may compare its bytes.
+#[repr(C)]
+#[derive(Clone, Copy)]
+pub struct PortId {
+    /// The number of the role.
+    pub role: u64,
+    /// The id.
+    pub port: Id,
+}
+
 /// The details of a port. A field that its kind does not have is not checked, and is returned as 0.
 #[repr(C)]
 #[derive(Clone, Copy, Default)]

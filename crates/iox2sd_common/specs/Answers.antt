@@ -10,11 +10,11 @@ use Rattle.iox2sd_common.specs.declared.status.Status.TheVariants as status
 
 -- the status with the place of which it speaks
 abbrev pub place_answer : Status → ℕ → PlaceAnswer
-place_answer s at = record { status = code s; at = at }
+place_answer s at = record { status = code s; cause = 0; at = at }
 
 -- the status with a number
 abbrev pub count_answer : Status → ℕ → CountAnswer
-count_answer s count = record { status = code s; count = count }
+count_answer s count = record { status = code s; cause = 0; count = count }
 
 -- how many, or the status of a refusal
 abbrev pub told_count : Result ℕ Status → CountAnswer
@@ -28,7 +28,7 @@ flag_answer (Err s) = record { status = code s; yes = false }
 
 -- the status with the length of a text
 abbrev pub text_answer : Status → ℕ → TextAnswer
-text_answer s n = record { status = code s; length = n }
+text_answer s n = record { status = code s; cause = 0; length = n }
 
 -- the text at the front of so many bytes, and zeros after it
 abbrev pub zero_padded : ℕ → List ℕ → List ℕ

@@ -1,4 +1,4 @@
-//! What exports return beside a status: an index, a count, or a text for a buffer.
+//! What exports return beside a status: its cause, an index, a count, or a text for a buffer.
 ghost use Rattle.std.specs.Prelude.{◌≡◌, ◌≤◌, ◌++◌, length, drop};
 ghost use Rattle.iox2sd_common.specs.Answers.{place_answer, count_answer, text_answer, Writes};
 ghost use Rattle.iox2sd_common.specs.Answers.{Written, told_count, flag_answer, zero_padded};
@@ -11,6 +11,8 @@ use super::status::Status;
 pub struct PlaceAnswer {
     /// The number of a [`Status`].
     pub status: u32,
+    /// The number of the [`Status`] that says why a text is refused; 0 where no text is.
+    pub cause: u32,
     /// The index for which the status holds; 0 where it holds for none.
     pub at: usize,
 }
@@ -21,6 +23,8 @@ pub struct PlaceAnswer {
 pub struct CountAnswer {
     /// The number of a [`Status`].
     pub status: u32,
+    /// The number of the [`Status`] that says why a text is refused; 0 where no text is.
+    pub cause: u32,
     /// How many; also where the status is that of `BufferTooShort`: so many are needed.
     pub count: usize,
 }
@@ -41,6 +45,8 @@ pub struct FlagAnswer {
 pub struct TextAnswer {
     /// The number of a [`Status`].
     pub status: u32,
+    /// The number of the [`Status`] that says why a text is refused; 0 where no text is.
+    pub cause: u32,
     /// How many bytes the text has, whether they fitted or not; 0 where there is no text.
     pub length: usize,
 }
@@ -51,6 +57,7 @@ pub fn place(status: Status, at: usize) -> PlaceAnswer
 {
     PlaceAnswer {
         status: status.code(),
+        cause: 0,
         at,
     }
 }
@@ -61,6 +68,7 @@ pub fn count(status: Status, count: usize) -> CountAnswer
 {
     CountAnswer {
         status: status.code(),
+        cause: 0,
         count,
     }
 }
@@ -101,6 +109,7 @@ pub fn no_text(status: Status) -> TextAnswer
 {
     TextAnswer {
         status: status.code(),
+        cause: 0,
         length: 0,
     }
 }
@@ -148,6 +157,7 @@ pub fn write(text: &[u8], out: &mut [u8]) -> TextAnswer
     };
     TextAnswer {
         status: status.code(),
+        cause: 0,
         length: text.len(),
     }
 }

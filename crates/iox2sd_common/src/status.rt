@@ -107,6 +107,9 @@ pub enum Status {
     BadDuration = 68,
     /// A setting of a service is not what an opener requires.
     Unmet = 69,
+    /// A service has another messaging pattern than its opener requires. No export answers it: the
+    /// calls in C that compare services do.
+    OtherPattern = 70,
     /// The text is no TOML.
     NotToml = 80,
     /// The value of a key is of another type than the one that is wanted.
@@ -119,6 +122,8 @@ pub enum Status {
     NoTomlInteger = 84,
     /// A file cannot be read. No export answers it: wrappers that read files do.
     NoFile = 85,
+    /// Tables and arrays are nested too deeply.
+    TooDeep = 86,
     /// No run gives a reply of a log.
     NoRun = 90,
     /// A line of a log is not that of a service, where one is expected.
@@ -202,12 +207,14 @@ impl Status {
             Status::UnknownStrategy => "unknown strategy",
             Status::BadDuration => "the nanoseconds of a duration are a second or more",
             Status::Unmet => "a setting is not what the opener requires",
+            Status::OtherPattern => "the service has another messaging pattern",
             Status::NotToml => "not TOML",
             Status::WrongType => "a value of another type is wanted",
             Status::BelowZero => "the number is below 0",
             Status::NoDuration => "not a duration: the integers secs and nanos",
             Status::NoTomlInteger => "TOML has no integer above 2^63 - 1",
             Status::NoFile => "the file cannot be read",
+            Status::TooDeep => "tables and arrays are nested too deeply",
             Status::NoRun => "no run gives the reply",
             Status::NoServiceLine => "the line of a service is expected",
             Status::NoCommandLine => "the line of a command is expected",
@@ -276,12 +283,14 @@ pub fn status_of(number: u32) -> Option<Status>
         67 => Some(Status::UnknownStrategy),
         68 => Some(Status::BadDuration),
         69 => Some(Status::Unmet),
+        70 => Some(Status::OtherPattern),
         80 => Some(Status::NotToml),
         81 => Some(Status::WrongType),
         82 => Some(Status::BelowZero),
         83 => Some(Status::NoDuration),
         84 => Some(Status::NoTomlInteger),
         85 => Some(Status::NoFile),
+        86 => Some(Status::TooDeep),
         90 => Some(Status::NoRun),
         91 => Some(Status::NoServiceLine),
         92 => Some(Status::NoCommandLine),

@@ -1,7 +1,11 @@
 -- What is wrong with a file of settings, as plain values.
 use Rattle.std.specs.Prelude.{◌≡◌, ◌⊎◌, ℕ, List, ◌++◌, length, take, replicate}
+use Rattle.std.specs.Str.{trim_end}
+use Rattle.iox2_config_file.specs.Depth.{depth_text}
+use Rattle.iox2_config_file.specs.Faults.{reason_text}
 use Rattle.iox2_config_file.specs.Read.{Located, fault_view}
 use Rattle.iox2_config_file.specs.Rows.{prefix_of}
+use Rattle.iox2_config_file.specs.declared.depth.TooDeep.{TooDeep}
 use Rattle.iox2_config_file.specs.declared.error.ConfigFileError.{ConfigFileError}
 use Rattle.iox2_config_file.specs.declared.error.ConfigFileError.TheVariants as error
 use Rattle.iox2_config_file.specs.declared.kind.Fault.{Fault}
@@ -14,7 +18,7 @@ use Rattle.iox2_config_file.specs.declared.section.Section.{Section}
 use Rattle.iox2_config_file.specs.declared.section.Section.TheVariants as section
 use Rattle.iox2_texts.specs.declared.bounded.SemanticStringError.TheVariants.{InvalidContent, ExceedsMaximumLength}
 use Rattle.iox2sd_common.specs.Answers.{zero_padded}
-use Rattle.iox2sd_common.specs.Status.{code}
+use Rattle.iox2sd_common.specs.Status.{code, status_text}
 use Rattle.iox2sd_common.specs.declared.status.Status.{Status}
 use Rattle.iox2sd_common.specs.declared.status.Status.TheVariants as status
 use Rattle.iox2sd_config.specs.declared.fault.PlainFault.{PlainFault}
@@ -87,7 +91,11 @@ key_path s key = prefix_of s ++ key
 abbrev pub cut_key : List ℕ → List ℕ
 cut_key path = zero_padded 80 (take 80 path)
 
--- what a plain fault says, beside its words
+-- the first 256 bytes of what is wrong, in words, and then zeros
+abbrev pub cut_reason : List ℕ → List ℕ
+cut_reason words = zero_padded 256 (take 256 words)
+
+-- what a plain fault says
 pub record Known : Type 0 where
   pub status : ℕ
   pub table : ℕ
@@ -95,6 +103,8 @@ pub record Known : Type 0 where
   pub wanted : ℕ
   pub key : List ℕ
   pub key_length : ℕ
+  pub reason : List ℕ
+  pub reason_length : ℕ
 
 abbrev pub known_of : PlainFault → Known
 known_of f = record {
@@ -104,36 +114,56 @@ known_of f = record {
   wanted = f.wanted;
   key = f.key;
   key_length = f.key_length;
+  reason = f.reason;
+  reason_length = f.reason_length;
 }
 
--- a status, and nothing of a key
-abbrev pub no_place : Status → Known
-no_place s = record {
+-- a status in these words, and nothing of a key
+abbrev pub worded : Status → List ℕ → Known
+worded s words = record {
   status = code s;
   table = 0;
   found = 0;
   wanted = 0;
   key = replicate 80 0;
   key_length = 0;
+  reason = cut_reason words;
+  reason_length = length words;
 }
 
--- what is wrong with the value of a key
-abbrev pub told_fault : Located → Known
-told_fault (s, key, fault) = record {
+-- a status in its own words, and nothing of a key
+abbrev pub no_place : Status → Known
+no_place s = worded s (status_text s)
+
+-- what is wrong with the value at this path of a key in a table, and the same in words
+abbrev pub placed : Fault → Section → List ℕ → List ℕ → Known
+placed fault s path words = record {
   status = code (fault_status fault);
   table = section_number s;
   found = found_number fault;
   wanted = wanted_number fault;
-  key = cut_key (key_path s key);
-  key_length = length (key_path s key);
+  key = cut_key path;
+  key_length = length path;
+  reason = cut_reason words;
+  reason_length = length words;
 }
 
--- why a text gives no settings
-abbrev pub told_error : ConfigFileError → Known
-told_error (error.Syntax e) = no_place status.NotToml
-told_error (error.Setting fault) = told_fault (fault_view fault)
-told_error (error.NoMemory e) = no_place status.NoMemory
+-- what is wrong with the value of a key
+abbrev pub told_fault : Located → Known
+told_fault (s, key, fault) = placed fault s (key_path s key) (reason_text fault)
+
+-- why a text gives no settings; where it is no TOML, in words that end in no white space
+abbrev pub TellsError : ConfigFileError → Known → Type 0
+TellsError (error.Syntax e) known =
+    (said : List ℕ) × (known ≡ worded status.NotToml (trim_end said))
+TellsError (error.Setting fault) known = known ≡ told_fault (fault_view fault)
+TellsError (error.NoMemory e) known = known ≡ no_place status.NoMemory
 
 -- the same, or that there was no memory to say it
 abbrev pub Explains : ConfigFileError → Known → Type 0
-Explains e known = (known ≡ told_error e) ⊎ (known ≡ no_place status.NoMemory)
+Explains e known = TellsError e known ⊎ (known ≡ no_place status.NoMemory)
+
+-- where a text is too deep, or that there was no memory to say it
+abbrev pub TellsDepth : TooDeep → Known → Type 0
+TellsDepth place known =
+    (known ≡ worded status.TooDeep (depth_text place)) ⊎ (known ≡ no_place status.NoMemory)

@@ -7,7 +7,7 @@ use Rattle.iox2sd_common.specs.Status.{code}
 use Rattle.iox2sd_common.specs.declared.status.Status.{Status}
 use Rattle.iox2sd_common.specs.declared.status.Status.TheVariants as status
 use Rattle.iox2sd_config.specs.Faults.{Known, section_number, key_path, cut_key}
-use Rattle.iox2sd_config.specs.Files.{RefusesFile}
+use Rattle.iox2sd_config.specs.Files.{IsShallow, RefusesFile}
 use Rattle.iox2sd_config.specs.declared.unknown.PlainUnknown.{PlainUnknown}
 use Rattle.iox2sd_config.specs.declared.unknown.UnknownAnswer.{UnknownAnswer}
 
@@ -52,7 +52,7 @@ PutsUnknown keys old old_paths answer new new_paths =
 abbrev pub ListsUnknown : List ℕ → List PlainUnknown → List ℕ → UnknownAnswer
     → List PlainUnknown → List ℕ → Type 0
 ListsUnknown bytes old old_paths answer new new_paths =
-    (IsUtf8 bytes × (settings : FileSettings) × ReadsOverDefaults bytes settings
+    (IsUtf8 bytes × IsShallow bytes × (settings : FileSettings) × ReadsOverDefaults bytes settings
     × PutsUnknown (map unknown_view settings.unknown.items) old old_paths answer new new_paths)
     ⊎ ((known : Known) × RefusesFile bytes known
     × (answer ≡ record { status = known.status; count = 0; length = 0 })

@@ -1,5 +1,6 @@
 -- Settings that a caller filled, as the text of a file.
-use Rattle.std.specs.Prelude.{◌≡◌, ◌⊎◌, ⊤, ℕ, Bool, List, [], ◌∷◌, length, take, replicate, Result, Ok, Err, String, string_bytes}
+use Rattle.std.specs.Prelude.{◌≡◌, ◌⊎◌, ⊤, ℕ, Bool, if◌then◌else◌, nat_lt, List, [], ◌∷◌, length, take, replicate, Result, Ok, Err, IfOk, String, string_bytes}
+use lib.Chars.{codes}
 use Rattle.std.specs.declared.alloc.Global.{Global}
 use Rattle.std.specs.declared.time.Duration.{Duration}
 use Rattle.iox2_config.specs.GlobalSettings.{GlobalSettings}
@@ -7,6 +8,7 @@ use Rattle.iox2_config.specs.declared.config.Config.{Config}
 use Rattle.iox2_config.specs.declared.config.defaults.Defaults.{Defaults}
 use Rattle.iox2_config.specs.declared.config.node.Node.{Node}
 use Rattle.iox2_config.specs.declared.config.service.Service.{Service}
+use Rattle.iox2_config_file.specs.ReadBack.{ReadsBack}
 use Rattle.iox2_config_file.specs.Write.{Writes as WritesFile}
 use Rattle.iox2_config_file.specs.declared.write.ConfigWriteError.{ConfigWriteError}
 use Rattle.iox2_config_file.specs.declared.write.ConfigWriteError.TheVariants.{OutOfRange, NoMemory}
@@ -20,11 +22,12 @@ use Rattle.iox2sd_config.specs.Faults.{key_path, cut_key}
 use Rattle.iox2sd_config.specs.declared.config.PlainConfig.{PlainConfig}
 use Rattle.iox2sd_config.specs.declared.config.PlainText.{PlainText}
 use Rattle.iox2sd_config.specs.declared.config.PlainTexts.{PlainTexts}
+use Rattle.iox2sd_config.specs.declared.write.BadText.{BadText}
+use Rattle.iox2sd_config.specs.declared.write.Unfit.{Unfit}
+use Rattle.iox2sd_config.specs.declared.write.Unfit.TheVariants as unfit
 use Rattle.iox2sd_config.specs.declared.write.WriteAnswer.{WriteAnswer}
 use Rattle.iox2sd_settings.specs.ReadSettings.{field_status, field_number, ReadsPublishSubscribe, ReadsEvent, ReadsRequestResponse, ReadsBlackboard, ReadsGlobal}
 use Rattle.iox2sd_settings.specs.declared.read_settings.Field.{Field}
-use Rattle.iox2sd_settings.specs.declared.read_settings.Refusal.{Refusal}
-use Rattle.iox2sd_settings.specs.declared.read_settings.Refusal.TheVariants as refusal
 use Rattle.iox2sd_settings.specs.declared.settings.GlobalSettings.{GlobalSettings as PlainGlobal}
 
 -- a path: at most 255 bytes from 1 to 127
@@ -68,6 +71,67 @@ HasNodeNames t =
 abbrev pub HasNames : PlainTexts → Type 0
 HasNames t = IsFileName (bytes_of t.prefix) × HasServiceNames t × HasNodeNames t
 
+-- a text, below the path of its key
+abbrev pub Keyed : Type 0
+Keyed = List ℕ × List ℕ
+
+-- the status of a text that is refused: that it has too many bytes, or this one
+abbrev pub bad_status : Status → List ℕ → Status
+bad_status otherwise bytes = if nat_lt 255 (length bytes) then status.TooLong else otherwise
+
+-- what is said of a text that is refused: why, and the path of its key
+abbrev pub bad_view : BadText → Status × List ℕ
+bad_view bad = (bad.status, bad.key.now)
+
+abbrev pub bad_path : Keyed → Status × List ℕ
+bad_path (key, bytes) = (bad_status status.BadPath bytes, key)
+
+abbrev pub bad_name : Keyed → Status × List ℕ
+bad_name (key, bytes) = (bad_status status.NoFileName bytes, key)
+
+-- what is said of the first of the texts that is refused
+abbrev pub IsFirstBad : (List ℕ → Type 0) → (Keyed → Status × List ℕ) → List Keyed
+    → Status × List ℕ → Type 0
+IsFirstBad Is said [] bad = ⊥
+IsFirstBad Is said (x ∷ xs) bad =
+    ((¬ (Is x.1)) × (bad ≡ said x)) ⊎ (Is x.1 × IsFirstBad Is said xs bad)
+
+-- the paths
+abbrev pub paths_of : PlainTexts → List Keyed
+paths_of t =
+    (codes "global.root-path", bytes_of t.root_path)
+    ∷ (codes "global.service.directory", bytes_of t.service_directory)
+    ∷ (codes "global.node.directory", bytes_of t.node_directory) ∷ []
+
+-- the ends of the names of services' files
+abbrev pub service_names_of : PlainTexts → List Keyed
+service_names_of t =
+    (codes "global.service.data-segment-suffix", bytes_of t.data_segment_suffix)
+    ∷ (codes "global.service.static-config-storage-suffix", bytes_of t.static_config_storage_suffix)
+    ∷ (codes "global.service.dynamic-config-storage-suffix", bytes_of t.dynamic_config_storage_suffix)
+    ∷ (codes "global.service.connection-suffix", bytes_of t.connection_suffix)
+    ∷ (codes "global.service.event-connection-suffix", bytes_of t.event_connection_suffix)
+    ∷ (codes "global.service.blackboard-mgmt-suffix", bytes_of t.blackboard_mgmt_suffix)
+    ∷ (codes "global.service.blackboard-data-suffix", bytes_of t.blackboard_data_suffix) ∷ []
+
+-- the same of nodes' files
+abbrev pub node_names_of : PlainTexts → List Keyed
+node_names_of t =
+    (codes "global.node.monitor-suffix", bytes_of t.monitor_suffix)
+    ∷ (codes "global.node.static-config-suffix", bytes_of t.node_static_config_suffix)
+    ∷ (codes "global.node.service-tag-suffix", bytes_of t.service_tag_suffix)
+    ∷ (codes "global.node.port-tag-suffix", bytes_of t.port_tag_suffix)
+    ∷ (codes "global.node.global-mgmt-suffix", bytes_of t.global_mgmt_suffix) ∷ []
+
+-- what is said of the first name that is refused: what names begin with is looked at first
+abbrev pub IsFirstBadName : PlainTexts → Status × List ℕ → Type 0
+IsFirstBadName t bad =
+    ((¬ (IsFileName (bytes_of t.prefix)))
+    × (bad ≡ bad_name (codes "global.prefix", bytes_of t.prefix)))
+    ⊎ (IsFileName (bytes_of t.prefix) × IsFirstBad IsFileName bad_name (service_names_of t) bad)
+    ⊎ (IsFileName (bytes_of t.prefix) × HasServiceNames t
+    × IsFirstBad IsFileName bad_name (node_names_of t) bad)
+
 -- the settings of services' files
 abbrev pub service_of : PlainTexts → Bool → Service
 service_of t on_open = record {
@@ -107,15 +171,14 @@ system_of t s timeout = record {
 
 -- the settings of a system that were given, or what is not valid: paths are looked at first, then
 -- names, and then the timeout
-abbrev pub ReadsSystem : PlainConfig → Result GlobalSettings Refusal → Type 0
+abbrev pub ReadsSystem : PlainConfig → Result GlobalSettings Unfit → Type 0
 ReadsSystem given (Ok made) =
     HasPaths given.texts × HasNames given.texts × (timeout : Duration)
     × ReadsGlobal given.global (Ok timeout) × (made ≡ system_of given.texts given.global timeout)
-ReadsSystem given (Err (refusal.Cause status.BadPath)) = ¬ (HasPaths given.texts)
-ReadsSystem given (Err (refusal.Cause status.NoFileName)) =
-    HasPaths given.texts × (¬ (HasNames given.texts))
-ReadsSystem given (Err (refusal.Cause _)) = ⊥
-ReadsSystem given (Err (refusal.Invalid f)) =
+ReadsSystem given (Err (unfit.Text bad)) =
+    IsFirstBad IsPath bad_path (paths_of given.texts) (bad_view bad)
+    ⊎ (HasPaths given.texts × IsFirstBadName given.texts (bad_view bad))
+ReadsSystem given (Err (unfit.Field f)) =
     HasPaths given.texts × HasNames given.texts × ReadsGlobal given.global (Err f)
 
 -- settings can be read
@@ -136,12 +199,12 @@ ReadsDefaults given (Err f) =
     × ReadsRequestResponse given.request_response (Err f))
 
 -- all settings that were given, or what is not valid: those of a system are looked at first
-abbrev pub ReadsConfig : PlainConfig → Result Config Refusal → Type 0
+abbrev pub ReadsConfig : PlainConfig → Result Config Unfit → Type 0
 ReadsConfig given (Ok made) =
     ReadsSystem given (Ok made.global) × ReadsDefaults given (Ok made.defaults)
-ReadsConfig given (Err (refusal.Cause s)) = ReadsSystem given (Err (refusal.Cause s))
-ReadsConfig given (Err (refusal.Invalid f)) =
-    ReadsSystem given (Err (refusal.Invalid f))
+ReadsConfig given (Err (unfit.Text bad)) = ReadsSystem given (Err (unfit.Text bad))
+ReadsConfig given (Err (unfit.Field f)) =
+    ReadsSystem given (Err (unfit.Field f))
     ⊎ ((system : GlobalSettings) × ReadsSystem given (Ok system) × ReadsDefaults given (Err f))
 
 -- the answer of a status, of a text of so many bytes
@@ -154,18 +217,18 @@ written_answer s n = record {
   key_length = 0;
 }
 
--- the answer on settings that are not valid
-abbrev pub refusal_answer : Refusal → WriteAnswer
-refusal_answer (refusal.Cause s) = written_answer s 0
-refusal_answer (refusal.Invalid f) =
-    record (written_answer (field_status f) 0) { field = field_number f }
-
--- the answer on a number that TOML does not have
-abbrev pub misfit_answer : List ℕ → WriteAnswer
-misfit_answer path = record (written_answer status.NoTomlInteger 0) {
+-- the answer of a status on the value of a key
+abbrev pub keyed_answer : Status → List ℕ → WriteAnswer
+keyed_answer s path = record (written_answer s 0) {
   key = cut_key path;
   key_length = length path;
 }
+
+-- the answer on settings that are not valid
+abbrev pub unfit_answer : Unfit → WriteAnswer
+unfit_answer (unfit.Text bad) = keyed_answer bad.status bad.key.now
+unfit_answer (unfit.Field f) =
+    record (written_answer (field_status f) 0) { field = field_number f }
 
 -- the text was written, or the answer tells why there is none and the buffer is as it was
 abbrev pub TellsWritten : Result (String Global) ConfigWriteError → List ℕ → WriteAnswer → List ℕ
@@ -174,23 +237,25 @@ TellsWritten (Ok text) old answer new =
     (fits : Bool) × Writes (string_bytes text) old fits new
     × (answer ≡ written_answer (fit_status fits) (length (string_bytes text)))
 TellsWritten (Err (OutOfRange misfit)) old answer new =
-    (answer ≡ misfit_answer (key_path misfit.section misfit.key.now)) × (new ≡ old)
+    (answer ≡ keyed_answer status.NoTomlInteger (key_path misfit.section misfit.key.now))
+    × (new ≡ old)
 TellsWritten (Err NoMemory) old answer new =
     (answer ≡ written_answer status.NoMemory 0) × (new ≡ old)
 
--- the text of settings was written, or there is none
+-- the text of settings was written, of which these settings are read, or there is none
 abbrev pub TellsText : Config → List ℕ → WriteAnswer → List ℕ → Type 0
 TellsText config old answer new =
     (written : Result (String Global) ConfigWriteError) × WritesFile config written
+    × IfOk written (λ text. ReadsBack config (string_bytes text))
     × TellsWritten written old answer new
 
 -- the same of settings, where they are valid
-abbrev pub TellsConfig : Result Config Refusal → List ℕ → WriteAnswer → List ℕ → Type 0
+abbrev pub TellsConfig : Result Config Unfit → List ℕ → WriteAnswer → List ℕ → Type 0
 TellsConfig (Ok config) old answer new = TellsText config old answer new
-TellsConfig (Err r) old answer new = (answer ≡ refusal_answer r) × (new ≡ old)
+TellsConfig (Err u) old answer new = (answer ≡ unfit_answer u) × (new ≡ old)
 
 -- of the first struct, where there is one
 abbrev pub WritesConfig : List PlainConfig → List ℕ → WriteAnswer → List ℕ → Type 0
 WritesConfig [] old answer new = (answer ≡ written_answer status.Null 0) × (new ≡ old)
 WritesConfig (given ∷ others) old answer new =
-    (read : Result Config Refusal) × ReadsConfig given read × TellsConfig read old answer new
+    (read : Result Config Unfit) × ReadsConfig given read × TellsConfig read old answer new

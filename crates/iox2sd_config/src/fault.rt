@@ -5,9 +5,10 @@ ghost use Rattle.iox2_config_file.specs.Read.{fault_view};
 ghost use Rattle.iox2sd_common.specs.Answers.{zero_padded};
 ghost use Rattle.iox2sd_config.specs.Faults.{section_number, type_number, kind_number, fault_status};
 ghost use Rattle.iox2sd_config.specs.Faults.{found_number, wanted_number, key_path, cut_key};
-ghost use Rattle.iox2sd_config.specs.Faults.{known_of, no_place, told_fault, Explains};
+ghost use Rattle.iox2sd_config.specs.Faults.{known_of, no_place, worded, placed, told_fault, Explains};
+ghost use Rattle.iox2sd_config.specs.Faults.{TellsDepth};
 
-use iox2_config_file::{ConfigFileError, Fault, Kind, Section, SettingFault, TomlType};
+use iox2_config_file::{ConfigFileError, Fault, Kind, Section, SettingFault, TomlType, TooDeep};
 use iox2_texts::bounded::SemanticStringError;
 use iox2sd_common::answers::zero_padded;
 use iox2sd_common::status::Status;
@@ -154,9 +155,9 @@ impl PlainFault {
         PlainFault::with_reason(status, status.text())
     }
 
-    /// What a status says in other words, and nothing of a key.
-    fn with_reason(status: Status, reason: &str) -> PlainFault
-        ensures { known_of result ≡ no_place status }
+    /// A status in these words, and nothing of a key.
+    pub(crate) fn with_reason(status: Status, reason: &str) -> PlainFault
+        ensures { known_of result ≡ worded status reason.now }
     {
         PlainFault {
             status: status.code(),
@@ -178,23 +179,39 @@ fn reason_of(alloc: Global, fault: Fault) -> Result<String, AllocError>
     format!(in alloc; "{fault}")
 }
 
+/// What is wrong with the value at the path of a key in a table, and the same in words.
+fn placed(fault: Fault, section: Section, path: &[u8], reason: &[u8]) -> PlainFault
+    ensures { known_of result ≡ placed fault section path.now reason.now }
+{
+    PlainFault {
+        status: fault_status(fault).code(),
+        table: section_number(section),
+        found: found_number(fault),
+        wanted: wanted_number(fault),
+        key: cut(path),
+        key_length: path.len(),
+        reason: cut(reason),
+        reason_length: reason.len(),
+    }
+}
+
 /// What is wrong with the value of a key.
 pub(crate) fn plain_fault(alloc: Global, fault: &SettingFault) -> Result<PlainFault, AllocError>
     ensures { IfOk result (λ plain. known_of plain ≡ told_fault (fault_view fault.now)) }
 {
-    let what = fault.fault;
     let path = key_path(alloc, fault.section, fault.key)?;
-    let reason = reason_of(alloc, what)?;
-    Ok(PlainFault {
-        status: fault_status(what).code(),
-        table: section_number(fault.section),
-        found: found_number(what),
-        wanted: wanted_number(what),
-        key: cut(path.as_bytes()),
-        key_length: path.len(),
-        reason: cut(reason.as_bytes()),
-        reason_length: reason.len(),
-    })
+    let reason = reason_of(alloc, fault.fault)?;
+    Ok(placed(fault.fault, fault.section, path.as_bytes(), reason.as_bytes()))
+}
+
+/// Where a text is too deep, or that there was no memory to say it.
+pub(crate) fn deep_fault(alloc: Global, place: TooDeep) -> PlainFault
+    ensures { TellsDepth place (known_of result) }
+{
+    let Ok(reason) = format!(in alloc; "{place}") else {
+        return PlainFault::of(Status::NoMemory);
+    };
+    PlainFault::with_reason(Status::TooDeep, reason.as_str())
 }
 
 /// Why a text gives no settings, or that there was no memory to say it.

@@ -1,9 +1,12 @@
 //! Settings that a caller filled, as the text of a file.
-ghost use Rattle.std.specs.Prelude.{◌≡◌, ◌↔◌, IsTrue};
+ghost use Rattle.std.specs.Prelude.{◌≡◌, IfOk, IfErr};
 ghost use Rattle.iox2sd_config.specs.Writing.{IsPath, IsFileName, bytes_of, HasPaths, HasNames};
 ghost use Rattle.iox2sd_config.specs.Writing.{HasServiceNames, HasNodeNames, service_of, node_of};
 ghost use Rattle.iox2sd_config.specs.Writing.{system_of, ReadsSystem, ReadsDefaults, ReadsConfig};
-ghost use Rattle.iox2sd_config.specs.Writing.{written_answer, refusal_answer, TellsText};
+ghost use Rattle.iox2sd_config.specs.Writing.{written_answer, unfit_answer, TellsText};
+ghost use Rattle.iox2sd_config.specs.Writing.{bad_status, bad_view, bad_path, bad_name, IsFirstBad};
+ghost use Rattle.iox2sd_config.specs.Writing.{paths_of, service_names_of, node_names_of};
+ghost use Rattle.iox2sd_config.specs.Writing.{IsFirstBadName};
 ghost use Rattle.iox2sd_config.specs.Writing.{WritesConfig};
 
 use crate::config::{PlainConfig, PlainText, PlainTexts};
@@ -14,7 +17,7 @@ use iox2_texts::paths::{FileName, Path};
 use iox2sd_common::answers::put;
 use iox2sd_common::status::Status;
 use iox2sd_settings::read_settings::{
-    Field, Refusal, read_blackboard, read_event, read_global, read_publish_subscribe,
+    Field, read_blackboard, read_event, read_global, read_publish_subscribe,
     read_request_response,
 };
 use iox2sd_settings::settings::GlobalSettings;
@@ -31,9 +34,10 @@ pub struct WriteAnswer {
     pub field: u32,
     /// How many bytes the text has, whether they fitted or not; 0 where there is no text.
     pub length: usize,
-    /// The first bytes of the path of the key whose number TOML does not have, and then zeros.
+    /// The first bytes of the path of the key whose text is refused, or whose number TOML does not
+    /// have, and then zeros.
     pub key: [u8; 80],
-    /// How many bytes this path has; 0 where the status is not that of `NoTomlInteger`.
+    /// How many bytes this path has; 0 where the status is about no key.
     pub key_length: usize,
 }
 
@@ -52,17 +56,55 @@ impl WriteAnswer {
     }
 
     /// What is not valid in the settings.
-    fn refused(refusal: Refusal) -> WriteAnswer
-        ensures { result ≡ refusal_answer refusal }
+    fn refused(unfit: Unfit) -> WriteAnswer
+        ensures { result ≡ unfit_answer unfit }
     {
-        let answer = refusal.answer();
-        WriteAnswer {
-            status: answer.status,
-            field: answer.field,
-            length: 0,
-            key: [0; 80],
-            key_length: 0,
+        match unfit {
+            Unfit::Text(bad) => WriteAnswer {
+                key: cut(bad.key.as_bytes()),
+                key_length: bad.key.len(),
+                ..WriteAnswer::of(bad.status, 0)
+            },
+            Unfit::Field(field) => {
+                let answer = field.answer();
+                WriteAnswer {
+                    status: answer.status,
+                    field: answer.field,
+                    length: 0,
+                    key: [0; 80],
+                    key_length: 0,
+                }
+            }
         }
+    }
+}
+
+/// What is not valid in settings.
+#[derive(Clone, Copy)]
+enum Unfit {
+    /// This text is refused.
+    Text(BadText),
+    /// This field is invalid.
+    Field(Field),
+}
+
+impl From<BadText> for Unfit {
+    ghost use Rattle.iox2sd_config.specs.declared.write.Unfit.{Unfit};
+
+    ghost from_gives = { λ bad unfit. unfit ≡ Unfit.Text bad };
+
+    fn from(bad: BadText) -> Self {
+        Unfit::Text(bad)
+    }
+}
+
+impl From<Field> for Unfit {
+    ghost use Rattle.iox2sd_config.specs.declared.write.Unfit.{Unfit};
+
+    ghost from_gives = { λ field unfit. unfit ≡ Unfit.Field field };
+
+    fn from(field: Field) -> Self {
+        Unfit::Field(field)
     }
 }
 
@@ -77,58 +119,108 @@ fn bytes_of(text: &PlainText) -> &[u8]
     }
 }
 
-/// Whether a text is a path.
+/// A text of the settings that is refused.
+#[derive(Clone, Copy)]
+pub(crate) struct BadText {
+    /// Why it is refused.
+    status: Status,
+    /// The path of its key.
+    key: &'static str,
+}
+
+/// The status of a text that is refused: its bytes are too many, or it is for another cause.
+fn bad_status(text: &PlainText, otherwise: Status) -> Status
+    ensures { result ≡ bad_status otherwise (bytes_of text.now) }
+{
+    if bytes_of(text).len() > 255 {
+        Status::TooLong
+    } else {
+        otherwise
+    }
+}
+
+/// Nothing where a text is a path, or why it is refused.
 #[tactic(auto, unfolding(crate::specs::Writing::IsPath))]
-fn is_path(text: &PlainText) -> bool
-    ensures { IsTrue result ↔ IsPath (bytes_of text.now) }
+fn check_path(text: &PlainText, key: &'static str) -> Result<(), BadText>
+    ensures ok { IfOk result (λ _. IsPath (bytes_of text.now)) }
+    ensures err { IfErr result (λ bad. ¬ (IsPath (bytes_of text.now))) }
+    ensures told { IfErr result (λ bad. bad_view bad ≡ bad_path (key.now, bytes_of text.now)) }
 {
-    Path::new(bytes_of(text)).is_ok()
+    match Path::new(bytes_of(text)) {
+        Ok(_) => Ok(()),
+        Err(_) => Err(BadText {
+            status: bad_status(text, Status::BadPath),
+            key,
+        }),
+    }
 }
 
-/// Whether a text is the name of a file.
+/// Nothing where a text is the name of a file, or why it is refused.
 #[tactic(auto, unfolding(crate::specs::Writing::IsFileName))]
-fn is_name(text: &PlainText) -> bool
-    ensures { IsTrue result ↔ IsFileName (bytes_of text.now) }
+fn check_name(text: &PlainText, key: &'static str) -> Result<(), BadText>
+    ensures ok { IfOk result (λ _. IsFileName (bytes_of text.now)) }
+    ensures err { IfErr result (λ bad. ¬ (IsFileName (bytes_of text.now))) }
+    ensures told { IfErr result (λ bad. bad_view bad ≡ bad_name (key.now, bytes_of text.now)) }
 {
-    FileName::new(bytes_of(text)).is_ok()
+    match FileName::new(bytes_of(text)) {
+        Ok(_) => Ok(()),
+        Err(_) => Err(BadText {
+            status: bad_status(text, Status::NoFileName),
+            key,
+        }),
+    }
 }
 
-/// Whether the paths are paths.
-fn has_paths(texts: &PlainTexts) -> bool
-    ensures { IsTrue result ↔ HasPaths texts.now }
+/// The paths are paths, or this is the first that is none.
+fn check_paths(texts: &PlainTexts) -> Result<(), BadText>
+    ensures ok { IfOk result (λ _. HasPaths texts.now) }
+    ensures err { IfErr result (λ bad.
+        IsFirstBad IsPath bad_path (paths_of texts.now) (bad_view bad)) }
 {
-    is_path(&texts.root_path) && is_path(&texts.service_directory) && is_path(&texts.node_directory)
+    check_path(&texts.root_path, "global.root-path")?;
+    check_path(&texts.service_directory, "global.service.directory")?;
+    check_path(&texts.node_directory, "global.node.directory")
 }
 
-/// Whether the ends of the names of services' files are names of files.
-fn has_service_names(texts: &PlainTexts) -> bool
-    ensures { IsTrue result ↔ HasServiceNames texts.now }
+/// The ends of the names of services' files are names of files, or this is the first that is none.
+fn check_service_names(texts: &PlainTexts) -> Result<(), BadText>
+    ensures ok { IfOk result (λ _. HasServiceNames texts.now) }
+    ensures err { IfErr result (λ bad.
+        IsFirstBad IsFileName bad_name (service_names_of texts.now) (bad_view bad)) }
 {
-    is_name(&texts.data_segment_suffix)
-        && is_name(&texts.static_config_storage_suffix)
-        && is_name(&texts.dynamic_config_storage_suffix)
-        && is_name(&texts.connection_suffix)
-        && is_name(&texts.event_connection_suffix)
-        && is_name(&texts.blackboard_mgmt_suffix)
-        && is_name(&texts.blackboard_data_suffix)
+    check_name(&texts.data_segment_suffix, "global.service.data-segment-suffix")?;
+    check_name(&texts.static_config_storage_suffix, "global.service.static-config-storage-suffix")?;
+    check_name(
+        &texts.dynamic_config_storage_suffix,
+        "global.service.dynamic-config-storage-suffix",
+    )?;
+    check_name(&texts.connection_suffix, "global.service.connection-suffix")?;
+    check_name(&texts.event_connection_suffix, "global.service.event-connection-suffix")?;
+    check_name(&texts.blackboard_mgmt_suffix, "global.service.blackboard-mgmt-suffix")?;
+    check_name(&texts.blackboard_data_suffix, "global.service.blackboard-data-suffix")
 }
 
-/// Whether the ends of the names of nodes' files are names of files.
-fn has_node_names(texts: &PlainTexts) -> bool
-    ensures { IsTrue result ↔ HasNodeNames texts.now }
+/// The ends of the names of nodes' files are names of files, or this is the first that is none.
+fn check_node_names(texts: &PlainTexts) -> Result<(), BadText>
+    ensures ok { IfOk result (λ _. HasNodeNames texts.now) }
+    ensures err { IfErr result (λ bad.
+        IsFirstBad IsFileName bad_name (node_names_of texts.now) (bad_view bad)) }
 {
-    is_name(&texts.monitor_suffix)
-        && is_name(&texts.node_static_config_suffix)
-        && is_name(&texts.service_tag_suffix)
-        && is_name(&texts.port_tag_suffix)
-        && is_name(&texts.global_mgmt_suffix)
+    check_name(&texts.monitor_suffix, "global.node.monitor-suffix")?;
+    check_name(&texts.node_static_config_suffix, "global.node.static-config-suffix")?;
+    check_name(&texts.service_tag_suffix, "global.node.service-tag-suffix")?;
+    check_name(&texts.port_tag_suffix, "global.node.port-tag-suffix")?;
+    check_name(&texts.global_mgmt_suffix, "global.node.global-mgmt-suffix")
 }
 
-/// Whether what the names of files begin and end with are names of files.
-fn has_names(texts: &PlainTexts) -> bool
-    ensures { IsTrue result ↔ HasNames texts.now }
+/// What the names of files begin and end with are names of files, or this is the first that is none.
+fn check_names(texts: &PlainTexts) -> Result<(), BadText>
+    ensures ok { IfOk result (λ _. HasNames texts.now) }
+    ensures err { IfErr result (λ bad. IsFirstBadName texts.now (bad_view bad)) }
 {
-    is_name(&texts.prefix) && has_service_names(texts) && has_node_names(texts)
+    check_name(&texts.prefix, "global.prefix")?;
+    check_service_names(texts)?;
+    check_node_names(texts)
 }
 
 /// The path that a text is.
@@ -208,15 +300,11 @@ fn system_of(texts: &PlainTexts, settings: &GlobalSettings, timeout: Duration) -
 }
 
 /// The settings of a system, or what is not valid in them.
-fn read_system(given: &PlainConfig) -> Result<Global, Refusal>
+fn read_system(given: &PlainConfig) -> Result<Global, Unfit>
     ensures { ReadsSystem given.now result }
 {
-    if !has_paths(&given.texts) {
-        return Err(Refusal::Cause(Status::BadPath));
-    }
-    if !has_names(&given.texts) {
-        return Err(Refusal::Cause(Status::NoFileName));
-    }
+    check_paths(&given.texts)?;
+    check_names(&given.texts)?;
     let timeout = read_global(&given.global)?;
     Ok(system_of(&given.texts, &given.global, timeout))
 }
@@ -234,7 +322,7 @@ fn read_defaults(given: &PlainConfig) -> Result<Defaults, Field>
 }
 
 /// All settings, or what is not valid in them.
-fn read_given(given: &PlainConfig) -> Result<Config, Refusal>
+fn read_given(given: &PlainConfig) -> Result<Config, Unfit>
     ensures { ReadsConfig given.now result }
 {
     Ok(Config {
@@ -274,8 +362,9 @@ fn write_text(alloc: alloc::Global, config: &Config, out: &mut [u8]) -> WriteAns
 /// Writes settings as the text of a file, each below a comment with what it is and its default, to
 /// the front of the buffer where all of it fits.
 ///
-/// Refused are, in this order, NULL (`Null`); a text that is no path where one is wanted
-/// (`BadPath`); one that is no name of a file (`NoFileName`); the first field that is not valid, of
+/// Refused are, in this order, NULL (`Null`); the first path that is none, with the path of its key,
+/// since it has more than 255 bytes (`TooLong`) or a byte that is not allowed (`BadPath`); so the
+/// first text that is no name of a file (`TooLong`, `NoFileName`); the first field that is not valid, of
 /// the system, of publish-subscribe, of event and of request-response services, as the checks of
 /// settings report it (`BadDuration`, `UnknownStrategy`); a number above the greatest integer of
 /// TOML, with the path of the first such key (`NoTomlInteger`); and too short a buffer
@@ -294,6 +383,6 @@ pub extern "C" fn iox2sd_config_write_at(
     };
     match read_given(given) {
         Ok(config) => write_text(alloc, &config, out),
-        Err(refusal) => WriteAnswer::refused(refusal),
+        Err(unfit) => WriteAnswer::refused(unfit),
     }
 }

@@ -49,6 +49,7 @@ abbrev pub verdict_answer : Bool → Verdict → ConformAnswer
 verdict_answer fits end =
     record {
       status = code (if fits then verdict_status end else status.BufferTooShort);
+      verdict = code (verdict_status end);
       line = reported_line end;
       calls = conforming_calls end;
       length = length (report_text end);
@@ -56,7 +57,13 @@ verdict_answer fits end =
 
 -- the answer where memory was refused
 abbrev pub memory_answer : ConformAnswer
-memory_answer = record { status = code status.NoMemory; line = 0; calls = 0; length = 0 }
+memory_answer = record {
+  status = code status.NoMemory;
+  verdict = code status.NoMemory;
+  line = 0;
+  calls = 0;
+  length = 0;
+}
 
 -- The log may be judged so, and the report was written to the buffer where it fits; or memory was
 -- refused, and the buffer is as it was.

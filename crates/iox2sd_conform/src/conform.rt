@@ -16,6 +16,8 @@ use std::alloc::Global;
 pub struct ConformAnswer {
     /// The number of a [`Status`]; that of `Done` where the log conforms.
     pub status: u32,
+    /// The number of the [`Status`] that the call has with a longer buffer.
+    pub verdict: u32,
     /// The number of the first line that does not conform or is not what is expected, or of the end
     /// of the first group that has no order or leads to too many states, from 1 on; 0 where the log
     /// conforms or memory was refused.
@@ -80,6 +82,7 @@ pub extern "C" fn iox2sd_conform_run_at(alloc: Global, log: &[u8], out: &mut [u8
     let Ok((verdict, text)) = report_log(alloc, log) else {
         return ConformAnswer {
             status: Status::NoMemory.code(),
+            verdict: Status::NoMemory.code(),
             line: 0,
             calls: 0,
             length: 0,
@@ -92,6 +95,7 @@ pub extern "C" fn iox2sd_conform_run_at(alloc: Global, log: &[u8], out: &mut [u8
     };
     ConformAnswer {
         status: status.code(),
+        verdict: verdict_status(&verdict).code(),
         line: reported_line(&verdict),
         calls: conforming_calls(&verdict),
         length: text.len(),

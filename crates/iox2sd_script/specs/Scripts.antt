@@ -1,5 +1,5 @@
 -- Whole scripts.
-use Rattle.std.specs.Prelude.{◌≡◌, ℕ, Bool, if◌then◌else◌, List, Result, Ok, Err, length}
+use Rattle.std.specs.Prelude.{◌≡◌, ℕ, Bool, true, if◌then◌else◌, List, Result, Ok, Err, length}
 use Rattle.service_descriptions.specs.Script.{Scripted}
 use Rattle.service_descriptions.specs.declared.replay.lines.script.ScriptError.{ScriptError}
 use Rattle.service_descriptions.specs.declared.replay.lines.script.ScriptError.TheVariants as error
@@ -36,6 +36,7 @@ Answers script old answer new =
     × (fits : Bool) × Writes text old fits new
     × (answer ≡ record {
       status = code (end_status fits end);
+      verdict = code (end_status true end);
       line = bad_line end;
       length = end_length fits end (length text);
     })

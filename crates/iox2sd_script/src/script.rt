@@ -13,6 +13,8 @@ use std::alloc::Global;
 pub struct ScriptAnswer {
     /// The number of a [`Status`].
     pub status: u32,
+    /// The number of the [`Status`] that the call has with a longer buffer.
+    pub verdict: u32,
     /// The number of the bad line, from 1 on, or 0 where no line is bad.
     pub line: usize,
     /// How many bytes the reply lines have, also where they do not fit; 0 where memory was refused
@@ -69,6 +71,7 @@ pub extern "C" fn iox2sd_script_run_at(alloc: Global, script: &[u8], out: &mut [
     let fits = put(&text, out);
     ScriptAnswer {
         status: end_status(fits, &end).code(),
+        verdict: end_status(true, &end).code(),
         line: bad_line(&end),
         length: end_length(fits, &end, text.len()),
     }

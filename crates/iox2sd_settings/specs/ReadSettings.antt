@@ -45,11 +45,11 @@ field_status _ = status.UnknownStrategy
 
 -- the answer on an invalid field
 abbrev pub field_answer : Field → FieldAnswer
-field_answer f = record { status = code (field_status f); field = field_number f }
+field_answer f = record { status = code (field_status f); field = field_number f; cause = 0 }
 
 -- the answer of a status that speaks of no field
 abbrev pub no_field : Status → FieldAnswer
-no_field s = record { status = code s; field = 0 }
+no_field s = record { status = code s; field = 0; cause = 0 }
 
 -- the answer on a refusal
 abbrev pub refusal_answer : Refusal → FieldAnswer

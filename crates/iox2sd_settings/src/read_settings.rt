@@ -52,6 +52,8 @@ pub struct FieldAnswer {
     /// 5: `client_allocation_strategy`. 6: `server_allocation_strategy`. 7: `creation_timeout`.
     /// From 8 on: what is fixed of a service, as `iox2sd_values` numbers it.
     pub field: u32,
+    /// The number of the [`Status`] that says why a text is refused; 0 where no text is.
+    pub cause: u32,
 }
 
 impl Field {
@@ -88,6 +90,7 @@ impl Field {
         FieldAnswer {
             status: self.status().code(),
             field: self.number(),
+            cause: 0,
         }
     }
 }
@@ -99,6 +102,7 @@ pub fn no_field(status: Status) -> FieldAnswer
     FieldAnswer {
         status: status.code(),
         field: 0,
+        cause: 0,
     }
 }
 

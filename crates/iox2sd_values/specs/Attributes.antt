@@ -60,7 +60,7 @@ MakesSet pairs made at = ReadsSet pairs 0 made at
 abbrev pub TellsSet : List Attribute → PlaceAnswer → Type 0
 TellsSet pairs answer =
     (made : Result (List Pair) Status) × (at : ℕ) × MakesSet pairs made at
-    × (answer ≡ record { status = end_code made; at = at })
+    × (answer ≡ record { status = end_code made; cause = 0; at = at })
 
 -- the caller's pairs after sorting: the same in rising order, or as they were where they are no set
 abbrev pub Sorts : Result (List Pair) Status → List Attribute → List Attribute → Type 0
@@ -72,7 +72,7 @@ Sorts (Err fault) old new = new ≡ old
 abbrev pub SortsSet : List Attribute → PlaceAnswer → List Attribute → Type 0
 SortsSet old answer new =
     (made : Result (List Pair) Status) × (at : ℕ) × MakesSet old made at × Sorts made old new
-    × (answer ≡ record { status = end_code made; at = at })
+    × (answer ≡ record { status = end_code made; cause = 0; at = at })
 
 -- how many values the key has in the set
 abbrev pub counted_in : List Pair → Result (List ℕ) SemanticStringError → CountAnswer

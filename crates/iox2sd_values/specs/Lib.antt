@@ -13,6 +13,7 @@ pub mod Requirements
 pub mod Satisfies
 pub mod Settings
 pub mod Texts
+pub mod Causes
 -- Inner facts: which pair is wrong, and what a set lacks, as loops over the caller's arrays find it
 pub mod Faults
 pub mod Missing

@@ -9,11 +9,14 @@ ghost use Rattle.iox2_texts.specs.Pair.{Pair, pair_cmp};
 ghost use Rattle.iox2_texts.specs.Verify.{Requirements};
 ghost use Rattle.iox2sd_values.specs.Attributes.{TellsSet, SortsSet, CountsValues, TellsValue};
 ghost use Rattle.iox2sd_values.specs.Attributes.{pair_of, ReadsSet, WritesValue};
+ghost use Rattle.iox2sd_values.specs.Causes.{PlaceBut, CountBut, TextBut, SetCause, AskedCause};
+ghost use Rattle.iox2sd_values.specs.Causes.{RequiredCause};
 ghost use Rattle.iox2sd_values.specs.Faults.{ChecksPairs, set_fault, required_fault};
 ghost use Rattle.iox2sd_values.specs.Missing.{Has, has_pair, has_key, IsFirstLack, IsLeastAt};
 ghost use Rattle.iox2sd_values.specs.Requirements.{ComesFrom, Judges, RequiresKeys};
 ghost use Rattle.iox2sd_values.specs.Requirements.{VerifiesSet, text_of};
 
+use super::causes::{asked_cause, required_cause, set_cause};
 use super::texts::is_name;
 use iox2_texts::attribute::{
     AttributeKey, MAX_ATTRIBUTE_KEY_LENGTH, MAX_ATTRIBUTE_VALUE_LENGTH, MAX_ATTRIBUTES,
@@ -106,13 +109,8 @@ fn check_set(pairs: &[Attribute<'_>], at: &mut usize) -> Result<(), Status>
     }
 }
 
-/// Whether these pairs are a set: at most sixteen, each of legal texts, in any order and with
-/// repeats.
-///
-/// Reports the first pair of the first seventeen that is wrong, with its index: for a wrong key
-/// `BadKey`, for a right key and a wrong value `BadValue`, for the seventeenth `TooMany`.
-#[unsafe(no_mangle)]
-pub extern "C" fn iox2sd_attributes_check_at(pairs: &[Attribute<'_>]) -> PlaceAnswer
+/// Whether the pairs are a set, or the first that is wrong.
+fn tell_set(pairs: &[Attribute<'_>]) -> PlaceAnswer
     ensures { TellsSet pairs.now result }
 {
     let mut at = 0;
@@ -122,11 +120,25 @@ pub extern "C" fn iox2sd_attributes_check_at(pairs: &[Attribute<'_>]) -> PlaceAn
     }
 }
 
-/// Sorts the pairs of a set by the bytes of their keys, and then of their values.
+/// Whether these pairs are a set: at most sixteen, each of legal texts, in any order and with
+/// repeats.
 ///
-/// Refused as by `iox2sd_attributes_check`, and then the array stays as it was.
+/// Reports the first pair of the first seventeen that is wrong, with its index: for a wrong key
+/// `BadKey`, for a right key and a wrong value `BadValue`, for the seventeenth `TooMany`.
 #[unsafe(no_mangle)]
-pub extern "C" fn iox2sd_attributes_sort_at(pairs: &mut [Attribute<'_>]) -> PlaceAnswer
+pub extern "C" fn iox2sd_attributes_check_at(pairs: &[Attribute<'_>]) -> PlaceAnswer
+    ensures tells { PlaceBut (TellsSet pairs.now) result }
+    ensures cause { SetCause pairs.now result.at result.status result.cause }
+{
+    let told = tell_set(pairs);
+    PlaceAnswer {
+        cause: set_cause(told.status, pairs, told.at),
+        ..told
+    }
+}
+
+/// Sorts the pairs of a set, or tells the first that is wrong.
+fn sort_set(pairs: &mut [Attribute<'_>]) -> PlaceAnswer
     ensures { SortsSet pairs.old result pairs.new }
 {
     let mut at = 0;
@@ -136,6 +148,21 @@ pub extern "C" fn iox2sd_attributes_sort_at(pairs: &mut [Attribute<'_>]) -> Plac
             place(Status::Done, at)
         }
         Err(status) => place(status, at),
+    }
+}
+
+/// Sorts the pairs of a set by the bytes of their keys, and then of their values.
+///
+/// Refused as by `iox2sd_attributes_check`, and then the array stays as it was.
+#[unsafe(no_mangle)]
+pub extern "C" fn iox2sd_attributes_sort_at(pairs: &mut [Attribute<'_>]) -> PlaceAnswer
+    ensures tells { PlaceBut (λ told. SortsSet pairs.old told pairs.new) result }
+    ensures cause { SetCause pairs.new result.at result.status result.cause }
+{
+    let told = sort_set(pairs);
+    PlaceAnswer {
+        cause: set_cause(told.status, pairs, told.at),
+        ..told
     }
 }
 
@@ -183,12 +210,8 @@ fn write_value(pairs: &[Attribute<'_>], key: &[u8], index: usize, out: &mut [u8]
     }
 }
 
-/// How many values a key has in a set.
-///
-/// Refused are, in this order, pairs that `iox2sd_attributes_check` refuses, with its status, and a
-/// wrong key (`BadAskedKey`).
-#[unsafe(no_mangle)]
-pub extern "C" fn iox2sd_attributes_number_of_key_values_at(
+/// How many values the key has, or why it is not searched for.
+fn count_of(
     pairs: &[Attribute<'_>],
     key: &[u8],
 ) -> CountAnswer
@@ -204,13 +227,27 @@ pub extern "C" fn iox2sd_attributes_number_of_key_values_at(
     }
 }
 
-/// Writes the value at `index`, counted from 0, of the values that a key has in a set, by their
-/// bytes from the least.
+/// How many values a key has in a set.
 ///
-/// Refused are, in this order, pairs that `iox2sd_attributes_check` refuses, with its status, a
-/// wrong key (`BadAskedKey`), and an index that the key has no value for (`NoSuchValue`).
+/// Refused are, in this order, pairs that `iox2sd_attributes_check` refuses, with its status, and a
+/// wrong key (`BadAskedKey`).
 #[unsafe(no_mangle)]
-pub extern "C" fn iox2sd_attributes_key_value_at(
+pub extern "C" fn iox2sd_attributes_number_of_key_values_at(
+    pairs: &[Attribute<'_>],
+    key: &[u8],
+) -> CountAnswer
+    ensures tells { CountBut (CountsValues pairs.now key.now) result }
+    ensures cause { AskedCause pairs.now key.now result.status result.cause }
+{
+    let told = count_of(pairs, key);
+    CountAnswer {
+        cause: asked_cause(told.status, pairs, key),
+        ..told
+    }
+}
+
+/// Writes the value of the key at the index, or tells why there is none.
+fn write_of(
     pairs: &[Attribute<'_>],
     key: &[u8],
     index: usize,
@@ -225,6 +262,29 @@ pub extern "C" fn iox2sd_attributes_key_value_at(
             Err(_) => no_text(Status::BadAskedKey),
         },
         Err(status) => no_text(status),
+    }
+}
+
+/// Writes the value at `index`, counted from 0, of the values that a key has in a set, by their
+/// bytes from the least.
+///
+/// Refused are, in this order, pairs that `iox2sd_attributes_check` refuses, with its status, a
+/// wrong key (`BadAskedKey`), and an index that the key has no value for (`NoSuchValue`).
+#[unsafe(no_mangle)]
+pub extern "C" fn iox2sd_attributes_key_value_at(
+    pairs: &[Attribute<'_>],
+    key: &[u8],
+    index: usize,
+    out: &mut [u8],
+) -> TextAnswer
+    ensures tells { TextBut (λ told. TellsValue pairs.now key.now index out.old told out.new)
+        result }
+    ensures cause { AskedCause pairs.now key.now result.status result.cause }
+{
+    let told = write_of(pairs, key, index, out);
+    TextAnswer {
+        cause: asked_cause(told.status, pairs, key),
+        ..told
     }
 }
 
@@ -317,16 +377,8 @@ fn verify(set: &[Attribute<'_>], required: &[Attribute<'_>], keys: &[Key<'_>]) -
     }
 }
 
-/// Whether a set has each required pair, and for each required key some pair with it.
-///
-/// Refused are, in this order, pairs that `iox2sd_attributes_check` refuses, with its answer; the
-/// first invalid required pair, with its index: of an invalid key (`BadRequiredKey`), of a valid
-/// key and an invalid value (`BadRequiredValue`), or the seventeenth (`TooManyRequired`); the first
-/// invalid required key, with its index (`BadAskedKey`, or `TooManyRequired` of the seventeenth of
-/// pairs and keys together); the least required pair that the set lacks (`MissingPair`), and then
-/// the first required key that it lacks (`MissingKey`), with its first index.
-#[unsafe(no_mangle)]
-pub extern "C" fn iox2sd_attributes_verify_at(
+/// Whether the set has what is required, or the first reason why not.
+fn judge(
     pairs: &[Attribute<'_>],
     required: &[Attribute<'_>],
     keys: &[Key<'_>],
@@ -344,4 +396,29 @@ pub extern "C" fn iox2sd_attributes_verify_at(
         return place(status, at);
     }
     verify(pairs, required, keys)
+}
+
+/// Whether a set has each required pair, and for each required key some pair with it.
+///
+/// Refused are, in this order, pairs that `iox2sd_attributes_check` refuses, with its answer; the
+/// first invalid required pair, with its index: of an invalid key (`BadRequiredKey`), of a valid
+/// key and an invalid value (`BadRequiredValue`), or the seventeenth (`TooManyRequired`); the first
+/// invalid required key, with its index (`BadAskedKey`, or `TooManyRequired` of the seventeenth of
+/// pairs and keys together); the least required pair that the set lacks (`MissingPair`), and then
+/// the first required key that it lacks (`MissingKey`), with its first index.
+#[unsafe(no_mangle)]
+pub extern "C" fn iox2sd_attributes_verify_at(
+    pairs: &[Attribute<'_>],
+    required: &[Attribute<'_>],
+    keys: &[Key<'_>],
+) -> PlaceAnswer
+    ensures tells { PlaceBut (VerifiesSet pairs.now required.now keys.now) result }
+    ensures cause { RequiredCause pairs.now required.now keys.now result.at
+        result.status result.cause }
+{
+    let told = judge(pairs, required, keys);
+    PlaceAnswer {
+        cause: required_cause(told.status, pairs, required, keys, told.at),
+        ..told
+    }
 }

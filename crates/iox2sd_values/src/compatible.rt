@@ -126,8 +126,8 @@ fn judge(opener: &Details<'_>, service: &Details<'_>) -> PartAnswer
 /// (`GreaterAlignment`).
 #[unsafe(no_mangle)]
 pub extern "C" fn iox2sd_message_is_compatible_to_at(
-    opener: &[Details<'_>],
     service: &[Details<'_>],
+    opener: &[Details<'_>],
 ) -> PartAnswer
     ensures { TellsCompatible opener.now service.now result }
 {

@@ -10,6 +10,7 @@ ghost use Rattle.iox2_static.specs.declared.static_config.messaging_pattern.Mess
 ghost use Rattle.iox2sd_common.specs.Ids.{number_of};
 ghost use Rattle.iox2sd_settings.specs.ReadSettings.{ReadsPublishSubscribe, ReadsEvent};
 ghost use Rattle.iox2sd_settings.specs.ReadSettings.{ReadsRequestResponse, ReadsBlackboard};
+ghost use Rattle.iox2sd_values.specs.Causes.{FieldBut, NameCause};
 ghost use Rattle.iox2sd_values.specs.Descriptions.{told_description, ComparesPatterns};
 ghost use Rattle.iox2sd_values.specs.Descriptions.{publish_subscribe_config, event_config};
 ghost use Rattle.iox2sd_values.specs.Descriptions.{request_response_config, blackboard_config};
@@ -18,6 +19,7 @@ ghost use Rattle.iox2sd_values.specs.Descriptions.{MakesNamed, MakesOf, ReadsAs}
 ghost use Rattle.iox2sd_values.specs.Descriptions.{MakesPublishSubscribe, MakesEvent};
 ghost use Rattle.iox2sd_values.specs.Descriptions.{MakesRequestResponse, MakesBlackboard};
 
+use super::causes::name_cause;
 use super::names::any_service_name;
 use iox2_config::hash::{PatternKind, ServiceHash, ServiceHashError, Sha1Hasher};
 use iox2_static::static_config::messaging_pattern::MessagingPattern;
@@ -25,6 +27,7 @@ use iox2_static::static_config::{blackboard, event, publish_subscribe, request_r
 use iox2_texts::service_name::ServiceName;
 use iox2sd_common::answers::{FlagAnswer, zero_padded};
 use iox2sd_common::id::Id;
+use iox2sd_common::pattern::pattern_of;
 use iox2sd_common::status::Status;
 use iox2sd_settings::read_settings::{
     Field, FieldAnswer, Refusal, no_field, read_blackboard, read_event, read_publish_subscribe,
@@ -130,7 +133,7 @@ pub struct ServiceDescription {
     /// How many bytes the hash text has, from 1 to 64.
     pub hash_length: usize,
     /// The number of the pattern.
-    pub pattern: u32,
+    pub pattern: u64,
     /// What is fixed of a publish-subscribe service; all 0 for another pattern, as the next three
     /// are for others than theirs.
     pub publish_subscribe: PublishSubscribeConfig,
@@ -143,10 +146,10 @@ pub struct ServiceDescription {
 }
 
 /// The number of a pattern.
-fn kind_number(kind: PatternKind) -> u32
+fn kind_number(kind: PatternKind) -> u64
     ensures { result ≡ pattern_number kind }
 {
-    kind as u32
+    kind as u64
 }
 
 /// What is fixed of a publish-subscribe service, or zeros.
@@ -316,16 +319,8 @@ fn publish_subscribe_pattern(settings: &PublishSubscribeSettings) -> Result<Mess
     )))
 }
 
-/// Describes a publish-subscribe service. Its name may be one of the system's own where `internal`
-/// is true, and is one that a user gives where it is false.
-///
-/// Refused are, in this order, NULL (`Null`); a name that is not UTF-8 (`NotUtf8`); one that
-/// `iox2sd_service_name_check`, or `iox2sd_internal_service_name_check` where `internal` is true,
-/// refuses (`BadServiceName`); settings that `iox2sd_publish_subscribe_settings_check_at` refuses,
-/// for the same cause and field; and a hash text that cannot be the name of a file
-/// (`IllegalHash`). Then the struct is as it was.
-#[unsafe(no_mangle)]
-pub extern "C" fn iox2sd_describe_publish_subscribe_at(
+/// Describes the service, or tells why not.
+fn describe_publish_subscribe(
     settings: &[PublishSubscribeSettings],
     name: &[u8],
     internal: bool,
@@ -342,6 +337,33 @@ pub extern "C" fn iox2sd_describe_publish_subscribe_at(
     fill(describe(name, publish_subscribe_pattern(settings), id), out)
 }
 
+/// Describes a publish-subscribe service. Its name may be one of the system's own where `internal`
+/// is true, and is one that a user gives where it is false.
+///
+/// Refused are, in this order, NULL (`Null`); a name that is not UTF-8 (`NotUtf8`); one that
+/// `iox2sd_service_name_check`, or `iox2sd_internal_service_name_check` where `internal` is true,
+/// refuses (`BadServiceName`); settings that `iox2sd_publish_subscribe_settings_check_at` refuses,
+/// for the same cause and field; and a hash text that cannot be the name of a file
+/// (`IllegalHash`). Then the struct is as it was.
+#[unsafe(no_mangle)]
+pub extern "C" fn iox2sd_describe_publish_subscribe_at(
+    settings: &[PublishSubscribeSettings],
+    name: &[u8],
+    internal: bool,
+    id: Id,
+    out: &mut [ServiceDescription],
+) -> FieldAnswer
+    ensures tells { FieldBut (λ told. FillsNamed MakesPublishSubscribe settings.now internal name.now
+        id out.old told out.new) result }
+    ensures cause { NameCause internal name.now result.status result.cause }
+{
+    let told = describe_publish_subscribe(settings, name, internal, id, out);
+    FieldAnswer {
+        cause: name_cause(told.status, name, internal),
+        ..told
+    }
+}
+
 /// The pattern of an event service with these settings, or the first invalid field.
 fn event_pattern(settings: &EventSettings) -> Result<MessagingPattern, Field>
     ensures { ReadsAs (ReadsEvent settings.now)
@@ -351,10 +373,8 @@ fn event_pattern(settings: &EventSettings) -> Result<MessagingPattern, Field>
     Ok(MessagingPattern::Event(event::StaticConfig::with_settings(&settings)))
 }
 
-/// Describes an event service. Names are read, and calls refused, as of a publish-subscribe
-/// service.
-#[unsafe(no_mangle)]
-pub extern "C" fn iox2sd_describe_event_at(
+/// Describes the service, or tells why not.
+fn describe_event(
     settings: &[EventSettings],
     name: &[u8],
     internal: bool,
@@ -371,6 +391,27 @@ pub extern "C" fn iox2sd_describe_event_at(
     fill(describe(name, event_pattern(settings), id), out)
 }
 
+/// Describes an event service. Names are read, and calls refused, as of a publish-subscribe
+/// service.
+#[unsafe(no_mangle)]
+pub extern "C" fn iox2sd_describe_event_at(
+    settings: &[EventSettings],
+    name: &[u8],
+    internal: bool,
+    id: Id,
+    out: &mut [ServiceDescription],
+) -> FieldAnswer
+    ensures tells { FieldBut (λ told. FillsNamed MakesEvent settings.now internal name.now
+        id out.old told out.new) result }
+    ensures cause { NameCause internal name.now result.status result.cause }
+{
+    let told = describe_event(settings, name, internal, id, out);
+    FieldAnswer {
+        cause: name_cause(told.status, name, internal),
+        ..told
+    }
+}
+
 /// The pattern of a request-response service with these settings, or the first invalid field.
 fn request_response_pattern(settings: &RequestResponseSettings) -> Result<MessagingPattern, Field>
     ensures { ReadsAs (ReadsRequestResponse settings.now)
@@ -380,10 +421,8 @@ fn request_response_pattern(settings: &RequestResponseSettings) -> Result<Messag
     Ok(MessagingPattern::RequestResponse(request_response::StaticConfig::with_settings(&settings)))
 }
 
-/// Describes a request-response service. Names are read, and calls refused, as of a
-/// publish-subscribe service.
-#[unsafe(no_mangle)]
-pub extern "C" fn iox2sd_describe_request_response_at(
+/// Describes the service, or tells why not.
+fn describe_request_response(
     settings: &[RequestResponseSettings],
     name: &[u8],
     internal: bool,
@@ -400,6 +439,27 @@ pub extern "C" fn iox2sd_describe_request_response_at(
     fill(describe(name, request_response_pattern(settings), id), out)
 }
 
+/// Describes a request-response service. Names are read, and calls refused, as of a
+/// publish-subscribe service.
+#[unsafe(no_mangle)]
+pub extern "C" fn iox2sd_describe_request_response_at(
+    settings: &[RequestResponseSettings],
+    name: &[u8],
+    internal: bool,
+    id: Id,
+    out: &mut [ServiceDescription],
+) -> FieldAnswer
+    ensures tells { FieldBut (λ told. FillsNamed MakesRequestResponse settings.now internal name.now
+        id out.old told out.new) result }
+    ensures cause { NameCause internal name.now result.status result.cause }
+{
+    let told = describe_request_response(settings, name, internal, id, out);
+    FieldAnswer {
+        cause: name_cause(told.status, name, internal),
+        ..told
+    }
+}
+
 /// The pattern of a blackboard service with these settings, which are always valid.
 fn blackboard_pattern(settings: &BlackboardSettings) -> Result<MessagingPattern, Field>
     ensures { ReadsAs (ReadsBlackboard settings.now)
@@ -409,10 +469,8 @@ fn blackboard_pattern(settings: &BlackboardSettings) -> Result<MessagingPattern,
     Ok(MessagingPattern::Blackboard(blackboard::StaticConfig::with_settings(&settings)))
 }
 
-/// Describes a blackboard service. Names are read, and calls refused, as of a publish-subscribe
-/// service, but for the settings, which are always valid.
-#[unsafe(no_mangle)]
-pub extern "C" fn iox2sd_describe_blackboard_at(
+/// Describes the service, or tells why not.
+fn describe_blackboard(
     settings: &[BlackboardSettings],
     name: &[u8],
     internal: bool,
@@ -429,13 +487,34 @@ pub extern "C" fn iox2sd_describe_blackboard_at(
     fill(describe(name, blackboard_pattern(settings), id), out)
 }
 
+/// Describes a blackboard service. Names are read, and calls refused, as of a publish-subscribe
+/// service, but for the settings, which are always valid.
+#[unsafe(no_mangle)]
+pub extern "C" fn iox2sd_describe_blackboard_at(
+    settings: &[BlackboardSettings],
+    name: &[u8],
+    internal: bool,
+    id: Id,
+    out: &mut [ServiceDescription],
+) -> FieldAnswer
+    ensures tells { FieldBut (λ told. FillsNamed MakesBlackboard settings.now internal name.now
+        id out.old told out.new) result }
+    ensures cause { NameCause internal name.now result.status result.cause }
+{
+    let told = describe_blackboard(settings, name, internal, id, out);
+    FieldAnswer {
+        cause: name_cause(told.status, name, internal),
+        ..told
+    }
+}
+
 /// Whether two numbers are those of one pattern. Refused is a number that is not that of a pattern
 /// (`UnknownPattern`).
 #[unsafe(no_mangle)]
-pub extern "C" fn iox2sd_has_same_messaging_pattern(left: u32, right: u32) -> FlagAnswer
+pub extern "C" fn iox2sd_has_same_messaging_pattern(left: u64, right: u64) -> FlagAnswer
     ensures { ComparesPatterns left right result }
 {
-    match (PatternKind::of_number(left), PatternKind::of_number(right)) {
+    match (pattern_of(left), pattern_of(right)) {
         (Some(left), Some(right)) => FlagAnswer::of(Ok(left == right)),
         _ => FlagAnswer::of(Err(Status::UnknownPattern)),
     }

@@ -2,8 +2,10 @@
 ghost use Rattle.std.specs.Prelude.{◌≡◌};
 ghost use Rattle.iox2_config.specs.Defaults.{default_service, default_node};
 ghost use Rattle.iox2sd_common.specs.Answers.{Written};
+ghost use Rattle.iox2sd_values.specs.Causes.{TextBut, RootCause};
 ghost use Rattle.iox2sd_values.specs.Files.{named, ReadsNamed, TellsNamed, JoinsBelow, TellsBelow};
 
+use super::causes::root_cause;
 use iox2_config::config::{Config, Node, Service};
 use iox2_texts::paths::Path;
 use iox2sd_common::answers::{TextAnswer, no_text, write};
@@ -154,26 +156,47 @@ fn below(root: &[u8], directory: &Path) -> Result<Path, Status>
     }
 }
 
-/// Writes the directory of services below a root path.
-///
-/// Refused are, in this order, a wrong root path (`BadPath`), and more than 255 bytes (`TooLong`).
-#[unsafe(no_mangle)]
-pub extern "C" fn iox2sd_service_dir_at(root: &[u8], out: &mut [u8]) -> TextAnswer
-    ensures { TellsBelow root.now default_service.directory out.old result out.new }
+/// Writes a directory below a root path, or says why there is none.
+fn tell_below(root: &[u8], directory: &Path, out: &mut [u8]) -> TextAnswer
+    ensures { TellsBelow root.now directory.now out.old result out.new }
 {
-    match below(root, &Service::default().directory) {
+    match below(root, directory) {
         Ok(directory) => write(directory.as_bytes(), out),
         Err(status) => no_text(status),
     }
 }
 
+/// Writes a directory below a root path, or says why there is none and for what cause.
+fn write_below(root: &[u8], directory: &Path, out: &mut [u8]) -> TextAnswer
+    ensures tells { TextBut (λ told. TellsBelow root.now directory.now out.old told out.new)
+        result }
+    ensures cause { RootCause root.now result.status result.cause }
+{
+    let told = tell_below(root, directory, out);
+    TextAnswer {
+        cause: root_cause(told.status, root),
+        ..told
+    }
+}
+
+/// Writes the directory of services below a root path.
+///
+/// Refused are, in this order, a wrong root path (`BadPath`), and more than 255 bytes (`TooLong`).
+#[unsafe(no_mangle)]
+pub extern "C" fn iox2sd_service_dir_at(root: &[u8], out: &mut [u8]) -> TextAnswer
+    ensures tells { TextBut
+        (λ told. TellsBelow root.now default_service.directory out.old told out.new) result }
+    ensures cause { RootCause root.now result.status result.cause }
+{
+    write_below(root, &Service::default().directory, out)
+}
+
 /// Writes the directory of nodes below a root path. Refused as that of services is.
 #[unsafe(no_mangle)]
 pub extern "C" fn iox2sd_node_dir_at(root: &[u8], out: &mut [u8]) -> TextAnswer
-    ensures { TellsBelow root.now default_node.directory out.old result out.new }
+    ensures tells { TextBut
+        (λ told. TellsBelow root.now default_node.directory out.old told out.new) result }
+    ensures cause { RootCause root.now result.status result.cause }
 {
-    match below(root, &Node::default().directory) {
-        Ok(directory) => write(directory.as_bytes(), out),
-        Err(status) => no_text(status),
-    }
+    write_below(root, &Node::default().directory, out)
 }

@@ -2,6 +2,7 @@
 #![tactic(auto)]
 
 pub mod attributes;
+mod causes;
 pub mod capacities;
 pub mod chunks;
 pub mod compatible;

@@ -1,14 +1,17 @@
 //! The names of services, and their hash texts.
-ghost use Rattle.std.specs.Prelude.{◌≡◌, nat_eq};
+ghost use Rattle.std.specs.Prelude.{◌≡◌, nat_eq, false, true};
 ghost use Rattle.std.specs.List.{starts_with};
 ghost use Rattle.iox2sd_values.specs.Names.{ReadsName, ReadsInternalName, Prefixes, TellsPrefixed};
 ghost use Rattle.iox2sd_values.specs.Names.{ReadsAnyName, HashesName, HashesInternalName, MakesText};
 ghost use Rattle.iox2sd_values.specs.Names.{TellsHash, TellsInternalHash};
+ghost use Rattle.iox2sd_values.specs.Causes.{TextBut, NameCause};
 ghost use lib.Chars.{codes};
 
+use super::causes::name_cause;
 use iox2_config::hash::{PatternKind, ServiceHash, ServiceHashError, Sha1Hasher};
 use iox2_texts::service_name::{INTERNAL_SERVICE_PREFIX, ServiceName, ServiceNameError};
 use iox2sd_common::answers::{TextAnswer, no_text, write};
+use iox2sd_common::pattern::pattern_of;
 use iox2sd_common::status::Status;
 use std::str;
 
@@ -97,32 +100,27 @@ fn hash_text(kind: PatternKind, name: &ServiceName) -> Result<ServiceHash, Statu
 }
 
 /// The hash text of a pattern's number and a user's name.
-fn hash_of(pattern: u32, name: &[u8]) -> Result<ServiceHash, Status>
+fn hash_of(pattern: u64, name: &[u8]) -> Result<ServiceHash, Status>
     ensures { HashesName pattern name.now result }
 {
-    let Some(kind) = PatternKind::of_number(pattern) else {
+    let Some(kind) = pattern_of(pattern) else {
         return Err(Status::UnknownPattern);
     };
     hash_text(kind, &service_name(name)?)
 }
 
 /// The hash text of a pattern's number and any name.
-fn internal_hash_of(pattern: u32, name: &[u8]) -> Result<ServiceHash, Status>
+fn internal_hash_of(pattern: u64, name: &[u8]) -> Result<ServiceHash, Status>
     ensures { HashesInternalName pattern name.now result }
 {
-    let Some(kind) = PatternKind::of_number(pattern) else {
+    let Some(kind) = pattern_of(pattern) else {
         return Err(Status::UnknownPattern);
     };
     hash_text(kind, &internal_service_name(name)?)
 }
 
-/// Writes the hash text of a service's pattern and name, by SHA-1: 27 bytes.
-///
-/// Refused are, in this order, a number that is not that of a pattern (`UnknownPattern`), bytes
-/// that are no UTF-8 (`NotUtf8`), what `iox2sd_service_name_check` refuses (`BadServiceName`), and
-/// a hash text that cannot be the name of a file (`IllegalHash`).
-#[unsafe(no_mangle)]
-pub extern "C" fn iox2sd_hash_text_at(pattern: u32, name: &[u8], out: &mut [u8]) -> TextAnswer
+/// Writes the hash text, or says why there is none.
+fn tell_hash(pattern: u64, name: &[u8], out: &mut [u8]) -> TextAnswer
     ensures { TellsHash pattern name.now out.old result out.new }
 {
     match hash_of(pattern, name) {
@@ -131,17 +129,47 @@ pub extern "C" fn iox2sd_hash_text_at(pattern: u32, name: &[u8], out: &mut [u8])
     }
 }
 
-/// As `iox2sd_hash_text`, for a name that may be one of the system's own.
+/// Writes the hash text of a service's pattern and name, by SHA-1: 27 bytes.
+///
+/// Refused are, in this order, a number that is not that of a pattern (`UnknownPattern`), bytes
+/// that are no UTF-8 (`NotUtf8`), what `iox2sd_service_name_check` refuses (`BadServiceName`), and
+/// a hash text that cannot be the name of a file (`IllegalHash`).
 #[unsafe(no_mangle)]
-pub extern "C" fn iox2sd_internal_hash_text_at(
-    pattern: u32,
-    name: &[u8],
-    out: &mut [u8],
-) -> TextAnswer
+pub extern "C" fn iox2sd_hash_text_at(pattern: u64, name: &[u8], out: &mut [u8]) -> TextAnswer
+    ensures tells { TextBut (λ told. TellsHash pattern name.now out.old told out.new) result }
+    ensures cause { NameCause false name.now result.status result.cause }
+{
+    let told = tell_hash(pattern, name, out);
+    TextAnswer {
+        cause: name_cause(told.status, name, false),
+        ..told
+    }
+}
+
+/// Writes the hash text of any name, or says why there is none.
+fn tell_internal_hash(pattern: u64, name: &[u8], out: &mut [u8]) -> TextAnswer
     ensures { TellsInternalHash pattern name.now out.old result out.new }
 {
     match internal_hash_of(pattern, name) {
         Ok(hash) => write(hash.as_str().as_bytes(), out),
         Err(status) => no_text(status),
+    }
+}
+
+/// As `iox2sd_hash_text`, for a name that may be one of the system's own.
+#[unsafe(no_mangle)]
+pub extern "C" fn iox2sd_internal_hash_text_at(
+    pattern: u64,
+    name: &[u8],
+    out: &mut [u8],
+) -> TextAnswer
+    ensures tells { TextBut (λ told. TellsInternalHash pattern name.now out.old told out.new)
+        result }
+    ensures cause { NameCause true name.now result.status result.cause }
+{
+    let told = tell_internal_hash(pattern, name, out);
+    TextAnswer {
+        cause: name_cause(told.status, name, true),
+        ..told
     }
 }

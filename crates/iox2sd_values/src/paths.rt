@@ -1,6 +1,9 @@
 //! Paths that are joined.
+ghost use Rattle.std.specs.Prelude.{◌≡◌};
+ghost use Rattle.iox2sd_values.specs.Causes.{TextBut, JoinCause, ChecksPath, ChecksFileName};
 ghost use Rattle.iox2sd_values.specs.Paths.{JoinsPaths, JoinsFile, TellsPath, TellsFile};
 
+use super::causes::{entry_cause, file_cause};
 use iox2_texts::paths::{FileName, FilePath, Path};
 use iox2sd_common::answers::{TextAnswer, no_text, write};
 use iox2sd_common::status::Status;
@@ -38,6 +41,26 @@ fn join_file(path: &[u8], file: &[u8]) -> Result<FilePath, Status>
     }
 }
 
+/// Writes the joined path, or says why there is none.
+fn tell_path(path: &[u8], entry: &[u8], out: &mut [u8]) -> TextAnswer
+    ensures { TellsPath path.now entry.now out.old result out.new }
+{
+    match join_paths(path, entry) {
+        Ok(joined) => write(joined.as_bytes(), out),
+        Err(status) => no_text(status),
+    }
+}
+
+/// Writes the path of the file, or says why there is none.
+fn tell_file(path: &[u8], file: &[u8], out: &mut [u8]) -> TextAnswer
+    ensures { TellsFile path.now file.now out.old result out.new }
+{
+    match join_file(path, file) {
+        Ok(joined) => write(joined.as_bytes(), out),
+        Err(status) => no_text(status),
+    }
+}
+
 /// Writes an entry joined to a path, with one `/` between them unless the path is empty or ends in
 /// `/`.
 ///
@@ -49,11 +72,13 @@ pub extern "C" fn iox2sd_path_add_path_entry_at(
     entry: &[u8],
     out: &mut [u8],
 ) -> TextAnswer
-    ensures { TellsPath path.now entry.now out.old result out.new }
+    ensures tells { TextBut (λ told. TellsPath path.now entry.now out.old told out.new) result }
+    ensures cause { JoinCause (ChecksPath entry.now) path.now result.status result.cause }
 {
-    match join_paths(path, entry) {
-        Ok(joined) => write(joined.as_bytes(), out),
-        Err(status) => no_text(status),
+    let told = tell_path(path, entry, out);
+    TextAnswer {
+        cause: entry_cause(told.status, path, entry),
+        ..told
     }
 }
 
@@ -68,10 +93,12 @@ pub extern "C" fn iox2sd_file_path_from_path_and_file_at(
     file: &[u8],
     out: &mut [u8],
 ) -> TextAnswer
-    ensures { TellsFile path.now file.now out.old result out.new }
+    ensures tells { TextBut (λ told. TellsFile path.now file.now out.old told out.new) result }
+    ensures cause { JoinCause (ChecksFileName file.now) path.now result.status result.cause }
 {
-    match join_file(path, file) {
-        Ok(joined) => write(joined.as_bytes(), out),
-        Err(status) => no_text(status),
+    let told = tell_file(path, file, out);
+    TextAnswer {
+        cause: file_cause(told.status, path, file),
+        ..told
     }
 }

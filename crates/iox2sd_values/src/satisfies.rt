@@ -58,6 +58,7 @@ fn satisfied(unmet: Option<Setting>) -> FieldAnswer
         Some(first) => FieldAnswer {
             status: Status::Unmet.code(),
             field: setting_number(first),
+            cause: 0,
         },
     }
 }

@@ -448,11 +448,16 @@ impl DynamicConfig {
             for port in ports {
                 let id = PortDetails::of(port).port_id();
                 if callback(id) == PortCleanupAction::SkipPort {
-                    kept.push(port.port);
+                    kept.push(sys::iox2sd_port_id {
+                        role: port.role,
+                        port: port.port,
+                    });
                 }
             }
         });
-        kept.sort_unstable_by(|id, other| order(*id, *other));
+        kept.sort_unstable_by(|one, other| {
+            order(one.port, other.port).then(one.role.cmp(&other.role))
+        });
         match self.service_mut().dead(dead.parts, &kept) {
             Ok(locked) => DeregisterNodeState::of(locked),
             Err(other) => library::unexpected(other),

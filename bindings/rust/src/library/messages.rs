@@ -48,7 +48,7 @@ pub(crate) fn compatible(
 ) -> sys::iox2sd_part_answer {
     let (opener, service) = (parts(opener), parts(service));
     // SAFETY: as above, twice.
-    unsafe { sys::iox2sd_message_is_compatible_to_at(&opener, 1, &service, 1) }
+    unsafe { sys::iox2sd_message_is_compatible_to_at(&service, 1, &opener, 1) }
 }
 
 /// What is wrong of a type.

@@ -99,7 +99,7 @@ impl Service {
     pub(crate) fn dead(
         &mut self,
         dead: sys::iox2sd_id,
-        kept: &[sys::iox2sd_id],
+        kept: &[sys::iox2sd_port_id],
     ) -> Result<bool, u32> {
         locked(
             change!(

@@ -4,23 +4,40 @@ ghost use Rattle.iox2_dynamic.specs.Steps.{DeadStep};
 ghost use Rattle.iox2sd.specs.Answers.{death_answer};
 ghost use Rattle.iox2sd.specs.Counts.{counted};
 ghost use Rattle.iox2sd.specs.Deaths.{action_for, Keeps, Dies, Went};
+ghost use Rattle.iox2sd.specs.Kept.{port_role};
 ghost use Rattle.iox2sd.specs.Places.{IsSoundPlace, At, Nothing};
 ghost use Rattle.iox2sd.specs.declared.values.Death.TheVariants as death;
 
 use super::Service;
-use super::kept::Kept;
+use super::kept::{Kept, are_ports};
 use super::roles::Counts;
-use crate::values::{Death, DeathAnswer};
+use crate::values::{Death, DeathAnswer, PortId};
 use iox2_dynamic::dynamic_config::{DeregisterNodeState, DynamicConfig, PortCleanupAction};
 use iox2_ids::identifiers::{UniqueNodeId, UniquePortId};
 use iox2sd_common::id::Id;
 use iox2sd_common::status::Status;
 
-/// The answer on a port, where ports of these ids stay.
+/// The number of the role of a port's id.
+fn port_role(port: &UniquePortId) -> u64
+    ensures { result ≡ port_role port.now }
+{
+    match port {
+        UniquePortId::Publisher(_) => 1,
+        UniquePortId::Subscriber(_) => 2,
+        UniquePortId::Notifier(_) => 3,
+        UniquePortId::Listener(_) => 4,
+        UniquePortId::Client(_) => 5,
+        UniquePortId::Server(_) => 6,
+        UniquePortId::Reader(_) => 7,
+        UniquePortId::Writer(_) => 8,
+    }
+}
+
+/// The answer on a port, where these ports stay.
 fn answer(kept: &Kept<'_>, port: &UniquePortId) -> PortCleanupAction
     ensures { result ≡ action_for kept.now port.now }
 {
-    if kept.has(port.value()) {
+    if kept.has(port_role(port), port.value()) {
         PortCleanupAction::SkipPort
     } else {
         PortCleanupAction::RemovePort
@@ -28,7 +45,7 @@ fn answer(kept: &Kept<'_>, port: &UniquePortId) -> PortCleanupAction
 }
 
 /// Removes a dead node, and those of its ports that are not kept.
-fn clean_up(service: &mut DynamicConfig, dead: &UniqueNodeId, kept: &[Id]) -> DeregisterNodeState
+fn clean_up(service: &mut DynamicConfig, dead: &UniqueNodeId, kept: &[PortId]) -> DeregisterNodeState
     ensures { DeadStep (Keeps kept.now) service.old tt dead.now result service.new tt }
 {
     let kept = &Kept::of(kept);
@@ -43,7 +60,7 @@ fn clean_up(service: &mut DynamicConfig, dead: &UniqueNodeId, kept: &[Id]) -> De
 fn count_gone(
     service: &mut DynamicConfig,
     dead: &UniqueNodeId,
-    kept: &[Id],
+    kept: &[PortId],
 ) -> (DeregisterNodeState, Counts)
     ensures step { DeadStep (Keeps kept.now) service.old tt dead.now result.0 service.new tt }
     ensures went { Went (counted service.old) result.1 (counted service.new) }
@@ -59,12 +76,15 @@ fn count_gone(
 }
 
 /// Removes a dead node of these parts, and those of its ports that are not kept.
-fn die(service: &mut DynamicConfig, dead: Id, kept: &[Id]) -> Death
+fn die(service: &mut DynamicConfig, dead: Id, kept: &[PortId]) -> Death
     ensures { Dies dead kept.now service.old result service.new }
 {
     let Some(dead) = dead.of_node() else {
         return Death::Refused(Status::NoNode);
     };
+    if !are_ports(kept) {
+        return Death::Refused(Status::UnknownRole);
+    }
     let (state, gone) = count_gone(service, &dead, kept);
     match state {
         DeregisterNodeState::HasOwners => Death::Open(gone),
@@ -72,17 +92,18 @@ fn die(service: &mut DynamicConfig, dead: Id, kept: &[Id]) -> Death
     }
 }
 
-/// Removes those ports of a dead node whose ids are not among `kept`, and returns how many it
-/// removed. Where none of its ports is left, the node is removed too, with all its handles; if it
+/// Removes those ports of a dead node that are not among `kept`, by their kinds and their ids, and
+/// returns how many it removed. Where none of its ports is left, the node is removed too, with all its handles; if it
 /// was the last one, the service is locked for good. The status reports a locked service also where
 /// it was locked before.
 ///
-/// Errors, in this order: NULL, an object without a service, an id of no node.
+/// Errors, in this order: NULL, an object without a service, an id of no node, a role of `kept` that
+/// is not that of a port.
 #[unsafe(no_mangle)]
 pub extern "C" fn iox2sd_remove_dead_node_id_at(
     places: &mut [Service],
     dead: Id,
-    kept: &[Id],
+    kept: &[PortId],
 ) -> DeathAnswer
     requires { All IsSoundPlace places.old }
     ensures { At death_answer death.Refused Nothing (Dies dead kept.now)

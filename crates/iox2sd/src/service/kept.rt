@@ -1,73 +1,102 @@
-//! The ids of the ports that stay.
-ghost use Rattle.std.specs.Prelude.{◌≡◌, IsTrue};
-ghost use Rattle.std.specs.List.Sorted.{IsNonDecreasingBy};
-ghost use Rattle.iox2sd.specs.Deaths.{is_kept};
-ghost use Rattle.iox2sd_common.specs.Ids.{number_of};
+//! The ports that stay.
+ghost use Rattle.std.specs.Prelude.{◌≡◌, ◌↔◌, All, IsTrue};
+ghost use Rattle.iox2sd.specs.Kept.{IsPort, is_kept, order_at, is_at_most, AreSorted};
 
-use iox2sd_common::id::Id;
+use crate::values::PortId;
+use std::cmp::Ordering;
 use std::marker::Model;
 
-/// Ids, of which it is known whether they are sorted by their numbers.
+/// The ids of ports, of which it is known whether they are sorted by their numbers and then by roles.
 #[derive(Drop)]
 pub(super) struct Kept<'a> {
-    ids: &'a [Id],
+    ports: &'a [PortId],
     is_sorted: bool,
 }
 
 impl<'a> Model for Kept<'a> {
     ghost use Rattle.std.specs.Prelude.{List, IsTrue};
-    ghost use Rattle.std.specs.List.Sorted.{IsNonDecreasingBy};
-    ghost use Rattle.iox2sd_common.specs.Ids.{number_of};
-    ghost use Rattle.iox2sd_common.specs.declared.id.Id.{Id};
+    ghost use Rattle.iox2sd.specs.Kept.{AreSorted};
+    ghost use Rattle.iox2sd.specs.declared.values.PortId.{PortId};
 
-    ghost Value = { List Id };
+    ghost Value = { List PortId };
 
-    ghost view = { λ kept. kept.ids.now };
+    ghost view = { λ kept. kept.ports.now };
 
-    ghost invariant = { λ kept. IsTrue kept.is_sorted → IsNonDecreasingBy number_of kept.ids.now };
+    ghost invariant = { λ kept. IsTrue kept.is_sorted → AreSorted kept.ports.now };
 }
 
-/// Whether the ids are sorted by their numbers.
-fn are_sorted(ids: &[Id]) -> bool
-    ensures { IsTrue result → IsNonDecreasingBy number_of ids.now }
+/// Whether each role is that of a port.
+pub(super) fn are_ports(ports: &[PortId]) -> bool
+    ensures { IsTrue result ↔ All IsPort ports.now }
 {
-    ids.is_sorted_by_key(|id| id.number())
+    ports.iter().all(|port| 1 <= port.role && port.role <= 8)
 }
 
-/// Whether the number is that of one of these ids, which are sorted: it is looked up by halves.
-fn is_among_sorted(ids: &[Id], value: u128) -> bool
-    requires { IsNonDecreasingBy number_of ids.now }
-    ensures { result ≡ is_kept ids.now value }
-{
-    ids.binary_search_by_key(&value, |id| id.number()).is_ok()
-}
-
-/// Whether the number is that of one of these ids.
-fn is_among(ids: &[Id], value: u128) -> bool
-    ensures { result ≡ is_kept ids.now value }
-{
-    ids.iter().any(|id| id.number() == value)
-}
-
-impl Kept<'_> {
-    /// These ids. Whether they are sorted is looked at once.
-    pub(super) fn of(ids: &[Id]) -> Kept<'_>
-        ensures { result ≡ ids.now }
+impl PortId {
+    /// How the port stands to that of this role with this number: numbers are compared first.
+    fn order(&self, role: u64, value: u128) -> Ordering
+        ensures { result ≡ order_at self.now role value }
     {
-        Kept {
-            ids,
-            is_sorted: are_sorted(ids),
+        let number = self.port.number();
+        if number == value {
+            self.role.cmp(&role)
+        } else {
+            number.cmp(&value)
         }
     }
 
-    /// Whether the number is that of one of the ids.
-    pub(super) fn has(&self, value: u128) -> bool
-        ensures { result ≡ is_kept self.now value }
+    /// Whether the port stands before the other, or is the same.
+    fn is_at_most(&self, other: &PortId) -> bool
+        ensures { result ≡ is_at_most self.now other.now }
+    {
+        self.order(other.role, other.port.number()).is_le()
+    }
+}
+
+/// Whether the ports are sorted.
+fn are_sorted(ports: &[PortId]) -> bool
+    ensures { IsTrue result → AreSorted ports.now }
+{
+    ports.is_sorted_by(|one, other| one.is_at_most(other))
+}
+
+/// Whether a port of this role with this number is one of these, which are sorted: it is looked up
+/// by halves.
+fn is_among_sorted(ports: &[PortId], role: u64, value: u128) -> bool
+    requires { AreSorted ports.now }
+    ensures { result ≡ is_kept ports.now role value }
+{
+    ports.binary_search_by(|port| port.order(role, value)).is_ok()
+}
+
+/// Whether a port of this role with this number is one of these.
+fn is_among(ports: &[PortId], role: u64, value: u128) -> bool
+    ensures { result ≡ is_kept ports.now role value }
+{
+    ports
+        .iter()
+        .any(|port| port.role == role && port.port.number() == value)
+}
+
+impl Kept<'_> {
+    /// These ports. Whether they are sorted is looked at once.
+    pub(super) fn of(ports: &[PortId]) -> Kept<'_>
+        ensures { result ≡ ports.now }
+    {
+        Kept {
+            ports,
+            is_sorted: are_sorted(ports),
+        }
+    }
+
+    /// Whether a port of this role with this number is one of them.
+    pub(super) fn has(&self, role: u64, value: u128) -> bool
+        ensures { result ≡ is_kept self.now role value }
     {
         if self.is_sorted {
-            is_among_sorted(self.ids, value)
+            is_among_sorted(self.ports, role, value)
         } else {
-            is_among(self.ids, value)
+            is_among(self.ports, role, value)
         }
     }
 }

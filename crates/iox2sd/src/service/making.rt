@@ -4,8 +4,8 @@ ghost use Rattle.iox2sd.specs.Places.{IsSoundPlace, held};
 ghost use Rattle.iox2sd.specs.Services.{MakesAt, FreesAt, Makes};
 
 use super::Service;
-use iox2_config::hash::PatternKind;
 use iox2_dynamic::dynamic_config::{DynamicConfig, MessagingPatternSettings};
+use iox2sd_common::pattern::pattern_of;
 use iox2sd_common::status::Status;
 use std::alloc::Global;
 
@@ -25,7 +25,7 @@ pub struct Capacities {
 fn make(
     alloc: Global,
     place: &mut Service,
-    pattern: u32,
+    pattern: u64,
     number: u64,
     capacities: Capacities,
     tickets: u64,
@@ -39,7 +39,7 @@ fn make(
         place.put(held);
         return Status::HasService.code();
     }
-    let Some(kind) = PatternKind::of_number(pattern) else {
+    let Some(kind) = pattern_of(pattern) else {
         return Status::UnknownPattern.code();
     };
     let settings = MessagingPatternSettings::new(kind, capacities.first, capacities.second);
@@ -63,7 +63,7 @@ fn make(
 pub extern "C" fn iox2sd_service_create_at(
     alloc: Global,
     places: &mut [Service],
-    pattern: u32,
+    pattern: u64,
     number: u64,
     capacities: Capacities,
     tickets: u64,

@@ -6,6 +6,7 @@ returns-in-Ok c =
     let read = c.in-Ok in
     inl (
       read.ensures.utf8,
+      read.ensures.shallow,
       read.settings,
       read.ensures.ok,
       rw c.as_slice.ensures.value at c.put_keys.ensures,

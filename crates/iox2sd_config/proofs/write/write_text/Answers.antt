@@ -13,10 +13,11 @@ returns-after-fits c =
     elim c.if-fits.branch [ then-fits w ↦ search rules | else-fits w ↦ search rules ] in (
       Ok c.in-Ok.text,
       c.in-Ok.ensures.written,
+      c.in-Ok.ensures.reads_back,
       (c.put-fits.result, rw c.as_bytes.ensures.value at c.put-fits.ensures, answer),
     )
 
 pub returns-in-Err : goal.returns-in-Err
 returns-in-Err c =
     let default = c.in-Err-OutOfRange.ensures.written in
-    (Err NoMemory, (default.0, default.1, tt), (c.of-in-Err.ensures, refl))
+    (Err NoMemory, (default.0, default.1, tt), tt, (c.of-in-Err.ensures, refl))

@@ -1,11 +1,11 @@
 use Rattle.std.proofs.Common.{rules}
 use Rattle.std.proofs.lemmas.List.Sorted.{answers_always}
-use Rattle.iox2sd_common.specs.Ids.{number_of}
+use Rattle.iox2sd.specs.Kept.{is_at_most}
 use Rattle.iox2sd.proofs.Keeping.{sorted_from_adjacent}
 use Rattle.iox2sd.proofs.service.kept.are_sorted.Goals as goal
 
 pub returns : goal.returns
 returns c =
-    sorted_from_adjacent c.args.ids.now c.is_sorted_by_key.result
-    (c.is_sorted_by_key.ensures.cases number_of
+    sorted_from_adjacent c.args.ports.now c.is_sorted_by.result
+    (c.is_sorted_by.ensures.cases is_at_most
     (answers_always _ _ _ (λ f a r g called. search rules)))
