@@ -6,7 +6,8 @@
 # - iox2sd-VERSION-x86_64-linux-gnu.tar.gz: a prefix with headers, libraries, the programs, pages
 #   and examples, to be unpacked anywhere;
 # - iox2sd-VERSION-rust.tar.gz: the crate for cargo, with the static library beside it;
-# - a wheel for pip with the shared library in it, and the wrapper's sources;
+# - a wheel for pip with the shared library in it, and an archive of sources, of which pip makes one
+#   with the library that is installed;
 # - Debian packages: libiox2sd2, libiox2sd-dev, python3-iox2sd, iox2sd-tools;
 # - PROVENANCE and SHA256SUMS.
 #
@@ -70,13 +71,7 @@ pack "iox2sd-$version" "iox2sd-$version-rust.tar.gz"
 # ---- The wheel, and its sources ----
 
 cp "$work"/wrappers/python/*.whl "$dist"
-sources=$work/iox2sd-$version-python
-mkdir -p "$sources/bindings" "$sources/include"
-cp -r python "$sources/bindings"
-find "$sources" -name __pycache__ -prune -exec rm -rf {} +
-legal "$sources"
-cp "$top"/include/*.h "$sources/include"
-pack "iox2sd-$version-python" "iox2sd-$version-python.tar.gz"
+env -u IOX2SD_LIBRARY python3 -B python/build_wheel.py --sdist "$dist" > "$work/log"
 
 # ---- Debian packages ----
 

@@ -128,8 +128,19 @@ by_pip() {
         "$work/venv/bin/pip" install --quiet --no-index "$work"/dist/*.whl &&
         prints "$work/short" "$work/venv/bin/python" -I "$work/examples/short.py"
 }
+# The archive of sources takes the library of the prefix.
+from_sources() {
+    IOX2SD_LIBRARY=$(echo "$prefix"/lib/libiox2sd.so.[0-9]) "$work/venv/bin/pip" install --quiet \
+        --no-index --force-reinstall "$work/dist/iox2sd-$version.tar.gz" &&
+        prints "$work/short" "$work/venv/bin/python" -I "$work/examples/short.py"
+}
 if has cargo; then run "crate: cargo run" by_cargo; fi
-if has python3; then run "wheel: pip install" by_pip; fi
+if has python3; then
+    run "wheel: pip install" by_pip
+    if python3 -c 'import tomllib' 2> "$work/log"; then
+        run "archive of sources: pip install" from_sources
+    fi
+fi
 
 # ---- Debian packages, in a root of their own ----
 

@@ -3,26 +3,10 @@ lists both, and removes the node when it is dead. In each of four languages it p
 lines."""
 
 from iox2sd import (
-    Attribute,
-    AttributeKey,
-    AttributeSet,
-    AttributeValue,
-    AttributeVerifier,
-    DataSegmentType,
-    DeregisterNodeState,
-    DynamicConfig,
-    IsLocked,
-    MessageTypeDetails,
-    MissingKey,
-    PublisherDetails,
-    PublishSubscribeSettings,
-    PublishSubscribeStaticConfig,
-    ServiceName,
-    StaticConfig,
-    TypeDetail,
-    UniqueNodeId,
-    UniquePublisherId,
-    UniqueServiceId,
+    Attribute, AttributeKey, AttributeSet, AttributeValue, AttributeVerifier, DataSegmentType,
+    DeregisterNodeState, DynamicConfig, IsLockedError, MessageTypeDetails, MissingKeyError,
+    PublisherDetails, PublishSubscribeSettings, PublishSubscribeStaticConfig, ServiceName,
+    StaticConfig, TypeDetail, UniqueNodeId, UniquePublisherId, UniqueServiceId,
 )
 
 COLOR, UNIT, RATE = AttributeKey("color"), AttributeKey("unit"), AttributeKey("rate")
@@ -64,7 +48,7 @@ def verify(attributes: AttributeSet, service: MessageTypeDetails) -> None:
     demanding = verifier.require_key(RATE)
     try:
         demanding.verify_requirements(attributes)
-    except MissingKey as refusal:
+    except MissingKeyError as refusal:
         key = demanding.required_keys[refusal.at]
         print(f"an opener of color = red, unit, rate: there is no {key}")
     same, wider = types(8).is_compatible_to(service), types(16).is_compatible_to(service)
@@ -100,7 +84,7 @@ def live(service: DynamicConfig) -> None:
     print(f"the service is {'locked' if locked else 'open'}")
     try:
         service.register_node_id(node_id)
-    except IsLocked:
+    except IsLockedError:
         print(f"a late node: {answer(False)}")
 
 

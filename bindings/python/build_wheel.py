@@ -1,19 +1,24 @@
 #!/usr/bin/env python3
-"""Builds the wheel of iox2sd, with the shared library in it, by Python's standard library alone.
+"""Builds the wheel of iox2sd, with the shared library in it, or the archive of its sources, by
+Python's standard library alone.
 
-    bindings/python/build_wheel.py DIRECTORY
+    bindings/python/build_wheel.py [--sdist] DIRECTORY
 
-prints the path of the wheel. The library is `bindings/out/libiox2sd.so.2`, or the file that
-IOX2SD_LIBRARY names. Python 3.11 or later is needed to build, not to install. `pip wheel` and `pip
-install` of this folder call `build_wheel` too, since pyproject.toml names this file.
+prints the path of the file. The library is the file that IOX2SD_LIBRARY names, that of
+`bindings/out`, or an installed one. Python 3.11 or later is needed to build, not to install. `pip
+install` of this folder and of the archive call `build_wheel` too, since pyproject.toml names this
+file.
 """
 
 import base64
+import gzip
 import hashlib
+import io
 import os
 import re
 import subprocess
 import sys
+import tarfile
 import tomllib
 import zipfile
 from pathlib import Path
@@ -22,6 +27,7 @@ from typing import Any
 HERE = Path(__file__).resolve().parent
 PROJECT = HERE.parents[1]
 SHARED = "libiox2sd.so.2"
+SYSTEM = ("/usr/local/lib", "/usr/lib/x86_64-linux-gnu", "/lib/x86_64-linux-gnu", "/usr/lib64")
 
 Files = dict[str, bytes]
 
@@ -32,20 +38,16 @@ def build_wheel(
     metadata_directory: "str | None" = None,
 ) -> str:
     """Writes the wheel into a directory, and answers its name (PEP 517)."""
-    library = Path(os.environ.get("IOX2SD_LIBRARY") or HERE.parent / "out" / SHARED).resolve()
-    project = tomllib.loads((HERE / "pyproject.toml").read_text())["project"]
+    library = found_library()
+    project = project_table()
     version = library_version(library)
     tag = f"py3-none-{platform_tag(library.read_bytes())}"
     name = f"{project['name']}-{version}"
-    files = {
-        f"iox2sd/{path.name}": path.read_bytes()
-        for path in sorted((HERE / "iox2sd").iterdir())
-        if path.suffix == ".py" or path.name == "py.typed"
-    }
+    files = package()
     files[f"iox2sd/{SHARED}"] = library.read_bytes()
     info = f"{name}.dist-info"
-    for licence in project["license-files"]:
-        files[f"{info}/licenses/{licence}"] = (PROJECT / licence).read_bytes()
+    for licence, content in licences(project).items():
+        files[f"{info}/licenses/{licence}"] = content
     files[f"{info}/WHEEL"] = (
         f"Wheel-Version: 1.0\nGenerator: build_wheel.py\nRoot-Is-Purelib: false\nTag: {tag}\n"
     ).encode()
@@ -54,6 +56,57 @@ def build_wheel(
     wheel = f"{name}-{tag}.whl"
     write(Path(wheel_directory) / wheel, files)
     return wheel
+
+
+def build_sdist(sdist_directory: str, config_settings: "dict[str, Any] | None" = None) -> str:
+    """Writes the archive of the sources into a directory, and answers its name (PEP 517)."""
+    project = project_table()
+    version = library_version(found_library())
+    own = ("README.md", "build_wheel.py", "pyproject.toml")
+    files = package() | licences(project) | {name: (HERE / name).read_bytes() for name in own}
+    files["PKG-INFO"] = metadata(project, version).encode()
+    name = f"{project['name']}-{version}"
+    packed = io.BytesIO()
+    with tarfile.open(fileobj=packed, mode="w", format=tarfile.PAX_FORMAT) as archive:
+        for path, content in sorted(files.items()):
+            entry = tarfile.TarInfo(f"{name}/{path}")
+            entry.size = len(content)
+            archive.addfile(entry, io.BytesIO(content))
+    sdist = f"{name}.tar.gz"
+    Path(sdist_directory, sdist).write_bytes(gzip.compress(packed.getvalue(), mtime=0))
+    return sdist
+
+
+def project_table() -> "dict[str, Any]":
+    """What pyproject.toml says of the project."""
+    table: "dict[str, Any]" = tomllib.loads((HERE / "pyproject.toml").read_text())["project"]
+    return table
+
+
+def package() -> Files:
+    """The files of the package, without the library."""
+    return {
+        f"iox2sd/{path.name}": path.read_bytes()
+        for path in sorted((HERE / "iox2sd").iterdir())
+        if path.suffix == ".py" or path.name == "py.typed"
+    }
+
+
+def licences(project: "dict[str, Any]") -> Files:
+    """The licences, which lie in the project's folder, and in an archive of sources beside this."""
+    folder = HERE if (HERE / "PKG-INFO").is_file() else PROJECT
+    return {name: (folder / name).read_bytes() for name in project["license-files"]}
+
+
+def found_library() -> Path:
+    """The library that goes into the wheel."""
+    if named := os.environ.get("IOX2SD_LIBRARY"):
+        return Path(named).resolve()
+    folders = (HERE.parent / "out", Path(sys.prefix, "lib"), *map(Path, SYSTEM))
+    for folder in folders:
+        if (folder / SHARED).is_file():
+            return (folder / SHARED).resolve()
+    raise SystemExit(f"{SHARED} was not found: install it, or name the file by IOX2SD_LIBRARY")
 
 
 def library_version(library: Path) -> str:
@@ -83,9 +136,12 @@ def metadata(project: dict[str, Any], version: str) -> str:
         f"Name: {project['name']}",
         f"Version: {version}",
         f"Summary: {project['description']}",
+        *(f"Author: {author['name']}" for author in project["authors"]),
         f"License-Expression: {project['license']}",
         *(f"License-File: {licence}" for licence in project["license-files"]),
+        f"Keywords: {','.join(project['keywords'])}",
         *(f"Classifier: {classifier}" for classifier in project["classifiers"]),
+        *(f"Project-URL: {label}, {url}" for label, url in project["urls"].items()),
         f"Requires-Python: {project['requires-python']}",
         "Description-Content-Type: text/markdown",
     ]
@@ -112,7 +168,8 @@ def write(wheel: Path, files: Files) -> None:
 
 
 if __name__ == "__main__":
-    if len(sys.argv) != 2:
-        raise SystemExit("usage: build_wheel.py DIRECTORY")
-    Path(sys.argv[1]).mkdir(parents=True, exist_ok=True)
-    print(Path(sys.argv[1]) / build_wheel(sys.argv[1]))
+    *option, folder = sys.argv[1:] or [""]
+    if option not in ([], ["--sdist"]) or folder in ("", "--sdist"):
+        raise SystemExit("usage: build_wheel.py [--sdist] DIRECTORY")
+    Path(folder).mkdir(parents=True, exist_ok=True)
+    print(Path(folder) / (build_sdist if option else build_wheel)(folder))

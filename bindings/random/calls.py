@@ -10,15 +10,10 @@ from collections.abc import Callable, Iterator
 from typing import Any, TypeVar
 
 import iox2sd
-from iox2sd.errors import status_text
+from iox2sd import Status
 
 _Given = TypeVar("_Given")
 _Answer = Callable[["Line"], "list[str]"]
-
-DONE = 0
-BAD_KEY, BAD_VALUE = 16, 17
-BAD_SERVICE_NAME, BAD_PATH, BAD_ENTRY = 46, 47, 48
-BAD_REQUIRED_KEY, BAD_REQUIRED_VALUE, BAD_ASKED_KEY, NO_SUCH_VALUE = 50, 51, 52, 56
 
 
 class NotExpressed(Exception):
@@ -104,16 +99,16 @@ def digits(text: str) -> str:
 
 
 def done(*fields: object) -> "list[str]":
-    return [status_text(DONE), *map(shown, fields)]
+    return [str(Status.DONE), *map(shown, fields)]
 
 
-def refused(status: int, *fields: object) -> Answered:
-    return Answered(status_text(status), *map(shown, fields))
+def refused(status: Status, *fields: object) -> Answered:
+    return Answered(str(status), *map(shown, fields))
 
 
-def why(error: iox2sd.Refused) -> "list[object]":
+def why(error: iox2sd.RefusedError) -> "list[object]":
     """What was wrong with a text, and where."""
-    return [status_text(error.status), 0 if error.at is None else error.at]
+    return [str(error.status), 0 if error.at is None else error.at]
 
 
 # ---- Texts ----
@@ -124,18 +119,18 @@ def checked(kind: "Callable[[str], str]") -> _Answer:
         text = given(line.text())
         try:
             return done(digits(kind(text)))
-        except iox2sd.Refused as error:
+        except iox2sd.RefusedError as error:
             raise Answered(*why(error)) from None
 
     return answer
 
 
-def made(kind: "Callable[[str], _Given]", text: "str | None", status: int) -> _Given:
+def made(kind: "Callable[[str], _Given]", text: "str | None", status: Status) -> _Given:
     """A text that is refused by a status of its own."""
     text = given(text)
     try:
         return kind(text)
-    except iox2sd.Refused:
+    except iox2sd.RefusedError:
         raise refused(status) from None
 
 
@@ -149,21 +144,21 @@ def prefix(line: Line) -> "list[str]":
 
 def join(line: Line) -> "list[str]":
     first, second = given(line.text()), given(line.text())
-    path = made(iox2sd.Path, first, BAD_PATH)
-    return done(digits(path.add_path_entry(made(iox2sd.Path, second, BAD_ENTRY))))
+    path = made(iox2sd.Path, first, Status.BAD_PATH)
+    return done(digits(path.add_path_entry(made(iox2sd.Path, second, Status.BAD_ENTRY))))
 
 
 def file_join(line: Line) -> "list[str]":
     first, second = given(line.text()), given(line.text())
-    path = made(iox2sd.Path, first, BAD_PATH)
-    file = made(iox2sd.FileName, second, BAD_ENTRY)
+    path = made(iox2sd.Path, first, Status.BAD_PATH)
+    file = made(iox2sd.FileName, second, Status.BAD_ENTRY)
     return done(digits(iox2sd.FilePath.from_path_and_file(path, file)))
 
 
 def hashed(kind: "Callable[[str], iox2sd.ServiceName]") -> _Answer:
     def answer(line: Line) -> "list[str]":
         pattern = given(line.choice(iox2sd.MessagingPattern))
-        name = made(kind, line.text(), BAD_SERVICE_NAME)
+        name = made(kind, line.text(), Status.BAD_SERVICE_NAME)
         return done(digits(iox2sd.ServiceHash.new(name, pattern)))
 
     return answer
@@ -173,9 +168,10 @@ def default_text(line: Line) -> "list[str]":
     return done(digits(iox2sd.default_text(given(line.choice(iox2sd.DefaultText)))))
 
 
-def below(directory: "Callable[[iox2sd.Path], iox2sd.Path]") -> _Answer:
+def below(directory: "Callable[[iox2sd.GlobalConfig], iox2sd.Path]") -> _Answer:
     def answer(line: Line) -> "list[str]":
-        return done(digits(directory(made(iox2sd.Path, line.text(), BAD_PATH))))
+        root = made(iox2sd.Path, line.text(), Status.BAD_PATH)
+        return done(digits(directory(iox2sd.GlobalConfig(root_path=root))))
 
     return answer
 
@@ -183,7 +179,7 @@ def below(directory: "Callable[[iox2sd.Path], iox2sd.Path]") -> _Answer:
 # ---- Attributes ----
 
 
-def put_pairs(line: Line, bad_key: int, bad_value: int, put: "Callable[..., object]") -> None:
+def put_pairs(line: Line, bad_key: Status, bad_value: Status, put: "Callable[..., object]") -> None:
     """Puts pairs into a set or a verifier one after another."""
     pairs = [(line.text(), line.text()) for _ in range(line.number())]
     for place, (key_text, value_text) in enumerate(pairs):
@@ -193,7 +189,7 @@ def put_pairs(line: Line, bad_key: int, bad_value: int, put: "Callable[..., obje
             key = iox2sd.AttributeKey(key_text)
             bad = bad_value
             value = iox2sd.AttributeValue(value_text)
-        except iox2sd.Refused as error:
+        except iox2sd.RefusedError as error:
             raise refused(bad, place, *why(error)) from None
         put(place, key, value)
 
@@ -205,10 +201,10 @@ def read_set(line: Line) -> iox2sd.AttributeSet:
         nonlocal specifier
         try:
             specifier = specifier.define(key, value)
-        except iox2sd.TooMany as error:
+        except iox2sd.TooManyError as error:
             raise refused(error.status, place) from None
 
-    put_pairs(line, BAD_KEY, BAD_VALUE, put)
+    put_pairs(line, Status.BAD_KEY, Status.BAD_VALUE, put)
     return specifier.attributes
 
 
@@ -220,9 +216,9 @@ def sorted_(line: Line) -> "list[str]":
 def values(line: Line) -> "list[str]":
     asked, index = given(line.text()), line.number()
     pairs = read_set(line)
-    key = made(iox2sd.AttributeKey, asked, BAD_ASKED_KEY)
+    key = made(iox2sd.AttributeKey, asked, Status.BAD_ASKED_KEY)
     value = pairs.key_value(key, index)
-    found = [status_text(NO_SUCH_VALUE)] if value is None else done(digits(value))
+    found = [str(Status.NO_SUCH_VALUE)] if value is None else done(digits(value))
     return done(pairs.number_of_key_values(key)) + found
 
 
@@ -233,19 +229,19 @@ def read_verifier(line: Line) -> iox2sd.AttributeVerifier:
         nonlocal verifier
         try:
             verifier = verifier.require(key, value)
-        except (iox2sd.TooMany, iox2sd.TooManyRequired):  # Of pairs alone, and with keys.
-            raise refused(iox2sd.TooManyRequired.status, place) from None
+        except (iox2sd.TooManyError, iox2sd.TooManyRequiredError):  # Of pairs alone, and with keys.
+            raise refused(iox2sd.TooManyRequiredError.status, place) from None
 
-    put_pairs(line, BAD_REQUIRED_KEY, BAD_REQUIRED_VALUE, put)
+    put_pairs(line, Status.BAD_REQUIRED_KEY, Status.BAD_REQUIRED_VALUE, put)
     for place in range(line.number()):
         text = given(line.text())
         try:
             key = iox2sd.AttributeKey(text)
-        except iox2sd.Refused:
-            raise refused(BAD_ASKED_KEY, place) from None
+        except iox2sd.RefusedError:
+            raise refused(Status.BAD_ASKED_KEY, place) from None
         try:
             verifier = verifier.require_key(key)
-        except iox2sd.TooManyRequired as error:
+        except iox2sd.TooManyRequiredError as error:
             raise refused(error.status, place) from None
     return verifier
 
@@ -255,10 +251,10 @@ def verify(line: Line) -> "list[str]":
     verifier = read_verifier(line)
     try:
         verifier.verify_requirements(pairs)
-    except iox2sd.MissingPair as error:
+    except iox2sd.MissingPairError as error:
         missing = verifier.required_attributes[error.at]
         raise refused(error.status, digits(missing.key), digits(missing.value)) from None
-    except iox2sd.MissingKey as error:
+    except iox2sd.MissingKeyError as error:
         raise refused(error.status, digits(verifier.required_keys[error.at])) from None
     return done()
 
@@ -276,7 +272,7 @@ def details(line: Line, *side: int) -> iox2sd.MessageTypeDetails:
         name, variant = given(name), given(variant)
         try:
             parts.append(iox2sd.TypeDetail(name, size, alignment, variant))
-        except iox2sd.Refused as error:
+        except iox2sd.RefusedError as error:
             raise refused(error.status, *side, place) from None
     return iox2sd.MessageTypeDetails(*parts)
 
@@ -300,7 +296,7 @@ def compatible(line: Line) -> "list[str]":
     opener, service = details(line, 0), details(line, 1)
     try:
         opener.check_compatible_to(service)
-    except iox2sd.Incompatible as error:
+    except iox2sd.IncompatibleError as error:
         raise refused(error.status, 0, PARTS.index(error.what)) from None
     return done()
 
@@ -356,7 +352,14 @@ def defaults(line: Line) -> "list[str]":
 
 
 def global_defaults(_: Line) -> "list[str]":
-    return fields_of(iox2sd.GlobalSettings())
+    shared = iox2sd.GlobalConfig()
+    service, node = shared.service, shared.node
+    return done(
+        shared.creation_timeout,
+        service.cleanup_dead_nodes_on_open,
+        node.cleanup_dead_nodes_on_creation,
+        node.cleanup_dead_nodes_on_destruction,
+    )
 
 
 def duration(line: Line) -> "list[str]":
@@ -373,8 +376,8 @@ def ids(line: Line) -> "list[str]":
     answer = done(one, other, one < other, other < one)
     try:
         return answer + done(iox2sd.UniqueNodeId(*parts).owner_id)
-    except iox2sd.NoNode as error:
-        return [*answer, status_text(error.status)]
+    except iox2sd.NoNodeError as error:
+        return [*answer, str(error.status)]
 
 
 # ---- One service, kept from line to line ----
@@ -425,7 +428,7 @@ def register(line: Line) -> "list[str]":
 
 
 def deregister(line: Line) -> "list[str]":
-    return [status_text(service.deregister_node_id(line.handle()).value)]
+    return [str(Status(service.deregister_node_id(line.handle()).value))]
 
 
 def release(line: Line) -> "list[str]":
@@ -453,7 +456,7 @@ def dead(line: Line) -> "list[str]":
     node = line.numbers(4)
     kept = [line.id(iox2sd.UniquePublisherId) for _ in range(line.number())]
     gone = service.remove_dead_node_id(iox2sd.UniqueNodeId(*node), kept)
-    return [status_text(gone.state.value), shown(gone.first), shown(gone.second)]
+    return [str(Status(gone.state.value)), shown(gone.first), shown(gone.second)]
 
 
 def of_role(question: "Callable[[iox2sd.Role], object]") -> _Answer:
@@ -500,8 +503,8 @@ CALLS: "dict[str, _Answer]" = {
     "hash": hashed(iox2sd.ServiceName),
     "internal_hash": hashed(iox2sd.InternalServiceName),
     "default_text": default_text,
-    "service_directory": below(iox2sd.service_dir),
-    "node_directory": below(iox2sd.node_dir),
+    "service_directory": below(iox2sd.GlobalConfig.service_dir),
+    "node_directory": below(iox2sd.GlobalConfig.node_dir),
     "sorted": sorted_,
     "values": values,
     "verify": verify,
@@ -548,8 +551,8 @@ def answer(text: str) -> str:
         return "-"
     except Answered as answered:
         return "\t".join(map(str, answered.fields))
-    except iox2sd.Refused as error:
-        return status_text(error.status)
+    except iox2sd.RefusedError as error:
+        return str(error.status)
 
 
 for text in sys.stdin:

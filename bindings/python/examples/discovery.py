@@ -3,20 +3,9 @@
 from dataclasses import dataclass
 
 from iox2sd import (
-    BlackboardStaticConfig,
-    DynamicConfig,
-    EventStaticConfig,
-    ListenerDetails,
-    MessagingPattern,
-    ReaderDetails,
-    ServiceHash,
-    ServiceName,
-    StaticConfig,
-    TypeDetail,
-    UniqueListenerId,
-    UniqueNodeId,
-    UniqueReaderId,
-    UniqueServiceId,
+    BlackboardStaticConfig, DynamicConfig, EventStaticConfig, ListenerDetails, MessagingPattern,
+    ReaderDetails, ServiceHash, ServiceName, StaticConfig, TypeDetail, UniqueListenerId,
+    UniqueNodeId, UniqueReaderId, UniqueServiceId,
 )
 
 

@@ -4,20 +4,9 @@ from collections.abc import Iterator
 from contextlib import contextmanager
 
 from iox2sd import (
-    ContainerHandle,
-    DataSegmentType,
-    DynamicConfig,
-    MessageTypeDetails,
-    OutOfSpace,
-    PublisherDetails,
-    PublishSubscribeSettings,
-    PublishSubscribeStaticConfig,
-    SubscriberDetails,
-    TypeDetail,
-    TypeVariant,
-    UniqueNodeId,
-    UniquePublisherId,
-    UniqueSubscriberId,
+    ContainerHandle, DataSegmentType, DynamicConfig, MessageTypeDetails, OutOfSpaceError,
+    PublisherDetails, PublishSubscribeSettings, PublishSubscribeStaticConfig, SubscriberDetails,
+    TypeDetail, TypeVariant, UniqueNodeId, UniquePublisherId, UniqueSubscriberId,
 )
 
 NODE = UniqueNodeId(31, 1000, 0, 1)
@@ -48,12 +37,9 @@ class PortFactory:
         samples = self.config.required_amount_of_samples_per_data_segment(max_loaned_samples)
         layout = self.config.message_type_details.sample_layout(max_slice_len)
         details = PublisherDetails(
-            publisher_id=UniquePublisherId(31, 1000, 0, self.counter()),
-            node_id=NODE,
-            number_of_samples=samples,
-            max_slice_len=max_slice_len,
-            data_segment_type=DataSegmentType.STATIC,
-            max_number_of_segments=1,
+            publisher_id=UniquePublisherId(31, 1000, 0, self.counter()), node_id=NODE,
+            number_of_samples=samples, max_slice_len=max_slice_len,
+            data_segment_type=DataSegmentType.STATIC, max_number_of_segments=1,
         )
         with self.service.attached(details) as handle:
             print(f"publisher in slot {handle.slot}: {samples} samples of {layout.size} bytes")
@@ -76,9 +62,7 @@ def main() -> None:
     settings = PublishSubscribeSettings(max_publishers=1, subscriber_max_buffer_size=5)
     config = PublishSubscribeStaticConfig.new(MESSAGE, settings)
     with DynamicConfig.publish_subscribe(
-        9,
-        max_nodes=config.max_nodes,
-        max_publishers=config.max_publishers,
+        9, max_nodes=config.max_nodes, max_publishers=config.max_publishers,
         max_subscribers=config.max_subscribers,
     ) as service, service.registered(NODE):
         factory = PortFactory(service, config)
@@ -86,7 +70,7 @@ def main() -> None:
             try:
                 with factory.publisher(1000, max_loaned_samples=2):
                     print("a second publisher")
-            except OutOfSpace as refusal:
+            except OutOfSpaceError as refusal:
                 print(refusal)
         print(f"{len(service.ports_of(NODE))} ports are left")
 

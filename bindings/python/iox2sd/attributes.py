@@ -5,8 +5,8 @@ from dataclasses import dataclass
 from typing import Any, overload
 
 from . import _native
-from ._arguments import Checked, Size, instance, items, number, shown, unchecked
-from .errors import MissingKey, TooManyRequired, check
+from ._arguments import Checked, Size, instance, items, number, shown
+from .errors import Status, TooManyRequiredError, check
 from .texts import AttributeKey, AttributeValue, lent
 
 
@@ -20,8 +20,8 @@ class Attribute(Checked):
 
 def _pairs(attributes: "tuple[Attribute, ...]") -> "tuple[Any, int]":
     pairs = (_native.Attribute * len(attributes))()
-    for place, attribute in enumerate(attributes):
-        pairs[place] = _native.Attribute(*lent(attribute.key), *lent(attribute.value))
+    for index, attribute in enumerate(attributes):
+        pairs[index] = _native.Attribute(*lent(attribute.key), *lent(attribute.value))
     return pairs, len(attributes)
 
 
@@ -35,21 +35,17 @@ class AttributeSet(Sequence[Attribute]):
     may have several values, and a pair may be there twice.
     """
 
-    __slots__ = ("_attributes",)
+    __slots__ = ("_attributes", "__weakref__")
     _attributes: "tuple[Attribute, ...]"
 
     def __init__(self, attributes: Iterable[Attribute] = ()) -> None:
-        """The set of the attributes, given in any order. Raises `TooMany`."""
-        given = items(attributes, "AttributeSet")
-        for attribute in given:
-            instance(attribute, Attribute, "AttributeSet")
+        """The set of the attributes, given in any order. Raises `TooManyError`."""
+        given = items(attributes, Attribute, "AttributeSet")
         pairs, length = _pairs(given)
         answer = _native.attributes_sort_at(pairs, length)
         check(answer.status, "AttributeSet", answer.at, "pair")
-        self._attributes = tuple(
-            Attribute(AttributeKey(pair.key.decode()), AttributeValue(pair.value.decode()))
-            for pair in pairs
-        )
+        of_bytes = {(str.encode(one.key), str.encode(one.value)): one for one in given}
+        self._attributes = tuple(of_bytes[pair.key, pair.value] for pair in pairs)
 
     def number_of_key_values(self, key: AttributeKey) -> int:
         """How many values a key has."""
@@ -67,7 +63,7 @@ class AttributeSet(Sequence[Attribute]):
         status, text = _native.written(
             _native.attributes_key_value_at, *_pairs(self._attributes), *_key(key, what), index
         )
-        if status == _native.NO_SUCH_VALUE:
+        if status == Status.NO_SUCH_VALUE.value:
             return None
         check(status, what)
         return AttributeValue(text)
@@ -102,6 +98,9 @@ class AttributeSet(Sequence[Attribute]):
     def __repr__(self) -> str:
         return f"AttributeSet({list(self._attributes)!r})"
 
+    def __format__(self, form: str) -> str:
+        return format(str(self), form)
+
     def __reduce__(self) -> "tuple[type[AttributeSet], tuple[tuple[Attribute, ...]]]":
         return type(self), (self._attributes,)
 
@@ -113,28 +112,29 @@ class AttributeSpecifier(Checked):
     attributes: AttributeSet = AttributeSet()
 
     def define(self, key: AttributeKey, value: AttributeValue) -> "AttributeSpecifier":
-        """A specifier with one more pair. A key may have several values. Raises `TooMany`."""
+        """A specifier with one more pair. A key may have several values. Raises `TooManyError`."""
         return AttributeSpecifier(AttributeSet((*self.attributes, Attribute(key, value))))
 
 
-def _room() -> int:
-    """How many pairs and keys may be required together, as the library says where there are more."""
+def _capacity() -> int:
+    """How many pairs and keys may be required together, as the library says where there are more.
+    """
     length = 1
     while True:
         keys = (_native.Key * length)(*[_native.Key(*lent("a"))] * length)
         answer = _native.attributes_verify_at(*_pairs(()), *_pairs(()), keys, length)
-        if answer.status == TooManyRequired.status:
+        if answer.status == Status.TOO_MANY_REQUIRED.value:
             return int(answer.at)
         length *= 2
 
 
-_ROOM = _room()
+_CAPACITY = _capacity()
 
 
 @dataclass(frozen=True, slots=True)
-class AttributeVerifier:
+class AttributeVerifier(Checked):
     """What an opener requires of the attributes of a service: pairs, and keys with any value. All
-    together are at most sixteen; raises `TooManyRequired`.
+    together are at most sixteen; raises `TooManyRequiredError`.
     """
 
     required_attributes: AttributeSet = AttributeSet()
@@ -143,48 +143,35 @@ class AttributeVerifier:
     def __post_init__(self) -> None:
         instance(self.required_attributes, AttributeSet, "AttributeVerifier.required_attributes")
         instance(self.required_keys, tuple, "AttributeVerifier.required_keys")
-        object.__setattr__(self, "required_keys", tuple(self.required_keys))
-        for key in self.required_keys:
-            instance(key, AttributeKey, "AttributeVerifier.required_keys")
-        answer = self._verified(AttributeSet())
-        if answer.status == TooManyRequired.status:
-            check(answer.status, "AttributeVerifier", answer.at, "requirement")
+        keys = items(self.required_keys, AttributeKey, "AttributeVerifier.required_keys")
+        object.__setattr__(self, "required_keys", keys)
+        if len(self.required_attributes) + len(keys) > _CAPACITY:
+            raise TooManyRequiredError("AttributeVerifier", _CAPACITY, "requirement")
 
     def require(self, key: AttributeKey, value: AttributeValue) -> "AttributeVerifier":
-        """A verifier that requires a pair too. Raises `TooMany`, `TooManyRequired`."""
+        """A verifier that requires a pair too. Raises `TooManyError`, `TooManyRequiredError`."""
         pairs = AttributeSet((*self.required_attributes, Attribute(key, value)))
         return AttributeVerifier(pairs, self.required_keys)
 
     def require_key(self, key: AttributeKey) -> "AttributeVerifier":
-        """A verifier that requires a key too. Raises `TooManyRequired`."""
-        instance(key, AttributeKey, "AttributeVerifier.required_keys")
-        keys = (*self.required_keys, key)
-        if len(self.required_attributes) + len(keys) > _ROOM:
-            return AttributeVerifier(self.required_attributes, keys)
-        return unchecked(AttributeVerifier, (self.required_attributes, keys))
+        """A verifier that requires a key too. Raises `TooManyRequiredError`."""
+        return AttributeVerifier(self.required_attributes, (*self.required_keys, key))
 
     def verify_requirements(self, attributes: AttributeSet) -> None:
-        """Raises `MissingPair` for the least required pair that the set lacks, with its index in
-        `required_attributes`, and then `MissingKey` of the first required key that no pair has,
-        with its index in `required_keys`.
+        """Raises `MissingPairError` for the least required pair that the set lacks, with its index
+        in `required_attributes`, and then `MissingKeyError` of the first required key that no pair
+        has, with its index in `required_keys`.
         """
         instance(attributes, AttributeSet, "AttributeVerifier.verify_requirements")
-        answer = self._verified(attributes)
-        if answer.status == _native.DONE:
-            return
-        if answer.status == MissingKey.status:
-            check(answer.status, shown(self.required_keys[answer.at]), answer.at, "required key")
-        what = shown(self.required_attributes[answer.at])
-        check(answer.status, what, answer.at, "required pair")
-
-    def _verified(self, attributes: AttributeSet) -> _native.PlaceAnswer:
         keys = (_native.Key * len(self.required_keys))()
-        for place, key in enumerate(self.required_keys):
-            keys[place] = _native.Key(*lent(key))
-        answer: _native.PlaceAnswer = _native.attributes_verify_at(
-            *_pairs(attributes._attributes),
-            *_pairs(self.required_attributes._attributes),
-            keys,
-            len(keys),
+        for index, key in enumerate(self.required_keys):
+            keys[index] = _native.Key(*lent(key))
+        required = _pairs(self.required_attributes._attributes)
+        answer = _native.attributes_verify_at(
+            *_pairs(attributes._attributes), *required, keys, len(keys)
         )
-        return answer
+        if answer.status == Status.MISSING_KEY.value:
+            check(answer.status, shown(self.required_keys[answer.at]), answer.at, "required key")
+        if answer.status != _native.DONE:
+            what = shown(self.required_attributes[answer.at])
+            check(answer.status, what, answer.at, "required pair")

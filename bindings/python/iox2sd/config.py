@@ -7,30 +7,24 @@ configuration of its own.
 
 import ctypes
 import os
-import pathlib
 from dataclasses import dataclass, fields
-from typing import Any, NamedTuple, Optional, Union
+from typing import Any, Optional, Union
 
 from . import _native
-from ._arguments import Checked, utf8
-from .errors import BadConfig, ConfigFault, NoMemory, Refused, check
+from ._arguments import Checked, shown, utf8, wrong_type
+from ._values import Value
+from .errors import (
+    BadConfigError, ConfigFault, IllegalByteError, NotUtf8Error, RefusedError, Status, check,
+)
 from .settings import (
-    AllocationStrategy,
-    BackpressureStrategy,
-    BlackboardSettings,
-    DefaultText,
-    Duration,
-    EventSettings,
-    GlobalSettings,
-    PublishSubscribeSettings,
-    RequestResponseSettings,
-    default_text,
-    plain,
+    AllocationStrategy, BackpressureStrategy, BlackboardSettings, DefaultText, Duration,
+    EventSettings, PublishSubscribeSettings, RequestResponseSettings, default_text, put_settings,
     read,
 )
-from .texts import FileName, Path
+from .texts import FileName, Path, lent
 
-_global = GlobalSettings()
+
+_global = _native.global_defaults()
 
 
 def _path(which: DefaultText) -> Path:
@@ -97,12 +91,14 @@ class GlobalConfig(Checked):
     """What the name of each file begins with."""
     service: ServiceConfig = ServiceConfig()
     node: NodeConfig = NodeConfig()
-    creation_timeout: Duration = _global.creation_timeout
+    creation_timeout: Duration = Duration(
+        _global.creation_timeout.seconds, _global.creation_timeout.nanoseconds
+    )
     """How long an opener waits until the creator is ready."""
 
     def service_dir(self) -> Path:
         """The directory of services: the root path and `service.directory`, joined as by
-        `Path.add_path_entry`. Raises `TooLong` past 255 bytes.
+        `Path.add_path_entry`. Raises `TooLongError` past 255 bytes.
         """
         return self.root_path.add_path_entry(self.service.directory)
 
@@ -135,33 +131,47 @@ class Config(Checked):
         """The settings of the text of a file, where each key that it does not have has its default,
         and the keys that no setting has.
 
-        Raises `BadConfig` with all that is wrong, and `NoMemory`.
+        Raises `BadConfigError` with all that is wrong, and `NoMemoryError`.
         """
         return _read_file(utf8(text, "Config.from_toml"))
 
     @classmethod
     def from_toml_file(cls, path: Union[str, "os.PathLike[str]"]) -> "ConfigFile":
-        """The same of a file, which is read whole. Raises `OSError` too."""
-        return _read_file(pathlib.Path(path).read_bytes())
+        """The same of a file, which is read whole. Raises `OSError` too, and of a path that no
+        file can have `IllegalByteError` and `NotUtf8Error`.
+        """
+        with open(_system_path(path, "Config.from_toml_file"), "rb") as file:
+            return _read_file(file.read())
 
     def to_toml(self) -> str:
         """The settings as the text of a file, each below a comment with what it is and its default.
 
-        Raises `NoTomlInteger`, of a number or of the seconds of a duration above 2^63 - 1, and
-        `NoMemory`.
+        Raises `NoTomlIntegerError`, of a number or of the seconds of a duration above 2^63 - 1, and
+        `NoMemoryError`.
         """
-        given, capacity = _plain_config(self), 16384
-        while True:
-            out = (ctypes.c_uint8 * capacity)()
-            answer = _native.config_write_at(given, 1, out, capacity)
-            if answer.status != _native.BUFFER_TOO_SHORT:
-                break
-            capacity = answer.length
-        check(answer.status, _front(answer.key, answer.key_length) or "Config.to_toml")
-        return ctypes.string_at(out, answer.length).decode()
+        answer, text = _native.filled(16384, _native.config_write_at, _plain_config(self), 1)
+        check(answer.status, _native.front(answer.key, answer.key_length) or "Config.to_toml")
+        return text.decode()
 
 
-class UnknownKey(NamedTuple):
+def _system_path(path: object, what: str) -> str:
+    """A path of the system, of a `str` or of what is one by `os.fspath`."""
+    if not isinstance(path, (str, os.PathLike)):
+        raise wrong_type(what, "str or os.PathLike", path)
+    plain_path = os.fspath(path)
+    if not isinstance(plain_path, str):
+        raise wrong_type(what, "a path of str", path)
+    try:
+        zero = os.fsencode(plain_path).find(0)
+    except UnicodeEncodeError as error:
+        raise NotUtf8Error(f"{what} {shown(plain_path)}", error.start, "character") from None
+    if zero >= 0:
+        raise IllegalByteError(f"{what} {shown(plain_path)}", zero)
+    return plain_path
+
+
+@dataclass(frozen=True, slots=True)
+class UnknownKey(Value):
     """A key of a file that no setting has."""
 
     key: str
@@ -174,7 +184,8 @@ class UnknownKey(NamedTuple):
         return f"{self.key}: {self.meant} may be meant" if self.meant else self.key
 
 
-class ConfigFile(NamedTuple):
+@dataclass(frozen=True, slots=True)
+class ConfigFile(Value):
     """What stands in a file of settings."""
 
     config: Config
@@ -182,71 +193,38 @@ class ConfigFile(NamedTuple):
     """The keys that no setting has, in the order of the tables and of the keys in each."""
 
 
-_PATTERNS = (
-    ("publish_subscribe", PublishSubscribeSettings),
-    ("event", EventSettings),
-    ("request_response", RequestResponseSettings),
-    ("blackboard", BlackboardSettings),
+_PARTS: "tuple[tuple[str, Any], ...]" = (
+    ("", GlobalConfig), ("service", ServiceConfig), ("node", NodeConfig)
 )
 
-_TEXTS = {
-    "root_path": "root_path",
-    "prefix": "prefix",
-    "service_directory": "service.directory",
-    "data_segment_suffix": "service.data_segment_suffix",
-    "static_config_storage_suffix": "service.static_config_storage_suffix",
-    "dynamic_config_storage_suffix": "service.dynamic_config_storage_suffix",
-    "connection_suffix": "service.connection_suffix",
-    "event_connection_suffix": "service.event_connection_suffix",
-    "blackboard_mgmt_suffix": "service.blackboard_mgmt_suffix",
-    "blackboard_data_suffix": "service.blackboard_data_suffix",
-    "node_directory": "node.directory",
-    "monitor_suffix": "node.monitor_suffix",
-    "node_static_config_suffix": "node.static_config_suffix",
-    "service_tag_suffix": "node.service_tag_suffix",
-    "port_tag_suffix": "node.port_tag_suffix",
-    "global_mgmt_suffix": "node.global_mgmt_suffix",
-}
-"""Where each text of the library stands in a `GlobalConfig`."""
+_TEXTS = [
+    (part, own.name, own.type, own.name if own.name in vars(_native.ConfigTexts) else
+     f"{part}_{own.name}")
+    for part, kind in _PARTS for own in fields(kind) if own.type in (Path, FileName)
+]
+"""The part, the name and the type of each text of a `GlobalConfig`, and its name in the library."""
 
-_FLAGS = {
-    "cleanup_dead_nodes_on_open": "service",
-    "cleanup_dead_nodes_on_creation": "node",
-    "cleanup_dead_nodes_on_destruction": "node",
-}
-"""In which part of a `GlobalConfig` each flag of the library stands."""
-
-
-def _front(array: Any, length: int) -> str:
-    """The text at the front of an array, of which there may be more than it holds."""
-    return bytes(array)[:length].decode(errors="ignore")
-
-
-def _field(name: str, value: Any) -> Any:
-    """A field of settings that the library answered."""
-    if name.endswith("backpressure_strategy"):
-        return BackpressureStrategy(value)
-    if name.endswith("allocation_strategy"):
-        return AllocationStrategy(value)
-    return read(value)
+_FLAGS = [(part, own.name) for part, kind in _PARTS for own in fields(kind) if own.type is bool]
+"""The part and the name of each flag of a `GlobalConfig`."""
 
 
 def _settings(kind: Any, c: Any) -> Any:
     """The settings of services of a pattern that the library answered."""
-    return kind(**{one.name: _field(one.name, getattr(c, one.name)) for one in fields(kind)})
+    makers: "dict[Any, Any]" = {one: one for one in (BackpressureStrategy, AllocationStrategy)}
+    return kind(**{
+        one.name: makers.get(one.type, read)(getattr(c, one.name)) for one in fields(kind)
+    })
 
 
 def _config(c: Any) -> Config:
     """All settings that the library answered."""
-    parts: "dict[str, dict[str, Any]]" = {"": {}, "service": {}, "node": {}}
-    for name, place in _TEXTS.items():
-        part, _, own = place.rpartition(".")
-        kind = Path if own in ("root_path", "directory") else FileName
+    parts: "dict[str, dict[str, Any]]" = {part: {} for part, _ in _PARTS}
+    for part, own, kind, name in _TEXTS:
         text = getattr(c.texts, name)
-        parts[part][own] = kind(_front(text.bytes, text.length))
+        parts[part][own] = kind(_native.front(text.bytes, text.length))
     shared = getattr(c, "global")
-    for name, part in _FLAGS.items():
-        parts[part][name] = getattr(shared, name)
+    for part, own in _FLAGS:
+        parts[part][own] = getattr(shared, own)
     timeout = shared.creation_timeout
     return Config(
         global_cfg=GlobalConfig(
@@ -255,41 +233,37 @@ def _config(c: Any) -> Config:
             node=NodeConfig(**parts["node"]),
             creation_timeout=Duration(timeout.seconds, timeout.nanoseconds),
         ),
-        defaults=Defaults(**{name: _settings(kind, getattr(c, name)) for name, kind in _PATTERNS}),
+        defaults=Defaults(
+            **{one.name: _settings(one.type, getattr(c, one.name)) for one in fields(Defaults)}
+        ),
     )
 
 
 def _plain_config(config: Config) -> Any:
     """All settings as the library takes them."""
     made, shared = _native.Config(), config.global_cfg
-    for name, place in _TEXTS.items():
-        text: Any = shared
-        for part in place.split("."):
-            text = getattr(text, part)
-        encoded = str.encode(text)
+    parts = {"": shared, "service": shared.service, "node": shared.node}
+    for part, own, _, name in _TEXTS:
+        encoded, length = lent(getattr(parts[part], own))
         plain_text = getattr(made.texts, name)
-        ctypes.memmove(plain_text.bytes, encoded, len(encoded))
-        plain_text.length = len(encoded)
+        ctypes.memmove(plain_text.bytes, encoded, length)
+        plain_text.length = length
     plain_shared = getattr(made, "global")
-    for name, part in _FLAGS.items():
-        setattr(plain_shared, name, getattr(getattr(shared, part), name))
+    for part, own in _FLAGS:
+        setattr(plain_shared, own, getattr(parts[part], own))
     timeout = shared.creation_timeout
     plain_shared.creation_timeout = _native.Duration(timeout.seconds, timeout.nanoseconds)
-    for name, kind in _PATTERNS:
-        settings, c = getattr(config.defaults, name), getattr(made, name)
-        for one in fields(kind):
-            value = getattr(settings, one.name)
-            if value is not None:
-                setattr(c, one.name, plain(value))
+    for one in fields(Defaults):
+        put_settings(getattr(config.defaults, one.name), getattr(made, one.name))
     return made
 
 
 def _fault(c: Any) -> ConfigFault:
-    reason = _front(c.reason, c.reason_length)
-    return ConfigFault(_front(c.key, c.key_length), reason, c.status)
+    reason = _native.front(c.reason, c.reason_length)
+    return ConfigFault(_native.front(c.key, c.key_length), reason, Status(c.status))
 
 
-def _refused(text: bytes, first: Any) -> Refused:
+def _refused(text: bytes, first: Any) -> RefusedError:
     """Why a text with this first fault gives no settings."""
     found = [first]
     if first.key_length != 0:
@@ -298,7 +272,7 @@ def _refused(text: bytes, first: Any) -> Refused:
         answer = _native.config_faults_at(text, len(text), faults, count)
         if answer.status == _native.DONE:
             found = list(faults)
-    return BadConfig(tuple(map(_fault, found)))
+    return BadConfigError(tuple(map(_fault, found)))
 
 
 def _unknown(text: bytes) -> "tuple[UnknownKey, ...]":
@@ -313,7 +287,7 @@ def _unknown(text: bytes) -> "tuple[UnknownKey, ...]":
     found, place, whole = [], 0, bytes(paths)
     for key in keys:
         path = whole[place : place + key.key_length].decode()
-        found.append(UnknownKey(path, _front(key.meant, key.meant_length) or None))
+        found.append(UnknownKey(path, _native.front(key.meant, key.meant_length) or None))
         place += key.key_length
     return tuple(found)
 
@@ -321,7 +295,7 @@ def _unknown(text: bytes) -> "tuple[UnknownKey, ...]":
 def _read_file(text: bytes) -> ConfigFile:
     made = _native.Config()
     answer = _native.config_read_at(text, len(text), made, 1)
-    if answer.status == NoMemory.status:
+    if answer.status == Status.NO_MEMORY.value:
         check(answer.status, "Config.from_toml")
     if answer.status != _native.DONE:
         raise _refused(text, answer.fault)

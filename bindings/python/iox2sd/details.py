@@ -5,20 +5,11 @@ from dataclasses import dataclass, fields
 from typing import Any, ClassVar, NamedTuple, Union
 
 from . import _native
-from ._arguments import U8, Checked, Choice, Size, setters
+from ._arguments import U8, Checked, Size
+from ._values import Choice, setters
 from .ids import (
-    Role,
-    UniqueClientId,
-    UniqueListenerId,
-    UniqueNodeId,
-    UniqueNotifierId,
-    UniquePortId,
-    UniquePublisherId,
-    UniqueReaderId,
-    UniqueServerId,
-    UniqueSubscriberId,
-    UniqueWriterId,
-    maker,
+    Role, UniqueClientId, UniqueListenerId, UniqueNodeId, UniqueNotifierId, UniquePortId,
+    UniquePublisherId, UniqueReaderId, UniqueServerId, UniqueSubscriberId, UniqueWriterId, maker,
 )
 
 
@@ -226,5 +217,5 @@ def details_of_rows(rows: "Iterable[tuple[int, ...]]") -> "tuple[PortDetails, ..
 
 def details_of(port: _native.PortDetails) -> PortDetails:
     """The details of a port of the library."""
-    (details,) = details_of_rows([_native.PORT.unpack(bytes(port))])
+    (details,) = details_of_rows([_native.PORT.unpack_from(port)])
     return details

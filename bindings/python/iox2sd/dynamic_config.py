@@ -2,33 +2,29 @@
 
 import ctypes
 import struct
-from collections.abc import Iterable, Iterator
+from collections.abc import Callable, Iterable, Iterator
 from contextlib import contextmanager, suppress
 from dataclasses import dataclass
 from types import TracebackType
-from typing import Any, NoReturn, cast
+from typing import Any, NoReturn, TypeVar, Union, cast
 
 from . import _native
-from ._arguments import U64, Checked, Choice, Size, instance, items, number, unchecked
+from ._arguments import U64, Checked, Size, instance, items, number
+from ._values import Choice, unchecked
 from .details import (
-    ClientDetails,
-    ListenerDetails,
-    NotifierDetails,
-    PortDetails,
-    PublisherDetails,
-    ReaderDetails,
-    ServerDetails,
-    SubscriberDetails,
-    WriterDetails,
-    details_of,
-    details_of_rows,
+    ClientDetails, ListenerDetails, NotifierDetails, PortDetails, PublisherDetails, ReaderDetails,
+    ServerDetails, SubscriberDetails, WriterDetails, details_of, details_of_rows,
 )
-from .errors import NoService, Refused, check
+from .errors import NoServiceError, RefusedError, Status, check
 from .ids import Role, UniqueNodeId, UniquePortId, maker
-from .static_config import Capacities, StaticConfig
+from .settings import PatternSettings
+from .static_config import Capacities, PatternStaticConfig, StaticConfig
 from .texts import MessagingPattern
 
-_ALL_TICKETS = 2**64 - 1
+
+_Service = TypeVar("_Service", bound="DynamicConfig")
+
+ALL_TICKETS = 2**64 - 1
 _node_id = maker(UniqueNodeId)
 
 
@@ -55,11 +51,11 @@ class ContainerHandle(Checked):
 
 class ServiceNumbers:
     """Numbers for services, for those who have none: 1, 2, 3, .., each once, up to 2^64 - 1, from
-    the one after `last` on. Two objects return the same numbers, so one serves all services whose
-    handles may meet.
+    the one after `last` on. Threads may share it. Two objects return the same numbers, so one
+    serves all services whose handles may meet, and it cannot be copied.
     """
 
-    __slots__ = ("_numbers",)
+    __slots__ = ("_numbers", "__weakref__")
 
     def __init__(self, last: int = 0) -> None:
         self._numbers = _native.ServiceNumbers(number(last, U64, "ServiceNumbers"))
@@ -75,13 +71,16 @@ class ServiceNumbers:
 
     def __next__(self) -> int:
         answer = _native.next_service_number_at(self._numbers, 1)
-        if answer.status == _native.OUT_OF_SPACE:
+        if answer.status == Status.OUT_OF_SPACE.value:
             raise StopIteration
         check(answer.status, "ServiceNumbers")
-        return self.last
+        return int(answer.number)
 
     def __repr__(self) -> str:
         return f"{type(self).__name__}({self.last})"
+
+    def __reduce__(self) -> NoReturn:
+        raise TypeError("a ServiceNumbers cannot be copied or pickled")
 
 
 class DeregisterNodeState(Choice):
@@ -91,6 +90,19 @@ class DeregisterNodeState(Choice):
     """It has."""
     NO_MORE_OWNERS = _native.DONE_LOCKED
     """It has none and is locked for good: nothing joins it again."""
+
+
+def _held(
+    handle: ContainerHandle, leave: Callable[[ContainerHandle], object]
+) -> Iterator[ContainerHandle]:
+    """A handle for a `with` statement, which is left at its end."""
+    try:
+        yield handle
+    except BaseException:
+        with suppress(RefusedError):
+            leave(handle)
+        raise
+    leave(handle)
 
 
 @dataclass(frozen=True, slots=True)
@@ -112,31 +124,28 @@ class DynamicConfig:
     No lock is taken beside that one. Where the interpreter runs without it, use a service by one
     thread at a time.
 
-    A call on a service that was closed raises `NoService`. Use it in a `with` statement, or close
-    it. It cannot be copied.
+    A call on a service that was closed raises `NoServiceError`. Use it in a `with` statement, or
+    close it. It cannot be copied.
     """
 
     __slots__ = ("_place", "__weakref__")
     _place: _native.Service
-
-    def __new__(cls, *_: object, **__: object) -> "DynamicConfig":
-        service = super().__new__(cls)
-        service._place = _native.Service()
-        return service
 
     def __init__(
         self,
         messaging_pattern: MessagingPattern,
         service_number: int,
         capacities: Capacities,
-        tickets: int = _ALL_TICKETS,
+        tickets: int = ALL_TICKETS,
     ) -> None:
         """A service with nothing attached. `service_number` is in each of its handles. It has
         `tickets` tickets for nodes, and as many for each kind of ports: each registering and each
         attaching uses one, and tickets are never reused.
 
-        Raises `HasService` where the object has one already, and `NoMemory`.
+        Raises `HasServiceError` where the object has one already, and `NoMemoryError`.
         """
+        if not hasattr(self, "_place"):
+            self._place = _native.Service()
         what = "DynamicConfig"
         instance(messaging_pattern, MessagingPattern, f"{what}.messaging_pattern")
         instance(capacities, Capacities, f"{what}.capacities")
@@ -151,66 +160,71 @@ class DynamicConfig:
 
     @classmethod
     def described(
-        cls, description: StaticConfig, service_number: int, *, tickets: int = _ALL_TICKETS
-    ) -> "DynamicConfig":
-        """A service with the pattern and the capacities of a description. Raises `NoMemory`."""
-        instance(description, StaticConfig, f"{cls.__name__}.described")
-        capacities = description.capacities
-        return cls(description.messaging_pattern, service_number, capacities, tickets)
+        cls: "type[_Service]",
+        service: Union[StaticConfig, PatternStaticConfig, PatternSettings],
+        service_number: int,
+        *,
+        tickets: int = ALL_TICKETS,
+    ) -> _Service:
+        """A service with the pattern and the capacities of a description, or of settings. Raises
+        `NoMemoryError`.
+        """
+        pattern, capacities = Capacities._of(service, f"{cls.__name__}.described")
+        return cls(pattern, service_number, capacities, tickets)
 
     @classmethod
     def publish_subscribe(
-        cls,
+        cls: "type[_Service]",
         service_number: int,
         *,
         max_nodes: int,
         max_publishers: int,
         max_subscribers: int,
-        tickets: int = _ALL_TICKETS,
-    ) -> "DynamicConfig":
-        """A publish-subscribe service. Raises `NoMemory`."""
+        tickets: int = ALL_TICKETS,
+    ) -> _Service:
+        """A publish-subscribe service. Raises `NoMemoryError`."""
         capacities = Capacities(max_nodes, max_publishers, max_subscribers)
         return cls(MessagingPattern.PUBLISH_SUBSCRIBE, service_number, capacities, tickets)
 
     @classmethod
     def event(
-        cls,
+        cls: "type[_Service]",
         service_number: int,
         *,
         max_nodes: int,
         max_listeners: int,
         max_notifiers: int,
-        tickets: int = _ALL_TICKETS,
-    ) -> "DynamicConfig":
-        """An event service. Raises `NoMemory`."""
+        tickets: int = ALL_TICKETS,
+    ) -> _Service:
+        """An event service. Raises `NoMemoryError`."""
         capacities = Capacities(max_nodes, max_listeners, max_notifiers)
         return cls(MessagingPattern.EVENT, service_number, capacities, tickets)
 
     @classmethod
     def request_response(
-        cls,
+        cls: "type[_Service]",
         service_number: int,
         *,
         max_nodes: int,
         max_servers: int,
         max_clients: int,
-        tickets: int = _ALL_TICKETS,
-    ) -> "DynamicConfig":
-        """A request-response service. Raises `NoMemory`."""
+        tickets: int = ALL_TICKETS,
+    ) -> _Service:
+        """A request-response service. Raises `NoMemoryError`."""
         capacities = Capacities(max_nodes, max_servers, max_clients)
         return cls(MessagingPattern.REQUEST_RESPONSE, service_number, capacities, tickets)
 
     @classmethod
     def blackboard(
-        cls,
+        cls: "type[_Service]",
         service_number: int,
         *,
         max_nodes: int,
         max_readers: int,
         max_writers: int,
-        tickets: int = _ALL_TICKETS,
-    ) -> "DynamicConfig":
-        """A blackboard service. Raises `NoMemory`."""
+        tickets: int = ALL_TICKETS,
+    ) -> _Service:
+        """A blackboard service. Raises `NoMemoryError`."""
         capacities = Capacities(max_nodes, max_readers, max_writers)
         return cls(MessagingPattern.BLACKBOARD, service_number, capacities, tickets)
 
@@ -219,18 +233,19 @@ class DynamicConfig:
     def register_node_id(self, node_id: UniqueNodeId) -> ContainerHandle:
         """Registers a node, which may have several handles.
 
-        Raises `NoService`, `IsLocked`, `OutOfSpace`.
+        Raises `NoServiceError`, `IsLockedError`, `OutOfSpaceError`.
         """
         instance(node_id, UniqueNodeId, "register_node_id")
-        answer = self._call(_native.register_node_id_at, node_id._lent())
-        check(answer.status, f"register node {node_id}")
+        what = f"register node {node_id}"
+        answer = self._answer(what, _native.register_node_id_at, node_id._lent())
         return ContainerHandle._of(answer.handle)
 
     def deregister_node_id(self, handle: ContainerHandle) -> DeregisterNodeState:
         """Deregisters the node with a handle.
 
-        Raises `NoService`, `ForeignHandle`, also for a port's handle, and `PortsStillAttached`
-        where it is the only handle of its node and some port has that node.
+        Raises `NoServiceError`, `ForeignHandleError`, also for a port's handle, and
+        `PortsStillAttachedError` where it is the only handle of its node and some port has that
+        node.
         """
         instance(handle, ContainerHandle, "deregister_node_id")
         status = self._call(_native.deregister_node_id_at, handle._lent())
@@ -240,17 +255,17 @@ class DynamicConfig:
     def attach(self, details: PortDetails) -> ContainerHandle:
         """Attaches a port.
 
-        Raises `NoService`, `RoleNotInPattern`, `IsLocked`, `NodeNotRegistered`, `OutOfSpace`.
+        Raises `NoServiceError`, `RoleNotInPatternError`, `IsLockedError`, `NodeNotRegisteredError`,
+        `OutOfSpaceError`.
         """
         instance(details, PortDetails, "attach")
-        answer = self._call(_native.attach_at, details._lent(), 1)
-        check(answer.status, f"attach {details.role.name.lower()} {details.port_id}")
-        return ContainerHandle._of(answer.handle)
+        what = f"attach {details.role.name.lower()} {details.port_id}"
+        return ContainerHandle._of(self._answer(what, _native.attach_at, details._lent(), 1).handle)
 
     def release_port(self, handle: ContainerHandle) -> None:
         """Releases the port with a handle.
 
-        Raises `NoService` and `ForeignHandle`, also for a node's handle.
+        Raises `NoServiceError` and `ForeignHandleError`, also for a node's handle.
         """
         instance(handle, ContainerHandle, "release_port")
         check(self._call(_native.release_port_at, handle._lent()), f"release {handle}")
@@ -258,20 +273,16 @@ class DynamicConfig:
     def remove_dead_node_id(
         self, node_id: UniqueNodeId, keep: Iterable[UniquePortId] = ()
     ) -> DeadNodeRemoval:
-        """Removes the ports of a dead node, but for those whose id has the number of one in `keep`,
-        and returns how many it removed. Numbers are compared, not roles: a listener that is kept
-        keeps the notifier of the same number too, though their ids are not equal. Where no port is
-        left, the node is removed too, with all its handles.
+        """Removes the ports of a dead node, but for those whose id is in `keep`, and returns how many
+        it removed. Where no port is left, the node is removed too, with all its handles.
 
-        Raises `NoService`.
+        Raises `NoServiceError`.
         """
         instance(node_id, UniqueNodeId, "remove_dead_node_id")
-        kept = items(keep, "remove_dead_node_id.keep")
-        for port_id in kept:
-            instance(port_id, UniquePortId, "remove_dead_node_id.keep")
-        ids = (_native.Id * len(kept))(*(port_id._lent() for port_id in kept))
-        answer = self._call(_native.remove_dead_node_id_at, node_id._lent(), ids, len(kept))
-        check(answer.status, f"remove dead node {node_id}")
+        kept = items(keep, UniquePortId, "remove_dead_node_id.keep")
+        ids = (_native.PortId * len(kept))(*((one.role.value, one._lent()) for one in kept))
+        what, lent = f"remove dead node {node_id}", node_id._lent()
+        answer = self._answer(what, _native.remove_dead_node_id_at, lent, ids, len(kept))
         return DeadNodeRemoval(DeregisterNodeState(answer.status), answer.first, answer.second)
 
     @contextmanager
@@ -280,50 +291,32 @@ class DynamicConfig:
         `register_node_id` does, and at the end what the statement raised, or else what
         `deregister_node_id` does.
         """
-        handle = self.register_node_id(node_id)
-        try:
-            yield handle
-        except BaseException:
-            with suppress(Refused):
-                self.deregister_node_id(handle)
-            raise
-        self.deregister_node_id(handle)
+        yield from _held(self.register_node_id(node_id), self.deregister_node_id)
 
     @contextmanager
     def attached(self, details: PortDetails) -> Iterator[ContainerHandle]:
         """Attaches a port for a `with` statement, and releases it at its end. Raises what `attach`
         does, and at the end what the statement raised, or else what `release_port` does.
         """
-        handle = self.attach(details)
-        try:
-            yield handle
-        except BaseException:
-            with suppress(Refused):
-                self.release_port(handle)
-            raise
-        self.release_port(handle)
+        yield from _held(self.attach(details), self.release_port)
 
-    # ---- Questions. All raise `NoService`. ----
+    # ---- Questions. All raise `NoServiceError`. ----
 
     @property
     def messaging_pattern(self) -> MessagingPattern:
         """The messaging pattern."""
-        answer = self._call(_native.messaging_pattern_at)
-        check(answer.status, "messaging_pattern")
+        answer = self._answer("messaging_pattern", _native.messaging_pattern_at)
         return MessagingPattern(answer.number)
 
     @property
     def service_number(self) -> int:
         """The number that each handle of the service has."""
-        answer = self._call(_native.service_number_at)
-        check(answer.status, "service_number")
-        return int(answer.number)
+        return int(self._answer("service_number", _native.service_number_at).number)
 
     @property
     def port_roles(self) -> "tuple[Role, Role]":
         """The roles of the pattern's two kinds of ports, that first which is recovered first."""
-        answer = self._call(_native.port_roles_at)
-        check(answer.status, "port_roles")
+        answer = self._answer("port_roles", _native.port_roles_at)
         return Role(answer.first), Role(answer.second)
 
     def has_role(self, role: Role) -> bool:
@@ -354,38 +347,36 @@ class DynamicConfig:
         return self._flag("has_room_for_node", _native.has_room_for_node_at)
 
     def count_ports(self, role: Role) -> int:
-        """How many ports of a role there are. Raises `RoleNotInPattern`."""
+        """How many ports of a role there are. Raises `RoleNotInPatternError`."""
         instance(role, Role, "count_ports")
         return self._count(f"count ports, {role}", _native.count_ports_at, role.value)
 
     def max_ports(self, role: Role) -> int:
-        """How many ports of a role there may be at a time. Raises `RoleNotInPattern`."""
+        """How many ports of a role there may be at a time. Raises `RoleNotInPatternError`."""
         instance(role, Role, "max_ports")
         return self._count(f"max ports, {role}", _native.max_ports_at, role.value)
 
     def has_room(self, role: Role) -> bool:
         """Whether a port of a role could be attached, if its node is registered. Raises
-        `RoleNotInPattern`.
+        `RoleNotInPatternError`.
         """
         instance(role, Role, "has_room")
         return self._flag(f"has_room, {role}", _native.has_room_at, role.value)
 
     def node(self, handle: ContainerHandle) -> UniqueNodeId:
-        """The node that was registered with a handle. Raises `ForeignHandle` where it is not there
-        any more or never was.
+        """The node that was registered with a handle. Raises `ForeignHandleError` where it is not
+        there any more or never was.
         """
         instance(handle, ContainerHandle, "node")
-        answer = self._call(_native.node_at, handle._lent())
-        check(answer.status, f"node of {handle}")
+        answer = self._answer(f"node of {handle}", _native.node_at, handle._lent())
         return UniqueNodeId._of(answer.id)
 
     def port(self, handle: ContainerHandle) -> PortDetails:
-        """The port that was attached with a handle. Raises `ForeignHandle` where it is not there
-        any more or never was.
+        """The port that was attached with a handle. Raises `ForeignHandleError` where it is not
+        there any more or never was.
         """
         instance(handle, ContainerHandle, "port")
-        answer = self._call(_native.port_at, handle._lent())
-        check(answer.status, f"port of {handle}")
+        answer = self._answer(f"port of {handle}", _native.port_at, handle._lent())
         return details_of(answer.port)
 
     # ---- Lists. Each is taken whole, and later changes do not change it. ----
@@ -396,7 +387,7 @@ class DynamicConfig:
         return tuple(_node_id(*row) for row in rows)
 
     def list_ports(self, role: Role) -> "tuple[PortDetails, ...]":
-        """The ports of a role by rising slot. Raises `RoleNotInPattern`."""
+        """The ports of a role by rising slot. Raises `RoleNotInPatternError`."""
         instance(role, Role, "list_ports")
         what = f"list ports, {role}"
         rows = self._rows(what, _native.PortDetails, _native.PORT, _native.ports_at, role.value)
@@ -404,7 +395,7 @@ class DynamicConfig:
 
     def ports_of(self, node_id: UniqueNodeId) -> "tuple[PortDetails, ...]":
         """The ports of a node: those of the first kind by rising slot, then those of the second.
-        Raises `TooLarge` for more than 2^64 - 1.
+        Raises `TooLargeError` for more than 2^64 - 1.
         """
         instance(node_id, UniqueNodeId, "ports_of")
         what = f"ports of {node_id}"
@@ -413,7 +404,7 @@ class DynamicConfig:
         return details_of_rows(rows)
 
     def list_publishers(self) -> "tuple[PublisherDetails, ...]":
-        """The publishers by rising slot. Raises `RoleNotInPattern`; so do the next seven."""
+        """The publishers by rising slot. Raises `RoleNotInPatternError`; so do the next seven."""
         return cast("tuple[PublisherDetails, ...]", self.list_ports(Role.PUBLISHER))
 
     def list_subscribers(self) -> "tuple[SubscriberDetails, ...]":
@@ -449,13 +440,13 @@ class DynamicConfig:
     @property
     def closed(self) -> bool:
         """Whether the service was closed."""
-        return bool(self._call(_native.service_number_at).status == NoService.status)
+        return bool(self._call(_native.service_number_at).status == Status.NO_SERVICE.value)
 
     def close(self) -> None:
         """Frees the service. Closing it again does nothing."""
         self._call(_native.service_free_at)
 
-    def __enter__(self) -> "DynamicConfig":
+    def __enter__(self: _Service) -> _Service:
         return self
 
     def __exit__(
@@ -467,14 +458,21 @@ class DynamicConfig:
         self.close()
 
     def __del__(self) -> None:
-        self.close()
+        if hasattr(self, "_place"):
+            self.close()
 
     def __repr__(self) -> str:
         """Makes an empty service of this pattern, number and capacities; tickets are left out."""
-        if self.closed:
-            return "<a closed DynamicConfig>"
-        capacities = Capacities(self.max_nodes, *(self.max_ports(role) for role in self.port_roles))
-        return f"DynamicConfig({self.messaging_pattern!r}, {self.service_number}, {capacities})"
+        name = type(self).__name__
+        try:
+            roles = self.port_roles
+            capacities = Capacities(self.max_nodes, *(self.max_ports(role) for role in roles))
+            return f"{name}({self.messaging_pattern!r}, {self.service_number}, {capacities})"
+        except NoServiceError:  # Another thread may close it at any time.
+            return f"<a closed {name}>"
+
+    def __format__(self, form: str) -> str:
+        return format(repr(self), form)
 
     def __reduce__(self) -> NoReturn:
         raise TypeError("a DynamicConfig cannot be copied or pickled")
@@ -484,15 +482,16 @@ class DynamicConfig:
     def _call(self, function: Any, *arguments: Any) -> Any:
         return function(self._place, 1, *arguments)
 
-    def _flag(self, what: str, function: Any, *arguments: Any) -> bool:
+    def _answer(self, what: str, function: Any, *arguments: Any) -> Any:
         answer = self._call(function, *arguments)
         check(answer.status, what)
-        return bool(answer.yes)
+        return answer
+
+    def _flag(self, what: str, function: Any, *arguments: Any) -> bool:
+        return bool(self._answer(what, function, *arguments).yes)
 
     def _count(self, what: str, function: Any, *arguments: Any) -> int:
-        answer = self._call(function, *arguments)
-        check(answer.status, what)
-        return int(answer.count)
+        return int(self._answer(what, function, *arguments).count)
 
     def _rows(
         self, what: str, element: Any, row: struct.Struct, function: Any, *arguments: Any

@@ -1,52 +1,113 @@
-"""What a call raises. `Error` is the base of all.
+"""What a call raises. `Error` is the base of all, and each has a `status`.
 
-`WrongType`, `OutOfRange`, `NotUtf8` and `NoIdText` are raised before the library is called: the
-argument has no form that it takes. All others are its errors, one class for each status of
-`include/iox2sd.h`. The text of a status is the library's own.
+`WrongTypeError`, `OutOfRangeError` and `NotUtf8Error` are raised before the library is called: the
+argument has no form that it takes. All others are the library's, one class for each status. The
+text of a status is the library's own.
 """
 
-from typing import ClassVar, NamedTuple
+from dataclasses import dataclass
 
 from . import _native
+from ._values import Choice, Value
 
 
-class ConfigFault(NamedTuple):
-    """What is wrong with the text of a file of settings."""
+class Status(Choice):
+    """What came of a call of the library: success, or one error."""
 
-    key: str
-    """The path of the key whose value is not allowed, or nothing where the text is no TOML."""
-    reason: str
-    """What is wrong, in words."""
-    status: int
-    """The number of the status in `include/iox2sd.h`."""
+    DONE = 0
+    DONE_LOCKED = 1
+    BUFFER_TOO_SHORT = 2
+    NO_MEMORY = 3
+    NO_SERVICE = 4
+    HAS_SERVICE = 5
+    UNKNOWN_PATTERN = 6
+    UNKNOWN_ROLE = 7
+    NO_NODE = 8
+    IS_LOCKED = 9
+    OUT_OF_SPACE = 10
+    FOREIGN_HANDLE = 11
+    PORTS_STILL_ATTACHED = 12
+    NODE_NOT_REGISTERED = 13
+    ROLE_NOT_IN_PATTERN = 14
+    UNKNOWN_SEGMENT = 15
+    BAD_KEY = 16
+    BAD_VALUE = 17
+    TOO_MANY = 18
+    NULL = 20
+    UNKNOWN_STATUS = 21
+    EMPTY = 40
+    TOO_LONG = 41
+    ILLEGAL_BYTE = 42
+    NO_FILE_NAME = 43
+    RESERVED_PREFIX = 44
+    NOT_UTF8 = 45
+    BAD_SERVICE_NAME = 46
+    BAD_PATH = 47
+    BAD_ENTRY = 48
+    ILLEGAL_HASH = 49
+    BAD_REQUIRED_KEY = 50
+    BAD_REQUIRED_VALUE = 51
+    BAD_ASKED_KEY = 52
+    TOO_MANY_REQUIRED = 53
+    MISSING_PAIR = 54
+    MISSING_KEY = 55
+    NO_SUCH_VALUE = 56
+    BAD_ALIGNMENT = 57
+    TOO_LARGE = 58
+    UNKNOWN_VARIANT = 59
+    OTHER_NAME = 60
+    OTHER_VARIANT = 61
+    OTHER_SIZE = 62
+    OTHER_ALIGNMENT = 63
+    GREATER_ALIGNMENT = 64
+    UNKNOWN_TEXT = 65
+    BAD_LINE = 66
+    UNKNOWN_STRATEGY = 67
+    BAD_DURATION = 68
+    UNMET = 69
+    OTHER_PATTERN = 70
+    NOT_TOML = 80
+    WRONG_TYPE = 81
+    BELOW_ZERO = 82
+    NO_DURATION = 83
+    NO_TOML_INTEGER = 84
+    NO_FILE = 85
+    TOO_DEEP = 86
+    NO_RUN = 90
+    NO_SERVICE_LINE = 91
+    NO_COMMAND_LINE = 92
+    NO_REPLY_LINE = 93
+    NO_ORDER = 94
+    TOO_MANY_STATES = 95
+    NO_GROUP_LINE = 96
+    NO_GROUP_END = 97
 
     def __str__(self) -> str:
-        return f"{self.key}: {self.reason}" if self.key else self.reason
+        """The library's text."""
+        return _native.written(_native.status_text_at, self.value)[1]
 
 
 class Error(Exception):
     """A call was refused."""
 
+    status = Status.UNKNOWN_STATUS
+    """Why."""
 
-class WrongType(Error, TypeError):
+    def __init_subclass__(cls, status: "Status | None" = None) -> None:
+        super().__init_subclass__()
+        cls.status = status or cls.status
+
+
+class WrongTypeError(Error, TypeError, status=Status.WRONG_TYPE):
     """An argument is of another type. A `bool` is no integer, and `bytes` are no text."""
 
 
-class OutOfRange(Error, OverflowError):
+class OutOfRangeError(Error, OverflowError, status=Status.TOO_LARGE):
     """An integer is negative, or needs more bits than its parameter has."""
 
 
-class NoIdText(Error, ValueError):
-    """A text is not that of an id: lower-case hexadecimal digits without leading zeros, at most
-    those of 128 bits.
-    """
-
-
-class Refused(Error):
-    """The library refused a call. A status that has no class of its own is raised as this one."""
-
-    status: int = _native.UNKNOWN_STATUS
-    """The number of the status in `include/iox2sd.h`."""
+class RefusedError(Error):
+    """The library refused a call."""
 
     def __init__(self, what: str, at: "int | None" = None, unit: str = "byte") -> None:
         """`what` was refused, at the index `at` where the status has one."""
@@ -57,252 +118,210 @@ class Refused(Error):
 
     def __str__(self) -> str:
         place = "" if self.at is None else f", at {self.unit} {self.at}"
-        return f"{self.what}: {status_text(self.status)}{place}"
+        return f"{self.what}: {self.status}{place}"
 
 
-def status_text(status: int) -> str:
-    """The library's text of a status, or its number where the library has none."""
-    found, text = _native.written(_native.status_text_at, status)
-    return text if found == _native.DONE else f"status {status}"
-
-
-class NoMemory(Refused, MemoryError):
+class NoMemoryError(RefusedError, MemoryError, status=Status.NO_MEMORY):
     """Memory was refused."""
 
-    status = 3
 
-
-class NoService(Refused):
+class NoServiceError(RefusedError, status=Status.NO_SERVICE):
     """The service was closed."""
 
-    status = 4
 
-
-class HasService(Refused):
+class HasServiceError(RefusedError, status=Status.HAS_SERVICE):
     """The object holds a service already."""
 
-    status = 5
 
-
-class NoNode(Refused, ValueError):
+class NoNodeError(RefusedError, ValueError, status=Status.NO_NODE):
     """The id is that of no node: its process and its counter are 0."""
 
-    status = 8
 
-
-class IsLocked(Refused):
+class IsLockedError(RefusedError, status=Status.IS_LOCKED):
     """The service is locked for good, since its last node left: nothing joins it any more."""
 
-    status = 9
 
-
-class OutOfSpace(Refused):
+class OutOfSpaceError(RefusedError, status=Status.OUT_OF_SPACE):
     """No slot or no ticket is left."""
 
-    status = 10
 
-
-class ForeignHandle(Refused, LookupError):
+class ForeignHandleError(RefusedError, LookupError, status=Status.FOREIGN_HANDLE):
     """No entry of the service has the handle: it was removed, or is another service's, or a port's
     where a node's is meant, or the reverse.
     """
 
-    status = 11
 
-
-class PortsStillAttached(Refused):
+class PortsStillAttachedError(RefusedError, status=Status.PORTS_STILL_ATTACHED):
     """Some port has the node, and the handle is the node's only one."""
 
-    status = 12
 
-
-class NodeNotRegistered(Refused, LookupError):
+class NodeNotRegisteredError(RefusedError, LookupError, status=Status.NODE_NOT_REGISTERED):
     """The node of the port is not registered."""
 
-    status = 13
 
-
-class RoleNotInPattern(Refused, ValueError):
+class RoleNotInPatternError(RefusedError, ValueError, status=Status.ROLE_NOT_IN_PATTERN):
     """The messaging pattern of the service has no ports of the role."""
 
-    status = 14
 
-
-class TooMany(Refused, ValueError):
+class TooManyError(RefusedError, ValueError, status=Status.TOO_MANY):
     """There are more pairs than a set can have; `at` is the first one too many."""
 
-    status = 18
     at: int
 
 
-class Empty(Refused, ValueError):
+class EmptyError(RefusedError, ValueError, status=Status.EMPTY):
     """The text is empty."""
 
-    status = 40
 
-
-class TooLong(Refused, ValueError):
+class TooLongError(RefusedError, ValueError, status=Status.TOO_LONG):
     """The text is too long; `at` is the greatest length in bytes where a text was checked."""
 
-    status = 41
 
-
-class IllegalByte(Refused, ValueError):
+class IllegalByteError(RefusedError, ValueError, status=Status.ILLEGAL_BYTE):
     """A byte may not stand in the text; `at` is the index of the first one."""
 
-    status = 42
-    at: int
 
-
-class NoFileName(Refused, ValueError):
+class NoFileNameError(RefusedError, ValueError, status=Status.NO_FILE_NAME):
     """The name, or what follows the last `/`, is `.`, `..` or empty."""
 
-    status = 43
 
-
-class ReservedPrefix(Refused, ValueError):
+class ReservedPrefixError(RefusedError, ValueError, status=Status.RESERVED_PREFIX):
     """The name begins as those of the system's own services do."""
 
-    status = 44
 
-
-class NotUtf8(Refused, ValueError):
+class NotUtf8Error(RefusedError, ValueError, status=Status.NOT_UTF8):
     """The text has no UTF-8: it holds half of a surrogate pair, at the character `at`."""
 
-    status = 45
 
-
-class IllegalHash(Refused):
+class IllegalHashError(RefusedError, status=Status.ILLEGAL_HASH):
     """The hasher's text cannot be the name of a file. SHA-1 is proved to make none that is so."""
 
-    status = 49
 
-
-class TooManyRequired(Refused, ValueError):
+class TooManyRequiredError(RefusedError, ValueError, status=Status.TOO_MANY_REQUIRED):
     """More pairs and keys are required than a set can have; `at` is the first one too many."""
 
-    status = 53
     at: int
 
 
-class MissingPair(Refused):
+class MissingPairError(RefusedError, LookupError, status=Status.MISSING_PAIR):
     """The set lacks a required pair, the one at `at`."""
 
-    status = 54
     at: int
 
 
-class MissingKey(Refused):
+class MissingKeyError(RefusedError, LookupError, status=Status.MISSING_KEY):
     """The set has no pair with a required key, the one at `at`."""
 
-    status = 55
     at: int
 
 
-class BadAlignment(Refused, ValueError):
+class BadAlignmentError(RefusedError, ValueError, status=Status.BAD_ALIGNMENT):
     """An alignment is no power of two."""
 
-    status = 57
 
-
-class TooLarge(Refused, OverflowError):
+class TooLargeError(RefusedError, OverflowError, status=Status.TOO_LARGE):
     """The result would pass its range."""
 
-    status = 58
+
+class IncompatibleError(RefusedError):
+    """A service is not what its opener requires."""
 
 
-class Incompatible(Refused):
-    """An opener's messages are not those of the service."""
+class OtherPatternError(IncompatibleError, status=Status.OTHER_PATTERN):
+    """The service has another messaging pattern."""
 
 
-class OtherName(Incompatible):
+class OtherNameError(IncompatibleError, status=Status.OTHER_NAME):
     """The types of a part have other names."""
 
-    status = 60
 
-
-class OtherVariant(Incompatible):
+class OtherVariantError(IncompatibleError, status=Status.OTHER_VARIANT):
     """The types of a part are of other variants."""
 
-    status = 61
 
-
-class OtherSize(Incompatible):
+class OtherSizeError(IncompatibleError, status=Status.OTHER_SIZE):
     """The types of a part have other sizes."""
 
-    status = 62
 
-
-class OtherAlignment(Incompatible):
+class OtherAlignmentError(IncompatibleError, status=Status.OTHER_ALIGNMENT):
     """The types of the headers have other alignments."""
 
-    status = 63
 
-
-class GreaterAlignment(Incompatible):
+class GreaterAlignmentError(IncompatibleError, status=Status.GREATER_ALIGNMENT):
     """The opener's type of a part has a greater alignment than the service's."""
 
-    status = 64
+
+class UnmetError(IncompatibleError, status=Status.UNMET):
+    """A setting of the service is not what its opener requires."""
 
 
-class BadDuration(Refused, ValueError):
+class BadDurationError(RefusedError, ValueError, status=Status.BAD_DURATION):
     """The nanoseconds beside the seconds are a billion or more."""
 
-    status = 68
+
+class NoTomlIntegerError(RefusedError, OverflowError, status=Status.NO_TOML_INTEGER):
+    """A number, or the seconds of a duration, are above 2^63 - 1, which TOML does not have."""
 
 
-class BadLine(Refused, ValueError):
+class BadLineError(RefusedError, ValueError, status=Status.BAD_LINE):
     """A line of a script is not one that may stand there, or has no newline."""
-
-    status = 66
 
     def __init__(self, what: str, line: int, replies: str) -> None:
         """The line's number, from 1 on, and the reply lines to the commands before it."""
-        Exception.__init__(self, what, line, replies)
-        self.what = what
-        self.at = line
-        self.unit = "line"
+        super().__init__(what, line, "line")
+        self.args = what, line, replies
         self.line = line
         self.replies = replies
 
 
-class NoTomlInteger(Refused, OverflowError):
-    """A number, or the seconds of a duration, are above 2^63 - 1, which TOML does not have."""
+@dataclass(frozen=True, slots=True)
+class ConfigFault(Value):
+    """What is wrong with the text of a file of settings."""
 
-    status = 84
+    key: str
+    """The path of the key whose value is not allowed, or nothing where the text is no TOML."""
+    reason: str
+    """What is wrong, in words."""
+    cause: Status
+    """The error that the value, or the text, is."""
+
+    def __str__(self) -> str:
+        return f"{self.key}: {self.reason}" if self.key else self.reason
 
 
-class BadConfig(Refused, ValueError):
+class BadConfigError(RefusedError, ValueError):
     """The text of a file gives no settings: it is no UTF-8 or no TOML, or values are not allowed.
-    `faults` has all that is wrong, in the order of the settings.
+    `faults` has all that is wrong, in the order of the settings, and `status` the first cause.
     """
 
     def __init__(self, faults: "tuple[ConfigFault, ...]") -> None:
-        """What is wrong; the status is that of the first fault."""
-        Exception.__init__(self, faults)
+        """What is wrong: at least one fault."""
+        super().__init__("\n".join(map(str, faults)))
+        self.args = (faults,)
         self.faults = faults
-        self.status = faults[0].status
+        self.status = faults[0].cause
 
     def __str__(self) -> str:
-        return "\n".join(map(str, self.faults))
+        return self.what
 
 
-def _with_status(base: "type[Refused]") -> "dict[int, type[Refused]]":
-    found: "dict[int, type[Refused]]" = {}
+def _with_status(base: "type[RefusedError]") -> "dict[Status, type[RefusedError]]":
+    found: "dict[Status, type[RefusedError]]" = {}
     for kind in base.__subclasses__():
-        if "status" in vars(kind):
+        if kind.status is not base.status:
             found[kind.status] = kind
         found.update(_with_status(kind))
     return found
 
 
-_KINDS: "dict[int, type[Refused]]" = _with_status(Refused)
+_KINDS = _with_status(RefusedError)
+_STATUSES = {status.value: status for status in Status}
 
 
 def check(status: int, what: str, at: "int | None" = None, unit: str = "byte") -> None:
     """Raises the error of a status, unless it says that the call was done."""
-    if status in (_native.DONE, _native.DONE_LOCKED):
-        return
-    error = _KINDS.get(status, Refused)(what, at, unit)
-    error.status = status
-    raise error
+    if status not in (_native.DONE, _native.DONE_LOCKED):
+        known = _STATUSES.get(status, Status.UNKNOWN_STATUS)
+        error = _KINDS.get(known, RefusedError)(what, at, unit)
+        error.status = known
+        raise error

@@ -2,13 +2,15 @@
 
 import functools
 import struct
-from collections.abc import Callable
+from collections.abc import Callable, Iterator
 from dataclasses import dataclass
 from typing import Any, TypeVar, Union, cast
 
 from . import _native
-from ._arguments import U32, Checked, Choice, setters, shown, unchecked, utf8
-from .errors import NoIdText, NoNode, OutOfRange, WrongType
+from ._arguments import U32, Checked, integer, shown, utf8
+from ._values import Choice, setters, unchecked
+from .errors import NoNodeError, check
+
 
 _Id = TypeVar("_Id", bound="UniqueId")
 
@@ -33,11 +35,12 @@ class Role(Choice):
 @functools.total_ordering
 @dataclass(frozen=True, slots=True)
 class UniqueId(Checked):
-    """The id of a node, a port or a service, whose parts the caller passes: this layer has no
-    clock.
+    """The base of all ids: that of a node, a port or a service, whose parts the caller passes,
+    since this layer has no clock.
 
     Ids of one class are compared by `value`; ids of two classes are never equal. `str` is `value`
-    in lower-case hexadecimal digits without leading zeros.
+    in lower-case hexadecimal digits without leading zeros, and `format` takes the forms of texts
+    and those of integers, as `032x`. A model of pydantic takes an id and the text of one.
     """
 
     process: U32
@@ -58,6 +61,9 @@ class UniqueId(Checked):
     def __str__(self) -> str:
         return _native.written(_native.id_text_at, self._lent())[1]
 
+    def __format__(self, form: str) -> str:
+        return format(self.value if form[-1:] in set("bdnoxX") else str(self), form)
+
     def __lt__(self, other: object) -> bool:
         if not isinstance(other, UniqueId) or type(other) is not type(self):
             return NotImplemented
@@ -72,38 +78,54 @@ class UniqueId(Checked):
 
     @classmethod
     def from_value(cls: "type[_Id]", value: int) -> _Id:
-        """The id with this `value`. Raises `OutOfRange` past 2^128 - 1."""
-        what = f"{cls.__name__}.from_value"
-        if isinstance(value, bool) or not isinstance(value, int):
-            raise WrongType(f"{what}: expected int, got {shown(value)}")
-        plain = int.__index__(value)
-        if not 0 <= plain < 1 << 128:
-            raise OutOfRange(f"{what}: expected 0 to 2^128 - 1, got {shown(plain)}")
+        """The id with this `value`. Raises `OutOfRangeError` past 2^128 - 1."""
+        plain = integer(value, 128, f"{cls.__name__}.from_value")
         return cls(*_PARTS.unpack(plain.to_bytes(_PARTS.size, "big")))
 
     @classmethod
     def from_text(cls: "type[_Id]", text: str) -> _Id:
-        """The id with this text, as `str` prints it. Raises `NoIdText` for each other text."""
+        """The id with this text, as `str` prints it. Raises `EmptyError`, `TooLongError` for more
+        than 32 digits, `IllegalByteError` of what is none of these digits, or has a 0 before them.
+        """
         what = f"{cls.__name__}.from_text"
-        given = utf8(text, what).decode()
-        try:
-            id = UniqueId.from_value(int(given, 16))
-        except (ValueError, OutOfRange):
-            raise NoIdText(f"{what} {shown(given)}: not the text of an id") from None
-        if str(id) != given:
-            raise NoIdText(f"{what} {shown(given)}: not the text of an id")
-        return cls(id.process, id.seconds, id.nanoseconds, id.counter)
+        given = utf8(text, what)
+        answer = _native.id_from_text_at(given, len(given))
+        check(answer.status, f"{what} {shown(given.decode())}")
+        return cls(answer.id.process, answer.id.seconds, answer.id.nanoseconds, answer.id.counter)
+
+    @classmethod
+    def _taken(cls: "type[_Id]", given: object) -> _Id:
+        return given if isinstance(given, cls) else cls.from_text(cast(str, given))
+
+    @classmethod
+    def __get_validators__(cls) -> "Iterator[Any]":
+        """For pydantic 1."""
+        yield cls._taken
+
+    @classmethod
+    def __get_pydantic_core_schema__(cls, _source: Any, _handler: Any) -> Any:
+        """For pydantic 2."""
+        from pydantic_core import core_schema
+
+        of_text = core_schema.no_info_after_validator_function(
+            cls.from_text, core_schema.str_schema()
+        )
+        return core_schema.json_or_python_schema(
+            json_schema=of_text,
+            python_schema=core_schema.union_schema([core_schema.is_instance_schema(cls), of_text]),
+            serialization=core_schema.to_string_ser_schema(),
+        )
 
 
 class UniqueNodeId(UniqueId):
-    """The id of a node, whose process or counter is not 0. Raises `NoNode` where both are."""
+    """The id of a node, whose process or counter is not 0. Raises `NoNodeError` where both are."""
 
     __slots__ = ()
 
     def __post_init__(self) -> None:
         super().__post_init__()
         if not _native.id_is_node(self._lent()):
-            raise NoNode(repr(self))
+            raise NoNodeError(repr(self))
 
     @property
     def owner_id(self) -> int:
@@ -111,58 +133,66 @@ class UniqueNodeId(UniqueId):
         return int(_native.id_owner_id(self._lent()))
 
 
+class UniqueServiceId(UniqueId):
+    """The id of a service."""
+
+    __slots__ = ()
+
+
 class UniquePublisherId(UniqueId):
     """The id of a publisher."""
 
     __slots__ = ()
+    role = Role.PUBLISHER
 
 
 class UniqueSubscriberId(UniqueId):
     """The id of a subscriber."""
 
     __slots__ = ()
+    role = Role.SUBSCRIBER
 
 
 class UniqueNotifierId(UniqueId):
     """The id of a notifier."""
 
     __slots__ = ()
+    role = Role.NOTIFIER
 
 
 class UniqueListenerId(UniqueId):
     """The id of a listener."""
 
     __slots__ = ()
+    role = Role.LISTENER
 
 
 class UniqueClientId(UniqueId):
     """The id of a client."""
 
     __slots__ = ()
+    role = Role.CLIENT
 
 
 class UniqueServerId(UniqueId):
     """The id of a server."""
 
     __slots__ = ()
+    role = Role.SERVER
 
 
 class UniqueReaderId(UniqueId):
     """The id of a reader."""
 
     __slots__ = ()
+    role = Role.READER
 
 
 class UniqueWriterId(UniqueId):
     """The id of a writer."""
 
     __slots__ = ()
-
-
-class UniqueServiceId(UniqueId):
-    """The id of a service."""
-
-    __slots__ = ()
+    role = Role.WRITER
 
 
 def maker(kind: "type[_Id]") -> "Callable[[int, int, int, int], _Id]":
@@ -191,4 +221,4 @@ UniquePortId = Union[
     UniqueReaderId,
     UniqueWriterId,
 ]
-"""The id of a port of any role."""
+"""The id of a port of any role; its class has the `role`."""

@@ -1,31 +1,32 @@
 """Logs of services, as the program `iox2-conform` judges them."""
 
-import ctypes
 from dataclasses import dataclass
-from typing import NamedTuple, Union
+from typing import Union
 
 from . import _native
-from ._arguments import Choice, text_or_bytes
-from .errors import check
+from ._arguments import text_or_bytes
+from ._values import Choice, Value
+from .errors import Status, check
 from .ids import UniqueNodeId
 
 
 class Expected(Choice):
     """What a line of a log has to be."""
 
-    SERVICE = 91
+    SERVICE = Status.NO_SERVICE_LINE.value
     """The line of a service."""
-    COMMAND = 92
+    COMMAND = Status.NO_COMMAND_LINE.value
     """The line of a command."""
-    REPLY = 93
+    REPLY = Status.NO_REPLY_LINE.value
     """The line of a reply."""
-    GROUP_LINE = 96
+    GROUP_LINE = Status.NO_GROUP_LINE.value
     """The line of a call of a group, or the group's end."""
-    GROUP_END = 97
+    GROUP_END = Status.NO_GROUP_END.value
     """The end of a group that has eight calls."""
 
 
-class Attached(NamedTuple):
+@dataclass(frozen=True, slots=True)
+class Attached(Value):
     """Who is there in a state of a service."""
 
     nodes: "tuple[UniqueNodeId, ...]"
@@ -35,7 +36,8 @@ class Attached(NamedTuple):
     rising slot, then the others."""
 
 
-class PossibleState(NamedTuple):
+@dataclass(frozen=True, slots=True)
+class PossibleState(Value):
     """A state that a service may be in where a reply was seen."""
 
     possible: str
@@ -44,17 +46,25 @@ class PossibleState(NamedTuple):
     """Who is there."""
 
 
-class Conforms(NamedTuple):
+class _Fails(Value):
+    """A verdict that counts as False."""
+
+    __slots__ = ()
+
+    def __bool__(self) -> bool:
+        return False
+
+
+@dataclass(frozen=True, slots=True)
+class Conforms(Value):
     """All replies of a log are those of a run."""
 
     calls: int
     """How many there are."""
 
-    def __bool__(self) -> bool:
-        return True
 
-
-class NoRun(NamedTuple):
+@dataclass(frozen=True, slots=True)
+class NoRun(_Fails):
     """The replies before one are those of a run, and no run goes on with it. It counts as False."""
 
     line: int
@@ -65,11 +75,9 @@ class NoRun(NamedTuple):
     """Each state that the service may be in then: at least one, and several where groups above have
     several orders."""
 
-    def __bool__(self) -> bool:
-        return False
 
-
-class NoOrder(NamedTuple):
+@dataclass(frozen=True, slots=True)
+class NoOrder(_Fails):
     """The replies before a group of calls that overlapped are those of a run, and no order of the
     group's calls gives theirs. It counts as False.
     """
@@ -79,25 +87,19 @@ class NoOrder(NamedTuple):
     states: "tuple[Attached, ...]"
     """Each state that the service may be in before the group: at least one."""
 
-    def __bool__(self) -> bool:
-        return False
-
 
 @dataclass(frozen=True, slots=True)
-class TooManyStates:
+class TooManyStates(_Fails):
     """The replies before a group are those of a run, and the orders of its calls lead to more than
     64 states. It counts as False.
     """
 
-    # No tuple, which would be equal to a `Conforms` of the same number.
     line: int
     """The number of the line that ends the group, from 1 on."""
 
-    def __bool__(self) -> bool:
-        return False
 
-
-class UnexpectedLine(NamedTuple):
+@dataclass(frozen=True, slots=True)
+class UnexpectedLine(_Fails):
     """The replies before a line are those of a run. The line is not what is expected, or has no
     newline, or the log ends before it. It counts as False.
     """
@@ -106,9 +108,6 @@ class UnexpectedLine(NamedTuple):
     """The number of the line, from 1 on."""
     expected: Expected
     """What is expected."""
-
-    def __bool__(self) -> bool:
-        return False
 
 
 Verdict = Union[Conforms, NoRun, NoOrder, TooManyStates, UnexpectedLine]
@@ -119,23 +118,18 @@ def check_log(log: Union[str, bytes]) -> Verdict:
     """What a log of services is judged to be: the calls that were made on services of any
     implementation, and the replies that were seen. `docs/CONFORM.md` has its lines.
 
-    Raises `NoMemory`.
+    Raises `NoMemoryError`.
     """
     given = text_or_bytes(log, "check_log")
     # The report of a log that conforms fits here, so such a log is judged once.
-    capacity = 512
-    while True:
-        out = (ctypes.c_uint8 * capacity)()
-        answer = _native.conform_run_at(given, len(given), out, capacity)
-        if answer.status != _native.BUFFER_TOO_SHORT:
-            break
-        capacity = answer.length
-    if answer.status in (_native.NO_RUN, _native.NO_ORDER):
-        report = ctypes.string_at(out, answer.length).decode(errors="backslashreplace")
-        if answer.status == _native.NO_RUN:
-            return _no_run(answer.line, report)
-        return _no_order(answer.line, report)
-    if answer.status == _native.TOO_MANY_STATES:
+    answer, written = _native.filled(512, _native.conform_run_at, given, len(given))
+    report = written.decode(errors="backslashreplace")
+    if answer.status == Status.NO_RUN.value:
+        return _no_run(answer.line, report)
+    if answer.status == Status.NO_ORDER.value:
+        _, *lines, _ = report.split("\n")
+        return NoOrder(answer.line, tuple(map(_attached, lines[::2], lines[1::2])))
+    if answer.status == Status.TOO_MANY_STATES.value:
         return TooManyStates(answer.line)
     if answer.status in (expected.value for expected in Expected):
         return UnexpectedLine(answer.line, Expected(answer.status))
@@ -151,12 +145,6 @@ def _no_run(line: int, report: str) -> NoRun:
         for possible, nodes, ports in zip(lines[::3], lines[1::3], lines[2::3])
     )
     return NoRun(line, seen.removeprefix("seen: "), tuple(states))
-
-
-def _no_order(line: int, report: str) -> NoOrder:
-    """The same of a group."""
-    _, *lines, _ = report.split("\n")
-    return NoOrder(line, tuple(map(_attached, lines[::2], lines[1::2])))
 
 
 def _attached(nodes: str, ports: str) -> Attached:

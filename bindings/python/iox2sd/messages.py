@@ -4,8 +4,9 @@ from dataclasses import dataclass
 from typing import Any
 
 from . import _native
-from ._arguments import Checked, Choice, Size, instance, number, shown, utf8
-from .errors import Incompatible, check
+from ._arguments import Checked, Size, instance, number, shown, utf8
+from ._values import Choice
+from .errors import IncompatibleError, check
 from .texts import lent
 
 
@@ -22,8 +23,8 @@ class TypeVariant(Choice):
 class TypeDetail(Checked):
     """The type of one part of a message.
 
-    Raises `NotUtf8`, `TooLong` and `IllegalByte` of the name, which has at most 256 bytes, each
-    from 1 to 127; `BadAlignment`.
+    Raises `NotUtf8Error`, `TooLongError` and `IllegalByteError` of the name, which has at most 256
+    bytes, each from 1 to 127; `BadAlignmentError`.
     """
 
     type_name: str
@@ -73,7 +74,7 @@ class MessageTypeDetails(Checked):
 
     def sample_layout(self, number_of_elements: int) -> Layout:
         """The layout of a message whose payload has so many elements. All parts lie in it, apart
-        and aligned, for the service and for every compatible opener. Raises `TooLarge` past
+        and aligned, for the service and for every compatible opener. Raises `TooLargeError` past
         2^63 - 1 bytes.
         """
         what = "MessageTypeDetails.sample_layout"
@@ -84,7 +85,8 @@ class MessageTypeDetails(Checked):
 
     def places(self, header: int) -> Places:
         """The offsets of user header and payload in a message whose header is at an offset or
-        address. Nothing is read there. Raises `TooLarge` where the payload's would pass 2^64 - 1.
+        address. Nothing is read there. Raises `TooLargeError` where the payload's would pass
+        2^64 - 1.
         """
         what = "MessageTypeDetails.places"
         answer = _native.message_places_at(self._lent(), 1, number(header, Size, what))
@@ -96,8 +98,9 @@ class MessageTypeDetails(Checked):
         those: headers are to be equal, and user headers and payloads too but for alignments, which
         are to be at most those of the service.
 
-        Raises, of the first part that differs, `OtherName`, `OtherVariant`, `OtherSize`,
-        `OtherAlignment` of the header, `GreaterAlignment` of another part: all `Incompatible`.
+        Raises, of the first part that differs, `OtherNameError`, `OtherVariantError`,
+        `OtherSizeError`, `OtherAlignmentError` of the header, `GreaterAlignmentError` of another
+        part: all `IncompatibleError`.
         """
         instance(service, MessageTypeDetails, "MessageTypeDetails.check_compatible_to")
         answer = _native.message_is_compatible_to_at(service._lent(), 1, self._lent(), 1)
@@ -108,13 +111,19 @@ class MessageTypeDetails(Checked):
         """Whether `check_compatible_to` raises nothing."""
         try:
             self.check_compatible_to(service)
-        except Incompatible:
+        except IncompatibleError:
             return False
         return True
 
     def _lent(self) -> _native.MessageDetails:
         parts = (self.header, self.user_header, self.payload)
         return _native.MessageDetails(*(part._lent() for part in parts))
+
+
+def check_same(opener: TypeDetail, service: TypeDetail, what: str) -> None:
+    """Raises where two types differ: they are compared as those of headers."""
+    of_opener, of_service = (MessageTypeDetails(one, one, one)._lent() for one in (opener, service))
+    check(_native.message_is_compatible_to_at(of_service, 1, of_opener, 1).status, what)
 
 
 def counted(what: str, answer: Any) -> int:

@@ -4,32 +4,24 @@ from collections.abc import Callable, Iterable, Iterator
 from contextlib import contextmanager
 from functools import partial
 
-from ._arguments import items
+from ._arguments import U64, items, number
 from .details import PortDetails
-from .dynamic_config import ContainerHandle, DeadNodeRemoval, DeregisterNodeState, DynamicConfig
-from .errors import (
-    ForeignHandle,
-    IsLocked,
-    NodeNotRegistered,
-    OutOfRange,
-    OutOfSpace,
-    PortsStillAttached,
-    Refused,
-    RoleNotInPattern,
+from .dynamic_config import (
+    ALL_TICKETS, ContainerHandle, DeadNodeRemoval, DeregisterNodeState, DynamicConfig,
 )
+from .errors import OutOfRangeError, RefusedError, Status
 from .ids import Role, UniqueId, UniqueNodeId, UniquePortId
 from .static_config import Capacities
 from .texts import MessagingPattern
 
-_ALL_TICKETS = 2**64 - 1
 
-_REPLIES: "dict[type[Refused], str]" = {
-    IsLocked: "locked",
-    NodeNotRegistered: "not-registered",
-    OutOfSpace: "full",
-    RoleNotInPattern: "wrong-pattern",
-    ForeignHandle: "not-owned",
-    PortsStillAttached: "ports-attached",
+_REPLIES = {
+    Status.IS_LOCKED: "locked",
+    Status.NODE_NOT_REGISTERED: "not-registered",
+    Status.OUT_OF_SPACE: "full",
+    Status.ROLE_NOT_IN_PATTERN: "wrong-pattern",
+    Status.FOREIGN_HANDLE: "not-owned",
+    Status.PORTS_STILL_ATTACHED: "ports-attached",
 }
 """The replies to calls that are refused. Those that raise another error are not written down."""
 
@@ -47,8 +39,9 @@ class Recorder(DynamicConfig):
         Conforms(calls=3)
 
     Calls that have no line in a log, as `is_locked`, are not written down. A call with a handle
-    that no call here returned is refused, and stands in the log as a comment. Threads that share a
-    recorder order their calls themselves.
+    that no call here returned is refused, and stands in the log as a comment. A log names the ports
+    that are kept by the numbers of their ids, and not by their kinds. Threads that share a recorder
+    order their calls themselves.
     """
 
     __slots__ = ("_log", "_calls", "_returned_by")
@@ -61,15 +54,15 @@ class Recorder(DynamicConfig):
         messaging_pattern: MessagingPattern,
         service_number: int,
         capacities: Capacities,
-        tickets: int = _ALL_TICKETS,
+        tickets: int = ALL_TICKETS,
     ) -> None:
         """A service with nothing attached, and with all tickets: a log cannot say how many a
         service has.
 
-        Raises `OutOfRange` where `tickets` are fewer, and what `DynamicConfig` does.
+        Raises `OutOfRangeError` where `tickets` are fewer, and what `DynamicConfig` does.
         """
-        if tickets != _ALL_TICKETS:
-            raise OutOfRange(f"Recorder.tickets: expected all 2^64 - 1, got {tickets!r}")
+        if number(tickets, U64, "Recorder.tickets") != ALL_TICKETS:
+            raise OutOfRangeError(f"Recorder.tickets: expected all 2^64 - 1, got {tickets}")
         super().__init__(messaging_pattern, service_number, capacities)
         pattern = messaging_pattern.name.lower().replace("_", "-")
         room = f"{capacities.nodes} {capacities.first} {capacities.second}"
@@ -124,7 +117,7 @@ class Recorder(DynamicConfig):
         self, node_id: UniqueNodeId, keep: Iterable[UniquePortId] = ()
     ) -> DeadNodeRemoval:
         """`DynamicConfig.remove_dead_node_id`, written down."""
-        kept = items(keep, "remove_dead_node_id.keep")
+        kept = items(keep, UniquePortId, "remove_dead_node_id.keep")
         removal = super().remove_dead_node_id(node_id, kept)
         skip = " ".join(["", "skip", *map(_dotted, kept)]) if kept else ""
         self._write(f"dead {_dotted(node_id)}{skip}", _words_of_state(removal.state))
@@ -161,9 +154,9 @@ class Recorder(DynamicConfig):
         """Writes a call that is refused."""
         try:
             yield
-        except Refused as error:
-            if type(error) in _REPLIES:
-                self._write(command(), _REPLIES[type(error)])
+        except RefusedError as error:
+            if error.status in _REPLIES:
+                self._write(command(), _REPLIES[error.status])
             raise
 
     def _write_made(self, command: str, handle: ContainerHandle) -> None:

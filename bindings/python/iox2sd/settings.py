@@ -4,16 +4,15 @@ The defaults of all fields are those of the library: `EventSettings(max_notifier
 event service gets where nothing but that number is said.
 """
 
-import enum
-from dataclasses import dataclass, fields
+from dataclasses import dataclass
 from datetime import timedelta
-from typing import Any, Optional
+from typing import Any, Optional, Union
 
 from . import _native
-from ._arguments import U32, U64, Checked, Choice, Size, instance, shown
-from .errors import OutOfRange, TooLarge, check
+from ._arguments import U32, U64, Checked, Size, instance, shown
+from ._values import Choice
+from .errors import OutOfRangeError, Status, TooLargeError, check
 from .messages import counted
-from .texts import Path, lent
 
 
 class BackpressureStrategy(Choice):
@@ -36,7 +35,6 @@ class AllocationStrategy(Choice):
     """It does not grow."""
 
 
-_global = _native.global_defaults()
 _publish_subscribe = _native.publish_subscribe_defaults()
 _event = _native.event_defaults()
 _request_response = _native.request_response_defaults()
@@ -45,7 +43,7 @@ _blackboard = _native.blackboard_defaults()
 
 @dataclass(frozen=True, slots=True, order=True)
 class Duration(Checked):
-    """A span of time. Raises `BadDuration` for a billion nanoseconds or more beside the seconds."""
+    """A span of time. Raises `BadDurationError` for a billion nanoseconds or more."""
 
     seconds: U64
     nanoseconds: U32 = 0
@@ -58,23 +56,25 @@ class Duration(Checked):
 
     @classmethod
     def from_timedelta(cls, span: timedelta) -> "Duration":
-        """The span of a `datetime.timedelta`. Raises `OutOfRange` for a negative one."""
+        """The span of a `datetime.timedelta`. Raises `OutOfRangeError` for a negative one."""
         what = "Duration.from_timedelta"
         instance(span, timedelta, what)
         microseconds = timedelta.__floordiv__(span, timedelta(microseconds=1))
         if microseconds < 0:
-            raise OutOfRange(f"{what}: expected a span that is not negative, got {shown(span)}")
+            error = OutOfRangeError(f"{what}: expected a span of 0 or more, got {shown(span)}")
+            error.status = Status.BELOW_ZERO
+            raise error
         seconds, beside = divmod(microseconds, 10**6)
         return cls(seconds, 1000 * beside)
 
     def to_timedelta(self) -> timedelta:
-        """The span as a `datetime.timedelta`, cut to whole microseconds. Raises `TooLarge` for a
-        billion days or more.
+        """The span as a `datetime.timedelta`, cut to whole microseconds. Raises `TooLargeError` for
+        a billion days or more.
         """
         try:
             return timedelta(seconds=self.seconds, microseconds=self.nanoseconds // 1000)
         except OverflowError:
-            raise TooLarge(f"Duration.to_timedelta of {self}") from None
+            raise TooLargeError(f"Duration.to_timedelta of {self}") from None
 
 
 @dataclass(frozen=True, slots=True, order=True)
@@ -92,15 +92,22 @@ def deadline(given: _native.OptionalDuration) -> "Duration | None":
     return Duration(given.seconds, given.nanoseconds) if given.is_some else None
 
 
-def plain(value: Any) -> Any:
+def _plain(value: Any) -> Any:
     """A field as the library takes it."""
     if isinstance(value, Duration):
         return _native.OptionalDuration(value.seconds, value.nanoseconds, True)
     if isinstance(value, EventId):
         return _native.OptionalEventId(value.value, True)
-    if isinstance(value, Choice):
-        return value.value
-    return value
+    return value.value if isinstance(value, Choice) else value
+
+
+def put_settings(settings: Any, made: Any) -> None:
+    """Writes settings, or what is fixed, into a struct of the library, as far as it has them."""
+    for name, _ in made._fields_:
+        own = name.removeprefix("publisher_") if hasattr(settings, "history_size") else name
+        value = getattr(settings, own, None)
+        if value is not None:
+            setattr(made, name, _plain(value))
 
 
 def read(value: Any) -> Any:
@@ -112,20 +119,36 @@ def read(value: Any) -> Any:
     return value
 
 
-@dataclass(frozen=True, slots=True, kw_only=True)
-class GlobalSettings(Checked):
-    """The settings that all services and nodes of one system share."""
-
-    creation_timeout: Duration = Duration(
-        _global.creation_timeout.seconds, _global.creation_timeout.nanoseconds
+def samples(of: Any, history: int, loaned: int, what: str) -> int:
+    """The samples of one publisher of a service with these settings."""
+    answer = _native.required_amount_of_samples_per_data_segment(
+        of.max_subscribers,
+        of.subscriber_max_buffer_size,
+        of.subscriber_max_borrowed_samples,
+        history,
+        loaned,
     )
-    """How long an opener waits until the creator is ready."""
-    cleanup_dead_nodes_on_open: bool = _global.cleanup_dead_nodes_on_open
-    """Whether what dead nodes left is removed first when a service is opened."""
-    cleanup_dead_nodes_on_creation: bool = _global.cleanup_dead_nodes_on_creation
-    """The same when a node is created."""
-    cleanup_dead_nodes_on_destruction: bool = _global.cleanup_dead_nodes_on_destruction
-    """The same when a node is dropped."""
+    return counted(what, answer)
+
+
+def requests(of: Any, loaned: int, what: str) -> int:
+    """The requests of one client of a service with these settings."""
+    answer = _native.required_amount_of_chunks_per_client_data_segment(
+        of.max_servers, of.max_active_requests_per_client, loaned
+    )
+    return counted(what, answer)
+
+
+def responses(of: Any, loaned: int, what: str) -> int:
+    """The responses of one server of a service with these settings."""
+    answer = _native.required_amount_of_chunks_per_server_data_segment(
+        of.max_clients,
+        of.max_active_requests_per_client,
+        of.max_response_buffer_size,
+        of.max_borrowed_responses_per_pending_response,
+        loaned,
+    )
+    return counted(what, answer)
 
 
 @dataclass(frozen=True, slots=True, kw_only=True)
@@ -159,16 +182,10 @@ class PublishSubscribeSettings(Checked):
 
     def required_amount_of_samples_per_data_segment(self) -> int:
         """The greatest number of one publisher's samples that can be in use at once. Raises
-        `TooLarge` past 2^64 - 1.
+        `TooLargeError` past 2^64 - 1.
         """
-        answer = _native.required_amount_of_samples_per_data_segment(
-            self.max_subscribers,
-            self.subscriber_max_buffer_size,
-            self.subscriber_max_borrowed_samples,
-            self.publisher_history_size,
-            self.publisher_max_loaned_samples,
-        )
-        return counted("samples of PublishSubscribeSettings", answer)
+        history, loaned = self.publisher_history_size, self.publisher_max_loaned_samples
+        return samples(self, history, loaned, "samples of PublishSubscribeSettings")
 
 
 @dataclass(frozen=True, slots=True, kw_only=True)
@@ -236,25 +253,16 @@ class RequestResponseSettings(Checked):
 
     def required_amount_of_chunks_per_client_data_segment(self) -> int:
         """The greatest number of one client's requests that can be in use at once. Raises
-        `TooLarge` past 2^64 - 1.
+        `TooLargeError` past 2^64 - 1.
         """
-        answer = _native.required_amount_of_chunks_per_client_data_segment(
-            self.max_servers, self.max_active_requests_per_client, self.max_loaned_requests
-        )
-        return counted("requests of RequestResponseSettings", answer)
+        return requests(self, self.max_loaned_requests, "requests of RequestResponseSettings")
 
     def required_amount_of_chunks_per_server_data_segment(self) -> int:
         """The greatest number of one server's responses that can be in use at once. Raises
-        `TooLarge` past 2^64 - 1.
+        `TooLargeError` past 2^64 - 1.
         """
-        answer = _native.required_amount_of_chunks_per_server_data_segment(
-            self.max_clients,
-            self.max_active_requests_per_client,
-            self.max_response_buffer_size,
-            self.max_borrowed_responses_per_pending_response,
-            self.server_max_loaned_responses_per_request,
-        )
-        return counted("responses of RequestResponseSettings", answer)
+        loaned = self.server_max_loaned_responses_per_request
+        return responses(self, loaned, "responses of RequestResponseSettings")
 
 
 @dataclass(frozen=True, slots=True, kw_only=True)
@@ -264,6 +272,12 @@ class BlackboardSettings(Checked):
     max_readers: Size = _blackboard.max_readers
     """How many may be attached at once; so is the next."""
     max_nodes: Size = _blackboard.max_nodes
+
+
+PatternSettings = Union[
+    PublishSubscribeSettings, EventSettings, RequestResponseSettings, BlackboardSettings
+]
+"""The settings of a service of any pattern."""
 
 
 class DefaultText(Choice):
@@ -307,18 +321,3 @@ def default_text(which: DefaultText) -> str:
     status, text = _native.written(_native.default_text_at, which.value)
     check(status, str(which))
     return text
-
-
-def service_dir(root: Path) -> Path:
-    """The directory of services below a root path. Raises `TooLong` past 255 bytes."""
-    return _directory(root, "service_dir", _native.service_dir_at)
-
-
-def node_dir(root: Path) -> Path:
-    """The directory of nodes below a root path. Raises `TooLong` past 255 bytes."""
-    return _directory(root, "node_dir", _native.node_dir_at)
-
-
-def _directory(root: Path, what: str, function: Any) -> Path:
-    instance(root, Path, what)
-    return Path._written(what, function, *lent(root))

@@ -1,60 +1,40 @@
 """What a service is: its name, id, attributes, limits and message types."""
 
 from dataclasses import dataclass, field, fields, replace
-from typing import Any, TypeVar, Union
+from typing import Any, NamedTuple, Optional, TypeVar, Union, cast
 
 from . import _native
 from ._arguments import Checked, Size, instance, number, shown
-from .attributes import AttributeSet
+from .attributes import AttributeSet, AttributeVerifier
+from .errors import (
+    IncompatibleError, MissingKeyError, MissingPairError, OtherPatternError, Status, UnmetError,
+    check,
+)
 from .ids import UniqueServiceId
-from .errors import check
-from .messages import MessageTypeDetails, TypeDetail, counted
+from .messages import MessageTypeDetails, TypeDetail, check_same
 from .settings import (
-    BlackboardSettings,
-    Duration,
-    EventId,
-    EventSettings,
-    PublishSubscribeSettings,
-    RequestResponseSettings,
-    plain,
-    read,
+    BlackboardSettings, Duration, EventId, EventSettings, PatternSettings, PublishSubscribeSettings,
+    RequestResponseSettings, put_settings, read, requests, responses, samples,
 )
 from .texts import InternalServiceName, MessagingPattern, ServiceHash, ServiceName, lent
 
 
-_SETTINGS = (
-    "max_subscribers",
-    "max_publishers",
-    "history_size",
-    "subscriber_max_buffer_size",
-    "subscriber_max_borrowed_samples",
-    "enable_safe_overflow",
-    "max_notifiers",
-    "max_listeners",
-    "event_id_max_value",
-    "notifier_created_event",
-    "notifier_dropped_event",
-    "notifier_dead_event",
-    "enable_safe_overflow_for_requests",
-    "enable_safe_overflow_for_responses",
-    "enable_fire_and_forget_requests",
-    "max_active_requests_per_client",
-    "max_loaned_requests",
-    "max_response_buffer_size",
-    "max_servers",
-    "max_clients",
-    "max_borrowed_responses_per_pending_response",
-    "max_readers",
-    "max_writers",
-    "max_nodes",
-)
+_SETTINGS = """
+max_subscribers max_publishers history_size subscriber_max_buffer_size
+subscriber_max_borrowed_samples enable_safe_overflow max_notifiers max_listeners
+event_id_max_value notifier_created_event notifier_dropped_event notifier_dead_event
+enable_safe_overflow_for_requests enable_safe_overflow_for_responses
+enable_fire_and_forget_requests max_active_requests_per_client max_loaned_requests
+max_response_buffer_size max_servers max_clients max_borrowed_responses_per_pending_response
+max_readers max_writers max_nodes
+""".split()
 """What is fixed of services, by the numbers of the header from `MAX_SUBSCRIBERS` on."""
 
-_Fixed = TypeVar("_Fixed", bound="Fixed")
+_Fixed = TypeVar("_Fixed", bound="FixedSettings")
 
 
-class Fixed(Checked):
-    """What is fixed of a service of one pattern."""
+class FixedSettings(Checked):
+    """The base of what is fixed of a service of one pattern."""
 
     __slots__ = ()
 
@@ -63,25 +43,36 @@ class Fixed(Checked):
         each number is to be at least the required one, and each choice, each event and the deadline
         the same. Types are not compared.
         """
-        pattern = next(row for row in _PATTERNS if isinstance(self, row[0]))
-        what = f"{pattern[0].__name__}.first_unmet"
-        instance(required, pattern[0], what)
-        kind, satisfies = pattern[4:]
-        answer = satisfies(_plain(self, kind), 1, _plain(required, kind), 1)
-        if answer.status != _native.UNMET:
+        of = _of(self)
+        what = f"{of.config.__name__}.first_unmet"
+        instance(required, of.config, what)
+        service, opener = _plain(self, of.plain_config), _plain(required, of.plain_config)
+        answer = of.satisfies(service, 1, opener, 1)
+        if answer.status != Status.UNMET.value:
             check(answer.status, what)
             return None
         if answer.field == _native.DEADLINE:
             return "deadline"
-        return _SETTINGS[answer.field - _native.MAX_SUBSCRIBERS]
+        name: str = _SETTINGS[answer.field - _native.MAX_SUBSCRIBERS]
+        return name
 
     def satisfies(self: _Fixed, required: _Fixed) -> bool:
         """Whether the service meets all that an opener requires."""
         return self.first_unmet(required) is None
 
 
+def _taken(cls: Any, kind: Any, settings: Any) -> "dict[str, Any]":
+    """What is fixed of a service with these settings."""
+    instance(settings, kind, f"{cls.__name__}.new")
+    names = {one.name for one in fields(cls)} & {one.name for one in fields(kind)}
+    taken = {name: getattr(settings, name) for name in names}
+    if isinstance(settings, PublishSubscribeSettings):
+        taken["history_size"] = settings.publisher_history_size
+    return taken
+
+
 @dataclass(frozen=True, slots=True, kw_only=True)
-class PublishSubscribeStaticConfig(Fixed):
+class PublishSubscribeStaticConfig(FixedSettings):
     """What a publish-subscribe service is. The fields are those of `PublishSubscribeSettings`."""
 
     max_subscribers: Size
@@ -100,57 +91,41 @@ class PublishSubscribeStaticConfig(Fixed):
         settings: PublishSubscribeSettings = PublishSubscribeSettings(),
     ) -> "PublishSubscribeStaticConfig":
         """The description of a service with these settings."""
-        instance(settings, PublishSubscribeSettings, f"{cls.__name__}.new")
-        return cls(
-            max_subscribers=settings.max_subscribers,
-            max_publishers=settings.max_publishers,
-            max_nodes=settings.max_nodes,
-            history_size=settings.publisher_history_size,
-            subscriber_max_buffer_size=settings.subscriber_max_buffer_size,
-            subscriber_max_borrowed_samples=settings.subscriber_max_borrowed_samples,
-            enable_safe_overflow=settings.enable_safe_overflow,
-            message_type_details=message_type_details,
-        )
+        taken = _taken(cls, PublishSubscribeSettings, settings)
+        return cls(**taken, message_type_details=message_type_details)
 
     def required_amount_of_samples_per_data_segment(
         self, publisher_max_loaned_samples: int
     ) -> int:
         """The greatest number of samples in use at once of a publisher that may have so many taken
-        and not yet sent. Raises `TooLarge` past 2^64 - 1.
+        and not yet sent. Raises `TooLargeError` past 2^64 - 1.
         """
         what = "required_amount_of_samples_per_data_segment"
-        answer = _native.required_amount_of_samples_per_data_segment(
-            self.max_subscribers,
-            self.subscriber_max_buffer_size,
-            self.subscriber_max_borrowed_samples,
-            self.history_size,
-            number(publisher_max_loaned_samples, Size, what),
-        )
-        return counted(what, answer)
+        loaned = number(publisher_max_loaned_samples, Size, what)
+        return samples(self, self.history_size, loaned, what)
 
 
 @dataclass(frozen=True, slots=True, kw_only=True)
-class EventStaticConfig(Fixed):
+class EventStaticConfig(FixedSettings):
     """What an event service is. The fields are those of `EventSettings`."""
 
     max_listeners: Size
     max_notifiers: Size
     max_nodes: Size
     event_id_max_value: Size
-    deadline: Union[Duration, None]
-    notifier_created_event: Union[EventId, None]
-    notifier_dropped_event: Union[EventId, None]
-    notifier_dead_event: Union[EventId, None]
+    deadline: Optional[Duration]
+    notifier_created_event: Optional[EventId]
+    notifier_dropped_event: Optional[EventId]
+    notifier_dead_event: Optional[EventId]
 
     @classmethod
     def new(cls, settings: EventSettings = EventSettings()) -> "EventStaticConfig":
         """The description of a service with these settings."""
-        instance(settings, EventSettings, f"{cls.__name__}.new")
-        return cls(**{f.name: getattr(settings, f.name) for f in fields(cls)})
+        return cls(**_taken(cls, EventSettings, settings))
 
 
 @dataclass(frozen=True, slots=True, kw_only=True)
-class RequestResponseStaticConfig(Fixed):
+class RequestResponseStaticConfig(FixedSettings):
     """What a request-response service is. The fields are those of `RequestResponseSettings`."""
 
     max_active_requests_per_client: Size
@@ -174,10 +149,8 @@ class RequestResponseStaticConfig(Fixed):
         settings: RequestResponseSettings = RequestResponseSettings(),
     ) -> "RequestResponseStaticConfig":
         """The description of a service with these settings."""
-        instance(settings, RequestResponseSettings, f"{cls.__name__}.new")
-        taken = {f.name: getattr(settings, f.name) for f in fields(cls)[:-2]}
         return cls(
-            **taken,
+            **_taken(cls, RequestResponseSettings, settings),
             request_message_type_details=request_message_type_details,
             response_message_type_details=response_message_type_details,
         )
@@ -186,35 +159,23 @@ class RequestResponseStaticConfig(Fixed):
         self, client_max_loaned_requests: int
     ) -> int:
         """The greatest number of requests in use at once of a client that may have so many taken
-        and not yet sent. Raises `TooLarge` past 2^64 - 1.
+        and not yet sent. Raises `TooLargeError` past 2^64 - 1.
         """
         what = "required_amount_of_chunks_per_client_data_segment"
-        answer = _native.required_amount_of_chunks_per_client_data_segment(
-            self.max_servers,
-            self.max_active_requests_per_client,
-            number(client_max_loaned_requests, Size, what),
-        )
-        return counted(what, answer)
+        return requests(self, number(client_max_loaned_requests, Size, what), what)
 
     def required_amount_of_chunks_per_server_data_segment(
         self, max_loaned_responses_per_request: int
     ) -> int:
         """The greatest number of responses in use at once of a server that may have so many taken
-        and not yet sent for each request. Raises `TooLarge` past 2^64 - 1.
+        and not yet sent for each request. Raises `TooLargeError` past 2^64 - 1.
         """
         what = "required_amount_of_chunks_per_server_data_segment"
-        answer = _native.required_amount_of_chunks_per_server_data_segment(
-            self.max_clients,
-            self.max_active_requests_per_client,
-            self.max_response_buffer_size,
-            self.max_borrowed_responses_per_pending_response,
-            number(max_loaned_responses_per_request, Size, what),
-        )
-        return counted(what, answer)
+        return responses(self, number(max_loaned_responses_per_request, Size, what), what)
 
 
 @dataclass(frozen=True, slots=True, kw_only=True)
-class BlackboardStaticConfig(Fixed):
+class BlackboardStaticConfig(FixedSettings):
     """What a blackboard service is. The numbers are those of `BlackboardSettings`."""
 
     max_readers: Size
@@ -228,12 +189,7 @@ class BlackboardStaticConfig(Fixed):
         cls, type_details: TypeDetail, settings: BlackboardSettings = BlackboardSettings()
     ) -> "BlackboardStaticConfig":
         """The description of a service with these settings."""
-        instance(settings, BlackboardSettings, f"{cls.__name__}.new")
-        return cls(
-            max_readers=settings.max_readers,
-            max_nodes=settings.max_nodes,
-            type_details=type_details,
-        )
+        return cls(**_taken(cls, BlackboardSettings, settings), type_details=type_details)
 
 
 PatternStaticConfig = Union[
@@ -244,53 +200,51 @@ PatternStaticConfig = Union[
 ]
 """What a service of any pattern is."""
 
-PatternSettings = Union[
-    PublishSubscribeSettings, EventSettings, RequestResponseSettings, BlackboardSettings
-]
-"""The settings of a service of any pattern."""
+
+class _Pattern(NamedTuple):
+    """What is made, and called, for a pattern."""
+
+    pattern: MessagingPattern
+    settings: Any
+    config: Any
+    plain_settings: Any
+    plain_config: Any
+    describe: Any
+    satisfies: Any
+    capacities: Any
+
+
+def _pattern(pattern: MessagingPattern, settings: Any, config: Any) -> _Pattern:
+    name = pattern.name.lower()
+    calls = (
+        settings.__name__, config.__name__.replace("Static", ""), f"describe_{name}_at",
+        f"{name}_satisfies_at", f"{name}_capacities_of_settings_at",
+    )
+    return _Pattern(pattern, settings, config, *(getattr(_native, call) for call in calls))
+
 
 _PATTERNS = (
-    (
-        PublishSubscribeStaticConfig,
-        MessagingPattern.PUBLISH_SUBSCRIBE,
-        _native.PublishSubscribeSettings,
-        _native.describe_publish_subscribe_at,
-        _native.PublishSubscribeConfig,
-        _native.publish_subscribe_satisfies_at,
+    _pattern(
+        MessagingPattern.PUBLISH_SUBSCRIBE, PublishSubscribeSettings, PublishSubscribeStaticConfig
     ),
-    (
-        EventStaticConfig,
-        MessagingPattern.EVENT,
-        _native.EventSettings,
-        _native.describe_event_at,
-        _native.EventConfig,
-        _native.event_satisfies_at,
+    _pattern(MessagingPattern.EVENT, EventSettings, EventStaticConfig),
+    _pattern(
+        MessagingPattern.REQUEST_RESPONSE, RequestResponseSettings, RequestResponseStaticConfig
     ),
-    (
-        RequestResponseStaticConfig,
-        MessagingPattern.REQUEST_RESPONSE,
-        _native.RequestResponseSettings,
-        _native.describe_request_response_at,
-        _native.RequestResponseConfig,
-        _native.request_response_satisfies_at,
-    ),
-    (
-        BlackboardStaticConfig,
-        MessagingPattern.BLACKBOARD,
-        _native.BlackboardSettings,
-        _native.describe_blackboard_at,
-        _native.BlackboardConfig,
-        _native.blackboard_satisfies_at,
-    ),
+    _pattern(MessagingPattern.BLACKBOARD, BlackboardSettings, BlackboardStaticConfig),
 )
 
-_PORTS = {
-    MessagingPattern.PUBLISH_SUBSCRIBE: ("max_publishers", "max_subscribers"),
-    MessagingPattern.EVENT: ("max_listeners", "max_notifiers"),
-    MessagingPattern.REQUEST_RESPONSE: ("max_servers", "max_clients"),
-    MessagingPattern.BLACKBOARD: ("max_readers", "max_writers"),
-}
-"""The limits of the two kinds of ports of a pattern."""
+
+def _of(value: object) -> _Pattern:
+    """The pattern of settings, or of what is fixed."""
+    return next(row for row in _PATTERNS if isinstance(value, (row.settings, row.config)))
+
+
+def _plain(value: Any, kind: Any) -> Any:
+    """What is fixed, or settings, as the library takes them; settings that are not fixed are 0."""
+    made = kind()
+    put_settings(value, made)
+    return made
 
 
 @dataclass(frozen=True, slots=True)
@@ -305,51 +259,29 @@ class Capacities(Checked):
     """Subscribers, notifiers, clients or writers."""
 
     @classmethod
-    def of(cls, settings: PatternSettings) -> "Capacities":
-        """The capacities with which a service of these settings is made. A blackboard has one
-        writer.
+    def of(cls, service: "PatternSettings | PatternStaticConfig | StaticConfig") -> "Capacities":
+        """The capacities of a service with these settings, or with this description. A blackboard
+        has one writer.
         """
-        instance(settings, PatternSettings, f"{cls.__name__}.of")
-        kind, call = next(row[1:] for row in _CAPACITIES if isinstance(settings, row[0]))
-        made = call(_plain(settings, kind), 1)
-        return cls(*(getattr(made, name) for name, _ in made._fields_))
+        return cls._of(service, f"{cls.__name__}.of")[1]
+
+    @classmethod
+    def _of(cls, service: Any, what: str) -> "tuple[MessagingPattern, Capacities]":
+        """The pattern of a service too."""
+        instance(service, Union[PatternSettings, PatternStaticConfig, StaticConfig], what)
+        settings = service.pattern_config if isinstance(service, StaticConfig) else service
+        of = _of(settings)
+        made = of.capacities(_plain(settings, of.plain_settings), 1)
+        return of.pattern, cls(*(getattr(made, name) for name, _ in made._fields_))
 
 
-_CAPACITIES = (
-    (
-        PublishSubscribeSettings,
-        _native.PublishSubscribeSettings,
-        _native.publish_subscribe_capacities_of_settings_at,
-    ),
-    (EventSettings, _native.EventSettings, _native.event_capacities_of_settings_at),
-    (
-        RequestResponseSettings,
-        _native.RequestResponseSettings,
-        _native.request_response_capacities_of_settings_at,
-    ),
-    (BlackboardSettings, _native.BlackboardSettings, _native.blackboard_capacities_of_settings_at),
-)
+@dataclass(frozen=True, slots=True, kw_only=True)
+class Requirements(Checked):
+    """What an opener requires of a service."""
 
-
-def _plain(value: Any, kind: Any) -> Any:
-    """What is fixed, or settings, as the library takes them."""
-    made = kind()
-    for name, _ in made._fields_:
-        given = getattr(value, name)
-        if given is not None:
-            setattr(made, name, plain(given))
-    return made
-
-
-def _settings(config: Any, kind: Any) -> Any:
-    """The settings of a service of which this is fixed; others are 0."""
-    made = kind()
-    for one in fields(config):
-        name = "publisher_history_size" if one.name == "history_size" else one.name
-        value = getattr(config, one.name)
-        if hasattr(made, name) and value is not None:
-            setattr(made, name, plain(value))
-    return made
+    pattern_config: PatternStaticConfig
+    """The pattern, the types of messages, or of a blackboard's keys, and the settings."""
+    attributes: AttributeVerifier = AttributeVerifier()
 
 
 @dataclass(frozen=True, slots=True)
@@ -371,7 +303,8 @@ class StaticConfig(Checked):
         instance(self.pattern_config, PatternStaticConfig, "StaticConfig.pattern_config")
         instance(self.unique_service_id, UniqueServiceId, "StaticConfig.unique_service_id")
         made = self._described()
-        object.__setattr__(self, "service_hash", ServiceHash(made.hash.decode()))
+        service_hash = ServiceHash(_native.front(made.hash, made.hash_length))
+        object.__setattr__(self, "service_hash", service_hash)
         part = getattr(made, self.messaging_pattern.name.lower())
         config = self.pattern_config
         fixed = {one.name for one in fields(config) if hasattr(part, one.name)}
@@ -382,10 +315,9 @@ class StaticConfig(Checked):
 
     def _described(self) -> _native.Description:
         """What the library makes of the name, the id and the settings."""
-        config, made = self.pattern_config, _native.Description()
-        kind, describe = next(row[2:4] for row in _PATTERNS if isinstance(config, row[0]))
-        answer = describe(
-            _settings(config, kind),
+        of, made = _of(self.pattern_config), _native.Description()
+        answer = of.describe(
+            _plain(self.pattern_config, of.plain_settings),
             1,
             *lent(self.name),
             isinstance(self.name, InternalServiceName),
@@ -399,17 +331,43 @@ class StaticConfig(Checked):
     @property
     def messaging_pattern(self) -> MessagingPattern:
         """The messaging pattern of the service."""
-        config = self.pattern_config
-        return next(row[1] for row in _PATTERNS if isinstance(config, row[0]))
+        return _of(self.pattern_config).pattern
 
     @property
     def capacities(self) -> Capacities:
         """The capacities with which the described service is made."""
-        config = self.pattern_config
-        first, second = (getattr(config, name) for name in _PORTS[self.messaging_pattern])
-        return Capacities(config.max_nodes, first, second)
+        return Capacities.of(self)
 
     def has_same_messaging_pattern(self, other: "StaticConfig") -> bool:
         """Whether both services have one messaging pattern."""
         instance(other, StaticConfig, "StaticConfig.has_same_messaging_pattern")
         return self.messaging_pattern is other.messaging_pattern
+
+    def check_satisfies(self, required: Requirements) -> None:
+        """Raises for the first of all that an opener requires and the service is not: of its
+        pattern `OtherPatternError`, what `AttributeVerifier.verify_requirements` raises, of types
+        what `MessageTypeDetails.check_compatible_to` does, and `UnmetError` of the setting that it
+        names.
+        """
+        instance(required, Requirements, "StaticConfig.check_satisfies")
+        service, opener = self.pattern_config, required.pattern_config
+        if _of(opener).pattern is not self.messaging_pattern:
+            raise OtherPatternError(self.messaging_pattern.name)
+        required.attributes.verify_requirements(self.attributes)
+        for one in fields(service):
+            of_service = getattr(service, one.name)
+            if isinstance(of_service, MessageTypeDetails):
+                getattr(opener, one.name).check_compatible_to(of_service)
+            elif isinstance(of_service, TypeDetail):
+                check_same(getattr(opener, one.name), of_service, "the opener's keys")
+        unmet = cast(Any, service).first_unmet(opener)
+        if unmet is not None:
+            raise UnmetError(unmet)
+
+    def satisfies(self, required: Requirements) -> bool:
+        """Whether `check_satisfies` raises nothing."""
+        try:
+            self.check_satisfies(required)
+        except (IncompatibleError, MissingPairError, MissingKeyError):
+            return False
+        return True

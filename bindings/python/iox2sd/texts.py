@@ -1,10 +1,13 @@
 """Names, keys, values, paths and hash texts. Each is a `str` that was found to be legal."""
 
+from collections.abc import Iterator
 from typing import Any, ClassVar, TypeVar
 
 from . import _native
-from ._arguments import Choice, instance, shown, utf8
-from .errors import IllegalByte, TooLong, check
+from ._arguments import instance, shown, utf8
+from ._values import Choice
+from .errors import Status, check
+
 
 _Text = TypeVar("_Text", bound="Text")
 
@@ -23,14 +26,14 @@ class MessagingPattern(Choice):
 
 
 class Text(str):
-    """The base of all texts. Raises `WrongType` for all but a `str`, and `NotUtf8` for halves of
-    surrogate pairs. Slices, sums and other parts of a text are plain `str` again.
+    """The base of all texts. Raises `WrongTypeError` for all but a `str`, and `NotUtf8Error` for
+    halves of surrogate pairs. Slices, sums and other parts of a text are plain `str` again.
 
     Of a subclass of `str`, as a member of a `class Topic(str, Enum)`, the text is what it holds as
-    a `str`, whatever its `__str__` says.
+    a `str`, whatever its `__str__` says. A model of pydantic takes a text and a `str`.
     """
 
-    __slots__ = ()
+    __slots__ = ("__weakref__",)
     _check: ClassVar[Any]
 
     def __new__(cls: "type[_Text]", text: str) -> _Text:
@@ -38,12 +41,24 @@ class Text(str):
         plain = encoded.decode()
         answer = cls._check(encoded, len(encoded))
         if answer.status != _native.DONE:
-            has_place = answer.status in (TooLong.status, IllegalByte.status)
-            check(answer.status, f"{cls.__name__} {shown(plain)}", answer.at if has_place else None)
+            has_index = answer.status in (Status.TOO_LONG.value, Status.ILLEGAL_BYTE.value)
+            check(answer.status, f"{cls.__name__} {shown(plain)}", answer.at if has_index else None)
         return super().__new__(cls, plain)
 
     def __repr__(self) -> str:
         return f"{type(self).__name__}({super().__repr__()})"
+
+    @classmethod
+    def __get_validators__(cls) -> "Iterator[Any]":
+        """For pydantic 1."""
+        yield cls
+
+    @classmethod
+    def __get_pydantic_core_schema__(cls, _source: Any, _handler: Any) -> Any:
+        """For pydantic 2."""
+        from pydantic_core import core_schema
+
+        return core_schema.no_info_after_validator_function(cls, core_schema.str_schema())
 
     @classmethod
     def _written(cls: "type[_Text]", what: str, function: Any, *arguments: Any) -> _Text:
@@ -63,7 +78,7 @@ class ServiceName(Text):
     """The name that a user gives to a service: 1 to 255 bytes, each from 1 to 127, not beginning
     with `iox2://`.
 
-    Raises `ReservedPrefix`, `Empty`, `TooLong`, `IllegalByte`.
+    Raises `ReservedPrefixError`, `EmptyError`, `TooLongError`, `IllegalByteError`.
     """
 
     __slots__ = ()
@@ -79,7 +94,7 @@ class ServiceName(Text):
 class InternalServiceName(ServiceName):
     """The name of a service, which may be one of the system's own.
 
-    Raises `Empty`, `TooLong`, `IllegalByte`.
+    Raises `EmptyError`, `TooLongError`, `IllegalByteError`.
     """
 
     __slots__ = ()
@@ -89,7 +104,7 @@ class InternalServiceName(ServiceName):
     def prefixed(cls, name: str) -> "InternalServiceName":
         """The name of one of the system's own services: `iox2://` and the text.
 
-        Raises `TooLong` for more than 248 bytes, `IllegalByte`.
+        Raises `TooLongError` for more than 248 bytes, `IllegalByteError`.
         """
         encoded = utf8(name, "InternalServiceName.prefixed")
         what = f"InternalServiceName.prefixed {shown(name)}"
@@ -99,7 +114,7 @@ class InternalServiceName(ServiceName):
 class AttributeKey(Text):
     """The key of an attribute: 1 to 64 bytes, each from 1 to 127.
 
-    Raises `Empty`, `TooLong`, `IllegalByte`.
+    Raises `EmptyError`, `TooLongError`, `IllegalByteError`.
     """
 
     __slots__ = ()
@@ -109,7 +124,7 @@ class AttributeKey(Text):
 class AttributeValue(Text):
     """The value of an attribute: 1 to 256 bytes, each from 1 to 127.
 
-    Raises `Empty`, `TooLong`, `IllegalByte`.
+    Raises `EmptyError`, `TooLongError`, `IllegalByteError`.
     """
 
     __slots__ = ()
@@ -119,7 +134,7 @@ class AttributeValue(Text):
 class Path(Text):
     """A path: at most 255 bytes, each from 1 to 127. It may be empty.
 
-    Raises `TooLong`, `IllegalByte`.
+    Raises `TooLongError`, `IllegalByteError`.
     """
 
     __slots__ = ()
@@ -127,7 +142,7 @@ class Path(Text):
 
     def add_path_entry(self, entry: "Path") -> "Path":
         """A path with an entry behind it, with one `/` between them unless this path is empty or
-        ends in `/`. Raises `TooLong` past 255 bytes.
+        ends in `/`. Raises `TooLongError` past 255 bytes.
         """
         instance(entry, Path, "Path.add_path_entry")
         what = f"{shown(self)} and {shown(entry)}"
@@ -137,7 +152,7 @@ class Path(Text):
 class FileName(Text):
     """The name of a file: 1 to 255 bytes, each from 1 to 127 and none a `/`, neither `.` nor `..`.
 
-    Raises `Empty`, `TooLong`, `IllegalByte`, `NoFileName`.
+    Raises `EmptyError`, `TooLongError`, `IllegalByteError`, `NoFileNameError`.
     """
 
     __slots__ = ()
@@ -148,7 +163,7 @@ class FilePath(Text):
     """The path of a file: 1 to 255 bytes, each from 1 to 127, of which those after the last `/` are
     the name of a file.
 
-    Raises `Empty`, `TooLong`, `IllegalByte`, `NoFileName`.
+    Raises `EmptyError`, `TooLongError`, `IllegalByteError`, `NoFileNameError`.
     """
 
     __slots__ = ()
@@ -158,7 +173,7 @@ class FilePath(Text):
     def from_path_and_file(cls, path: Path, file: FileName) -> "FilePath":
         """The path of a file in a directory, joined as by `Path.add_path_entry`.
 
-        Raises `TooLong` past 255 bytes.
+        Raises `TooLongError` past 255 bytes.
         """
         instance(path, Path, "FilePath.from_path_and_file")
         instance(file, FileName, "FilePath.from_path_and_file")
@@ -170,7 +185,7 @@ class RestrictedFileName(Text):
     """A restricted name of a file: 1 to 64 letters A to Z and a to z, digits, `-`, `.`, `:` and
     `_`, and neither `.` nor `..`.
 
-    Raises `Empty`, `TooLong`, `IllegalByte`, `NoFileName`.
+    Raises `EmptyError`, `TooLongError`, `IllegalByteError`, `NoFileNameError`.
     """
 
     __slots__ = ()
@@ -186,7 +201,7 @@ class ServiceHash(RestrictedFileName):
     def new(cls, service_name: ServiceName, messaging_pattern: MessagingPattern) -> "ServiceHash":
         """The hash text by SHA-1, which has 27 bytes.
 
-        Raises `IllegalHash`, which SHA-1 is proved never to make.
+        Raises `IllegalHashError`, which SHA-1 is proved never to make.
         """
         instance(service_name, ServiceName, "ServiceHash.new")
         instance(messaging_pattern, MessagingPattern, "ServiceHash.new")

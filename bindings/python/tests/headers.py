@@ -16,12 +16,21 @@ CONSTANTS = {
 _ENUM = re.search(r"enum iox2sd_status_number \{(.*?)\};", TEXT, re.DOTALL)
 assert _ENUM is not None
 STATUSES = {
-    name: int(number) for name, number in re.findall(r"IOX2SD_(\w+) = (\d+)", _ENUM.group(1))
+    name.removeprefix("STATUS_"): int(number)
+    for name, number in re.findall(r"IOX2SD_(\w+) = (\d+)", _ENUM.group(1))
 }
+
+
+def constant(kind: str, name: str) -> int:
+    """The number of a member of an enum, whose name the enum may be a part of."""
+    names = (f"{kind}_{name}", name, f"{name}_{kind}")
+    return next(CONSTANTS[one] for one in names if one in CONSTANTS)
+
 
 ABI = re.search(r"#define IOX2SD_ABI (\d+)", TEXT)
 
-EXPORTS = set(
-    re.findall(r"^(?!static)(?:struct )?[a-z]\w+\s+iox2sd_(\w+)\([^{]*?\);", TEXT, re.MULTILINE)
-)
-"""The functions that the library has, without the inline ones."""
+FUNCTIONS = set(re.findall(r"\biox2sd_(\w+)\(", re.sub(r"/\*.*?\*/", "", TEXT, flags=re.DOTALL)))
+"""All functions of the library."""
+
+EXPORTS = {name for name in FUNCTIONS if f"{name.removesuffix('_str')}_at" not in FUNCTIONS}
+"""Those that are no other's with checks for NULL, or for texts that end in a zero byte."""

@@ -1,14 +1,12 @@
+import ctypes
 import pickle
 import unittest
+from unittest import mock
 
 import iox2sd
 from iox2sd import (
-    Attribute,
-    AttributeKey,
-    AttributeSet,
-    AttributeSpecifier,
-    AttributeValue,
-    AttributeVerifier,
+    Attribute, AttributeKey, AttributeSet, AttributeSpecifier, AttributeValue, AttributeVerifier,
+    _native,
 )
 
 
@@ -44,7 +42,7 @@ class Sets(unittest.TestCase):
         self.assertEqual((value, type(value)), ("v" * 256, AttributeValue))
 
     def test_seventeen_pairs(self):
-        with self.assertRaises(iox2sd.TooMany) as caught:
+        with self.assertRaises(iox2sd.TooManyError) as caught:
             AttributeSet([pair("a", "b")] * 17)
         self.assertEqual((caught.exception.at, caught.exception.unit), (16, "pair"))
 
@@ -60,23 +58,16 @@ class Sets(unittest.TestCase):
 
     def test_wrong_arguments(self):
         for wrong in ([("a", "b")], [None], ["ab"]):
-            with self.assertRaises(iox2sd.WrongType):
-                AttributeSet(wrong)
-        with self.assertRaises(iox2sd.WrongType):
-            Attribute("a", AttributeValue("b"))
-        with self.assertRaises(iox2sd.WrongType):
-            Attribute(AttributeKey("a"), AttributeKey("b"))
+            self.assertRaises(iox2sd.WrongTypeError, AttributeSet, wrong)
+        self.assertRaises(iox2sd.WrongTypeError, Attribute, "a", AttributeValue("b"))
+        self.assertRaises(iox2sd.WrongTypeError, Attribute, AttributeKey("a"), AttributeKey("b"))
         for call in (SET.number_of_key_values, lambda key: SET.key_value(key, 0)):
-            with self.assertRaises(iox2sd.WrongType):
-                call("colour")
-        with self.assertRaises(iox2sd.WrongType):
-            list(SET.iter_key_values("colour"))
+            self.assertRaises(iox2sd.WrongTypeError, call, "colour")
+        self.assertRaises(iox2sd.WrongTypeError, list, SET.iter_key_values("colour"))
         for index in (True, "0", 0.0):
-            with self.assertRaises(iox2sd.WrongType):
-                SET.key_value(COLOUR, index)
+            self.assertRaises(iox2sd.WrongTypeError, SET.key_value, COLOUR, index)
         for index in (-1, 2**64):
-            with self.assertRaises(iox2sd.OutOfRange):
-                SET.key_value(COLOUR, index)
+            self.assertRaises(iox2sd.OutOfRangeError, SET.key_value, COLOUR, index)
 
 
 class Specifiers(unittest.TestCase):
@@ -87,10 +78,8 @@ class Specifiers(unittest.TestCase):
         self.assertEqual(specifier.attributes, SET)
         for _ in range(13):
             specifier = specifier.define(SIZE, AttributeValue("8"))
-        with self.assertRaises(iox2sd.TooMany):
-            specifier.define(SIZE, AttributeValue("8"))
-        with self.assertRaises(iox2sd.WrongType):
-            AttributeSpecifier([])
+        self.assertRaises(iox2sd.TooManyError, specifier.define, SIZE, AttributeValue("8"))
+        self.assertRaises(iox2sd.WrongTypeError, AttributeSpecifier, [])
 
 
 class Verifiers(unittest.TestCase):
@@ -112,12 +101,12 @@ class Verifiers(unittest.TestCase):
     def test_what_a_set_lacks(self):
         verifier = AttributeVerifier().require(COLOUR, AttributeValue("red"))
         verifier = verifier.require(COLOUR, AttributeValue("green")).require_key(SIZE)
-        with self.assertRaises(iox2sd.MissingPair) as pair_missing:
+        with self.assertRaises(iox2sd.MissingPairError) as pair_missing:
             verifier.verify_requirements(SET)
         self.assertEqual(pair_missing.exception.at, 0)
         self.assertIn("green", str(pair_missing.exception))
         verifier = AttributeVerifier().require_key(SIZE).require_key(AttributeKey("weight"))
-        with self.assertRaises(iox2sd.MissingKey) as key_missing:
+        with self.assertRaises(iox2sd.MissingKeyError) as key_missing:
             verifier.verify_requirements(SET)
         self.assertEqual(key_missing.exception.at, 1)
         self.assertIn("weight", str(key_missing.exception))
@@ -127,23 +116,26 @@ class Verifiers(unittest.TestCase):
         for _ in range(8):
             verifier = verifier.require(SIZE, AttributeValue("9")).require_key(COLOUR)
         verifier.verify_requirements(SET)
-        with self.assertRaises(iox2sd.TooManyRequired):
-            verifier.require(SIZE, AttributeValue("9"))
-        with self.assertRaises(iox2sd.TooManyRequired):
-            verifier.require_key(SIZE)
+        self.assertRaises(iox2sd.TooManyRequiredError, verifier.require, SIZE, AttributeValue("9"))
+        self.assertRaises(iox2sd.TooManyRequiredError, verifier.require_key, SIZE)
+
+    def test_a_requirement_takes_one_call_of_the_library(self):
+        counted = {
+            name: mock.Mock(wraps=function)
+            for name, function in vars(_native).items()
+            if isinstance(function, ctypes._CFuncPtr)
+        }
+        verifier, specifier, value = AttributeVerifier(), AttributeSpecifier(), AttributeValue("v")
+        with mock.patch.multiple(_native, **counted):
+            for _ in range(16):
+                verifier = verifier.require(SIZE, value)
+                specifier = specifier.define(SIZE, value)
+        called = {name: mocked.call_count for name, mocked in counted.items() if mocked.called}
+        self.assertEqual(called, {"attributes_sort_at": 32})
 
     def test_wrong_arguments(self):
-        with self.assertRaises(iox2sd.WrongType):
-            AttributeVerifier().verify_requirements([])
-        with self.assertRaises(iox2sd.WrongType):
-            AttributeVerifier().require_key("size")
-        with self.assertRaises(iox2sd.WrongType):
-            AttributeVerifier().require("size", "9")
-        with self.assertRaises(iox2sd.WrongType):
-            AttributeVerifier([])
-        with self.assertRaises(iox2sd.WrongType):
-            AttributeVerifier(AttributeSet(), [SIZE])
-
-
-if __name__ == "__main__":
-    unittest.main()
+        self.assertRaises(iox2sd.WrongTypeError, AttributeVerifier().verify_requirements, [])
+        self.assertRaises(iox2sd.WrongTypeError, AttributeVerifier().require_key, "size")
+        self.assertRaises(iox2sd.WrongTypeError, AttributeVerifier().require, "size", "9")
+        self.assertRaises(iox2sd.WrongTypeError, AttributeVerifier, [])
+        self.assertRaises(iox2sd.WrongTypeError, AttributeVerifier, AttributeSet(), [SIZE])

@@ -2,7 +2,7 @@ import unittest
 from dataclasses import fields, replace
 
 import iox2sd
-from iox2sd import Config, DefaultText, FileName, GlobalSettings, Path, default_text
+from iox2sd import Config, DefaultText, Duration, FileName, Path, default_text
 
 
 class Configs(unittest.TestCase):
@@ -29,15 +29,10 @@ class Configs(unittest.TestCase):
         }
         for which, found in expected.items():
             self.assertEqual(found, default_text(which))
-        self.assertEqual(
-            GlobalSettings(
-                creation_timeout=shared.creation_timeout,
-                cleanup_dead_nodes_on_open=shared.service.cleanup_dead_nodes_on_open,
-                cleanup_dead_nodes_on_creation=shared.node.cleanup_dead_nodes_on_creation,
-                cleanup_dead_nodes_on_destruction=shared.node.cleanup_dead_nodes_on_destruction,
-            ),
-            GlobalSettings(),
-        )
+        self.assertEqual(shared.creation_timeout, Duration(0, 500_000_000))
+        self.assertIs(shared.service.cleanup_dead_nodes_on_open, True)
+        self.assertIs(shared.node.cleanup_dead_nodes_on_creation, True)
+        self.assertIs(shared.node.cleanup_dead_nodes_on_destruction, True)
         self.assertEqual(config.defaults.event, iox2sd.EventSettings())
         self.assertEqual(config.defaults.publish_subscribe, iox2sd.PublishSubscribeSettings())
         self.assertEqual(config.defaults.request_response, iox2sd.RequestResponseSettings())
@@ -45,20 +40,19 @@ class Configs(unittest.TestCase):
 
     def test_directories(self):
         shared = Config().global_cfg
-        self.assertEqual(shared.service_dir(), iox2sd.service_dir(shared.root_path))
-        self.assertEqual(shared.node_dir(), iox2sd.node_dir(shared.root_path))
+        self.assertEqual(shared.service_dir(), "/tmp/iceoryx2/services")
+        self.assertEqual(shared.node_dir(), "/tmp/iceoryx2/nodes")
+        self.assertEqual(replace(shared, root_path=Path("")).node_dir(), "nodes")
         others = replace(
-            shared,
-            root_path=Path("/run/robot"),
+            shared, root_path=Path("/run/robot"),
             service=replace(shared.service, directory=Path("others")),
             node=replace(shared.node, directory=Path("heads")),
         )
         self.assertEqual(others.service_dir(), "/run/robot/others")
         self.assertEqual(others.node_dir(), "/run/robot/heads")
-        with self.assertRaises(iox2sd.TooLong):
+        with self.assertRaises(iox2sd.TooLongError):
             replace(others, root_path=Path("x" * 250)).service_dir()
-        with self.assertRaises(iox2sd.TooLong):
-            replace(others, root_path=Path("x" * 251)).node_dir()
+        self.assertRaises(iox2sd.TooLongError, replace(others, root_path=Path("x" * 251)).node_dir)
 
     def test_values(self):
         config = Config()
@@ -66,16 +60,11 @@ class Configs(unittest.TestCase):
         self.assertEqual(hash(Config()), hash(config))
         for part in (config.global_cfg, config.global_cfg.service, config.global_cfg.node):
             for field in fields(part):
-                with self.assertRaises(iox2sd.WrongType):
-                    replace(part, **{field.name: 5})
+                self.assertRaises(iox2sd.WrongTypeError, replace, part, **{field.name: 5})
                 value = getattr(part, field.name)
                 if isinstance(value, (FileName, Path)):
                     changed = replace(part, **{field.name: type(value)("other")})
                     self.assertNotEqual(changed, part)
         for field in fields(config.defaults):
-            with self.assertRaises(iox2sd.WrongType):
+            with self.assertRaises(iox2sd.WrongTypeError):
                 replace(config.defaults, **{field.name: config})
-
-
-if __name__ == "__main__":
-    unittest.main()

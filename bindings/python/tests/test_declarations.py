@@ -23,8 +23,8 @@ NO_CLASS = {
     "UNKNOWN_SEGMENT": "kinds of segments are members of an enum",
     "BAD_KEY": "keys are legal",
     "BAD_VALUE": "values are legal",
-    "NULL": "no NULL is handed over",
-    "UNKNOWN_STATUS": "status texts are asked for by the package alone",
+    "NULL": "no NULL is passed",
+    "UNKNOWN_STATUS": "it is the status of an error without one",
     "BAD_SERVICE_NAME": "names are legal",
     "BAD_PATH": "paths are legal",
     "BAD_ENTRY": "entries and names of files are legal",
@@ -35,11 +35,11 @@ NO_CLASS = {
     "UNKNOWN_VARIANT": "variants are members of an enum",
     "UNKNOWN_TEXT": "texts of the configuration are members of an enum",
     "UNKNOWN_STRATEGY": "strategies are members of an enum",
-    "UNMET": "the name of the setting is returned",
-    "NOT_TOML": "it is a fault of a BadConfig; so are the next three",
+    "NOT_TOML": "it is a fault of a BadConfigError; so are the next three",
     "WRONG_TYPE": "",
     "BELOW_ZERO": "",
     "NO_DURATION": "",
+    "TOO_DEEP": "",
     "NO_FILE": "the system's own errors are raised",
     "NO_RUN": "it is a verdict on a log; so are the next seven",
     "NO_SERVICE_LINE": "",
@@ -54,8 +54,15 @@ NO_CLASS = {
 
 NOT_CALLED = {
     r"(publish_subscribe|event|request_response)_settings_check_at": "their fields are valid",
+    r"attributes_check_at": "sets are sorted where they are made",
+    r"(service|node)_dir_at": "paths are joined",
     r"has_same_messaging_pattern": "patterns are members of an enum",
-    r"id_from_text_at": "ids are made of their parts",
+    r"(\w+_)?capacities_of_\w+": "those of settings are called",
+    r"service_create_\w+": "services are made of capacities",
+    r"handle_(is_)?none": "a handle is one, or None",
+    r"\w+_str": "texts have their length",
+    r"(samples|requests|responses)_of": "the numbers are passed one by one",
+    r"open_(check|text)": "its parts are called one after another",
 }
 """The exports that the package has no use for."""
 
@@ -156,36 +163,30 @@ class Declarations(unittest.TestCase):
         self.assertEqual((_native.ABI, _native.abi()), (int(headers.ABI.group(1)),) * 2)
 
     def test_constants_are_those_of_the_header(self):
-        kinds: "list[tuple[type[enum.Enum], str, str]]" = [
-            (iox2sd.MessagingPattern, "", ""),
-            (iox2sd.Role, "", ""),
-            (iox2sd.DataSegmentType, "", "_SEGMENT"),
-            (iox2sd.TypeVariant, "VARIANT_", ""),
-            (iox2sd.BackpressureStrategy, "", ""),
-            (iox2sd.AllocationStrategy, "ALLOCATION_", ""),
-            (iox2sd.DefaultText, "", ""),
-        ]
-        for kind, front, end in kinds:
+        kinds: "dict[str, type[enum.Enum]]" = {
+            "PATTERN": iox2sd.MessagingPattern, "ROLE": iox2sd.Role,
+            "SEGMENT": iox2sd.DataSegmentType, "VARIANT": iox2sd.TypeVariant,
+            "BACKPRESSURE": iox2sd.BackpressureStrategy, "ALLOCATION": iox2sd.AllocationStrategy,
+            "TEXT": iox2sd.DefaultText,
+        }
+        for front, kind in kinds.items():
             for member in kind:
                 with self.subTest(member=member):
-                    name = front + member.name + end
-                    self.assertEqual(headers.CONSTANTS[name], member.value)
-        expected = {
-            f"NO_{member.name}" + "_LINE" * (not member.name.startswith("GROUP")): member.value
-            for member in iox2sd.Expected
-        }
-        self.assertLessEqual(expected.items(), headers.CONSTANTS.items())
-        statuses = ("DONE", "DONE_LOCKED", "BUFFER_TOO_SHORT", "OUT_OF_SPACE", "NO_SUCH_VALUE")
-        verdicts = ("NO_RUN", "NO_ORDER", "TOO_MANY_STATES")
-        for name in (*statuses, *verdicts, "UNMET", "DEADLINE", "MAX_SUBSCRIBERS"):
-            self.assertEqual(headers.CONSTANTS[name], getattr(_native, name))
+                    self.assertEqual(headers.constant(front, member.name), member.value)
+        self.assertEqual(
+            [iox2sd.Status(member.value).name for member in iox2sd.Expected],
+            "NO_SERVICE_LINE NO_COMMAND_LINE NO_REPLY_LINE NO_GROUP_LINE NO_GROUP_END".split(),
+        )
+        for name in ("DONE", "DONE_LOCKED", "BUFFER_TOO_SHORT"):
+            self.assertEqual(headers.STATUSES[name], getattr(_native, name))
+        for name in ("DEADLINE", "MAX_SUBSCRIBERS"):
+            self.assertEqual(headers.constant("FIELD", name), getattr(_native, name))
 
     def test_each_refusal_has_a_class(self):
-        named = {snake(kind.__name__).upper(): s for s, kind in errors._KINDS.items()}
+        named = {
+            snake(kind.__name__).upper().removesuffix("_ERROR"): status.value
+            for status, kind in errors._KINDS.items()
+        }
         wanted = {n: s for n, s in headers.STATUSES.items() if n not in NO_CLASS}
         self.assertEqual(named, wanted)
         self.assertLessEqual(set(NO_CLASS), set(headers.STATUSES))
-
-
-if __name__ == "__main__":
-    unittest.main()

@@ -9,22 +9,9 @@ from typing import Any
 
 import iox2sd
 from iox2sd import (
-    Capacities,
-    ClientDetails,
-    ContainerHandle,
-    DataSegmentType,
-    DeadNodeRemoval,
-    DeregisterNodeState,
-    DynamicConfig,
-    ListenerDetails,
-    MessagingPattern,
-    NotifierDetails,
-    PublisherDetails,
-    ReaderDetails,
-    Role,
-    ServerDetails,
-    SubscriberDetails,
-    UniqueNodeId,
+    Capacities, ClientDetails, ContainerHandle, DataSegmentType, DeadNodeRemoval,
+    DeregisterNodeState, DynamicConfig, ListenerDetails, MessagingPattern, NotifierDetails,
+    PublisherDetails, ReaderDetails, Role, ServerDetails, SubscriberDetails, UniqueNodeId,
     WriterDetails,
 )
 
@@ -35,12 +22,8 @@ OTHER = UniqueNodeId(5, 6, 7, 8)
 
 def publisher(counter: int, node: UniqueNodeId = NODE) -> PublisherDetails:
     return PublisherDetails(
-        publisher_id=iox2sd.UniquePublisherId(9, 9, 9, counter),
-        node_id=node,
-        number_of_samples=11,
-        max_slice_len=MOST,
-        data_segment_type=DataSegmentType.DYNAMIC,
-        max_number_of_segments=255,
+        publisher_id=iox2sd.UniquePublisherId(9, 9, 9, counter), node_id=node, number_of_samples=11,
+        max_slice_len=MOST, data_segment_type=DataSegmentType.DYNAMIC, max_number_of_segments=255,
     )
 
 
@@ -51,21 +34,13 @@ def subscriber(counter: int, node: UniqueNodeId = NODE) -> SubscriberDetails:
 
 
 CLIENT = ClientDetails(
-    client_id=iox2sd.UniqueClientId(1, 1, 1, 1),
-    node_id=NODE,
-    number_of_requests=17,
-    response_buffer_size=19,
-    max_slice_len=23,
-    data_segment_type=DataSegmentType.STATIC,
+    client_id=iox2sd.UniqueClientId(1, 1, 1, 1), node_id=NODE, number_of_requests=17,
+    response_buffer_size=19, max_slice_len=23, data_segment_type=DataSegmentType.STATIC,
     max_number_of_segments=1,
 )
 SERVER = ServerDetails(
-    server_id=iox2sd.UniqueServerId(2, 2, 2, 2),
-    node_id=NODE,
-    request_buffer_size=29,
-    number_of_responses=31,
-    max_slice_len=37,
-    data_segment_type=DataSegmentType.DYNAMIC,
+    server_id=iox2sd.UniqueServerId(2, 2, 2, 2), node_id=NODE, request_buffer_size=29,
+    number_of_responses=31, max_slice_len=37, data_segment_type=DataSegmentType.DYNAMIC,
     max_number_of_segments=2,
 )
 LISTENER = ListenerDetails(listener_id=iox2sd.UniqueListenerId(3, 3, 3, 3), node_id=NODE)
@@ -101,29 +76,16 @@ def service(nodes: int = 2, publishers: int = 2, subscribers: int = 2) -> Dynami
 def calls(made: DynamicConfig, handle: ContainerHandle) -> "list[Any]":
     """Each call on a service."""
     return [
-        lambda: made.register_node_id(NODE),
-        lambda: made.deregister_node_id(handle),
-        lambda: made.attach(publisher(1)),
-        lambda: made.release_port(handle),
-        lambda: made.remove_dead_node_id(NODE),
-        lambda: made.registered(NODE).__enter__(),
-        lambda: made.attached(publisher(1)).__enter__(),
-        lambda: made.messaging_pattern,
-        lambda: made.service_number,
-        lambda: made.port_roles,
-        lambda: made.has_role(Role.PUBLISHER),
-        lambda: made.is_locked,
-        lambda: made.number_of_nodes,
-        lambda: made.max_nodes,
-        lambda: made.has_room_for_node,
-        lambda: made.count_ports(Role.PUBLISHER),
-        lambda: made.max_ports(Role.PUBLISHER),
-        lambda: made.has_room(Role.PUBLISHER),
-        lambda: made.node(handle),
-        lambda: made.port(handle),
-        lambda: made.list_node_ids(),
-        lambda: made.list_ports(Role.PUBLISHER),
-        lambda: made.ports_of(NODE),
+        lambda: made.register_node_id(NODE), lambda: made.deregister_node_id(handle),
+        lambda: made.attach(publisher(1)), lambda: made.release_port(handle),
+        lambda: made.remove_dead_node_id(NODE), lambda: made.registered(NODE).__enter__(),
+        lambda: made.attached(publisher(1)).__enter__(), lambda: made.messaging_pattern,
+        lambda: made.service_number, lambda: made.port_roles, lambda: made.has_role(Role.PUBLISHER),
+        lambda: made.is_locked, lambda: made.number_of_nodes, lambda: made.max_nodes,
+        lambda: made.has_room_for_node, lambda: made.count_ports(Role.PUBLISHER),
+        lambda: made.max_ports(Role.PUBLISHER), lambda: made.has_room(Role.PUBLISHER),
+        lambda: made.node(handle), lambda: made.port(handle), lambda: made.list_node_ids(),
+        lambda: made.list_ports(Role.PUBLISHER), lambda: made.ports_of(NODE),
         *(lambda listed=listed: listed(made) for listed in LISTS.values()),
     ]
 
@@ -162,13 +124,11 @@ class Patterns(unittest.TestCase):
             with make(tickets=2) as made, make() as other:
                 made.register_node_id(NODE)
                 made.deregister_node_id(made.register_node_id(NODE))
-                with self.assertRaises(iox2sd.OutOfSpace):
-                    made.register_node_id(NODE)
+                self.assertRaises(iox2sd.OutOfSpaceError, made.register_node_id, NODE)
                 for _ in range(9):
                     other.register_node_id(NODE)
                 self.assertEqual((made.number_of_nodes, other.number_of_nodes), (1, 9))
-            with self.assertRaises(iox2sd.OutOfRange):
-                make(tickets=2**64)
+            self.assertRaises(iox2sd.OutOfRangeError, make, tickets=2**64)
 
     def test_each_pattern(self):
         for pattern, first, second in PATTERNS:
@@ -192,25 +152,22 @@ class Patterns(unittest.TestCase):
         for role in set(Role) - own:
             self.assertFalse(made.has_role(role))
             for call in (made.list_ports, made.count_ports, made.max_ports, made.has_room):
-                with self.assertRaises(iox2sd.RoleNotInPattern) as caught:
+                with self.assertRaises(iox2sd.RoleNotInPatternError) as caught:
                     call(role)
                 self.assertIn(role.name, str(caught.exception))
         for role in set(LISTS) - own:
-            with self.assertRaises(iox2sd.RoleNotInPattern):
-                LISTS[role](made)
+            self.assertRaises(iox2sd.RoleNotInPatternError, LISTS[role], made)
         for _, *ports in PATTERNS:
             for details in ports:
                 if details.role not in own:
-                    with self.assertRaises(iox2sd.RoleNotInPattern):
-                        made.attach(details)
+                    self.assertRaises(iox2sd.RoleNotInPatternError, made.attach, details)
 
     def test_makers_of_each_pattern(self):
         made = [
             (service(1, 2, 3), Role.PUBLISHER, Role.SUBSCRIBER),
             (
                 DynamicConfig.event(7, max_nodes=1, max_listeners=2, max_notifiers=3),
-                Role.LISTENER,
-                Role.NOTIFIER,
+                Role.LISTENER, Role.NOTIFIER,
             ),
             (
                 DynamicConfig.request_response(7, max_nodes=1, max_servers=2, max_clients=3),
@@ -218,8 +175,7 @@ class Patterns(unittest.TestCase):
                 Role.CLIENT,
             ),
             (
-                DynamicConfig.blackboard(7, max_nodes=1, max_readers=2, max_writers=3),
-                Role.READER,
+                DynamicConfig.blackboard(7, max_nodes=1, max_readers=2, max_writers=3), Role.READER,
                 Role.WRITER,
             ),
         ]
@@ -250,7 +206,7 @@ class Nodes(unittest.TestCase):
             self.assertEqual(made.list_node_ids(), (NODE, OTHER))
             self.assertEqual((made.number_of_nodes, made.max_nodes), (2, 2))
             self.assertFalse(made.has_room_for_node or made.is_locked)
-            with self.assertRaises(iox2sd.OutOfSpace) as caught:
+            with self.assertRaises(iox2sd.OutOfSpaceError) as caught:
                 made.register_node_id(UniqueNodeId(9, 9, 9, 9))
             self.assertIn("register node 9000000090000000900000009: ", str(caught.exception))
             self.assertIs(made.deregister_node_id(first), DeregisterNodeState.HAS_OWNERS)
@@ -262,40 +218,31 @@ class Nodes(unittest.TestCase):
             handle = made.register_node_id(NODE)
             self.assertIs(made.deregister_node_id(handle), DeregisterNodeState.NO_MORE_OWNERS)
             self.assertTrue(made.is_locked)
-            with self.assertRaises(iox2sd.IsLocked):
-                made.register_node_id(NODE)
-            with self.assertRaises(iox2sd.IsLocked):
-                made.attach(publisher(1))
+            self.assertRaises(iox2sd.IsLockedError, made.register_node_id, NODE)
+            self.assertRaises(iox2sd.IsLockedError, made.attach, publisher(1))
 
     def test_foreign_handles(self):
         with service() as made:
             node = made.register_node_id(NODE)
             port = made.attach(publisher(1))
             foreign = [
-                ContainerHandle(8, Role.NODE, 0, 0),
-                ContainerHandle(7, Role.NODE, 1, 0),
-                ContainerHandle(7, Role.NODE, 0, 1),
-                ContainerHandle(MOST, Role.WRITER, MOST, MOST),
+                ContainerHandle(8, Role.NODE, 0, 0), ContainerHandle(7, Role.NODE, 1, 0),
+                ContainerHandle(7, Role.NODE, 0, 1), ContainerHandle(MOST, Role.WRITER, MOST, MOST),
             ]
             for handle in foreign:
                 for call in (made.deregister_node_id, made.release_port, made.node, made.port):
-                    with self.assertRaises(iox2sd.ForeignHandle):
-                        call(handle)
+                    self.assertRaises(iox2sd.ForeignHandleError, call, handle)
             for call, handle in (
-                (made.deregister_node_id, port),
-                (made.node, port),
-                (made.release_port, node),
+                (made.deregister_node_id, port), (made.node, port), (made.release_port, node),
                 (made.port, node),
             ):
-                with self.assertRaises(iox2sd.ForeignHandle):
-                    call(handle)
+                self.assertRaises(iox2sd.ForeignHandleError, call, handle)
 
     def test_a_node_with_ports_stays(self):
         with service() as made:
             node = made.register_node_id(NODE)
             made.attach(publisher(1))
-            with self.assertRaises(iox2sd.PortsStillAttached):
-                made.deregister_node_id(node)
+            self.assertRaises(iox2sd.PortsStillAttachedError, made.deregister_node_id, node)
             second = made.register_node_id(NODE)
             self.assertIs(made.deregister_node_id(node), DeregisterNodeState.HAS_OWNERS)
             self.assertEqual(made.node(second), NODE)
@@ -305,12 +252,10 @@ class Nodes(unittest.TestCase):
         with config as made:
             made.register_node_id(NODE)
             self.assertFalse(made.has_room_for_node)
-            with self.assertRaises(iox2sd.OutOfSpace):
-                made.register_node_id(OTHER)
+            self.assertRaises(iox2sd.OutOfSpaceError, made.register_node_id, OTHER)
             made.release_port(made.attach(LISTENER))
             self.assertTrue(made.has_room(Role.NOTIFIER) and not made.has_room(Role.LISTENER))
-            with self.assertRaises(iox2sd.OutOfSpace):
-                made.attach(LISTENER)
+            self.assertRaises(iox2sd.OutOfSpaceError, made.attach, LISTENER)
 
     def test_with_statements(self):
         with service() as made:
@@ -347,32 +292,30 @@ class Nodes(unittest.TestCase):
                 raise Own
             self.assertEqual(made.list_node_ids(), (OTHER, NODE))
         with service() as made:
-            with self.assertRaises(iox2sd.PortsStillAttached), made.registered(NODE):
+            with self.assertRaises(iox2sd.PortsStillAttachedError), made.registered(NODE):
                 made.attach(publisher(1))
-            with self.assertRaises(iox2sd.ForeignHandle), made.attached(publisher(2)) as port:
+            with self.assertRaises(iox2sd.ForeignHandleError), made.attached(publisher(2)) as port:
                 made.release_port(port)
 
     def test_a_node_without_a_place(self):
         with service(1) as made:
             made.register_node_id(NODE)
-            with self.assertRaises(iox2sd.OutOfSpace), made.registered(OTHER):
+            with self.assertRaises(iox2sd.OutOfSpaceError), made.registered(OTHER):
                 self.fail("nothing was registered")
 
 
 class Ports(unittest.TestCase):
     def test_attach_and_release(self):
         with service() as made:
-            with self.assertRaises(iox2sd.NodeNotRegistered):
-                made.attach(publisher(1))
+            self.assertRaises(iox2sd.NodeNotRegisteredError, made.attach, publisher(1))
             made.register_node_id(NODE)
             handles = [made.attach(publisher(counter)) for counter in (1, 2)]
-            with self.assertRaises(iox2sd.OutOfSpace) as caught:
+            with self.assertRaises(iox2sd.OutOfSpaceError) as caught:
                 made.attach(publisher(3))
             self.assertIn("attach publisher 9000000090000000900000003: ", str(caught.exception))
             self.assertFalse(made.has_room(Role.PUBLISHER))
             made.release_port(handles[0])
-            with self.assertRaises(iox2sd.ForeignHandle):
-                made.release_port(handles[0])
+            self.assertRaises(iox2sd.ForeignHandleError, made.release_port, handles[0])
             self.assertEqual(made.attach(publisher(3)), ContainerHandle(7, Role.PUBLISHER, 0, 2))
             self.assertEqual(made.list_publishers(), (publisher(3), publisher(2)))
 
@@ -453,21 +396,19 @@ class Ends(unittest.TestCase):
         made.close()
         self.assertTrue(made.closed)
         for call in calls(made, handle):
-            with self.assertRaises(iox2sd.NoService):
-                call()
+            self.assertRaises(iox2sd.NoServiceError, call)
 
     def test_a_service_is_not_made_twice(self):
         with service() as made:
             handle = made.register_node_id(NODE)
-            with self.assertRaises(iox2sd.HasService):
+            with self.assertRaises(iox2sd.HasServiceError):
                 made.__init__(MessagingPattern.EVENT, 8, Capacities(1, 1, 1))
             self.assertEqual(made.node(handle), NODE)
 
     def test_a_service_is_not_copied(self):
         with service() as made:
             for call in (copy.copy, copy.deepcopy, pickle.dumps):
-                with self.assertRaises(TypeError):
-                    call(made)
+                self.assertRaises(TypeError, call, made)
 
     def test_a_service_goes_with_its_object(self):
         made = service()
@@ -491,7 +432,7 @@ class Ends(unittest.TestCase):
         for room in ((MOST, 1, 1), (1, MOST, 1), (1, 1, MOST)):
             with self.assertRaises(MemoryError) as caught:
                 service(*room)
-            self.assertIsInstance(caught.exception, iox2sd.NoMemory)
+            self.assertIsInstance(caught.exception, iox2sd.NoMemoryError)
 
 
 class Arguments(unittest.TestCase):
@@ -500,75 +441,46 @@ class Arguments(unittest.TestCase):
             wrong: "list[Any]" = [None, 0, True, "x", publisher(1).publisher_id, made, 10**5000]
             for value in wrong:
                 for call in (
-                    made.register_node_id,
-                    made.deregister_node_id,
-                    made.attach,
-                    made.release_port,
-                    made.remove_dead_node_id,
-                    made.has_role,
-                    made.count_ports,
-                    made.max_ports,
-                    made.has_room,
-                    made.node,
-                    made.port,
-                    made.list_ports,
-                    made.ports_of,
+                    made.register_node_id, made.deregister_node_id, made.attach, made.release_port,
+                    made.remove_dead_node_id, made.has_role, made.count_ports, made.max_ports,
+                    made.has_room, made.node, made.port, made.list_ports, made.ports_of,
                     lambda value: made.remove_dead_node_id(NODE, [value, NODE]),
                 ):
-                    with self.assertRaises(iox2sd.WrongType):
-                        call(value)
+                    self.assertRaises(iox2sd.WrongTypeError, call, value)
 
     def test_makers(self):
         room = Capacities(1, 1, 1)
         wrong: "list[tuple[Any, ...]]" = [
-            (1, 7, room),
-            (MessagingPattern.EVENT, "7", room),
-            (MessagingPattern.EVENT, True, room),
-            (MessagingPattern.EVENT, 7, (1, 1, 1)),
-            (MessagingPattern.EVENT, 7, room, 1.0),
+            (1, 7, room), (MessagingPattern.EVENT, "7", room), (MessagingPattern.EVENT, True, room),
+            (MessagingPattern.EVENT, 7, (1, 1, 1)), (MessagingPattern.EVENT, 7, room, 1.0),
         ]
         for given in wrong:
-            with self.assertRaises(iox2sd.WrongType):
-                DynamicConfig(*given)
+            self.assertRaises(iox2sd.WrongTypeError, DynamicConfig, *given)
         for number in (-1, 2**64):
             for given in ((number, room), (7, room, number)):
-                with self.assertRaises(iox2sd.OutOfRange):
+                with self.assertRaises(iox2sd.OutOfRangeError):
                     DynamicConfig(MessagingPattern.EVENT, *given)
             for place in range(3):
                 numbers = [1, 1, 1]
                 numbers[place] = number
-                with self.assertRaises(iox2sd.OutOfRange):
-                    Capacities(*numbers)
+                self.assertRaises(iox2sd.OutOfRangeError, Capacities, *numbers)
 
     def test_handles_and_details(self):
         for given in ((-1, Role.NODE, 0, 0), (0, Role.NODE, 2**64, 0), (0, Role.NODE, 0, 2**64)):
-            with self.assertRaises(iox2sd.OutOfRange):
-                ContainerHandle(*given)
-        with self.assertRaises(iox2sd.WrongType):
-            ContainerHandle(0, 0, 0, 0)
+            self.assertRaises(iox2sd.OutOfRangeError, ContainerHandle, *given)
+        self.assertRaises(iox2sd.WrongTypeError, ContainerHandle, 0, 0, 0, 0)
         given_details: "dict[str, Any]" = dict(
-            publisher_id=iox2sd.UniquePublisherId(0, 0, 0, 0),
-            node_id=NODE,
-            number_of_samples=0,
-            max_slice_len=0,
-            data_segment_type=DataSegmentType.STATIC,
-            max_number_of_segments=1,
+            publisher_id=iox2sd.UniquePublisherId(0, 0, 0, 0), node_id=NODE, number_of_samples=0,
+            max_slice_len=0, data_segment_type=DataSegmentType.STATIC, max_number_of_segments=1,
         )
         PublisherDetails(**given_details)
         for name, value in (
-            ("publisher_id", CLIENT.client_id),
-            ("node_id", CLIENT.client_id),
-            ("number_of_samples", True),
-            ("data_segment_type", 1),
-            ("max_number_of_segments", "1"),
+            ("publisher_id", CLIENT.client_id), ("node_id", CLIENT.client_id),
+            ("number_of_samples", True), ("data_segment_type", 1), ("max_number_of_segments", "1"),
         ):
-            with self.assertRaises(iox2sd.WrongType) as caught:
+            with self.assertRaises(iox2sd.WrongTypeError) as caught:
                 PublisherDetails(**{**given_details, name: value})
             self.assertIn(f"PublisherDetails.{name}: ", str(caught.exception))
         for name, number in (("max_number_of_segments", 256), ("max_slice_len", 2**64)):
-            with self.assertRaises(iox2sd.OutOfRange):
+            with self.assertRaises(iox2sd.OutOfRangeError):
                 PublisherDetails(**{**given_details, name: number})
-
-
-if __name__ == "__main__":
-    unittest.main()

@@ -4,71 +4,79 @@ import pickle
 import unittest
 
 import iox2sd
-from iox2sd import errors
+from iox2sd import Status, errors
 
 from . import headers
 
 
+def is_error(kind):
+    return isinstance(kind, type) and issubclass(kind, BaseException)
+
+
 class Errors(unittest.TestCase):
     def test_each_status_has_a_text(self):
-        texts = {errors.status_text(status) for status in headers.STATUSES.values()}
-        self.assertEqual(len(texts), len(headers.STATUSES))
-        for text in texts:
-            self.assertFalse(text.startswith("status "))
-        self.assertEqual(errors.status_text(2**32 - 1), f"status {2**32 - 1}")
+        self.assertEqual({one.name: one.value for one in Status}, headers.STATUSES)
+        self.assertEqual(len({str(status) for status in Status}), len(Status))
+        self.assertEqual(f"{Status.IS_LOCKED}", "the service is locked for good")
 
     def test_all_have_one_base(self):
-        for name in iox2sd.__all__:
-            kind = getattr(iox2sd, name)
-            if isinstance(kind, type) and issubclass(kind, BaseException):
-                self.assertTrue(issubclass(kind, iox2sd.Error), name)
+        for name in filter(lambda name: is_error(getattr(iox2sd, name)), iox2sd.__all__):
+            self.assertTrue(issubclass(getattr(iox2sd, name), iox2sd.Error), name)
         for kind in errors._KINDS.values():
             self.assertIn(kind.__name__, iox2sd.__all__)
 
     def test_bases_of_each_error(self):
-        """Which classes of Python, and which of this package, an error is one of."""
+        """Which classes of Python, and which of this package, an error is one of. Each has its
+        status, and a name as errors of Python have."""
         refused = {
-            ValueError: "BadAlignment BadConfig BadDuration BadLine Empty IllegalByte NoFileName NoNode"
-            " NotUtf8 ReservedPrefix RoleNotInPattern TooLong TooMany TooManyRequired",
-            LookupError: "ForeignHandle NodeNotRegistered",
+            ValueError: "BadAlignment BadConfig BadDuration BadLine Empty IllegalByte NoFileName"
+            " NoNode NotUtf8 ReservedPrefix RoleNotInPattern TooLong TooMany TooManyRequired",
+            LookupError: "ForeignHandle MissingKey MissingPair NodeNotRegistered",
             OverflowError: "NoTomlInteger TooLarge",
             MemoryError: "NoMemory",
-            iox2sd.Incompatible: "OtherName OtherVariant OtherSize OtherAlignment"
-            " GreaterAlignment",
-            object: "HasService IllegalHash Incompatible IsLocked MissingKey MissingPair NoService"
-            " OutOfSpace PortsStillAttached",
+            iox2sd.IncompatibleError: "OtherPattern OtherName OtherVariant OtherSize OtherAlignment"
+            " GreaterAlignment Unmet",
+            object: "HasService IllegalHash Incompatible IsLocked NoService OutOfSpace"
+            " PortsStillAttached",
         }
         expected: "dict[str, tuple[type, ...]]" = {
-            name: (iox2sd.Refused,) if base is object else (iox2sd.Refused, base)
+            f"{name}Error": (iox2sd.RefusedError,) + (base,) * (base is not object)
             for base, names in refused.items()
             for name in names.split()
         }
-        for name in refused[iox2sd.Incompatible].split():
-            expected[name] = (iox2sd.Incompatible,)
+        for name in refused[iox2sd.IncompatibleError].split():
+            expected[f"{name}Error"] = (iox2sd.IncompatibleError,)
         expected["Error"] = (Exception,)
-        expected["Refused"] = (iox2sd.Error,)
-        expected["NoIdText"] = (iox2sd.Error, ValueError)
-        expected["WrongType"] = (iox2sd.Error, TypeError)
-        expected["OutOfRange"] = (iox2sd.Error, OverflowError)
-        found = {
-            name: getattr(iox2sd, name).__bases__
-            for name in iox2sd.__all__
-            if isinstance(getattr(iox2sd, name), type)
-            and issubclass(getattr(iox2sd, name), BaseException)
+        expected["RefusedError"] = (iox2sd.Error,)
+        expected["WrongTypeError"] = (iox2sd.Error, TypeError)
+        expected["OutOfRangeError"] = (iox2sd.Error, OverflowError)
+        found = {name: kind for name, kind in vars(iox2sd).items() if is_error(kind)}
+        self.assertEqual({name: kind.__bases__ for name, kind in found.items()}, expected)
+        for name, kind in found.items():
+            self.assertIsInstance(kind.status, Status)
+            self.assertTrue(name.endswith("Error"))
+
+    def test_the_status_of_an_argument_that_is_none(self):
+        cases = {
+            Status.WRONG_TYPE: "1", Status.BELOW_ZERO: -1, Status.TOO_LARGE: 2**64,
         }
-        self.assertEqual(found, expected)
+        for status, given in cases.items():
+            with self.assertRaises(iox2sd.Error) as caught:
+                iox2sd.EventId(given)
+            self.assertIs(caught.exception.status, status)
 
     def test_an_error_says_what_and_where(self):
-        with self.assertRaises(iox2sd.IllegalByte) as caught:
+        with self.assertRaises(iox2sd.IllegalByteError) as caught:
             iox2sd.ServiceName("a\0")
-        text = errors.status_text(iox2sd.IllegalByte.status)
+        text = iox2sd.IllegalByteError.status
         self.assertEqual(str(caught.exception), f"ServiceName 'a\\x00': {text}, at byte 1")
         for made in (copy.copy(caught.exception), pickle.loads(pickle.dumps(caught.exception))):
-            self.assertEqual((type(made), str(made)), (iox2sd.IllegalByte, str(caught.exception)))
+            self.assertIs(type(made), iox2sd.IllegalByteError)
+            self.assertEqual(str(made), str(caught.exception))
             self.assertEqual((made.at, made.what), (1, "ServiceName 'a\\x00'"))
 
     def test_long_texts_are_shown_in_part(self):
-        with self.assertRaises(iox2sd.TooLong) as caught:
+        with self.assertRaises(iox2sd.TooLongError) as caught:
             iox2sd.ServiceName("a" * 10**6)
         self.assertLess(len(str(caught.exception)), 200)
 
@@ -78,8 +86,8 @@ class Errors(unittest.TestCase):
                 raise ValueError
 
         cases = {
-            iox2sd.OutOfRange: (10**5000, "0 to 2^64 - 1, got a value of type int"),
-            iox2sd.WrongType: (Unprintable(), "int, got a value of type Unprintable"),
+            iox2sd.OutOfRangeError: (10**5000, "0 to 2^64 - 1, got a value of type int"),
+            iox2sd.WrongTypeError: (Unprintable(), "int, got a value of type Unprintable"),
         }
         for error, (value, text) in cases.items():
             with self.assertRaises(error) as caught:
@@ -87,10 +95,11 @@ class Errors(unittest.TestCase):
             self.assertEqual(str(caught.exception), f"EventId.value: expected {text}")
 
     def test_a_status_without_a_class(self):
-        with self.assertRaises(iox2sd.Refused) as caught:
+        with self.assertRaises(iox2sd.RefusedError) as caught:
             errors.check(2**32 - 1, "a call")
-        self.assertEqual(str(caught.exception), f"a call: status {2**32 - 1}")
-        self.assertIs(type(caught.exception), iox2sd.Refused)
+        self.assertEqual(str(caught.exception), "a call: unknown status")
+        self.assertIs(caught.exception.status, Status.UNKNOWN_STATUS)
+        self.assertIs(type(caught.exception), iox2sd.RefusedError)
 
     def test_names_of_the_package(self):
         for name in iox2sd.__all__:
@@ -100,7 +109,3 @@ class Errors(unittest.TestCase):
             named = getattr(iox2sd, name)
             if isinstance(named, type) or inspect.isfunction(named):
                 self.assertTrue(inspect.getdoc(named), name)
-
-
-if __name__ == "__main__":
-    unittest.main()

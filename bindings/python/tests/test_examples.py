@@ -5,6 +5,7 @@ import os
 import re
 import subprocess
 import sys
+import tempfile
 import unittest
 
 import iox2sd
@@ -12,21 +13,28 @@ import iox2sd
 from . import PACKAGE, PROJECT
 
 BUILDER = """\
-Camera/Images 11000003e80000000000000001 \
-/tmp/iceoryx2/services/iox2_JtFig-6tUnCFgFtxiQEiaa2kw30.service
-36 samples of 1048680 bytes, aligned to 8
+Camera/Images JtFig-6tUnCFgFtxiQEiaa2kw30 Layout(size=1048680, alignment=8)
 opened
 refused: Attribute(key=AttributeKey('camera'), value=AttributeValue('rear')): \
 a required pair is not in the set, at required pair 0
 refused: the opener's payload: the types of a part have other sizes
+DynamicConfig(MessagingPattern.PUBLISH_SUBSCRIBE, 7, Capacities(nodes=20, first=1, second=8))
 """
 
 MONITOR = """\
-node b000003e80000000000000001: 0 listeners and 1 notifiers went, 1 ports stay, 3 nodes are left
-node b000003e80000000000000001: 1 listeners and 0 notifiers went, 0 ports stay, 2 nodes are left
-node c000003e80000000000000001: 1 listeners and 1 notifiers went, 0 ports stay, 1 nodes are left
-node d000003e80000000000000001: 1 listeners and 1 notifiers went, 0 ports stay, 0 nodes are left
-service 7 has no node left, and takes none
+node b000003e80000000000000001: 0 listeners and 1 notifiers are removed, 1 stay, 3 nodes are left
+node b000003e80000000000000001: 1 listeners and 0 notifiers are removed, 0 stay, 2 nodes are left
+node c000003e80000000000000001: 1 listeners and 1 notifiers are removed, 0 stay, 1 nodes are left
+node d000003e80000000000000001: 1 listeners and 1 notifiers are removed, 0 stay, 0 nodes are left
+it is locked
+"""
+
+SETTINGS = """\
+unknown key defaults.publish-subscribe.max-publisher: \
+defaults.publish-subscribe.max-publishers may be meant
+Capacities(nodes=20, first=2, second=10)
+42 samples of each publisher
+services lie in /run/robot/services
 """
 
 DISCOVERY = """\
@@ -55,11 +63,20 @@ attach publisher 1f000003e80000000000000004: no slot or no ticket is left
 """
 
 EXPECTED = {
-    "builder.py": BUILDER,
-    "monitor.py": MONITOR,
-    "discovery.py": DISCOVERY,
-    "factory.py": FACTORY,
+    PROJECT / "examples" / "builder.py": BUILDER,
+    PROJECT / "examples" / "monitor.py": MONITOR,
+    PACKAGE / "examples" / "discovery.py": DISCOVERY,
+    PACKAGE / "examples" / "factory.py": FACTORY,
 }
+
+OF_FILES = {
+    "[global]\nroot-path = '/run/robot'\n"
+    "[defaults.publish-subscribe]\nmax-subscribers = 10\nmax-publisher = 3\n": SETTINGS,
+    "[defaults.event]\nmax-nodes = -1\nmax-listeners = 1.5\n":
+    "defaults.event.max-listeners: is a float, and an integer is wanted\n"
+    "defaults.event.max-nodes: is below 0\n",
+}
+"""What the program settings.py prints of files, the second to standard error."""
 
 FIRST = """\
 (UniqueNodeId(process=1, seconds=0, nanoseconds=0, counter=1),)
@@ -76,19 +93,40 @@ kept = iox2sd.DynamicConfig.event(7, max_nodes=1, max_listeners=1, max_notifiers
 
 
 class Examples(unittest.TestCase):
-    def printed(self, *arguments):
+    def run_program(self, *arguments):
         environment = os.environ | {"PYTHONPATH": str(PACKAGE), "PYTHONDONTWRITEBYTECODE": "1"}
         command = [sys.executable, "-W", "error", *arguments]
-        ended = subprocess.run(command, capture_output=True, text=True, env=environment)
+        return subprocess.run(command, capture_output=True, text=True, env=environment)
+
+    def printed(self, *arguments):
+        ended = self.run_program(*arguments)
         self.assertEqual((ended.returncode, ended.stderr), (0, ""))
         return ended.stdout
 
     def test_examples(self):
-        found = {path.name for path in (PACKAGE / "examples").glob("*.py")}
-        self.assertEqual(found, set(EXPECTED))
-        for name, expected in EXPECTED.items():
-            with self.subTest(name=name):
-                self.assertEqual(self.printed(PACKAGE / "examples" / name), expected)
+        folders = (PROJECT / "examples", PACKAGE / "examples")
+        found = {path for folder in folders for path in folder.glob("*.py")}
+        elsewhere = {PROJECT / "examples" / f"{name}.py" for name in ("short", "first", "settings")}
+        self.assertEqual(found - elsewhere, set(EXPECTED))
+        for path, expected in EXPECTED.items():
+            with self.subTest(path=path):
+                self.assertEqual(self.printed(path), expected)
+
+    def test_the_program_that_reads_settings(self):
+        program = PROJECT / "examples" / "settings.py"
+        good, bad = OF_FILES
+        with tempfile.NamedTemporaryFile("w+") as file:
+            file.write(good)
+            file.flush()
+            self.assertEqual(self.printed(program, file.name), OF_FILES[good])
+        with tempfile.NamedTemporaryFile("w+") as file:
+            file.write(bad)
+            file.flush()
+            ended = self.run_program(program, file.name)
+            self.assertEqual((ended.returncode, ended.stdout, ended.stderr), (1, "", OF_FILES[bad]))
+        ended = self.run_program(program, "/nowhere")
+        self.assertEqual((ended.returncode, ended.stdout), (1, ""))
+        self.assertIn("No such file", ended.stderr)
 
     def test_programs_of_the_pages(self):
         pages = {PROJECT / "docs" / "PYTHON.md": FIRST, PACKAGE / "README.md": LAST}
@@ -102,7 +140,3 @@ class Examples(unittest.TestCase):
 
     def test_a_service_that_is_never_closed(self):
         self.assertEqual(self.printed("-c", KEPT), "")
-
-
-if __name__ == "__main__":
-    unittest.main()

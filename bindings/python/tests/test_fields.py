@@ -14,15 +14,7 @@ from iox2sd import _native, details, settings
 
 from .test_attributes import pair
 from .test_dynamic_config import (
-    CLIENT,
-    LISTENER,
-    NODE,
-    NOTIFIER,
-    READER,
-    SERVER,
-    WRITER,
-    publisher,
-    subscriber,
+    CLIENT, LISTENER, NODE, NOTIFIER, READER, SERVER, WRITER, publisher, subscriber,
 )
 
 TYPE = iox2sd.TypeDetail("type", 4, 2)
@@ -31,6 +23,8 @@ MESSAGE = iox2sd.MessageTypeDetails(TYPE, TYPE, TYPE)
 
 PORTS = (publisher(1), subscriber(1), LISTENER, NOTIFIER, SERVER, CLIENT, READER, WRITER)
 
+ATTACHED = iox2sd.Attached((NODE,), (1,))
+
 VALUES: "list[Any]" = [
     *(kind(1, 2, 3, 4) for kind in details.UniquePortId.__args__),  # type: ignore[attr-defined]
     NODE,
@@ -38,7 +32,16 @@ VALUES: "list[Any]" = [
     iox2sd.ContainerHandle(7, iox2sd.Role.NODE, 1, 2),
     iox2sd.Capacities(1, 2, 3),
     iox2sd.DeadNodeRemoval(iox2sd.DeregisterNodeState.HAS_OWNERS, 1, 2),
+    ATTACHED,
+    iox2sd.PossibleState("list", ATTACHED),
+    iox2sd.Conforms(9),
+    iox2sd.NoRun(9, "x", (iox2sd.PossibleState("list", ATTACHED),)),
+    iox2sd.NoOrder(9, (ATTACHED,)),
     iox2sd.TooManyStates(9),
+    iox2sd.UnexpectedLine(9, iox2sd.Expected.REPLY),
+    iox2sd.ConfigFault("key", "reason", iox2sd.Status.BELOW_ZERO),
+    iox2sd.UnknownKey("key", "meant"),
+    iox2sd.ConfigFile(iox2sd.Config(), (iox2sd.UnknownKey("key", None),)),
     *PORTS,
     iox2sd.Layout(8, 4),
     iox2sd.Places(8, 16),
@@ -46,7 +49,6 @@ VALUES: "list[Any]" = [
     MESSAGE,
     iox2sd.Duration(1, 2),
     iox2sd.EventId(1),
-    iox2sd.GlobalSettings(),
     iox2sd.PublishSubscribeSettings(),
     iox2sd.EventSettings(),
     iox2sd.EventSettings(deadline=iox2sd.Duration(1, 2), notifier_dead_event=iox2sd.EventId(3)),
@@ -64,9 +66,9 @@ VALUES: "list[Any]" = [
     pair("key", "value"),
     iox2sd.AttributeSpecifier(),
     iox2sd.AttributeVerifier(),
+    iox2sd.Requirements(pattern_config=iox2sd.EventStaticConfig.new()),
     iox2sd.StaticConfig(
-        iox2sd.ServiceName("name"),
-        iox2sd.UniqueServiceId(1, 2, 3, 4),
+        iox2sd.ServiceName("name"), iox2sd.UniqueServiceId(1, 2, 3, 4),
         iox2sd.EventStaticConfig.new(),
     ),
 ]
@@ -146,7 +148,7 @@ class Fields(unittest.TestCase):
             for kind in vars(iox2sd).values()
             if isinstance(kind, type) and dataclasses.is_dataclass(kind)
         }
-        self.assertEqual({type(value) for value in VALUES}, values)
+        self.assertEqual({iox2sd.UniqueId, *map(type, VALUES)}, values)
 
     def test_each_field_counts(self):
         for value in VALUES:
@@ -231,7 +233,7 @@ class Structs(unittest.TestCase):
             c.role, c.data_segment = port.role.value, 1
             c.port, c.node = _native.Id(1, 2, 3, 4), _native.Id(5, 6, 7, 8)
             read = details.details_of(c)
-            self.assertEqual(read.role, port.role)
+            self.assertEqual((read.role, read.port_id.role), (port.role, port.role))
             self.assertEqual(read.node_id, iox2sd.UniqueNodeId(5, 6, 7, 8))
             self.assertEqual(read.port_id, type(port.port_id)(1, 2, 3, 4))
             lent = read._lent()
@@ -258,7 +260,7 @@ class Structs(unittest.TestCase):
 
     def test_settings(self):
         """Defaults are read by a second copy of the module, of structs with a number a field."""
-        flags = {"enable_safe_overflow_for_responses", "cleanup_dead_nodes_on_creation"}
+        flags = {"enable_safe_overflow_for_responses"}
 
         def made(kind: Any) -> Any:
             c = kind()
@@ -269,14 +271,13 @@ class Structs(unittest.TestCase):
                     setattr(c, name, int(name.startswith(("client", "backpressure"))))
                 elif field is _native.OptionalEventId:
                     setattr(c, name, field(number, True))
-                elif field in (_native.OptionalDuration, _native.Duration):
-                    setattr(c, name, field(number, number + 1, *[True] * (len(field._fields_) - 2)))
+                elif field is _native.OptionalDuration:
+                    setattr(c, name, field(number, number + 1, True))
                 else:
                     setattr(c, name, number)
             return c
 
         kinds = {
-            "global": _native.GlobalSettings,
             "publish_subscribe": _native.PublishSubscribeSettings,
             "event": _native.EventSettings,
             "request_response": _native.RequestResponseSettings,
@@ -306,7 +307,3 @@ class Structs(unittest.TestCase):
                         self.assertEqual(found.value, wanted.number)
                     else:
                         self.assertEqual(found, wanted)
-
-
-if __name__ == "__main__":
-    unittest.main()

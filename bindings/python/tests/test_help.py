@@ -1,6 +1,7 @@
 import dataclasses
 import inspect
 import pydoc
+import re
 import unittest
 from typing import Any
 
@@ -16,8 +17,11 @@ class Help(unittest.TestCase):
         for kind in vars(iox2sd).values():
             if isinstance(kind, type) and dataclasses.is_dataclass(kind):
                 self.assertNotRegex(str(inspect.signature(kind)), "Annotated|ctypes")
-        self.assertIn("EventSettings(*, max_listeners: int = 16, ", helped(iox2sd.EventSettings))
-        self.assertIn("UniqueNodeId(process: int, seconds: int, ", helped(iox2sd.UniqueNodeId))
+        for kind, text in {
+            iox2sd.EventSettings: "EventSettings(*,max_listeners:int=16,",
+            iox2sd.UniqueNodeId: "UniqueNodeId(process:int,seconds:int,",
+        }.items():  # A newer Python breaks the lines.
+            self.assertIn(text, re.sub(r"[\s|]", "", helped(kind)))
 
     def test_fields_have_their_texts(self):
         text = helped(iox2sd.EventSettings)
@@ -36,7 +40,3 @@ class Help(unittest.TestCase):
                 for own, method in vars(kind).items():
                     if not own.startswith("_") and callable(method):
                         self.assertTrue(method.__doc__, f"{name}.{own}")
-
-
-if __name__ == "__main__":
-    unittest.main()

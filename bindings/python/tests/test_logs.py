@@ -1,17 +1,11 @@
 import copy
+import dataclasses
 import pickle
 import unittest
 
 import iox2sd
 from iox2sd import (
-    Attached,
-    Conforms,
-    Expected,
-    NoOrder,
-    NoRun,
-    PossibleState,
-    TooManyStates,
-    UnexpectedLine,
+    Attached, Conforms, Expected, NoOrder, NoRun, PossibleState, TooManyStates, UnexpectedLine,
     check_log,
 )
 
@@ -67,10 +61,10 @@ class Logs(unittest.TestCase):
         found = check_log((CONFORM / "stdin").read_bytes())
         self.assertIs(type(found), NoRun)
         lines = [f"line {found.line}: no run gives this reply", f"seen: {found.seen}"]
-        for possible, (nodes, ports) in found.states:
-            lines.append(f"possible: {possible}")
-            lines.append(" ".join(["nodes:", *map(str, nodes)]))
-            lines.append(" ".join(["ports:", *(f"{port:x}" for port in ports)]))
+        for state in found.states:
+            lines.append(f"possible: {state.possible}")
+            lines.append(" ".join(["nodes:", *map(str, state.attached.nodes)]))
+            lines.append(" ".join(["ports:", *(f"{port:x}" for port in state.attached.ports)]))
         self.assertEqual(lines, (CONFORM / "stdout").read_text().splitlines())
 
     def test_logs_that_conform(self):
@@ -157,8 +151,9 @@ class Logs(unittest.TestCase):
         found = check_log(doubled(6) + "nodes\n= x\n")
         assert isinstance(found, NoRun)
         self.assertEqual((found.line, found.seen, len(set(found.states))), (55, "x", 64))
-        for possible, (nodes, ports) in found.states:
-            self.assertEqual((possible, ports), (" ".join(["list", *map(str, nodes)]), ()))
+        for state in found.states:
+            listed = " ".join(["list", *map(str, state.attached.nodes)])
+            self.assertEqual((state.possible, state.attached.ports), (listed, ()))
         found = check_log(doubled(7))
         self.assertEqual(found, TooManyStates(59))
         self.assertFalse(found)
@@ -166,20 +161,12 @@ class Logs(unittest.TestCase):
     def test_verdicts_differ(self):
         state, another = (PossibleState("list", attached((node,), (2,))) for node in (1, 2))
         verdicts = [
-            Conforms(3),
-            NoRun(3, "x", (state,)),
-            NoRun(4, "x", (state,)),
-            NoRun(3, "y", (state,)),
-            NoRun(3, "x", (state, state)),
-            NoRun(3, "x", (another,)),
-            NoRun(3, "x", (state._replace(possible="count 1"),)),
+            Conforms(3), NoRun(3, "x", (state,)), NoRun(4, "x", (state,)), NoRun(3, "y", (state,)),
+            NoRun(3, "x", (state, state)), NoRun(3, "x", (another,)),
+            NoRun(3, "x", (dataclasses.replace(state, possible="count 1"),)),
             NoRun(3, "x", (PossibleState("list", attached((1,), (3,))),)),
-            NoOrder(3, (state.attached,)),
-            NoOrder(4, (state.attached,)),
-            NoOrder(3, (another.attached,)),
-            NoOrder(3, ()),
-            TooManyStates(3),
-            TooManyStates(4),
+            NoOrder(3, (state.attached,)), NoOrder(4, (state.attached,)),
+            NoOrder(3, (another.attached,)), NoOrder(3, ()), TooManyStates(3), TooManyStates(4),
             *(UnexpectedLine(3, expected) for expected in Expected),
         ]
         self.assertEqual(len(set(verdicts)), len(verdicts))
@@ -190,13 +177,15 @@ class Logs(unittest.TestCase):
             for other in verdicts[:place]:
                 self.assertTrue(one != other and not one == other)
 
+    def test_verdicts_are_no_tuples(self):
+        for verdict in (Conforms(3), NoOrder(3, ()), TooManyStates(3)):
+            self.assertNotIsInstance(verdict, tuple)
+            with self.assertRaises(AttributeError):
+                verdict.line = 4
+            with self.assertRaises(TypeError):
+                _, *_ = verdict
+
     def test_wrong_arguments(self):
         for wrong in (0, None, bytearray(b""), ["service"]):
-            with self.assertRaises(iox2sd.WrongType):
-                check_log(wrong)
-        with self.assertRaises(iox2sd.NotUtf8):
-            check_log("service\ud800\n")
-
-
-if __name__ == "__main__":
-    unittest.main()
+            self.assertRaises(iox2sd.WrongTypeError, check_log, wrong)
+        self.assertRaises(iox2sd.NotUtf8Error, check_log, "service\ud800\n")

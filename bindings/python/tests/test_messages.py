@@ -11,8 +11,7 @@ def details(
     name: str = "Payload",
 ) -> MessageTypeDetails:
     return MessageTypeDetails(
-        TypeDetail("Header", 8, 8),
-        TypeDetail("UserHeader", 4, 4),
+        TypeDetail("Header", 8, 8), TypeDetail("UserHeader", 4, 4),
         TypeDetail(name, size, alignment, variant),
     )
 
@@ -21,13 +20,10 @@ class Types(unittest.TestCase):
     def test_names(self):
         self.assertEqual(TypeDetail("", 0, 1).type_name, "")
         self.assertEqual(len(TypeDetail("n" * 256, 0, 1).type_name), 256)
-        with self.assertRaises(iox2sd.TooLong):
-            TypeDetail("n" * 257, 0, 1)
+        self.assertRaises(iox2sd.TooLongError, TypeDetail, "n" * 257, 0, 1)
         for wrong in ("a\0", "é"):
-            with self.assertRaises(iox2sd.IllegalByte):
-                TypeDetail(wrong, 0, 1)
-        with self.assertRaises(iox2sd.NotUtf8):
-            TypeDetail("\ud800", 0, 1)
+            self.assertRaises(iox2sd.IllegalByteError, TypeDetail, wrong, 0, 1)
+        self.assertRaises(iox2sd.NotUtf8Error, TypeDetail, "\ud800", 0, 1)
 
     def test_a_type_is_of_one_value_where_nothing_else_is_said(self):
         self.assertIs(TypeDetail("T", 8, 8).variant, TypeVariant.FIXED_SIZE)
@@ -36,18 +32,16 @@ class Types(unittest.TestCase):
         for alignment in (1, 2, 2**63):
             self.assertEqual(TypeDetail("T", 2**64 - 1, alignment).alignment, alignment)
         for alignment in (0, 3, 2**64 - 1):
-            with self.assertRaises(iox2sd.BadAlignment) as caught:
+            with self.assertRaises(iox2sd.BadAlignmentError) as caught:
                 TypeDetail("T", 0, alignment)
             self.assertIn(f"alignment={alignment}", str(caught.exception))
 
     def test_wrong_arguments(self):
         for given in ((b"T", 8, 8), ("T", True, 8), ("T", 8, 8.0), ("T", 8, 8, 0)):
-            with self.assertRaises(iox2sd.WrongType):
-                TypeDetail(*given)
+            self.assertRaises(iox2sd.WrongTypeError, TypeDetail, *given)
         for size, alignment in ((-1, 8), (2**64, 8), (8, -8), (8, 2**64)):
-            with self.assertRaises(iox2sd.OutOfRange):
-                TypeDetail("T", size, alignment)
-        with self.assertRaises(iox2sd.WrongType):
+            self.assertRaises(iox2sd.OutOfRangeError, TypeDetail, "T", size, alignment)
+        with self.assertRaises(iox2sd.WrongTypeError):
             MessageTypeDetails(TypeDetail("T", 8, 8), TypeDetail("T", 8, 8), None)
 
 
@@ -55,23 +49,17 @@ class Messages(unittest.TestCase):
     def test_layout(self):
         # 8 + 4 and at most 3 before it, 2 * 8 and at most 7 before it: 38, in eights
         self.assertEqual(details().sample_layout(2), Layout(40, 8))
-        with self.assertRaises(iox2sd.TooLarge):
-            details(size=2**64 - 1).sample_layout(2**64 - 1)
+        self.assertRaises(iox2sd.TooLargeError, details(size=2**64 - 1).sample_layout, 2**64 - 1)
         for wrong in (True, 2.0, None):
-            with self.assertRaises(iox2sd.WrongType):
-                details().sample_layout(wrong)
+            self.assertRaises(iox2sd.WrongTypeError, details().sample_layout, wrong)
         for elements in (-1, 2**64):
-            with self.assertRaises(iox2sd.OutOfRange):
-                details().sample_layout(elements)
+            self.assertRaises(iox2sd.OutOfRangeError, details().sample_layout, elements)
 
     def test_places(self):
         self.assertEqual(details().places(64), Places(72, 80))
-        with self.assertRaises(iox2sd.TooLarge):
-            details().places(2**64 - 1)
-        with self.assertRaises(iox2sd.OutOfRange):
-            details().places(-8)
-        with self.assertRaises(iox2sd.WrongType):
-            details().places("64")
+        self.assertRaises(iox2sd.TooLargeError, details().places, 2**64 - 1)
+        self.assertRaises(iox2sd.OutOfRangeError, details().places, -8)
+        self.assertRaises(iox2sd.WrongTypeError, details().places, "64")
 
     def test_compatible(self):
         self.assertTrue(details().is_compatible_to(details()))
@@ -80,12 +68,12 @@ class Messages(unittest.TestCase):
 
     def test_incompatible(self):
         cases = [
-            (details(name="Other"), details(), iox2sd.OtherName, "payload"),
-            (details(variant=TypeVariant.DYNAMIC), details(), iox2sd.OtherVariant, "payload"),
-            (details(size=16), details(), iox2sd.OtherSize, "payload"),
-            (details(alignment=16), details(), iox2sd.GreaterAlignment, "payload"),
-            (self.header(16, 4), details(), iox2sd.OtherAlignment, "header"),
-            (self.header(8, 8), details(), iox2sd.GreaterAlignment, "user header"),
+            (details(name="Other"), details(), iox2sd.OtherNameError, "payload"),
+            (details(variant=TypeVariant.DYNAMIC), details(), iox2sd.OtherVariantError, "payload"),
+            (details(size=16), details(), iox2sd.OtherSizeError, "payload"),
+            (details(alignment=16), details(), iox2sd.GreaterAlignmentError, "payload"),
+            (self.header(16, 4), details(), iox2sd.OtherAlignmentError, "header"),
+            (self.header(8, 8), details(), iox2sd.GreaterAlignmentError, "user header"),
         ]
         for opener, service, error, part in cases:
             with self.subTest(error=error):
@@ -93,17 +81,11 @@ class Messages(unittest.TestCase):
                 with self.assertRaises(error) as caught:
                     opener.check_compatible_to(service)
                 self.assertTrue(str(caught.exception).startswith(f"the opener's {part}: "))
-                self.assertIsInstance(caught.exception, iox2sd.Incompatible)
-        with self.assertRaises(iox2sd.WrongType):
-            details().is_compatible_to(None)
+                self.assertIsInstance(caught.exception, iox2sd.IncompatibleError)
+        self.assertRaises(iox2sd.WrongTypeError, details().is_compatible_to, None)
 
     def header(self, alignment: int, user_alignment: int) -> MessageTypeDetails:
         return MessageTypeDetails(
-            TypeDetail("Header", 8, alignment),
-            TypeDetail("UserHeader", 4, user_alignment),
+            TypeDetail("Header", 8, alignment), TypeDetail("UserHeader", 4, user_alignment),
             details().payload,
         )
-
-
-if __name__ == "__main__":
-    unittest.main()

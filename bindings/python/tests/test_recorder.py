@@ -69,7 +69,7 @@ class Recording(unittest.TestCase):
             with Recorder(pattern, 7, capacities) as service:
                 handles: "list[Any]" = []
                 for _ in range(dice.randrange(60)):
-                    with suppress(iox2sd.Refused):
+                    with suppress(iox2sd.RefusedError):
                         step(dice, service, handles)
             replies = [line for line in service.log.splitlines() if line.startswith("= ")]
             self.assertEqual(check_log(service.log), Conforms(len(replies)))
@@ -88,60 +88,48 @@ class Recording(unittest.TestCase):
 
     def test_what_has_no_line(self):
         with Recorder.event(7, max_nodes=1, max_listeners=1, max_notifiers=1) as service:
+            capacities = "Capacities(nodes=1, first=1, second=1)"
+            self.assertEqual(repr(service), f"Recorder(MessagingPattern.EVENT, 7, {capacities})")
             start = "service event 7 1 1 1\n"
             self.assertEqual(service.log, start)
             self.assertFalse(service.is_locked)
             for call in (service.list_ports, service.count_ports):
-                with self.assertRaises(iox2sd.RoleNotInPattern):
-                    call(Role.NODE)
-                with self.assertRaises(iox2sd.WrongType):
-                    call(0)
+                self.assertRaises(iox2sd.RoleNotInPatternError, call, Role.NODE)
+                self.assertRaises(iox2sd.WrongTypeError, call, 0)
             foreign = iox2sd.ContainerHandle(7, Role.NODE, 0, 0)
             for call in (service.deregister_node_id, service.release_port):
-                with self.assertRaises(iox2sd.ForeignHandle):
-                    call(foreign)
+                self.assertRaises(iox2sd.ForeignHandleError, call, foreign)
             notes = "".join(
-                f"# {command}: no call returned the handle\n" for command in ("deregister", "release")
+                f"# {command}: no call returned the handle\n"
+                for command in ("deregister", "release")
             )
             self.assertEqual(service.log, start + notes)
             self.assertEqual(check_log(service.log), Conforms(0))
-        with self.assertRaises(iox2sd.NoService):
-            service.list_node_ids()
-        self.assertEqual(service.log, start + notes)
+        self.assertRaises(iox2sd.NoServiceError, service.list_node_ids)
+        self.assertEqual((service.log, repr(service)), (start + notes, "<a closed Recorder>"))
 
     def test_with_statements_and_lists_of_a_kind_are_written(self):
-        description = iox2sd.StaticConfig(
-            iox2sd.ServiceName("a"), iox2sd.UniqueServiceId(1, 2, 3, 4), iox2sd.EventStaticConfig.new()
-        )
-        with Recorder.described(description, 7) as service:
+        with Recorder.described(iox2sd.EventSettings(), 7) as service:
             with service.registered(NODES[0]):
                 with service.attached(port(Role.LISTENER, PORTS[0], NODES[0])):
                     self.assertEqual(len(service.list_listeners()), 1)
         self.assertEqual(
             service.log.splitlines()[1:],
             [
-                "register 1.1.0.5",
-                "= handle 0 0",
-                "add listener 7.0.0.0 1.1.0.5",
-                "= handle 0 0",
-                "list listener",
-                "= list 7000000000000000000000000",
-                "release 1",
-                "= released",
-                "deregister 0",
-                "= no-owners",
+                "register 1.1.0.5", "= handle 0 0", "add listener 7.0.0.0 1.1.0.5", "= handle 0 0",
+                "list listener", "= list 7000000000000000000000000", "release 1", "= released",
+                "deregister 0", "= no-owners",
             ],
         )
         self.assertEqual(check_log(service.log), Conforms(5))
 
     def test_all_tickets(self):
-        for tickets in (0, 2**64 - 2, "1"):
-            with self.assertRaises(iox2sd.OutOfRange):
+        for tickets in (0, 2**64 - 2, 2**64, -1):
+            with self.assertRaises(iox2sd.OutOfRangeError):
+                Recorder(MessagingPattern.EVENT, 7, Capacities(1, 1, 1), tickets)
+        for tickets in ("1", None, True, float(2**64), [2**64 - 1]):
+            with self.assertRaises(iox2sd.WrongTypeError):
                 Recorder(MessagingPattern.EVENT, 7, Capacities(1, 1, 1), tickets)
 
     def test_the_example(self):
         self.assertEqual(doctest.testmod(recorder), (0, 3))
-
-
-if __name__ == "__main__":
-    unittest.main()

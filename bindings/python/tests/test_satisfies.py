@@ -1,22 +1,17 @@
+import copy
+import pickle
 import unittest
+from contextlib import suppress
 from dataclasses import replace
 from typing import Any
 
 import iox2sd
 from iox2sd import (
-    BlackboardSettings,
-    BlackboardStaticConfig,
-    Capacities,
-    Duration,
-    EventId,
-    EventSettings,
-    EventStaticConfig,
-    PublishSubscribeSettings,
-    PublishSubscribeStaticConfig,
-    RequestResponseSettings,
-    RequestResponseStaticConfig,
-    ServiceNumbers,
-    TypeDetail,
+    AttributeKey, AttributeValue, AttributeVerifier, BlackboardSettings, BlackboardStaticConfig,
+    Capacities, Duration, DynamicConfig, Error, EventId, EventSettings, EventStaticConfig,
+    MessagingPattern, PublishSubscribeSettings, PublishSubscribeStaticConfig,
+    RequestResponseSettings, RequestResponseStaticConfig, Requirements, ServiceName, ServiceNumbers,
+    StaticConfig, TypeDetail, UniqueServiceId,
 )
 
 from . import headers
@@ -73,25 +68,109 @@ class Satisfying(unittest.TestCase):
         for service in SERVICES:
             for other in SERVICES:
                 if other is not service:
-                    with self.assertRaises(iox2sd.WrongType):
-                        service.satisfies(other)
+                    self.assertRaises(iox2sd.WrongTypeError, service.satisfies, other)
 
     def test_an_invalid_deadline(self):
         service = SERVICES[1]
         required = replace(service)
         object.__setattr__(required, "deadline", iox2sd.Duration(0, 1))
         object.__setattr__(required.deadline, "nanoseconds", 10**9)
-        with self.assertRaises(iox2sd.BadDuration):
-            service.satisfies(required)
+        self.assertRaises(iox2sd.BadDurationError, service.satisfies, required)
 
     def test_names_are_those_of_the_header(self):
         from iox2sd import static_config
 
         for i, name in enumerate(static_config._SETTINGS):
-            self.assertEqual(headers.CONSTANTS[name.upper()], 8 + i)
+            self.assertEqual(headers.constant("FIELD", name.upper()), 8 + i)
+
+
+RED = AttributeVerifier().require(AttributeKey("colour"), AttributeValue("red"))
+ID = UniqueServiceId(1, 2, 3, 4)
+
+
+class Opening(unittest.TestCase):
+    """All that an opener requires, in one call."""
+
+    def refused(self, service: Any, opener: Any, attributes: AttributeVerifier) -> "Error | None":
+        """Why an opener is refused by a service without attributes."""
+        described = StaticConfig(ServiceName("a"), ID, service)
+        required = Requirements(pattern_config=opener, attributes=attributes)
+        found = None
+        try:
+            described.check_satisfies(required)
+        except Error as error:
+            found = error
+        self.assertEqual(described.satisfies(required), found is None)
+        return found
+
+    def test_each_pattern_meets_itself_and_no_other(self):
+        for service in SERVICES:
+            for opener in SERVICES:
+                found = self.refused(service, opener, AttributeVerifier())
+                if opener is service:
+                    self.assertIsNone(found)
+                else:
+                    self.assertIsInstance(found, iox2sd.OtherPatternError)
+
+    def test_the_first_reason(self):
+        """The pattern comes before attributes, these before types, and the settings last."""
+        sub, event, calls, board = SERVICES
+        wide, large = details(alignment=16), details(size=16)
+        none = AttributeVerifier()
+        cases: "list[tuple[Any, Any, AttributeVerifier, type[Error], str]]" = [
+            (sub, event, RED, iox2sd.OtherPatternError, "PUBLISH_SUBSCRIBE: "),
+            (sub, replace(sub, message_type_details=wide), RED, iox2sd.MissingPairError, "Attr"),
+            (sub, replace(sub, message_type_details=wide, max_nodes=99), none,
+             iox2sd.GreaterAlignmentError, "the opener's payload: "),
+            (calls, replace(calls, request_message_type_details=large,
+                            response_message_type_details=wide), none,
+             iox2sd.OtherSizeError, "the opener's payload: "),
+            (calls, replace(calls, response_message_type_details=wide, max_nodes=99), none,
+             iox2sd.GreaterAlignmentError, "the opener's payload: "),
+            (board, replace(board, type_details=TypeDetail("Other", 8, 8), max_nodes=99), none,
+             iox2sd.OtherNameError, "the opener's keys: "),
+            (board, replace(board, type_details=TypeDetail("Key", 8, 4)), none,
+             iox2sd.OtherAlignmentError, "the opener's keys: "),
+            (sub, replace(sub, max_nodes=99), none, iox2sd.UnmetError, "max_nodes: "),
+            (event, replace(event, deadline=None), none, iox2sd.UnmetError, "deadline: "),
+        ]
+        for service, opener, attributes, error, text in cases:
+            with self.subTest(error=error, text=text):
+                found = self.refused(service, opener, attributes)
+                self.assertIs(type(found), error)
+                self.assertTrue(str(found).startswith(text), found)
+
+    def test_wrong_arguments(self):
+        described = StaticConfig(ServiceName("a"), ID, SERVICES[1])
+        for wrong in (None, described, SERVICES[1], AttributeVerifier()):
+            self.assertRaises(iox2sd.WrongTypeError, described.satisfies, wrong)
+        self.assertRaises(iox2sd.WrongTypeError, Requirements, pattern_config=EventSettings())
 
 
 class CapacitiesOfSettings(unittest.TestCase):
+    def test_a_service_is_made_of_settings_and_descriptions(self):
+        for service in SERVICES:
+            described = StaticConfig(ServiceName("a"), ID, service)
+            for given in (service, described):
+                self.assertEqual(Capacities.of(given), described.capacities)
+                with DynamicConfig.described(given, 7) as made:
+                    self.assertIs(made.messaging_pattern, described.messaging_pattern)
+        for settings, pattern in zip(
+            (PublishSubscribeSettings, EventSettings, RequestResponseSettings, BlackboardSettings),
+            MessagingPattern,
+        ):
+            given = settings(max_nodes=3)
+            with DynamicConfig.described(given, 7, tickets=2) as made:
+                self.assertIs(made.messaging_pattern, pattern)
+                ports = (made.max_ports(role) for role in made.port_roles)
+                self.assertEqual(Capacities(made.max_nodes, *ports), Capacities.of(given))
+                for counter in range(3):
+                    with suppress(iox2sd.OutOfSpaceError):
+                        made.register_node_id(iox2sd.UniqueNodeId(1, 0, 0, counter))
+                self.assertEqual(made.number_of_nodes, 2)
+        for wrong in (None, Capacities(1, 2, 3), MessagingPattern.EVENT):
+            self.assertRaises(iox2sd.WrongTypeError, DynamicConfig.described, wrong, 7)
+
     def test_each_pattern(self):
         samples = PublishSubscribeSettings(max_nodes=3, max_publishers=4, max_subscribers=5)
         events = EventSettings(max_nodes=3, max_listeners=4, max_notifiers=5)
@@ -100,8 +179,7 @@ class CapacitiesOfSettings(unittest.TestCase):
             self.assertEqual(Capacities.of(settings), Capacities(3, 4, 5))
         board = BlackboardSettings(max_nodes=3, max_readers=4)
         self.assertEqual(Capacities.of(board), Capacities(3, 4, 1))
-        with self.assertRaises(iox2sd.WrongType):
-            Capacities.of(SERVICES[0])
+        self.assertRaises(iox2sd.WrongTypeError, Capacities.of, board.max_nodes)
 
 
 class Numbers(unittest.TestCase):
@@ -116,12 +194,11 @@ class Numbers(unittest.TestCase):
         self.assertEqual(list(numbers), [2**64 - 1])
         self.assertEqual(list(numbers), [])
 
+    def test_numbers_are_not_copied(self):
+        for call in (copy.copy, copy.deepcopy, pickle.dumps):
+            self.assertRaises(TypeError, call, ServiceNumbers(5))
+
     def test_numbers_are_checked(self):
-        with self.assertRaises(iox2sd.OutOfRange):
-            ServiceNumbers(2**64)
-        with self.assertRaises(iox2sd.WrongType):
+        self.assertRaises(iox2sd.OutOfRangeError, ServiceNumbers, 2**64)
+        with self.assertRaises(iox2sd.WrongTypeError):
             ServiceNumbers("1")  # type: ignore[arg-type]
-
-
-if __name__ == "__main__":
-    unittest.main()

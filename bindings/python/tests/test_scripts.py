@@ -34,7 +34,7 @@ class Scripts(unittest.TestCase):
         ]
         for script, line, replies in cases:
             with self.subTest(script=script):
-                with self.assertRaises(iox2sd.BadLine) as caught:
+                with self.assertRaises(iox2sd.BadLineError) as caught:
                     run_script(script)
                 self.assertEqual((caught.exception.line, caught.exception.replies), (line, replies))
                 self.assertTrue(str(caught.exception).endswith(f", at line {line}"))
@@ -42,16 +42,9 @@ class Scripts(unittest.TestCase):
                 self.assertEqual((again.line, str(again)), (line, str(caught.exception)))
 
     def test_no_memory(self):
-        with self.assertRaises(iox2sd.NoMemory):
-            run_script(f"service event 7 {2**64 - 1} 2 2\n")
+        self.assertRaises(iox2sd.NoMemoryError, run_script, f"service event 7 {2**64 - 1} 2 2\n")
 
     def test_wrong_arguments(self):
         for wrong in (0, 5, None, bytearray(b""), ["service"]):
-            with self.assertRaises(iox2sd.WrongType):
-                run_script(wrong)
-        with self.assertRaises(iox2sd.NotUtf8):
-            run_script("service\ud800\n")
-
-
-if __name__ == "__main__":
-    unittest.main()
+            self.assertRaises(iox2sd.WrongTypeError, run_script, wrong)
+        self.assertRaises(iox2sd.NotUtf8Error, run_script, "service\ud800\n")

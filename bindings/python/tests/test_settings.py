@@ -4,17 +4,8 @@ from typing import Any
 
 import iox2sd
 from iox2sd import (
-    AllocationStrategy,
-    BackpressureStrategy,
-    BlackboardSettings,
-    DefaultText,
-    Duration,
-    EventId,
-    EventSettings,
-    GlobalSettings,
-    Path,
-    PublishSubscribeSettings,
-    RequestResponseSettings,
+    AllocationStrategy, BackpressureStrategy, BlackboardSettings, DefaultText, Duration, EventId,
+    EventSettings, PublishSubscribeSettings, RequestResponseSettings,
 )
 
 MOST = 2**64 - 1
@@ -23,8 +14,7 @@ MOST = 2**64 - 1
 class Spans(unittest.TestCase):
     def test_spans_of_the_standard_library(self):
         for span, seconds, nanoseconds in (
-            (timedelta(), 0, 0),
-            (timedelta(microseconds=1), 0, 1000),
+            (timedelta(), 0, 0), (timedelta(microseconds=1), 0, 1000),
             (timedelta(milliseconds=1500), 1, 500_000_000),
             (timedelta(microseconds=2**53 + 1), 9007199254, 740993000),
             (timedelta.max, 86399999999999, 999_999_000),
@@ -35,106 +25,69 @@ class Spans(unittest.TestCase):
         self.assertEqual(Duration(0, 1999).to_timedelta(), timedelta(microseconds=1))
 
     def test_spans_that_are_none(self):
-        with self.assertRaises(iox2sd.OutOfRange):
+        with self.assertRaises(iox2sd.OutOfRangeError):
             Duration.from_timedelta(timedelta(microseconds=-1))
         wrong: Any
         for wrong in (5, None, "1", Duration(1)):
-            with self.assertRaises(iox2sd.WrongType) as caught:
+            with self.assertRaises(iox2sd.WrongTypeError) as caught:
                 Duration.from_timedelta(wrong)
             self.assertIn("expected timedelta", str(caught.exception))
         for seconds in (86400000000000, MOST):
-            with self.assertRaises(iox2sd.TooLarge):
-                Duration(seconds).to_timedelta()
+            self.assertRaises(iox2sd.TooLargeError, Duration(seconds).to_timedelta)
 
 
 class Defaults(unittest.TestCase):
     def test_publish_subscribe(self):
         expected = PublishSubscribeSettings(
-            max_subscribers=8,
-            max_publishers=2,
-            max_nodes=20,
-            subscriber_max_buffer_size=2,
-            subscriber_max_borrowed_samples=2,
-            publisher_max_loaned_samples=2,
-            publisher_history_size=0,
-            subscriber_expired_connection_buffer=128,
+            max_subscribers=8, max_publishers=2, max_nodes=20, subscriber_max_buffer_size=2,
+            subscriber_max_borrowed_samples=2, publisher_max_loaned_samples=2,
+            publisher_history_size=0, subscriber_expired_connection_buffer=128,
             backpressure_strategy=BackpressureStrategy.RETRY_UNTIL_DELIVERED,
-            publisher_allocation_strategy=AllocationStrategy.STATIC,
-            enable_safe_overflow=True,
+            publisher_allocation_strategy=AllocationStrategy.STATIC, enable_safe_overflow=True,
         )
         self.assertEqual(PublishSubscribeSettings(), expected)
 
     def test_event(self):
         expected = EventSettings(
-            max_listeners=16,
-            max_notifiers=16,
-            max_nodes=36,
-            event_id_max_value=255,
-            deadline=None,
-            notifier_created_event=None,
-            notifier_dropped_event=None,
-            notifier_dead_event=None,
+            max_listeners=16, max_notifiers=16, max_nodes=36, event_id_max_value=255, deadline=None,
+            notifier_created_event=None, notifier_dropped_event=None, notifier_dead_event=None,
         )
         self.assertEqual(EventSettings(), expected)
 
     def test_request_response(self):
         expected = RequestResponseSettings(
-            max_active_requests_per_client=4,
-            max_response_buffer_size=2,
-            max_servers=2,
-            max_clients=8,
-            max_nodes=20,
-            max_borrowed_responses_per_pending_response=2,
-            max_loaned_requests=2,
-            server_max_loaned_responses_per_request=2,
-            client_expired_connection_buffer=128,
-            server_expired_connection_buffer=128,
+            max_active_requests_per_client=4, max_response_buffer_size=2, max_servers=2,
+            max_clients=8, max_nodes=20, max_borrowed_responses_per_pending_response=2,
+            max_loaned_requests=2, server_max_loaned_responses_per_request=2,
+            client_expired_connection_buffer=128, server_expired_connection_buffer=128,
             client_backpressure_strategy=BackpressureStrategy.RETRY_UNTIL_DELIVERED,
             server_backpressure_strategy=BackpressureStrategy.RETRY_UNTIL_DELIVERED,
             client_allocation_strategy=AllocationStrategy.STATIC,
             server_allocation_strategy=AllocationStrategy.STATIC,
-            enable_safe_overflow_for_requests=True,
-            enable_safe_overflow_for_responses=True,
+            enable_safe_overflow_for_requests=True, enable_safe_overflow_for_responses=True,
             enable_fire_and_forget_requests=True,
         )
         self.assertEqual(RequestResponseSettings(), expected)
-
-    def test_global(self):
-        expected = GlobalSettings(
-            creation_timeout=Duration(0, 500_000_000),
-            cleanup_dead_nodes_on_open=True,
-            cleanup_dead_nodes_on_creation=True,
-            cleanup_dead_nodes_on_destruction=True,
-        )
-        self.assertEqual(GlobalSettings(), expected)
-
-    def test_blackboard(self):
-        self.assertEqual(BlackboardSettings(), BlackboardSettings(max_readers=8, max_nodes=20))
 
 
 class Settings(unittest.TestCase):
     def test_chunks_of_publish_subscribe(self):
         given: "dict[str, Any]" = dict(
-            subscriber_max_buffer_size=5,
-            subscriber_max_borrowed_samples=7,
-            publisher_history_size=11,
-            publisher_max_loaned_samples=13,
+            subscriber_max_buffer_size=5, subscriber_max_borrowed_samples=7,
+            publisher_history_size=11, publisher_max_loaned_samples=13,
         )
         settings = PublishSubscribeSettings(max_subscribers=3, **given)
         self.assertEqual(
             settings.required_amount_of_samples_per_data_segment(), 3 * (5 + 7) + 11 + 13
         )
-        with self.assertRaises(iox2sd.TooLarge):
+        with self.assertRaises(iox2sd.TooLargeError):
             settings = PublishSubscribeSettings(max_subscribers=MOST, **given)
             settings.required_amount_of_samples_per_data_segment()
 
     def test_chunks_of_request_response(self):
         given: "dict[str, Any]" = dict(
-            max_servers=3,
-            max_clients=17,
-            max_response_buffer_size=7,
-            max_borrowed_responses_per_pending_response=11,
-            max_loaned_requests=13,
+            max_servers=3, max_clients=17, max_response_buffer_size=7,
+            max_borrowed_responses_per_pending_response=11, max_loaned_requests=13,
             server_max_loaned_responses_per_request=19,
         )
         settings = RequestResponseSettings(max_active_requests_per_client=5, **given)
@@ -142,9 +95,9 @@ class Settings(unittest.TestCase):
         responses = settings.required_amount_of_chunks_per_server_data_segment()
         self.assertEqual((requests, responses), (3 * 2 * 5 + 13, 17 * 2 * 5 * (7 + 11 + 19)))
         settings = RequestResponseSettings(max_active_requests_per_client=MOST, **given)
-        with self.assertRaises(iox2sd.TooLarge):
+        with self.assertRaises(iox2sd.TooLargeError):
             settings.required_amount_of_chunks_per_client_data_segment()
-        with self.assertRaises(iox2sd.TooLarge):
+        with self.assertRaises(iox2sd.TooLargeError):
             settings.required_amount_of_chunks_per_server_data_segment()
 
     def test_optional_settings(self):
@@ -153,12 +106,11 @@ class Settings(unittest.TestCase):
         self.assertEqual(settings.deadline, longest)
         self.assertEqual(settings.notifier_dead_event, EventId(3))
         self.assertLess(Duration(1, 5), Duration(2))
-        with self.assertRaises(iox2sd.BadDuration) as caught:
+        with self.assertRaises(iox2sd.BadDurationError) as caught:
             Duration(5, 1_000_000_000)
         self.assertIn("Duration(seconds=5, nanoseconds=1000000000): ", str(caught.exception))
         for nanoseconds in (-1, 2**32):
-            with self.assertRaises(iox2sd.OutOfRange):
-                Duration(0, nanoseconds)
+            self.assertRaises(iox2sd.OutOfRangeError, Duration, 0, nanoseconds)
 
     def test_wrong_arguments(self):
         wrong: "list[tuple[Any, dict[str, Any]]]" = [
@@ -174,15 +126,15 @@ class Settings(unittest.TestCase):
             (BlackboardSettings, {"max_readers": 8.0}),
             (EventId, {"value": False}),
             (Duration, {"seconds": 0.5}),
-            (GlobalSettings, {"creation_timeout": 5}),
-            (GlobalSettings, {"cleanup_dead_nodes_on_open": 1}),
+            (iox2sd.GlobalConfig, {"creation_timeout": 5}),
+            (iox2sd.ServiceConfig, {"cleanup_dead_nodes_on_open": 1}),
         ]
         for kind, given in wrong:
-            with self.subTest(kind=kind, given=given), self.assertRaises(iox2sd.WrongType):
+            with self.subTest(kind=kind, given=given), self.assertRaises(iox2sd.WrongTypeError):
                 kind(**given)
         for kind, name in ((BlackboardSettings, "max_nodes"), (EventSettings, "max_nodes")):
             for number in (-1, 2**64):
-                with self.assertRaises(iox2sd.OutOfRange) as caught:
+                with self.assertRaises(iox2sd.OutOfRangeError) as caught:
                     kind(**{name: number})
                 self.assertEqual(
                     str(caught.exception),
@@ -193,44 +145,11 @@ class Settings(unittest.TestCase):
 class Texts(unittest.TestCase):
     def test_texts_of_the_configuration(self):
         expected = [
-            "/tmp/iceoryx2/",
-            "iox2_",
-            "services",
-            ".data",
-            ".service",
-            ".dynamic",
-            ".connection",
-            ".event",
-            ".blackboard_mgmt",
-            ".blackboard_data",
-            "nodes",
-            ".node_monitor",
-            ".details",
-            ".service_tag",
-            ".port_tag",
-            ".global_mgmt",
-            "iceoryx2.toml",
-            "config/iceoryx2.toml",
-            "iceoryx2",
-            "iceoryx2/iceoryx2.toml",
+            "/tmp/iceoryx2/", "iox2_", "services", ".data", ".service", ".dynamic", ".connection",
+            ".event", ".blackboard_mgmt", ".blackboard_data", "nodes", ".node_monitor", ".details",
+            ".service_tag", ".port_tag", ".global_mgmt", "iceoryx2.toml", "config/iceoryx2.toml",
+            "iceoryx2", "iceoryx2/iceoryx2.toml",
         ]
         self.assertEqual([iox2sd.default_text(which) for which in DefaultText], expected)
         for wrong in (0, "PREFIX", None):
-            with self.assertRaises(iox2sd.WrongType):
-                iox2sd.default_text(wrong)
-
-    def test_directories(self):
-        self.assertEqual(iox2sd.service_dir(Path("/a")), "/a/services")
-        self.assertEqual(iox2sd.node_dir(Path("/a/")), "/a/nodes")
-        self.assertEqual(iox2sd.node_dir(Path("")), "nodes")
-        for call, length in ((iox2sd.service_dir, 246), (iox2sd.node_dir, 249)):
-            self.assertEqual(len(call(Path("y" * length))), 255)
-            with self.assertRaises(iox2sd.TooLong):
-                call(Path("y" * (length + 1)))
-            for wrong in ("/a", b"/a", 0):
-                with self.assertRaises(iox2sd.WrongType):
-                    call(wrong)
-
-
-if __name__ == "__main__":
-    unittest.main()
+            self.assertRaises(iox2sd.WrongTypeError, iox2sd.default_text, wrong)

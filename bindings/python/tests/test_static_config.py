@@ -6,24 +6,10 @@ from typing import Any
 
 import iox2sd
 from iox2sd import (
-    AttributeSet,
-    BlackboardSettings,
-    BlackboardStaticConfig,
-    Duration,
-    EventId,
-    EventSettings,
-    EventStaticConfig,
-    InternalServiceName,
-    MessagingPattern,
-    PublishSubscribeSettings,
-    PublishSubscribeStaticConfig,
-    RequestResponseSettings,
-    RequestResponseStaticConfig,
-    ServiceHash,
-    ServiceName,
-    StaticConfig,
-    TypeDetail,
-    UniqueServiceId,
+    AttributeSet, BlackboardSettings, BlackboardStaticConfig, Duration, EventId, EventSettings,
+    EventStaticConfig, InternalServiceName, MessagingPattern, PublishSubscribeSettings,
+    PublishSubscribeStaticConfig, RequestResponseSettings, RequestResponseStaticConfig, ServiceHash,
+    ServiceName, StaticConfig, TypeDetail, UniqueServiceId,
 )
 
 from .test_messages import details
@@ -72,13 +58,12 @@ class StaticConfigs(unittest.TestCase):
                 with again:
                     self.assertEqual(repr(made), repr(again))
                 for _ in range(5):
-                    with suppress(iox2sd.OutOfSpace):
+                    with suppress(iox2sd.OutOfSpaceError):
                         made.register_node_id(iox2sd.UniqueNodeId(1, 0, 0, 1))
                 self.assertEqual(made.number_of_nodes, min(5, room[0]))
                 self.assertFalse(made.has_room_for_node)
-        wrong: Any = PATTERNS[0][0]
-        with self.assertRaises(iox2sd.WrongType):
-            iox2sd.DynamicConfig.described(wrong, 7)
+        wrong: Any = NAME
+        self.assertRaises(iox2sd.WrongTypeError, iox2sd.DynamicConfig.described, wrong, 7)
 
     def test_settings_are_taken_over(self):
         settings = PublishSubscribeSettings(
@@ -105,40 +90,25 @@ class StaticConfigs(unittest.TestCase):
         event = dict(notifier_created_event=None, notifier_dropped_event=EventId(0))
         configs: "list[Any]" = [
             PublishSubscribeStaticConfig(
-                max_subscribers=1,
-                max_publishers=2,
-                max_nodes=3,
-                history_size=4,
-                subscriber_max_buffer_size=5,
-                subscriber_max_borrowed_samples=6,
-                enable_safe_overflow=overflow,
-                message_type_details=details(),
+                max_subscribers=1, max_publishers=2, max_nodes=3, history_size=4,
+                subscriber_max_buffer_size=5, subscriber_max_borrowed_samples=6,
+                enable_safe_overflow=overflow, message_type_details=details(),
             )
             for overflow in (False, True)
         ]
         configs += [
             EventStaticConfig(
-                max_listeners=1,
-                max_notifiers=2,
-                max_nodes=3,
-                event_id_max_value=4,
-                deadline=deadline,
-                notifier_dead_event=EventId(MOST),
-                **event,
+                max_listeners=1, max_notifiers=2, max_nodes=3, event_id_max_value=4,
+                deadline=deadline, notifier_dead_event=EventId(MOST), **event,
             )
             for deadline in (None, Duration(0), Duration(MOST, 999_999_999))
         ]
         flags = ("for_requests", "for_responses")
         configs += [
             RequestResponseStaticConfig(
-                max_active_requests_per_client=1,
-                max_response_buffer_size=2,
-                max_servers=3,
-                max_clients=4,
-                max_nodes=5,
-                max_borrowed_responses_per_pending_response=6,
-                max_loaned_requests=7,
-                enable_fire_and_forget_requests=flag == "fire_and_forget",
+                max_active_requests_per_client=1, max_response_buffer_size=2, max_servers=3,
+                max_clients=4, max_nodes=5, max_borrowed_responses_per_pending_response=6,
+                max_loaned_requests=7, enable_fire_and_forget_requests=flag == "fire_and_forget",
                 request_message_type_details=details(),
                 response_message_type_details=details(size=16),
                 **{f"enable_safe_overflow_{end}": flag == end for end in flags},
@@ -159,27 +129,21 @@ class StaticConfigs(unittest.TestCase):
 
     def test_chunks_of_publishers(self):
         given: "dict[str, Any]" = dict(
-            subscriber_max_buffer_size=5,
-            subscriber_max_borrowed_samples=7,
+            subscriber_max_buffer_size=5, subscriber_max_borrowed_samples=7,
             publisher_history_size=11,
         )
         settings = PublishSubscribeSettings(max_subscribers=3, **given)
         config = PublishSubscribeStaticConfig.new(details(), settings)
         count = config.required_amount_of_samples_per_data_segment
         self.assertEqual(count(13), 3 * (5 + 7) + 11 + 13)
-        for wrong, error in ((MOST, iox2sd.TooLarge), (-1, iox2sd.OutOfRange)):
-            with self.assertRaises(error):
-                count(wrong)
-        with self.assertRaises(iox2sd.WrongType):
-            count(True)
+        for wrong, error in ((MOST, iox2sd.TooLargeError), (-1, iox2sd.OutOfRangeError)):
+            self.assertRaises(error, count, wrong)
+        self.assertRaises(iox2sd.WrongTypeError, count, True)
 
     def test_chunks_of_clients_and_servers(self):
         settings = RequestResponseSettings(
-            max_servers=3,
-            max_clients=17,
-            max_active_requests_per_client=5,
-            max_response_buffer_size=7,
-            max_borrowed_responses_per_pending_response=11,
+            max_servers=3, max_clients=17, max_active_requests_per_client=5,
+            max_response_buffer_size=7, max_borrowed_responses_per_pending_response=11,
         )
         config = RequestResponseStaticConfig.new(details(), details(), settings)
         requests = config.required_amount_of_chunks_per_client_data_segment
@@ -187,36 +151,25 @@ class StaticConfigs(unittest.TestCase):
         self.assertEqual(requests(13), 3 * 2 * 5 + 13)
         self.assertEqual(responses(19), 17 * 2 * 5 * (7 + 11 + 19))
         for count in (requests, responses):
-            for wrong, error in ((MOST, iox2sd.TooLarge), (2**64, iox2sd.OutOfRange)):
-                with self.assertRaises(error):
-                    count(wrong)
-            with self.assertRaises(iox2sd.WrongType):
-                count(None)
+            for wrong, error in ((MOST, iox2sd.TooLargeError), (2**64, iox2sd.OutOfRangeError)):
+                self.assertRaises(error, count, wrong)
+            self.assertRaises(iox2sd.WrongTypeError, count, None)
 
     def test_wrong_arguments(self):
         config = EventStaticConfig.new()
         cases: "list[tuple[Any, Any, Any, Any]]" = [
-            ("My/Service", ID, config, AttributeSet()),
-            (NAME, 7, config, AttributeSet()),
-            (NAME, ID, EventSettings(), AttributeSet()),
-            (NAME, ID, config, []),
+            ("My/Service", ID, config, AttributeSet()), (NAME, 7, config, AttributeSet()),
+            (NAME, ID, EventSettings(), AttributeSet()), (NAME, ID, config, []),
         ]
         for given in cases:
-            with self.assertRaises(iox2sd.WrongType):
-                StaticConfig(*given)
+            self.assertRaises(iox2sd.WrongTypeError, StaticConfig, *given)
         wrong: Any = BlackboardSettings()
         for call in (
             lambda: PublishSubscribeStaticConfig.new(details(), wrong),
-            lambda: PublishSubscribeStaticConfig.new(wrong),
-            lambda: EventStaticConfig.new(wrong),
+            lambda: PublishSubscribeStaticConfig.new(wrong), lambda: EventStaticConfig.new(wrong),
             lambda: RequestResponseStaticConfig.new(details(), wrong),
             lambda: RequestResponseStaticConfig.new(details(), details(), wrong),
             lambda: BlackboardStaticConfig.new(wrong),
             lambda: StaticConfig(NAME, ID, config).has_same_messaging_pattern(wrong),
         ):
-            with self.assertRaises(iox2sd.WrongType):
-                call()
-
-
-if __name__ == "__main__":
-    unittest.main()
+            self.assertRaises(iox2sd.WrongTypeError, call)

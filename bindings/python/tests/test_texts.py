@@ -6,28 +6,13 @@ import unittest
 
 import iox2sd
 from iox2sd import (
-    AttributeKey,
-    AttributeValue,
-    FileName,
-    FilePath,
-    InternalServiceName,
-    MessagingPattern,
-    Path,
-    RestrictedFileName,
-    ServiceHash,
-    ServiceName,
+    AttributeKey, AttributeValue, FileName, FilePath, InternalServiceName, MessagingPattern, Path,
+    RestrictedFileName, ServiceHash, ServiceName,
 )
 
 ALL = [
-    ServiceName,
-    InternalServiceName,
-    AttributeKey,
-    AttributeValue,
-    Path,
-    FileName,
-    FilePath,
-    RestrictedFileName,
-    ServiceHash,
+    ServiceName, InternalServiceName, AttributeKey, AttributeValue, Path, FileName, FilePath,
+    RestrictedFileName, ServiceHash,
 ]
 
 LONGEST = {
@@ -59,7 +44,7 @@ class Texts(unittest.TestCase):
     def test_longest_texts(self):
         for kind, length in LONGEST.items():
             self.assertEqual(len(kind("a" * length)), length)
-            with self.assertRaises(iox2sd.TooLong) as caught:
+            with self.assertRaises(iox2sd.TooLongError) as caught:
                 kind("a" * (length + 1))
             self.assertEqual(caught.exception.at, length)
 
@@ -67,7 +52,7 @@ class Texts(unittest.TestCase):
         self.assertEqual(Path(""), "")
         for kind in ALL:
             if kind is not Path:
-                with self.assertRaises(iox2sd.Empty) as caught:
+                with self.assertRaises(iox2sd.EmptyError) as caught:
                     kind("")
                 self.assertIsNone(caught.exception.at)
 
@@ -77,18 +62,17 @@ class Texts(unittest.TestCase):
         for kind in ALL:
             for wrong, at in (("ab\0", 2), ("\0", 0), ("a\x80", 1), ("aé", 1), ("\U0001f980", 0)):
                 with self.subTest(kind=kind, wrong=wrong):
-                    with self.assertRaises(iox2sd.IllegalByte) as caught:
+                    with self.assertRaises(iox2sd.IllegalByteError) as caught:
                         kind(wrong)
                     self.assertEqual(caught.exception.at, at)
                     self.assertTrue(str(caught.exception).endswith(f", at byte {at}"))
                     self.assertTrue(str(caught.exception).startswith(f"{kind.__name__} '"))
         for kind in (RestrictedFileName, ServiceHash):
-            with self.assertRaises(iox2sd.IllegalByte):
-                kind("a b")
+            self.assertRaises(iox2sd.IllegalByteError, kind, "a b")
 
     def test_halves_of_surrogate_pairs(self):
         for kind in ALL:
-            with self.assertRaises(iox2sd.NotUtf8) as caught:
+            with self.assertRaises(iox2sd.NotUtf8Error) as caught:
                 kind("ab\ud800")
             self.assertEqual((caught.exception.at, caught.exception.unit), (2, "character"))
             self.assertIn("at character 2", str(caught.exception))
@@ -96,42 +80,33 @@ class Texts(unittest.TestCase):
     def test_other_types(self):
         for kind in ALL:
             for wrong in (0, 5, None, b"abc", ["abc"], bytearray(b"abc"), True):
-                with self.assertRaises(iox2sd.WrongType):
-                    kind(wrong)
+                self.assertRaises(iox2sd.WrongTypeError, kind, wrong)
 
     def test_names_of_services(self):
-        with self.assertRaises(iox2sd.ReservedPrefix):
-            ServiceName("iox2://x")
+        self.assertRaises(iox2sd.ReservedPrefixError, ServiceName, "iox2://x")
         self.assertEqual(InternalServiceName("iox2://x"), "iox2://x")
         self.assertEqual(InternalServiceName.prefixed("x"), "iox2://x")
         self.assertEqual(len(InternalServiceName.prefixed("x" * 248)), 255)
         self.assertEqual(type(InternalServiceName.prefixed("x")), InternalServiceName)
         self.assertTrue(ServiceName.has_iox2_prefix("iox2://"))
         self.assertFalse(ServiceName.has_iox2_prefix("iox2:/x"))
-        with self.assertRaises(iox2sd.TooLong):
-            InternalServiceName.prefixed("x" * 249)
-        with self.assertRaises(iox2sd.IllegalByte):
-            InternalServiceName.prefixed("x\0")
+        self.assertRaises(iox2sd.TooLongError, InternalServiceName.prefixed, "x" * 249)
+        self.assertRaises(iox2sd.IllegalByteError, InternalServiceName.prefixed, "x\0")
         for wrong in (b"x", 7):
-            with self.assertRaises(iox2sd.WrongType):
-                InternalServiceName.prefixed(wrong)
-            with self.assertRaises(iox2sd.WrongType):
-                ServiceName.has_iox2_prefix(wrong)
-        with self.assertRaises(iox2sd.NotUtf8):
-            InternalServiceName.prefixed("\udfff")
+            self.assertRaises(iox2sd.WrongTypeError, InternalServiceName.prefixed, wrong)
+            self.assertRaises(iox2sd.WrongTypeError, ServiceName.has_iox2_prefix, wrong)
+        self.assertRaises(iox2sd.NotUtf8Error, InternalServiceName.prefixed, "\udfff")
 
     def test_names_of_files(self):
         for kind in (FileName, FilePath, RestrictedFileName, ServiceHash):
             for wrong in (".", ".."):
-                with self.assertRaises(iox2sd.NoFileName):
-                    kind(wrong)
-        with self.assertRaises(iox2sd.IllegalByte) as caught:
+                self.assertRaises(iox2sd.NoFileNameError, kind, wrong)
+        with self.assertRaises(iox2sd.IllegalByteError) as caught:
             FileName("a/b")
         self.assertEqual(caught.exception.at, 1)
         self.assertEqual(FilePath("a/b"), "a/b")
         for wrong in ("a/", "a/.", "a/.."):
-            with self.assertRaises(iox2sd.NoFileName):
-                FilePath(wrong)
+            self.assertRaises(iox2sd.NoFileNameError, FilePath, wrong)
 
     def test_joining(self):
         cases = (("a", "b", "a/b"), ("a/", "b", "a/b"), ("", "b", "b"), ("/", "", "/"))
@@ -141,16 +116,12 @@ class Texts(unittest.TestCase):
         made = FilePath.from_path_and_file(Path("/tmp"), FileName("a.b"))
         self.assertEqual((made, type(made)), ("/tmp/a.b", FilePath))
         self.assertEqual(len(Path("a" * 127).add_path_entry(Path("b" * 127))), 255)
-        with self.assertRaises(iox2sd.TooLong):
-            Path("a" * 128).add_path_entry(Path("b" * 127))
-        with self.assertRaises(iox2sd.TooLong):
+        self.assertRaises(iox2sd.TooLongError, Path("a" * 128).add_path_entry, Path("b" * 127))
+        with self.assertRaises(iox2sd.TooLongError):
             FilePath.from_path_and_file(Path("a" * 128), FileName("b" * 127))
-        with self.assertRaises(iox2sd.WrongType):
-            Path("a").add_path_entry("b")
-        with self.assertRaises(iox2sd.WrongType):
-            FilePath.from_path_and_file("a", FileName("b"))
-        with self.assertRaises(iox2sd.WrongType):
-            FilePath.from_path_and_file(Path("a"), "b")
+        self.assertRaises(iox2sd.WrongTypeError, Path("a").add_path_entry, "b")
+        self.assertRaises(iox2sd.WrongTypeError, FilePath.from_path_and_file, "a", FileName("b"))
+        self.assertRaises(iox2sd.WrongTypeError, FilePath.from_path_and_file, Path("a"), "b")
 
     def test_hash_texts_are_those_of_sha1_in_base64(self):
         names = [ServiceName("My/Service"), InternalServiceName("iox2://x"), ServiceName("a" * 255)]
@@ -160,12 +131,7 @@ class Texts(unittest.TestCase):
                 expected = base64.urlsafe_b64encode(digest).rstrip(b"=").decode()
                 made = ServiceHash.new(name, pattern)
                 self.assertEqual((made, type(made)), (expected, ServiceHash))
-        with self.assertRaises(iox2sd.WrongType):
+        with self.assertRaises(iox2sd.WrongTypeError):
             ServiceHash.new("My/Service", MessagingPattern.EVENT)
         for wrong in (1, "EVENT", iox2sd.Role.PUBLISHER):
-            with self.assertRaises(iox2sd.WrongType):
-                ServiceHash.new(names[0], wrong)
-
-
-if __name__ == "__main__":
-    unittest.main()
+            self.assertRaises(iox2sd.WrongTypeError, ServiceHash.new, names[0], wrong)

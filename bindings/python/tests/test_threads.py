@@ -3,9 +3,10 @@ import threading
 import time
 import unittest
 from typing import Callable
+from unittest import mock
 
 import iox2sd
-from iox2sd import DynamicConfig, UniqueNodeId
+from iox2sd import DynamicConfig, ServiceNumbers, UniqueNodeId, _native
 
 from .test_dynamic_config import publisher
 
@@ -86,7 +87,7 @@ class Threads(unittest.TestCase):
 
             work = [lambda number=number: join(number) for number in range(THREADS - 1)]
             raised = run([*work, close])
-            self.assertEqual({type(error) for error in raised}, {iox2sd.NoService})
+            self.assertEqual({type(error) for error in raised}, {iox2sd.NoServiceError})
             self.assertEqual(len(raised), THREADS - 1)
             self.assertTrue(made.closed)
 
@@ -126,6 +127,43 @@ class Threads(unittest.TestCase):
         self.assertEqual(run([ask] * THREADS), [])
         made.close()
 
+    def test_a_number_is_that_of_the_call(self):
+        """Another call comes between the library's answer and the end of the first."""
+        numbers, taken = ServiceNumbers(), []
+        numbered = _native.next_service_number_at
+
+        def overtaken(*arguments):
+            answer = numbered(*arguments)
+            with mock.patch.object(_native, "next_service_number_at", numbered):
+                taken.append(next(numbers))
+            return answer
+
+        with mock.patch.object(_native, "next_service_number_at", overtaken):
+            taken.append(next(numbers))
+        self.assertEqual(taken, [2, 1])
+
+    def test_sixteen_threads_take_numbers(self):
+        numbers, rounds = ServiceNumbers(), 1000
+        taken: "list[int]" = []
+
+        def take():
+            for _ in range(rounds):
+                taken.append(next(numbers))
+
+        self.assertEqual(run([take] * THREADS), [])
+        self.assertEqual(sorted(taken), list(range(1, THREADS * rounds + 1)))
+
+    def test_a_service_that_is_closed_while_it_is_printed(self):
+        made = DynamicConfig.event(7, max_nodes=1, max_listeners=1, max_notifiers=1)
+        asked = _native.max_nodes_at
+
+        def closes(*arguments):
+            made.close()
+            return asked(*arguments)
+
+        with mock.patch.object(_native, "max_nodes_at", closes):
+            self.assertEqual(repr(made), "<a closed DynamicConfig>")
+
     def test_sixteen_threads_have_a_service_each(self):
         def keep(number: int):
             for _ in range(100):
@@ -138,7 +176,3 @@ class Threads(unittest.TestCase):
 
         work = [lambda number=number: keep(number) for number in range(THREADS)]
         self.assertEqual(run(work), [])
-
-
-if __name__ == "__main__":
-    unittest.main()

@@ -15,7 +15,7 @@ from typing import Any
 from unittest import mock
 
 import iox2sd
-from iox2sd import _native, errors
+from iox2sd import _native
 
 from . import PACKAGE
 from .test_dynamic_config import NODE, publisher, service
@@ -75,7 +75,7 @@ class Values(unittest.TestCase):
                 self.assertEqual((str(made), made.encode()), ("lidar", b"lidar"))
                 self.assertEqual(repr(made), f"{kind.__name__}('lidar')")
                 self.assertIs(type(made), kind)
-            with self.assertRaises(iox2sd.IllegalByte) as caught:
+            with self.assertRaises(iox2sd.IllegalByteError) as caught:
                 kind(Liar("li\0dar"))
             self.assertTrue(str(caught.exception).startswith(f"{kind.__name__} 'li\\x00dar': "))
         self.assertEqual(iox2sd.InternalServiceName.prefixed(Liar("x")), "iox2://x")
@@ -111,15 +111,14 @@ class Values(unittest.TestCase):
         id = iox2sd.UniqueServiceId(Lying(1), Lying(2), Lying(3), Lying(4))
         self.assertEqual(id, iox2sd.UniqueServiceId(1, 2, 3, 4))
         self.assertEqual({type(part) for part in (id.process, id.counter)}, {int})
-        with self.assertRaises(iox2sd.OutOfRange):
-            iox2sd.UniqueServiceId(Lying(2**32), 2, 3, 4)
+        self.assertRaises(iox2sd.OutOfRangeError, iox2sd.UniqueServiceId, Lying(2**32), 2, 3, 4)
         with iox2sd.DynamicConfig.event(
             Lying(7), max_nodes=Lying(1), max_listeners=1, max_notifiers=1
         ) as made:
             self.assertEqual((made.service_number, made.max_nodes), (7, 1))
 
     def test_bytes_of_a_script_are_taken_by_their_value(self):
-        with self.assertRaises(iox2sd.BadLine) as caught:
+        with self.assertRaises(iox2sd.BadLineError) as caught:
             iox2sd.run_script(LyingBytes(b"nonsense\n"))
         self.assertEqual(caught.exception.line, 1)
 
@@ -142,8 +141,7 @@ class Errors(unittest.TestCase):
 
         Marked.__annotations__ = {"mark": "list[int]"}
         self.assertEqual(Marked(1, 2, 3).second, 3)
-        with self.assertRaises(iox2sd.OutOfRange):
-            Marked(1, 2, -3)
+        self.assertRaises(iox2sd.OutOfRangeError, Marked, 1, 2, -3)
 
     def test_annotations_that_are_texts(self):
         source = (
@@ -159,31 +157,39 @@ class Errors(unittest.TestCase):
         with mock.patch.dict(sys.modules, {"elsewhere": mock.Mock()}):
             exec(source, names)
         self.assertEqual(names["Marked"](1, 2, 3, [4]).mark, [4])
-        with self.assertRaises(iox2sd.WrongType):
-            names["Marked"]("1", 2, 3)
+        self.assertRaises(iox2sd.WrongTypeError, names["Marked"], "1", 2, 3)
 
     def test_what_cannot_be_iterated_over(self):
         with service() as made:
             for wrong in (None, 5, NODE):
-                with self.assertRaises(iox2sd.WrongType) as caught:
+                with self.assertRaises(iox2sd.WrongTypeError) as caught:
                     made.remove_dead_node_id(NODE, wrong)
                 text = "remove_dead_node_id.keep: expected an iterable"
                 self.assertIn(text, str(caught.exception))
-                with self.assertRaises(iox2sd.WrongType) as caught:
+                with self.assertRaises(iox2sd.WrongTypeError) as caught:
                     iox2sd.AttributeSet(wrong)
                 self.assertIn("AttributeSet: expected an iterable", str(caught.exception))
 
     def test_an_error_of_a_program_s_own(self):
-        unknown = errors.status_text(_native.UNKNOWN_STATUS)
-        for kind in (iox2sd.Refused, iox2sd.Incompatible):
+        unknown = str(iox2sd.Status.UNKNOWN_STATUS)
+        for kind in (iox2sd.RefusedError, iox2sd.IncompatibleError):
             self.assertEqual(str(kind("x")), f"x: {unknown}")
         self.assertEqual(unknown, "unknown status")
 
     def test_a_union_is_named_by_its_members(self):
-        with self.assertRaises(iox2sd.WrongType) as caught:
+        with self.assertRaises(iox2sd.WrongTypeError) as caught:
             iox2sd.EventSettings(deadline=5)
         text = "EventSettings.deadline: expected Duration or None, got 5"
         self.assertEqual(str(caught.exception), text)
+
+    def test_an_interpreter_without_the_global_lock(self):
+        command = "import sys; sys._is_gil_enabled = lambda: False; import iox2sd"
+        environment = {**os.environ, "PYTHONPATH": str(PACKAGE)}
+        done = subprocess.run(
+            [sys.executable, "-c", command], env=environment, capture_output=True, text=True
+        )
+        text = "ImportError: iox2sd needs the interpreter's global lock, which keeps calls on a"
+        self.assertTrue(done.stderr.splitlines()[-1].startswith(text), done.stderr)
 
     def test_a_library_without_the_interface(self):
         def imported(library: str) -> str:
@@ -282,7 +288,7 @@ class Calls(unittest.TestCase):
                 threading.Thread(target=register, daemon=True),
                 threading.Thread(target=close, daemon=True),
             )
-        self.assertEqual([type(error) for error in raised], [iox2sd.NoService])
+        self.assertEqual([type(error) for error in raised], [iox2sd.NoServiceError])
 
     def test_a_service_that_is_closed_within_a_listing(self):
         made = service(1, 100, 1)
@@ -298,8 +304,7 @@ class Calls(unittest.TestCase):
             return answer
 
         with mock.patch.object(_native, "ports_at", closes):
-            with self.assertRaises(iox2sd.NoService):
-                made.list_publishers()
+            self.assertRaises(iox2sd.NoServiceError, made.list_publishers)
 
     def test_a_finalizer_uses_the_service_that_is_called(self):
         class Cycle:
@@ -365,20 +370,18 @@ class Calls(unittest.TestCase):
 
 
 class Kept(unittest.TestCase):
-    def test_what_is_kept_is_told_by_numbers(self):
+    def test_a_port_that_is_kept_keeps_no_other(self):
+        """A listener and a notifier of one number are two ports."""
         listener = iox2sd.UniqueListenerId(1, 2, 3, 4)
         notifier = iox2sd.UniqueNotifierId(1, 2, 3, 4)
         self.assertNotEqual(listener, notifier)
-        with iox2sd.DynamicConfig.event(
-            7, max_nodes=1, max_listeners=1, max_notifiers=1
-        ) as made:
-            made.register_node_id(NODE)
-            made.attach(iox2sd.ListenerDetails(listener_id=listener, node_id=NODE))
-            made.attach(iox2sd.NotifierDetails(notifier_id=notifier, node_id=NODE))
-            gone = made.remove_dead_node_id(NODE, [listener])
-            self.assertEqual((gone.first, gone.second), (0, 0))
-            self.assertEqual(len(made.ports_of(NODE)), 2)
-
-
-if __name__ == "__main__":
-    unittest.main()
+        for keep, removed in (([listener], (0, 1)), ([notifier], (1, 0)), ([], (1, 1))):
+            with iox2sd.DynamicConfig.event(
+                7, max_nodes=1, max_listeners=1, max_notifiers=1
+            ) as made:
+                made.register_node_id(NODE)
+                made.attach(iox2sd.ListenerDetails(listener_id=listener, node_id=NODE))
+                made.attach(iox2sd.NotifierDetails(notifier_id=notifier, node_id=NODE))
+                gone = made.remove_dead_node_id(NODE, keep)
+                self.assertEqual((gone.first, gone.second), removed)
+                self.assertEqual([port.port_id for port in made.ports_of(NODE)], keep)

@@ -2,17 +2,19 @@
 
 import base64
 import csv
+import email
 import hashlib
 import io
 import os
 import subprocess
 import sys
+import tarfile
 import tempfile
 import unittest
 import zipfile
 from pathlib import Path
 
-from . import PACKAGE
+from . import LIBRARY, PACKAGE, PROJECT
 
 USE = """
 import pathlib, sys, iox2sd
@@ -31,8 +33,8 @@ class Wheel(unittest.TestCase):
         self.folder = Path(folder.name)
         self.wheel = self.built("built")
 
-    def built(self, name):
-        command = [sys.executable, "-B", PACKAGE / "build_wheel.py", self.folder / name]
+    def built(self, name, *option):
+        command = [sys.executable, "-B", PACKAGE / "build_wheel.py", *option, self.folder / name]
         return Path(self.run_command(command, os.environ).strip())
 
     def run_command(self, command, environment):
@@ -74,7 +76,7 @@ class Wheel(unittest.TestCase):
         self.assertEqual(
             self.run_command([python, "-c", USE], environment).splitlines(), ["True", "0.1.0 new"]
         )
-        for example in sorted((PACKAGE / "examples").glob("*.py")):
+        for example in [*PACKAGE.glob("examples/*.py"), PROJECT / "examples" / "builder.py"]:
             copied = self.folder / example.name
             copied.write_bytes(example.read_bytes())
             self.assertNotEqual(self.run_command([python, copied], environment), "")
@@ -82,13 +84,44 @@ class Wheel(unittest.TestCase):
         self.run_command(pip, environment)
         self.assertEqual(list((self.folder / "venv").rglob("*iox2sd*")), [])
 
-    def test_pip_builds_the_same_wheel(self):
-        environment = os.environ | {"PYTHONDONTWRITEBYTECODE": "1"}
-        pip = [sys.executable, "-m", "pip", "wheel", "--no-index", "--no-deps", "--quiet"]
-        self.run_command([*pip, "--wheel-dir", self.folder / "pip", PACKAGE], environment)
-        made = self.folder / "pip" / self.wheel.name
-        self.assertEqual(made.read_bytes(), self.wheel.read_bytes())
+    def test_pip_builds_the_same_wheel_of_the_folder_and_of_its_archive(self):
+        sdist = self.built("sdist", "--sdist")
+        self.assertEqual(sdist.read_bytes(), self.built("again", "--sdist").read_bytes())
+        for source in (PACKAGE, sdist):
+            made = self.folder / source.name / self.wheel.name
+            environment = os.environ | {"PYTHONDONTWRITEBYTECODE": "1"}
+            pip = [sys.executable, "-m", "pip", "wheel", "--no-index", "--no-deps", "--quiet"]
+            self.run_command([*pip, "--wheel-dir", made.parent, source], environment)
+            self.assertEqual(made.read_bytes(), self.wheel.read_bytes())
 
+    def test_the_metadata_is_that_of_the_project(self):
+        with zipfile.ZipFile(self.wheel) as archive:
+            name = next(name for name in archive.namelist() if name.endswith("METADATA"))
+            wheel = email.message_from_bytes(archive.read(name))
+        with tarfile.open(self.built("sdist", "--sdist")) as archive:
+            root = f"iox2sd-{wheel['Version']}"
+            info = email.message_from_bytes(archive.extractfile(f"{root}/PKG-INFO").read())
+            self.assertIn(f"{root}/iox2sd/py.typed", archive.getnames())
+            self.assertFalse([name for name in archive.getnames() if ".so" in name])
+        self.assertEqual(info.items(), wheel.items())
+        self.assertIn("Programming Language :: Python :: 3.10", wheel.get_all("Classifier"))
+        self.assertTrue(wheel["Author"] and wheel["Keywords"] and wheel["Project-URL"])
 
-if __name__ == "__main__":
-    unittest.main()
+    def test_the_library_of_the_system_is_found(self):
+        """A copy of the sources finds the library in the folder of the interpreter."""
+        copied = self.folder / "copied"
+        with tarfile.open(self.built("sdist", "--sdist")) as archive:
+            archive.extractall(copied)
+        (script,) = copied.glob("*/build_wheel.py")
+        environment = {key: value for key, value in os.environ.items() if key != "IOX2SD_LIBRARY"}
+        command = (
+            "import pathlib, sys; sys.path.insert(0, sys.argv[1]); sys.prefix = sys.argv[2];"
+            " import build_wheel; print(build_wheel.found_library())"
+        )
+        lib = self.folder / "prefix" / "lib" / Path(LIBRARY).name
+        lib.parent.mkdir(parents=True)
+        lib.write_bytes(b"")
+        found = self.run_command(
+            [sys.executable, "-B", "-c", command, script.parent, lib.parents[1]], environment
+        )
+        self.assertEqual(Path(found.strip()), lib.resolve())

@@ -1,0 +1,124 @@
+"""What values of all kinds can do: be formatted, weakly referenced, pickled, taken by pydantic."""
+
+import inspect
+import io
+import pickle
+import unittest
+import weakref
+from typing import Any
+
+import iox2sd
+
+from .test_attributes import pair
+from .test_fields import VALUES
+from .test_ids import KINDS
+from .test_texts import ALL
+
+TEXTS = [kind("abc") for kind in ALL]
+
+
+class Changed(pickle._Unpickler):  # type: ignore[name-defined]
+    """Reads a pickle with another value in the place of one."""
+
+    def __init__(self, pickled: bytes, was: object, now: object) -> None:
+        super().__init__(io.BytesIO(pickled))
+        self.values = was, now
+
+    def persistent_load(self, _: str) -> object:
+        return self.values[1]
+
+
+class Pickler(pickle._Pickler):  # type: ignore[name-defined]
+    """Leaves a hole where a value stands."""
+
+    def __init__(self, file: Any, was: object) -> None:
+        super().__init__(file)
+        self.was = was
+
+    def persistent_id(self, value: object) -> "str | None":
+        return "hole" if type(value) is type(self.was) and value == self.was else None
+
+
+def changed(value: object, was: object, now: object) -> object:
+    """What a pickle of a value gives in which another one stands in the place of a part."""
+    file = io.BytesIO()
+    Pickler(file, was).dump(value)
+    return Changed(file.getvalue(), was, now).load()
+
+
+class Values(unittest.TestCase):
+    def test_values_are_formatted(self):
+        for value in [*VALUES, *TEXTS, iox2sd.AttributeSet([pair("k", "v")]), iox2sd.Role.NODE]:
+            text = str(value)
+            self.assertEqual((f"{value}", f"{value:>999}"), (text, text.rjust(999)))
+        with iox2sd.DynamicConfig.event(7, max_nodes=1, max_listeners=1, max_notifiers=1) as made:
+            self.assertEqual(f"{made:>99}", repr(made).rjust(99))
+        for kind in KINDS:
+            id = kind(0, 0, 1, 0x2F)
+            self.assertEqual(f"{id:032X} {id:d}", f"{'10000002F':0>32} {2**32 + 0x2F}")
+            self.assertEqual(f"{id:.3}|{id:^11}", "100| 10000002f ")
+
+    def test_values_are_weakly_referenced(self):
+        values = [
+            *VALUES, *TEXTS, iox2sd.AttributeSet([pair("k", "v")]), iox2sd.ServiceNumbers(),
+            iox2sd.Role.NODE,
+        ]
+        for value in values:
+            self.assertIs(weakref.ref(value)(), value)
+
+    def test_pickles_are_checked(self):
+        """A value of a pickle is refused as it is where it is made."""
+        port = iox2sd.ListenerDetails(
+            listener_id=iox2sd.UniqueListenerId(5, 6, 7, 8), node_id=iox2sd.UniqueNodeId(1, 2, 3, 4)
+        )
+        cases: "list[tuple[Any, Any, Any, type[iox2sd.Error]]]" = [
+            (iox2sd.UniqueListenerId(5, 6, 7, 8), 5, -1, iox2sd.OutOfRangeError),
+            (iox2sd.UniqueNodeId(0, 0, 0, 9), 9, 0, iox2sd.NoNodeError),
+            (port, iox2sd.UniqueListenerId(5, 6, 7, 8), None, iox2sd.WrongTypeError),
+            (iox2sd.Duration(1, 2), 2, 10**9, iox2sd.BadDurationError),
+            (iox2sd.EventSettings(), 255, "255", iox2sd.WrongTypeError),
+            (iox2sd.ServiceName("abc"), "abc", "iox2://", iox2sd.ReservedPrefixError),
+            (iox2sd.TypeDetail("T", 8, 16), 16, 3, iox2sd.BadAlignmentError),
+            (iox2sd.AttributeSet([pair("k", "v")]), pair("k", "v"), 7, iox2sd.WrongTypeError),
+        ]
+        for value, was, now, error in cases:
+            with self.subTest(value=value):
+                self.assertEqual(changed(value, was, was), value)
+                self.assertRaises(error, changed, value, was, now)
+
+    def test_models_of_pydantic(self):
+        try:
+            from pydantic import create_model
+        except ImportError:
+            self.skipTest("not found: pydantic")
+        for kind in ALL:
+            model = create_model("Model", text=(kind, ...))
+            for given in ("abc", kind("abc")):
+                made = model(text=given)
+                self.assertEqual((made.text, type(made.text)), ("abc", kind))
+            for wrong in ("a\0", 5, None):
+                self.assertRaises(ValueError, model, text=wrong)
+        for kind in KINDS:
+            model = create_model("Model", id=(kind, ...))
+            id = kind(1, 2, 3, 4)
+            for given in (id, str(id)):
+                made = model(id=given)
+                self.assertEqual((made.id, type(made.id)), (id, kind))
+            for wrong in ("x", 5, None):
+                self.assertRaises(ValueError, model, id=wrong)
+
+    def test_bases_are_public(self):
+        for kind in ALL:
+            self.assertTrue(issubclass(kind, iox2sd.Text))
+        for kind in KINDS:
+            self.assertTrue(issubclass(kind, iox2sd.UniqueId))
+        for value in VALUES:
+            of_port = type(value).__name__.endswith("Details") and hasattr(value, "node_id")
+            self.assertEqual(isinstance(value, iox2sd.Details), of_port)
+            fixed = type(value).__name__.endswith("StaticConfig") and hasattr(value, "max_nodes")
+            self.assertEqual(isinstance(value, iox2sd.FixedSettings), fixed)
+
+    def test_signatures(self):
+        names = ["messaging_pattern", "service_number", "capacities", "tickets"]
+        for kind in (iox2sd.DynamicConfig, iox2sd.Recorder):
+            self.assertEqual(list(inspect.signature(kind).parameters), names)
