@@ -361,10 +361,10 @@ public:
     }
 
     /// Removes those ports of a dead node whose ids are not among `kept`: any range of ids of
-    /// ports, which is read once. A port is kept where its kind and its number are. Where none of its
-    /// ports is left, the node is removed too, with all its handles. Many ids are fast where they are
-    /// sorted by their numbers, and those of one number by their roles. It throws what the range
-    /// throws, and then has removed nothing.
+    /// ports, which is read once. A port is kept where its kind and its number are. Where none of
+    /// its ports is left, the node is removed too, with all its handles. Many ids are fast where
+    /// they are sorted by their numbers, and those of one number by their roles. It throws what
+    /// the range throws, and then has removed nothing.
     /// Error: `NoMemory`, before `NoService`; never where nothing is to be kept.
     template <class Range>
     Result<DeadNodeRemoval> remove_dead_node_id(const UniqueNodeId& dead, Range&& kept) {
