@@ -2764,11 +2764,9 @@ public:
         return detail::result(iox2sd_release_port(&place_, handle.as_c()));
     }
 
-    /// Removes those ports of a dead node whose ids are not among `kept`: any range of ids of
-    /// ports, which is read once. The numbers of ids are compared, not their roles: a listener that
-    /// is kept keeps the notifier of the same number too, though their `UniquePortId`s are not
-    /// equal. Where none of its ports is left, the node is removed too, with all its handles.
-    /// Many ids are fast where they are sorted by their numbers.
+    /// Removes those ports of a dead node that are not among `kept`: any range of ids of ports,
+    /// which is read once. Where none of its ports is left, the node is removed too, with all its
+    /// handles. Many ids are fast where they are sorted by their numbers, and then by their roles.
     /// Error: `NoMemory`, before `NoService`; never where nothing is to be kept.
     template <class Range>
     Result<DeadNodeRemoval> remove_dead_node_id(const UniqueNodeId& dead, Range&& kept) noexcept {
@@ -2968,7 +2966,7 @@ inline ScriptRun run_script(std::string_view script) noexcept {
         answer = iox2sd_script_run(detail::bytes(script), script.size(), bytes, capacity);
         const bool has_ended = answer.status == IOX2SD_BAD_LINE ||
                                (out != nullptr && answer.status == IOX2SD_NO_MEMORY);
-        return iox2sd_count_answer{has_ended ? std::uint32_t{IOX2SD_DONE} : answer.status,
+        return iox2sd_count_answer{has_ended ? std::uint32_t{IOX2SD_DONE} : answer.status, 0,
                                    answer.length};
     });
     if (!output) return {output.error(), 0, List<char>()};

@@ -60,7 +60,7 @@ Text<Capacity> front(const std::uint8_t (&bytes)[Size], std::size_t length) noex
     return *Text<Capacity>::written_by([&](std::uint8_t* out, std::size_t) {
         const std::size_t held = length < Size ? length : Size;
         copy_items(bytes, held, out);
-        return iox2sd_text_answer{IOX2SD_DONE, held};
+        return iox2sd_text_answer{IOX2SD_DONE, 0, held};
     });
 }
 
@@ -69,7 +69,7 @@ template <class Kind>
 Kind from_c(const iox2sd_config_text& c) noexcept {
     return Kind(*Text<255>::written_by([&c](std::uint8_t* out, std::size_t) {
         copy_items(c.bytes, c.length, out);
-        return iox2sd_text_answer{IOX2SD_DONE, c.length};
+        return iox2sd_text_answer{IOX2SD_DONE, 0, c.length};
     }), FromLibrary{});
 }
 
@@ -226,7 +226,7 @@ struct Config {
         iox2sd_config_write_answer answer{};
         auto written = List<char>::written_by([&](char* out, std::size_t capacity) {
             answer = iox2sd_config_write(&c, reinterpret_cast<std::uint8_t*>(out), capacity);
-            return iox2sd_count_answer{answer.status, answer.length};
+            return iox2sd_count_answer{answer.status, 0, answer.length};
         });
         if (written) return std::move(written).value();
         return ConfigWriteError{written.status(), SettingsField{answer.field},
@@ -291,17 +291,21 @@ inline Result<List<iox2sd_unknown_key>> unknown_keys(std::string_view text,
     const iox2sd_unknown_answer needed =
         iox2sd_config_unknown(bytes(text), text.size(), nullptr, 0, nullptr, 0);
     return List<iox2sd_unknown_key>::written_by([&](iox2sd_unknown_key* keys, std::size_t size) {
-        if (keys == nullptr) return iox2sd_count_answer{needed.status, needed.count};
+        if (keys == nullptr) return iox2sd_count_answer{needed.status, 0, needed.count};
         auto written = List<char>::written_by([&](char* out, std::size_t capacity) {
-            if (out == nullptr) return iox2sd_count_answer{IOX2SD_BUFFER_TOO_SHORT, needed.length};
+            if (out == nullptr) {
+                return iox2sd_count_answer{IOX2SD_BUFFER_TOO_SHORT, 0, needed.length};
+            }
             const iox2sd_unknown_answer answer =
                 iox2sd_config_unknown(bytes(text), text.size(), keys, size,
                                       reinterpret_cast<std::uint8_t*>(out), capacity);
-            return iox2sd_count_answer{answer.status, answer.length};
+            return iox2sd_count_answer{answer.status, 0, answer.length};
         });
-        if (!written) return iox2sd_count_answer{static_cast<std::uint32_t>(written.status()), 0};
+        if (!written) {
+            return iox2sd_count_answer{static_cast<std::uint32_t>(written.status()), 0, 0};
+        }
         paths = std::move(written).value();
-        return iox2sd_count_answer{IOX2SD_DONE, size};
+        return iox2sd_count_answer{IOX2SD_DONE, 0, size};
     });
 }
 

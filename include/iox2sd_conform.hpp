@@ -170,15 +170,15 @@ inline LogVerdict check_log(std::string_view log) noexcept {
         iox2sd_conform_run(detail::bytes(log), log.size(), front, sizeof front);
     if (answer.status == IOX2SD_NO_MEMORY) return {Status::NoMemory, 0, 0, {}};
     auto report = List<char>::written_by([&](char* out, std::size_t capacity) {
-        if (out == nullptr) return iox2sd_count_answer{IOX2SD_BUFFER_TOO_SHORT, answer.length};
+        if (out == nullptr) return iox2sd_count_answer{IOX2SD_BUFFER_TOO_SHORT, 0, answer.length};
         if (answer.status != IOX2SD_BUFFER_TOO_SHORT) {
             std::memcpy(out, front, answer.length);
         } else {
             auto* const bytes = reinterpret_cast<std::uint8_t*>(out);
             answer = iox2sd_conform_run(detail::bytes(log), log.size(), bytes, capacity);
-            if (answer.status == IOX2SD_NO_MEMORY) return iox2sd_count_answer{answer.status, 0};
+            if (answer.status == IOX2SD_NO_MEMORY) return iox2sd_count_answer{answer.status, 0, 0};
         }
-        return iox2sd_count_answer{IOX2SD_DONE, answer.length};
+        return iox2sd_count_answer{IOX2SD_DONE, 0, answer.length};
     });
     if (!report) return {report.error(), 0, 0, {}};
     return {Status{answer.status}, answer.line, answer.calls, std::move(report).value()};

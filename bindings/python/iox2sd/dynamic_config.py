@@ -6,7 +6,7 @@ from collections.abc import Iterable, Iterator
 from contextlib import contextmanager, suppress
 from dataclasses import dataclass
 from types import TracebackType
-from typing import Any, NoReturn, cast
+from typing import Any, NoReturn, cast, get_args
 
 from . import _native
 from ._arguments import U64, Checked, Choice, Size, instance, items, number, unchecked
@@ -30,6 +30,7 @@ from .texts import MessagingPattern
 
 _ALL_TICKETS = 2**64 - 1
 _node_id = maker(UniqueNodeId)
+_ROLES = dict(zip(get_args(UniquePortId), [role.value for role in Role][1:], strict=True))
 
 
 @dataclass(frozen=True, slots=True)
@@ -258,10 +259,8 @@ class DynamicConfig:
     def remove_dead_node_id(
         self, node_id: UniqueNodeId, keep: Iterable[UniquePortId] = ()
     ) -> DeadNodeRemoval:
-        """Removes the ports of a dead node, but for those whose id has the number of one in `keep`,
-        and returns how many it removed. Numbers are compared, not roles: a listener that is kept
-        keeps the notifier of the same number too, though their ids are not equal. Where no port is
-        left, the node is removed too, with all its handles.
+        """Removes the ports of a dead node, but for those in `keep`, and returns how many it removed.
+        Where no port is left, the node is removed too, with all its handles.
 
         Raises `NoService`.
         """
@@ -269,7 +268,9 @@ class DynamicConfig:
         kept = items(keep, "remove_dead_node_id.keep")
         for port_id in kept:
             instance(port_id, UniquePortId, "remove_dead_node_id.keep")
-        ids = (_native.Id * len(kept))(*(port_id._lent() for port_id in kept))
+        ids = (_native.PortId * len(kept))(
+            *(_native.PortId(_ROLES[type(port_id)], port_id._lent()) for port_id in kept)
+        )
         answer = self._call(_native.remove_dead_node_id_at, node_id._lent(), ids, len(kept))
         check(answer.status, f"remove dead node {node_id}")
         return DeadNodeRemoval(DeregisterNodeState(answer.status), answer.first, answer.second)
