@@ -195,7 +195,7 @@ static void making(void) {
 static void nodes(void) {
     iox2sd_service service = IOX2SD_SERVICE_NONE;
     iox2sd_id a = id(1, 2, 3, 4), b = id(5, 6, 7, 8);
-    iox2sd_service_create(&service, IOX2SD_BLACKBOARD, 77, capacities(2, 3, 4), 3);
+    CHECK(iox2sd_service_create(&service, IOX2SD_BLACKBOARD, 77, capacities(2, 3, 4), 3) == IOX2SD_DONE);
     CHECK(refuses(iox2sd_register_node_id(&service, id(0, 6, 7, 0)), IOX2SD_NO_NODE));
     CHECK(gives(iox2sd_register_node_id(&service, a), handle(77, IOX2SD_NODE, 0, 0)));
     CHECK(gives(iox2sd_register_node_id(&service, b), handle(77, IOX2SD_NODE, 1, 1)));
@@ -318,9 +318,9 @@ static void ports_of_nodes(uint32_t pattern) {
     iox2sd_id node = id(1, 2, 3, 4), twin = id(1, 6, 7, 4), absent = id(1, 2, 4, 4);
     iox2sd_port_details out[5], before[5], wanted;
     iox2sd_handle_answer second_slot;
-    iox2sd_service_create(&service, pattern, 77, capacities(2, 3, 4), 9);
-    iox2sd_register_node_id(&service, node);
-    iox2sd_register_node_id(&service, twin);
+    CHECK(iox2sd_service_create(&service, pattern, 77, capacities(2, 3, 4), 9) == IOX2SD_DONE);
+    CHECK(iox2sd_register_node_id(&service, node).status == IOX2SD_DONE);
+    CHECK(iox2sd_register_node_id(&service, twin).status == IOX2SD_DONE);
     iox2sd_port_details its[] = {full(second, 30, node), full(second, 31, twin), full(second, 32, node), full(first, 20, node),
                          full(first, 21, twin), full(first, 22, node)};
     for (size_t i = 0; i < 6; i++) {
@@ -344,7 +344,7 @@ static void ports_of_nodes(uint32_t pattern) {
     }
     CHECK(same_port(&out[4], &before[4]));
     /* a port that came later stands where its slot is */
-    iox2sd_release_port(&service, second_slot.handle);
+    CHECK(iox2sd_release_port(&service, second_slot.handle) == IOX2SD_DONE);
     iox2sd_port_details late = full(second, 33, node);
     CHECK(gives(iox2sd_attach(&service, &late), handle(77, second, 0, 3)));
     CHECK(counts(iox2sd_ports_of(&service, node, out, 5), IOX2SD_DONE, 4));
@@ -364,12 +364,12 @@ static void questions_of_pattern(uint32_t pattern) {
     uint64_t first = first_roles[pattern], second = second_roles[pattern], foreign = first_roles[(pattern + 1) % 4];
     iox2sd_service service = IOX2SD_SERVICE_NONE;
     iox2sd_id a = id(1, 2, 3, 4), b = id(5, 6, 7, 8), out[4], before[4];
-    iox2sd_service_create(&service, pattern, 77, capacities(3, 1, 2), 9);
-    iox2sd_register_node_id(&service, a);
-    iox2sd_register_node_id(&service, b);
+    CHECK(iox2sd_service_create(&service, pattern, 77, capacities(3, 1, 2), 9) == IOX2SD_DONE);
+    CHECK(iox2sd_register_node_id(&service, a).status == IOX2SD_DONE);
+    CHECK(iox2sd_register_node_id(&service, b).status == IOX2SD_DONE);
     iox2sd_port_details one = full(first, 20, a), other = full(second, 30, b);
-    iox2sd_attach(&service, &one);
-    iox2sd_attach(&service, &other);
+    CHECK(iox2sd_attach(&service, &one).status == IOX2SD_DONE);
+    CHECK(iox2sd_attach(&service, &other).status == IOX2SD_DONE);
     CHECK(tells(iox2sd_messaging_pattern(&service), IOX2SD_DONE, pattern));
     CHECK(tells(iox2sd_service_number(&service), IOX2SD_DONE, 77));
     iox2sd_roles_answer roles = iox2sd_port_roles(&service);
@@ -429,7 +429,7 @@ static void attaching(void) {
     iox2sd_service service = IOX2SD_SERVICE_NONE;
     iox2sd_id node = id(1, 2, 3, 4);
     iox2sd_port_details its = full(9, 20, id(0, 2, 3, 0));
-    iox2sd_service_create(&service, IOX2SD_EVENT, 77, capacities(1, 0, 1), 1);
+    CHECK(iox2sd_service_create(&service, IOX2SD_EVENT, 77, capacities(1, 0, 1), 1) == IOX2SD_DONE);
     its.data_segment = 2;
     CHECK(refuses(iox2sd_attach(&service, &its), IOX2SD_NO_NODE));
     its.node = id(1, 2, 3, 5);
@@ -441,7 +441,7 @@ static void attaching(void) {
     its.role = IOX2SD_READER; /* its kind has no segment, so the number is not looked at */
     CHECK(refuses(iox2sd_attach(&service, &its), IOX2SD_ROLE_NOT_IN_PATTERN));
     its.role = IOX2SD_LISTENER;
-    iox2sd_register_node_id(&service, node);
+    CHECK(iox2sd_register_node_id(&service, node).status == IOX2SD_DONE);
     CHECK(refuses(iox2sd_attach(&service, &its), IOX2SD_NODE_NOT_REGISTERED));
     its.node = node;
     CHECK(refuses(iox2sd_attach(&service, &its), IOX2SD_OUT_OF_SPACE));

@@ -632,7 +632,8 @@ static bool holds(const uint8_t *found, size_t length, size_t end, const char *t
  * `some_id`. */
 static bool describes(const iox2sd_description *d, uint32_t pattern, const char *name) {
     uint8_t hash[28] = {0};
-    iox2sd_internal_hash_text(pattern, bytes(name), strlen(name), hash, sizeof hash);
+    CHECK(iox2sd_internal_hash_text(pattern, bytes(name), strlen(name), hash, sizeof hash)
+              .status == IOX2SD_DONE);
     return holds(d->name, d->name_length, sizeof d->name, name) && d->pattern == pattern
            && holds(d->hash, d->hash_length, sizeof d->hash, (const char *)hash)
            && d->id.process == 1 && d->id.seconds == 2 && d->id.nanoseconds == 3

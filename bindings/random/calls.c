@@ -202,7 +202,7 @@ static void written(iox2sd_text_answer (*write)(const uint8_t *, size_t, uint8_t
     answer_text(write(given.at, given.length, out, sizeof out), out);
 }
 
-static void hashed(iox2sd_text_answer (*hash)(uint32_t, const uint8_t *, size_t, uint8_t *,
+static void hashed(iox2sd_text_answer (*hash)(iox2sd_pattern, const uint8_t *, size_t, uint8_t *,
                                               size_t)) {
     uint8_t out[MOST_BYTES];
     uint32_t pattern = number32();

@@ -6,7 +6,7 @@ from . import PROJECT
 
 FILES = sorted((PROJECT / "include").glob("iox2sd*.h"))
 
-TEXT = "".join(path.read_text() for path in FILES)
+TEXT = "".join(path.read_text() for path in FILES).replace("IOX2SD_CHECKED ", "")
 
 CONSTANTS = {
     name: int(number) for name, number in re.findall(r"^ +IOX2SD_(\w+) = (\d+)", TEXT, re.MULTILINE)

@@ -76,9 +76,31 @@ fn declared(declaration: &str) -> Option<(String, String)> {
     })
 }
 
+/// The headers' names for the integers that stand for enumerations.
+fn integers() -> Vec<(String, String)> {
+    ["iox2sd.h", "iox2sd_values.h", "iox2sd_config.h"]
+        .iter()
+        .flat_map(|name| {
+            let header = read(&format!("../../include/{name}"));
+            let named = |line: &str| {
+                let line = line.strip_prefix("typedef ")?.strip_suffix(';')?;
+                let (kind, name) = line.split_once(' ')?;
+                kind.starts_with("uint")
+                    .then(|| (name.to_string(), kind.to_string()))
+            };
+            header.lines().filter_map(named).collect::<Vec<_>>()
+        })
+        .collect()
+}
+
 /// The declarations of a header, in the order of its `;` outside of braces.
 fn of_header(header: &str) -> Declarations {
-    let text = squeezed(&without_comments(header))
+    let mut text = squeezed(&without_comments(header));
+    for (name, kind) in integers() {
+        text = text.replace(&format!("{name} "), &format!("{kind} "));
+    }
+    let text = text
+        .replace("IOX2SD_CHECKED ", "")
         .replace("extern \"C\"{", "")
         .replace("typedef struct ", "typedef ")
         .replace("struct ", "");

@@ -85,8 +85,9 @@ pub(crate) fn read(alloc: Global, text: &[u8]) -> Result<FileSettings, PlainFaul
 /// default.
 ///
 /// Refused are, in this order, NULL (`Null`); a text that is not UTF-8 (`NotUtf8`), is too deep
-/// (`TooDeep`) or no TOML (`NotToml`); and the first key, in the order of the settings, whose value is not allowed, with
-/// its status. Want of memory (`NoMemory`) is refused at any point. Then the struct is as it was.
+/// (`TooDeep`) or no TOML (`NotToml`); and the first key, in the order of the settings, whose value
+/// is not allowed, with its status. Want of memory (`NoMemory`) is refused at any point. Then the
+/// struct is as it was.
 #[unsafe(no_mangle)]
 pub extern "C" fn iox2sd_config_read_at(
     alloc: Global,
@@ -164,8 +165,8 @@ fn list_faults(alloc: Global, text: &str, out: &mut [PlainFault]) -> CountAnswer
 /// fit, and returns how many there are; the other elements stay as they were.
 ///
 /// Refused are, in this order, a text that is not UTF-8 (`NotUtf8`), is too deep (`TooDeep`) or no
-/// TOML (`NotToml`), and too short an array (`BufferTooShort`), with the length that it needs. Want of memory (`NoMemory`) is
-/// refused at any point. Then the array is as it was.
+/// TOML (`NotToml`), and too short an array (`BufferTooShort`), with the length that it needs. Want
+/// of memory (`NoMemory`) is refused at any point. Then the array is as it was.
 #[unsafe(no_mangle)]
 pub extern "C" fn iox2sd_config_faults_at(
     alloc: Global,

@@ -213,7 +213,7 @@ fn check_node_names(texts: &PlainTexts) -> Result<(), BadText>
     check_name(&texts.global_mgmt_suffix, "global.node.global-mgmt-suffix")
 }
 
-/// What the names of files begin and end with are names of files, or this is the first that is none.
+/// What the names of files begin and end with are names of files, or this is the first that is not.
 fn check_names(texts: &PlainTexts) -> Result<(), BadText>
     ensures ok { IfOk result (λ _. HasNames texts.now) }
     ensures err { IfErr result (λ bad. IsFirstBadName texts.now (bad_view bad)) }
@@ -362,12 +362,12 @@ fn write_text(alloc: alloc::Global, config: &Config, out: &mut [u8]) -> WriteAns
 /// Writes settings as the text of a file, each below a comment with what it is and its default, to
 /// the front of the buffer where all of it fits.
 ///
-/// Refused are, in this order, NULL (`Null`); the first path that is none, with the path of its key,
-/// since it has more than 255 bytes (`TooLong`) or a byte that is not allowed (`BadPath`); so the
-/// first text that is no name of a file (`TooLong`, `NoFileName`); the first field that is not valid, of
-/// the system, of publish-subscribe, of event and of request-response services, as the checks of
-/// settings report it (`BadDuration`, `UnknownStrategy`); a number above the greatest integer of
-/// TOML, with the path of the first such key (`NoTomlInteger`); and too short a buffer
+/// Refused are, in this order, NULL (`Null`); the first path that is none, with the path of its
+/// key, since it has more than 255 bytes (`TooLong`) or a byte that is not allowed (`BadPath`); so
+/// the first text that is no name of a file (`TooLong`, `NoFileName`); the first field that is not
+/// valid, of the system, of publish-subscribe, of event and of request-response services, as the
+/// checks of settings report it (`BadDuration`, `UnknownStrategy`); a number above the greatest
+/// integer of TOML, with the path of the first such key (`NoTomlInteger`); and too short a buffer
 /// (`BufferTooShort`). Want of memory (`NoMemory`) is refused at any point after the fields. Then
 /// the buffer is as it was.
 #[unsafe(no_mangle)]

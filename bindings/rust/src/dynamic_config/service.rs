@@ -446,11 +446,9 @@ impl DynamicConfig {
     ///
     /// Nothing is changed before the callback has answered for all ports.
     ///
-    /// Ports are kept by the [`value`](UniquePortId::value) of their ids, whatever their kinds:
-    /// where the callback answers [`SkipPort`](PortCleanupAction::SkipPort) for one port, all ports
-    /// of the node with its value stay. A listener that is skipped keeps the notifier of the same
-    /// value too, though their [`UniquePortId`]s are not equal. Where ids are unique, each answer
-    /// is for one port.
+    /// Ports are kept by their [`UniquePortId`]s: where the callback answers
+    /// [`SkipPort`](PortCleanupAction::SkipPort) for one port, all ports of the node with its id
+    /// stay. Where ids are unique, each answer is for one port.
     ///
     /// ```
     /// # use iox2sd::prelude::*;

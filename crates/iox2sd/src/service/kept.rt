@@ -66,7 +66,9 @@ fn is_among_sorted(ports: &[PortId], role: u64, value: u128) -> bool
     requires { AreSorted ports.now }
     ensures { result ≡ is_kept ports.now role value }
 {
-    ports.binary_search_by(|port| port.order(role, value)).is_ok()
+    ports
+        .binary_search_by(move |port| port.order(role, value))
+        .is_ok()
 }
 
 /// Whether a port of this role with this number is one of these.

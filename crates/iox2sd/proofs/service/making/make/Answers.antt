@@ -13,29 +13,29 @@ makes : (pattern number : ℕ) (c : Capacities) (tickets : ℕ) (s : Status) (ol
     → Makes pattern number c tickets old answer new
 makes pattern number c tickets s old new answer none is made = rw none (s, is, made)
 
-pub returns-in_default-of_number-clause-made : goal.returns-in_default-of_number-clause-made
-returns-in_default-of_number-clause-made c =
+pub returns-in_default-pattern_of-clause-made : goal.returns-in_default-pattern_of-clause-made
+returns-in_default-pattern_of-clause-made c =
     makes _ _ _ _ status.UnknownPattern _ _ _ c.in_default.ensures.none
-    c.code-in_default-of_number.ensures
-    (c.in_default-of_number.ensures, c.in_default.ensures.left)
+    c.code-in_default-pattern_of.ensures
+    (c.in_default-pattern_of.ensures, c.in_default.ensures.left)
 
 pub returns-in_default-with_tickets-clause-made : goal.returns-in_default-with_tickets-clause-made
 returns-in_default-with_tickets-clause-made c =
     makes _ _ _ _ status.NoMemory _ _ _ c.in_default.ensures.none
     c.code-in_default-with_tickets.ensures
-    (c.in-Some-of_number.kind, c.in-Some-of_number.ensures, c.in_default.ensures.left)
+    (c.in-Some-pattern_of.kind, c.in-Some-pattern_of.ensures, c.in_default.ensures.left)
 
 pub returns-in_default-new-clause-made : goal.returns-in_default-new-clause-made
 returns-in_default-new-clause-made c =
     makes _ _ _ _ status.NoMemory _ _ _ c.in_default.ensures.none c.code-in_default-new.ensures
-    (c.in-Some-of_number.kind, c.in-Some-of_number.ensures, c.in_default.ensures.left)
+    (c.in-Some-pattern_of.kind, c.in-Some-pattern_of.ensures, c.in_default.ensures.left)
 
 pub returns-clause-made : goal.returns-clause-made
 returns-clause-made c =
     let a = c.args in
     makes _ _ _ _ status.Done _ _ _ c.in_default.ensures.none c.code-2.ensures (
-      c.in-Some-of_number.kind,
-      c.in-Some-of_number.ensures,
+      c.in-Some-pattern_of.kind,
+      c.in-Some-pattern_of.ensures,
       c.put-2.ensures.service
           ∙ ap Some
           (c.in-Ok-new.ensures.ok ∙ c.in-Ok.ensures.new
