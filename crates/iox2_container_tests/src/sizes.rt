@@ -32,3 +32,20 @@ fn a_million_places_with_three_entries(rt: HostRuntime) -> Result<(), Fail> {
     assert_eq!(rt; (seen, asked, list.len()), (300_000, 200_000, 3));
     Ok(())
 }
+
+/// An add and a removal go through no entries: 200,000 each time would take minutes.
+#[test]
+fn changes_of_a_full_list(rt: HostRuntime) -> Result<(), Fail> {
+    let id = A.id()?;
+    let mut list = ListContainer::new(rt.alloc(), 7, Role::Node, 200_000, u64::MAX)?;
+    let mut newest = list.add(id)?;
+    for _ in 1..200_000 {
+        newest = list.add(id)?;
+    }
+    for _ in 0..200_000 {
+        list.remove(newest, ReleaseMode::Default)?;
+        newest = list.add(id)?;
+    }
+    assert_eq!(rt; list.len(), 200_000);
+    Ok(())
+}
