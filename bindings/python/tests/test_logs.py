@@ -180,8 +180,8 @@ class Logs(unittest.TestCase):
     def test_verdicts_are_no_tuples(self):
         for verdict in (Conforms(3), NoOrder(3, ()), TooManyStates(3)):
             self.assertNotIsInstance(verdict, tuple)
-            with self.assertRaises(AttributeError):
-                verdict.line = 4
+            field, *_ = dataclasses.fields(verdict)
+            self.assertRaises(AttributeError, setattr, verdict, field.name, 4)
             with self.assertRaises(TypeError):
                 _, *_ = verdict
 
