@@ -140,7 +140,7 @@ enum iox2sd_status_number {
     IOX2SD_NO_DURATION = 83,    /* The value of a key is no table of the integers secs and nanos. */
     IOX2SD_NO_TOML_INTEGER = 84, /* A number is above 2^63 - 1. */
     IOX2SD_NO_FILE = 85,         /* A file cannot be read: C++ alone returns it. */
-    /* Tables and arrays of a file are more than 80 deep in one another. */
+    /* Tables and arrays of a file are more than 32 deep in one another. */
     IOX2SD_TOO_DEEP = 86,
     IOX2SD_NO_RUN = 90,          /* No run of the proved machine gives a reply of a log. */
     /* A line of a log is not what is expected, or the log ends before it. */

@@ -139,7 +139,7 @@ typedef struct iox2sd_config_write_answer {
     size_t key_length;
 } iox2sd_config_write_answer;
 
-/* Reads the text of a file of settings, which is TOML 1.1. Its tables and arrays may be at most 80
+/* Reads the text of a file of settings, which is TOML 1.1. Its tables and arrays may be at most 32
  * deep in one another: so many parts of the line's header, dots of its keys, arrays and inline
  * tables. A key that it does not have has its default, and all bytes of `out` are written. A text
  * of NULL and 0 is an empty one.

@@ -1,7 +1,7 @@
 /* The exports by count, for C99 and C++: the proved functions of the library, which the functions
- * of the other headers and the wrappers of other languages call. In C, call the functions of iox2sd.h,
- * iox2sd_values.h, iox2sd_config.h, iox2sd_script.h and iox2sd_conform.h, which include this header
- * and say what each one does.
+ * of the other headers and the wrappers of other languages call. In C, call the functions of
+ * iox2sd.h, iox2sd_values.h, iox2sd_config.h, iox2sd_script.h and iox2sd_conform.h, which include
+ * this header and say what each one does.
  *
  * Each export is that of its name without `_at`, but for its pointers. Where that one takes a
  * pointer to one struct, the export takes a pointer and a count: 1, or 0 where the pointer is NULL.

@@ -434,7 +434,7 @@ static bool is_deep(const char *place) {
     if (place == NULL)
         return answer.status == IOX2SD_DONE && listed.status == IOX2SD_DONE &&
                unknown.status != IOX2SD_TOO_DEEP;
-    sprintf(reason, "%s: tables and arrays are more than 80 deep in one another", place);
+    sprintf(reason, "%s: tables and arrays are more than 32 deep in one another", place);
     return answer.status == IOX2SD_TOO_DEEP && has_reason(&answer.fault, reason) &&
            has_key(&answer.fault, "") && answer.unknown == 0 && is_soiled(&made) &&
            listed.status == IOX2SD_TOO_DEEP && listed.count == 0 &&
@@ -444,32 +444,32 @@ static bool is_deep(const char *place) {
 /* Tables and arrays as deep as they may be, and one deeper. */
 static void depth(void) {
     for (int more = 0; more < 2; more++) {
-        repeat("a.", 79 + 2 * more); /* TOML's parser refuses a key of 81 parts. */
+        repeat("a.", 32 + more);
         repeat("a = 1\n", 1);
-        CHECK(is_deep(more ? "line 1, column 162" : NULL));
+        CHECK(is_deep(more ? "line 1, column 66" : NULL));
         repeat("[a", 1);
-        repeat(".a", 79 + more);
+        repeat(".a", 31 + more);
         repeat("]\n", 1);
-        CHECK(is_deep(more ? "line 1, column 161" : NULL));
+        CHECK(is_deep(more ? "line 1, column 65" : NULL));
         repeat("# [[[[ ....\nx = ", 1);
-        repeat("[", 80 + more);
-        repeat("]", 80 + more);
-        CHECK(is_deep(more ? "line 2, column 85" : NULL));
+        repeat("[", 32 + more);
+        repeat("]", 32 + more);
+        CHECK(is_deep(more ? "line 2, column 37" : NULL));
         repeat("x = ", 1);
-        repeat("{a = ", 80 + more);
+        repeat("{a = ", 32 + more);
         repeat("1", 1);
-        repeat("}", 80 + more);
-        CHECK(is_deep(more ? "line 1, column 405" : NULL));
+        repeat("}", 32 + more);
+        CHECK(is_deep(more ? "line 1, column 165" : NULL));
         repeat("[a", 1);
-        repeat(".a", 19);
+        repeat(".a", 7);
         repeat("]\n", 1);
-        repeat("b.", 20);
+        repeat("b.", 8);
         repeat("b = ", 1);
-        repeat("[{\na.b = ", 13);
+        repeat("[{\na.b = ", 5);
         repeat("[", 1 + more);
         repeat("]", 1 + more);
-        repeat("}]", 13);
-        CHECK(is_deep(more ? "line 15, column 8" : NULL));
+        repeat("}]", 5);
+        CHECK(is_deep(more ? "line 7, column 8" : NULL));
     }
     /* what is in texts and comments is not counted, nor what is closed */
     repeat("\xef\xbb\xbf[a]\n", 1);
@@ -481,10 +481,10 @@ static void depth(void) {
     repeat("]\n", 1);
     CHECK(is_deep(NULL));
     repeat("\xef\xbb\xbf[a", 1);
-    repeat(".a", 40);
+    repeat(".a", 16);
     repeat("]\n\n'\xc3\xa4'", 1);
-    repeat(".b", 40);
-    CHECK(is_deep("line 3, column 82"));
+    repeat(".b", 16);
+    CHECK(is_deep("line 3, column 34"));
 }
 
 static void nulls(void) {

@@ -69,7 +69,7 @@ static bool same_port(const iox2sd_port_details *a, const iox2sd_port_details *b
 
 /* Whether a number is that of a status. */
 static bool is_status(uint32_t number) {
-    return number <= 18 || number == 20 || number == 21 || (40 <= number && number <= 69);
+    return number <= 18 || number == 20 || number == 21 || (40 <= number && number <= 70);
 }
 
 static void statuses(void) {

@@ -71,6 +71,7 @@ static iox2sd_config config;
 static iox2sd_config_fault faults[4];
 static iox2sd_unknown_key unknown[4];
 static iox2sd_count_answer samples;
+static iox2sd_flag_answer same;
 static iox2sd_text_answer text;
 static uint8_t out[1 << 16], name[255], value[256], path[120];
 
@@ -164,12 +165,13 @@ static char nested[3][1024];
     CALL(message_sample_layout, iox2sd_message_sample_layout_at(&details, 1, 4)) \
     CALL(message_places, iox2sd_message_places_at(&details, 1, 64)) \
     CALL(message_is_compatible_to, iox2sd_message_is_compatible_to_at(&details, 1, &details, 1)) \
-    CALL(required_samples, iox2sd_required_amount_of_samples_per_data_segment(1, 2, 3, 4, 5)) \
-    CALL(required_client_chunks, iox2sd_required_amount_of_chunks_per_client_data_segment(1, 2, \
-        3)) \
-    CALL(required_server_chunks, iox2sd_required_amount_of_chunks_per_server_data_segment(1, 2, \
-        3, 4, 5)) \
-    CALL(has_same_messaging_pattern, iox2sd_has_same_messaging_pattern(1, 2)) \
+    CALL(required_samples, samples = iox2sd_required_amount_of_samples_per_data_segment( \
+        1, 2, 3, 4, 5)) \
+    CALL(required_client_chunks, \
+        samples = iox2sd_required_amount_of_chunks_per_client_data_segment(1, 2, 3)) \
+    CALL(required_server_chunks, \
+        samples = iox2sd_required_amount_of_chunks_per_server_data_segment(1, 2, 3, 4, 5)) \
+    CALL(has_same_messaging_pattern, same = iox2sd_has_same_messaging_pattern(1, 2)) \
     CALL(global_settings_check, iox2sd_global_settings_check_at(&global, 1)) \
     CALL(publish_subscribe_settings_check, \
         iox2sd_publish_subscribe_settings_check_at(&publish_subscribe, 1)) \
@@ -324,14 +326,14 @@ static void make_form(size_t form, size_t depth) {
 /* Each form at the depths before and past the limit, and at those with which files once passed what
  * is promised. */
 static void deep_files(bool told) {
-    static const size_t depths[] = {55, 72, 78, 80, 82, 160};
+    static const size_t depths[] = {20, 30, 32, 34, 55, 80, 160};
     size_t most = 0;
     for (size_t form = 0; form < FORMS; form++) {
         for (size_t i = 0; i < sizeof depths / sizeof depths[0]; i++) {
             make_form(form, depths[i]);
             const size_t taken[] = {depth_of(read_deep), depth_of(list_deep), depth_of(name_deep)};
             const iox2sd_config_answer answer = iox2sd_config_read_str(deep, &config);
-            CHECK(answer.status == (depths[i] <= 80 ? IOX2SD_DONE : IOX2SD_TOO_DEEP));
+            CHECK(answer.status == (depths[i] <= 32 ? IOX2SD_DONE : IOX2SD_TOO_DEEP));
             for (size_t call = 0; call < 3; call++) {
                 CHECK(taken[call] <= IOX2SD_CONFIG_STACK_BYTES);
                 if (taken[call] > most) most = taken[call];
@@ -378,9 +380,9 @@ static void prepare(void) {
     offer.messages = required.messages = &details;
     offer.attributes = required.pairs = pairs;
     offer.attributes_length = required.pairs_length = 16;
-    nest(nested[0], 80, "[", "]");
+    nest(nested[0], 32, "[", "]");
     nest(nested[1], 250, "[", "]");
-    nest(nested[2], 80, "{a=", "}");
+    nest(nested[2], 32, "{a=", "}");
 }
 
 int main(int count, char **words) {

@@ -79,14 +79,14 @@ abbrev pub has_table : List Mark → Bool
 has_table (mark.Table ∷ ms) = true
 has_table _ = false
 
--- one more is open, where there were fewer than 80
+-- one more is open, where there were fewer than 32
 abbrev pub Pushes : Mark → List Mark → Bool → List Mark → Type 0
-Pushes m old true new = (length old < 80) × (new ≡ m ∷ old)
-Pushes m old false new = 80 ≤ length old
+Pushes m old true new = (length old < 32) × (new ≡ m ∷ old)
+Pushes m old false new = 32 ≤ length old
 
 abbrev pub nested : Position → Mark → List Mark → Option Nesting
 nested p m ms =
-    if nat_lt (length ms) 80 then Some (record { position = p; marks = m ∷ ms }) else None
+    if nat_lt (length ms) 32 then Some (record { position = p; marks = m ∷ ms }) else None
 
 -- a line's key or header may stand behind the byte: white space, the line's end, or no byte of
 -- ASCII, as those of a byte order mark
@@ -176,7 +176,7 @@ begin = record {
 abbrev pub depth_text : TooDeep → List ℕ
 depth_text place =
     codes "line " ++ (decimal place.line ++ (codes ", column " ++ (decimal place.column
-    ++ codes ": tables and arrays are more than 80 deep in one another")))
+    ++ codes ": tables and arrays are more than 32 deep in one another")))
 
 -- the lines, and the characters of the last line, that are passed with a byte
 abbrev pub passed : TooDeep → ℕ → TooDeep
@@ -189,11 +189,12 @@ passed before b =
 abbrev pub told : TooDeep → TooDeep
 told before = record { line = before.line + 1; column = before.column + 1 }
 
--- the place of the first byte that opens a table or an array within 80 others
+-- the place of the first byte that opens a table or an array within 32 others
 abbrev pub found_from : Scan → TooDeep → List ℕ → Option TooDeep
 found_from s before [] = None
 found_from s before (b ∷ bs) =
-    elim (stepped s b) [ None ↦ Some (told before) | Some next ↦ found_from next (passed before b) bs ]
+    elim (stepped s b)
+      [ None ↦ Some (told before) | Some next ↦ found_from next (passed before b) bs ]
 
 -- the same of a whole text
 unfoldable pub too_deep : List ℕ → Option TooDeep

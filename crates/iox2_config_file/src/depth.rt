@@ -12,7 +12,7 @@ use scan::Scan;
 use std::error::Error;
 use std::fmt;
 
-/// Where the tables and arrays of a file are first more than 80 deep in one another.
+/// Where the tables and arrays of a file are first more than 32 deep in one another.
 #[derive(Clone, Copy, Debug, PartialEq, Eq)]
 pub struct TooDeep {
     /// The line, from 1 on.
@@ -29,7 +29,7 @@ impl fmt::Display for TooDeep {
     fn fmt<W: fmt::Write>(&self, f: &mut fmt::Formatter<W>) -> fmt::Result {
         write!(
             f,
-            "line {}, column {}: tables and arrays are more than 80 deep in one another",
+            "line {}, column {}: tables and arrays are more than 32 deep in one another",
             self.line, self.column
         )
     }
@@ -56,7 +56,7 @@ fn passed(before: TooDeep, byte: u8) -> TooDeep
     }
 }
 
-/// The place of the first byte of a text that opens a table or an array within 80 others. Each part
+/// The line and column of the first byte that opens a table or an array within 32 others. Each part
 /// of a header, each dot of a key, each array and each inline table is one. It takes no memory.
 #[tactic(auto, unfolding(crate::specs::Depth::too_deep))]
 pub fn too_deep(text: &[u8]) -> Option<TooDeep>

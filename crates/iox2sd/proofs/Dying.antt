@@ -38,8 +38,9 @@ fewer kept old new dead answer before after b a s =
       recovered_fewer (Keeps kept) dead old.ports.second s.ports.0 new.ports.second tt s.ports.2,
     )
 
-pub so_many_went : (kept : List PortId) (old new : Service) (dead : ℕ) (answer : DeregisterNodeState)
-    (before after : Counts) → before ≡ counted old → after ≡ counted new
+pub so_many_went : (kept : List PortId) (old new : Service) (dead : ℕ)
+    (answer : DeregisterNodeState) (before after : Counts) → before ≡ counted old
+    → after ≡ counted new
     → DeadStep (Keeps kept) old tt dead answer new tt
     → Went (counted old)
     (record { first = before.first - after.first; second = before.second - after.second })

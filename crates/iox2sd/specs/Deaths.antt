@@ -33,9 +33,11 @@ DiesTo old node kept state gone new =
 -- the same for a node's id as C sees it
 abbrev pub Dies : Id → List PortId → Held → Death → Held → Type 0
 Dies dead kept old (Open gone) new =
-    (node : ℕ) × ReadsNode dead (Some node) × All IsPort kept × DiesTo old node kept HasOwners gone new
+    (node : ℕ) × ReadsNode dead (Some node) × All IsPort kept
+    × DiesTo old node kept HasOwners gone new
 Dies dead kept old (Locked gone) new =
-    (node : ℕ) × ReadsNode dead (Some node) × All IsPort kept × DiesTo old node kept NoMoreOwners gone new
+    (node : ℕ) × ReadsNode dead (Some node) × All IsPort kept
+    × DiesTo old node kept NoMoreOwners gone new
 Dies dead kept old (Refused status.NoNode) new = ReadsNode dead None × (new ≡ old)
 Dies dead kept old (Refused status.UnknownRole) new =
     (node : ℕ) × ReadsNode dead (Some node) × (¬ (All IsPort kept)) × (new ≡ old)

@@ -18,7 +18,7 @@ use Rattle.iox2sd_config.specs.declared.fault.PlainFault.{PlainFault}
 use Rattle.iox2sd_config.specs.declared.read.ConfigAnswer.{ConfigAnswer}
 use Rattle.toml.specs.Parse.{parse_document}
 
--- tables and arrays are at most 80 deep in one another
+-- tables and arrays are at most 32 deep in one another
 abbrev pub IsShallow : List ℕ → Type 0
 IsShallow bytes = too_deep bytes ≡ None
 

@@ -205,10 +205,10 @@ pub(crate) fn plain_fault(alloc: Global, fault: &SettingFault) -> Result<PlainFa
 }
 
 /// Where a text is too deep, or that there was no memory to say it.
-pub(crate) fn deep_fault(alloc: Global, place: TooDeep) -> PlainFault
-    ensures { TellsDepth place (known_of result) }
+pub(crate) fn deep_fault(alloc: Global, first: TooDeep) -> PlainFault
+    ensures { TellsDepth first (known_of result) }
 {
-    let Ok(reason) = format!(in alloc; "{place}") else {
+    let Ok(reason) = format!(in alloc; "{first}") else {
         return PlainFault::of(Status::NoMemory);
     };
     PlainFault::with_reason(Status::TooDeep, reason.as_str())

@@ -54,7 +54,8 @@ setting_number setting.MaxNodes = 31
 -- the answer on the first setting that is not met, or on none
 abbrev pub satisfied : Option Setting → FieldAnswer
 satisfied None = no_field status.Done
-satisfied (Some first) = record { status = code status.Unmet; field = setting_number first; cause = 0 }
+satisfied (Some first) =
+    record { status = code status.Unmet; field = setting_number first; cause = 0 }
 
 -- what is fixed of a publish-subscribe service, beside the types of its messages
 abbrev pub publish_subscribe_of : PublishSubscribeConfig → PublishSubscribe

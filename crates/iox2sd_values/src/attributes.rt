@@ -137,7 +137,7 @@ pub extern "C" fn iox2sd_attributes_check_at(pairs: &[Attribute<'_>]) -> PlaceAn
     }
 }
 
-/// Sorts the pairs of a set, or tells the first that is wrong.
+/// Sorts the pairs of a set, or reports the first that is wrong.
 fn sort_set(pairs: &mut [Attribute<'_>]) -> PlaceAnswer
     ensures { SortsSet pairs.old result pairs.new }
 {
@@ -246,7 +246,7 @@ pub extern "C" fn iox2sd_attributes_number_of_key_values_at(
     }
 }
 
-/// Writes the value of the key at the index, or tells why there is none.
+/// Writes the value of the key at the index, or reports why there is none.
 fn write_of(
     pairs: &[Attribute<'_>],
     key: &[u8],

@@ -319,7 +319,7 @@ fn publish_subscribe_pattern(settings: &PublishSubscribeSettings) -> Result<Mess
     )))
 }
 
-/// Describes the service, or tells why not.
+/// Describes the service, or reports why not.
 fn describe_publish_subscribe(
     settings: &[PublishSubscribeSettings],
     name: &[u8],
@@ -353,8 +353,8 @@ pub extern "C" fn iox2sd_describe_publish_subscribe_at(
     id: Id,
     out: &mut [ServiceDescription],
 ) -> FieldAnswer
-    ensures tells { FieldBut (λ told. FillsNamed MakesPublishSubscribe settings.now internal name.now
-        id out.old told out.new) result }
+    ensures tells { FieldBut (λ told. FillsNamed MakesPublishSubscribe settings.now internal
+        name.now id out.old told out.new) result }
     ensures cause { NameCause internal name.now result.status result.cause }
 {
     let told = describe_publish_subscribe(settings, name, internal, id, out);
@@ -373,7 +373,7 @@ fn event_pattern(settings: &EventSettings) -> Result<MessagingPattern, Field>
     Ok(MessagingPattern::Event(event::StaticConfig::with_settings(&settings)))
 }
 
-/// Describes the service, or tells why not.
+/// Describes the service, or reports why not.
 fn describe_event(
     settings: &[EventSettings],
     name: &[u8],
@@ -421,7 +421,7 @@ fn request_response_pattern(settings: &RequestResponseSettings) -> Result<Messag
     Ok(MessagingPattern::RequestResponse(request_response::StaticConfig::with_settings(&settings)))
 }
 
-/// Describes the service, or tells why not.
+/// Describes the service, or reports why not.
 fn describe_request_response(
     settings: &[RequestResponseSettings],
     name: &[u8],
@@ -469,7 +469,7 @@ fn blackboard_pattern(settings: &BlackboardSettings) -> Result<MessagingPattern,
     Ok(MessagingPattern::Blackboard(blackboard::StaticConfig::with_settings(&settings)))
 }
 
-/// Describes the service, or tells why not.
+/// Describes the service, or reports why not.
 fn describe_blackboard(
     settings: &[BlackboardSettings],
     name: &[u8],

@@ -1,4 +1,4 @@
-//! What is open at a place of a file.
+//! What is open behind a byte of a file.
 ghost use Rattle.std.specs.Prelude.{◌≡◌, [], ◌∷◌, reverse};
 ghost use Rattle.iox2_config_file.specs.Depth.{close_key, close_bracket, is_open, has_table, Pushes};
 
@@ -19,10 +19,10 @@ pub(crate) enum Mark {
     Table,
 }
 
-/// What is open, at most 80 in one another. Contracts see the innermost first.
+/// What is open, at most 32 in one another. Contracts see the innermost first.
 #[derive(Drop)]
 pub(crate) struct Marks {
-    marks: ArrayVec<Mark, 80>,
+    marks: ArrayVec<Mark, 32>,
 }
 
 impl Model for Marks {
@@ -35,7 +35,7 @@ impl Model for Marks {
 }
 
 /// Removes the dots at the end.
-fn pop_dots(marks: &mut ArrayVec<Mark, 80>)
+fn pop_dots(marks: &mut ArrayVec<Mark, 32>)
     ensures { reverse marks.new.items ≡ close_key (reverse marks.old.items) }
 {
     while let Some(Mark::Dot) = marks.as_slice().last() {
@@ -61,7 +61,7 @@ impl Marks {
         self.marks.push(Mark::Header);
     }
 
-    /// Opens one more, and says whether there is room for it.
+    /// Opens one more, and says whether it fits.
     pub(crate) fn push(&mut self, mark: Mark) -> bool
         ensures { Pushes mark self.old result self.new }
     {

@@ -47,7 +47,7 @@ fn is_blank(byte: u8) -> bool
 }
 
 impl Nesting {
-    /// Opens one more, and says whether there is room for it.
+    /// Opens one more, and says whether it fits.
     fn nest(&mut self, position: Position, mark: Mark) -> bool
         ensures { Gives (nested position mark self.old.marks) result self.new }
     {
@@ -69,7 +69,7 @@ impl Nesting {
         }
     }
 
-    /// A header after a byte, where there is room for what it opens.
+    /// A header after a byte, where what it opens fits.
     fn header(&mut self, byte: u8) -> bool
         ensures { Gives (header self.old.marks byte) result self.new }
     {
@@ -114,7 +114,7 @@ impl Nesting {
         }
     }
 
-    /// A key after a byte, where there is room for what it opens.
+    /// A key after a byte, where what it opens fits.
     fn key(&mut self, byte: u8) -> bool
         requires { self.old.position ≡ Position.Key }
         ensures { Gives (key self.old.marks byte) result self.new }
@@ -130,7 +130,7 @@ impl Nesting {
         true
     }
 
-    /// A value after a byte, where there is room for what it opens.
+    /// A value after a byte, where what it opens fits.
     fn value(&mut self, byte: u8) -> bool
         requires { self.old.position ≡ Position.Value }
         ensures { Gives (value self.old.marks byte) result self.new }
@@ -145,7 +145,7 @@ impl Nesting {
         true
     }
 
-    /// What is open after a byte that is in no text and in no comment, where there is room for it.
+    /// What is open after a byte that is in no text and in no comment, where what it opens fits.
     fn step(&mut self, byte: u8) -> bool
         ensures { Gives (moved self.old.position self.old.marks byte) result self.new }
     {
@@ -175,7 +175,7 @@ impl Scan {
         }
     }
 
-    /// Passes a byte, and says whether there is room for what it opens.
+    /// Passes a byte, and says whether what it opens fits.
     pub(crate) fn step(&mut self, byte: u8) -> bool
         ensures { Steps self.old byte result self.new }
     {

@@ -45,7 +45,11 @@ fn answer(kept: &Kept<'_>, port: &UniquePortId) -> PortCleanupAction
 }
 
 /// Removes a dead node, and those of its ports that are not kept.
-fn clean_up(service: &mut DynamicConfig, dead: &UniqueNodeId, kept: &[PortId]) -> DeregisterNodeState
+fn clean_up(
+    service: &mut DynamicConfig,
+    dead: &UniqueNodeId,
+    kept: &[PortId],
+) -> DeregisterNodeState
     ensures { DeadStep (Keeps kept.now) service.old tt dead.now result service.new tt }
 {
     let kept = &Kept::of(kept);
@@ -93,12 +97,12 @@ fn die(service: &mut DynamicConfig, dead: Id, kept: &[PortId]) -> Death
 }
 
 /// Removes those ports of a dead node that are not among `kept`, by their kinds and their ids, and
-/// returns how many it removed. Where none of its ports is left, the node is removed too, with all its handles; if it
-/// was the last one, the service is locked for good. The status reports a locked service also where
-/// it was locked before.
+/// returns how many it removed. Where none of its ports is left, the node is removed too, with all
+/// its handles; if it was the last one, the service is locked for good. The status reports a locked
+/// service also where it was locked before.
 ///
-/// Errors, in this order: NULL, an object without a service, an id of no node, a role of `kept` that
-/// is not that of a port.
+/// Errors, in this order: NULL, an object without a service, an id of no node, a role of `kept`
+/// that is not that of a port.
 #[unsafe(no_mangle)]
 pub extern "C" fn iox2sd_remove_dead_node_id_at(
     places: &mut [Service],

@@ -6,7 +6,8 @@ use crate::values::PortId;
 use std::cmp::Ordering;
 use std::marker::Model;
 
-/// The ids of ports, of which it is known whether they are sorted by their numbers and then by roles.
+/// The ids of ports, of which it is known whether they are sorted by their numbers and then by
+/// roles.
 #[derive(Drop)]
 pub(super) struct Kept<'a> {
     ports: &'a [PortId],
