@@ -9,20 +9,17 @@ use iox2sd::prelude::*;
 use iox2sd::script;
 use std::thread::Builder;
 
-/// What a call takes at most, in bytes.
-const EACH: usize = 64 * 1024;
+/// What a call takes at most, in bytes, in a debug build too.
+const STACK: usize = 256 * 1024;
 
-/// What a call on the file of settings takes at most, in bytes.
-const SETTINGS: usize = 256 * 1024;
-
-fn on_stack(bytes: usize, calls: fn()) {
-    let thread = Builder::new().stack_size(bytes).spawn(calls);
+fn on_stack(calls: fn()) {
+    let thread = Builder::new().stack_size(STACK).spawn(calls);
     thread.unwrap().join().unwrap();
 }
 
 #[test]
 fn texts_and_attributes() {
-    on_stack(EACH, || {
+    on_stack(|| {
         let (key, value) = ("site".parse().unwrap(), "north".parse().unwrap());
         let mut set = AttributeSet::new();
         while set.len() < AttributeSet::capacity() {
@@ -40,7 +37,7 @@ fn texts_and_attributes() {
 
 #[test]
 fn services() {
-    on_stack(EACH, || {
+    on_stack(|| {
         for (kind, ..) in KINDS {
             let mut service = service(kind, 2, [32, 32]);
             let handle = service.register_node_id(node(1)).unwrap();
@@ -59,7 +56,7 @@ fn services() {
 
 #[test]
 fn descriptions_and_messages() {
-    on_stack(EACH, || {
+    on_stack(|| {
         let (name, id) = ("a".parse().unwrap(), UniqueServiceId::new(1, 0, 0, 1));
         let config = Config::default();
         for service in [
@@ -79,7 +76,7 @@ fn descriptions_and_messages() {
 
 #[test]
 fn scripts_and_logs() {
-    on_stack(EACH, || {
+    on_stack(|| {
         let mut service = Recorder::with_capacities(&Config::default().defaults.event, 7).unwrap();
         assert_eq!(service.nodes().len(), 0);
         assert!(check_log(service.log()).unwrap().conforms());
@@ -92,7 +89,7 @@ fn scripts_and_logs() {
 
 #[test]
 fn files_of_settings() {
-    on_stack(SETTINGS, || {
+    on_stack(|| {
         let text = Config::default().to_toml().unwrap();
         assert_eq!(Config::from_toml(&text).unwrap().config, Config::default());
         assert_eq!(
