@@ -4,8 +4,8 @@
 //! registered.
 //
 // It prints:
-//     lidar/front has the hash text 0
-//     opened in slot 0, with messages of 0 bytes
+//     lidar/front has the hash text yH9mP7Jze15z04pbvAClUWzzzZ0
+//     opened in slot 0, with messages of 12040 bytes
 //     refused: AttributeVerificationError::IncompatibleAttribute(("site", "south"))
 //     refused: the payload has another type name
 //     refused: max_nodes: a setting is not what the opener requires

@@ -1,7 +1,7 @@
 //! Settings of a file: what it sets, what of it is unknown, and what is wrong.
 //
 // It prints:
-//     unknown: defaults.publish-subscribe.max-publisher: defaults.publish-subscribe.max-publishers may be meant
+//     unknown: global.prefx: global.prefix may be meant
 //     lidar/front: 20 nodes, 2 publishers, 4 subscribers, 18 samples
 //     refused: defaults.publish-subscribe.max-subscribers: is below 0
 #![forbid(unsafe_code)]
@@ -10,9 +10,10 @@ use iox2sd::prelude::*;
 use std::error::Error;
 
 const FILE: &str = "\
+[global]
+prefx = 'own_'
 [defaults.publish-subscribe]
 max-subscribers = 4
-max-publisher = 3
 ";
 
 fn main() -> Result<(), Box<dyn Error>> {

@@ -130,8 +130,6 @@ choices! {
     /// ```
     #[non_exhaustive]
     TextCause of u32 in "semantic_string" {
-        /// It begins with the prefix of the system's own services.
-        ReservedPrefix = IOX2SD_RESERVED_PREFIX, "the name begins with a reserved prefix";
         /// It has no byte.
         Empty = IOX2SD_EMPTY, "the text is empty";
         /// It has more bytes than its kind allows.
@@ -140,6 +138,8 @@ choices! {
         IllegalByte = IOX2SD_ILLEGAL_BYTE, "a byte may not stand in the text";
         /// It is no name of a file, or does not end in one: it is `.` or `..`, or ends in `/`.
         NoFileName = IOX2SD_NO_FILE_NAME, "not the name of a file";
+        /// It begins with the prefix of the system's own services.
+        ReservedPrefix = IOX2SD_RESERVED_PREFIX, "the name begins with a reserved prefix";
     }
 }
 

@@ -1,7 +1,7 @@
 //! The declarations of `src/sys.rs` are those of the headers: numbers, structs and functions.
 #![forbid(unsafe_code)]
 
-use std::collections::BTreeMap;
+use std::collections::{BTreeMap, BTreeSet};
 use std::fs;
 use std::path::Path;
 
@@ -264,19 +264,30 @@ fn each_enumerator_has_the_number_of_its_name() {
         "container.rs",
         "messaging_pattern.rs",
         "config/choices.rs",
+        "config/toml_kinds.rs",
         "static_config/message_type_details.rs",
+        "static_config/setting.rs",
     ] {
-        for line in read(&format!("src/{file}")).lines() {
-            let Some((name, constant)) = line.trim().split_once(" = sys::IOX2SD_") else {
-                continue;
+        // A choice ends in `;`, on its line or below it, and an error, with a status, in `,`.
+        let text = squeezed(&without_comments(&read(&format!("src/{file}"))));
+        for choice in text.split(';') {
+            let (before, after) = match choice.rsplit_once("=IOX2SD_") {
+                Some((before, after)) if !after.contains('}') => (before, after),
+                _ => continue,
             };
-            let constant = constant.trim_end_matches(',');
+            let is_end = |letter: char| !letter.is_alphanumeric();
+            let name = before.rsplit(is_end).next().unwrap();
+            let constant = after.split(',').next().unwrap().trim();
+            if name == "DetailsNotGiven" {
+                assert_eq!(constant, "BAD_ALIGNMENT");
+                continue;
+            }
             let end = if constant.ends_with("_SEGMENT") {
                 "_SEGMENT"
             } else {
                 ""
             };
-            let front = ["ALLOCATION_", "VARIANT_"]
+            let front = ["ALLOCATION_", "VARIANT_", "TOML_", "KIND_"]
                 .into_iter()
                 .find(|front| constant.starts_with(front))
                 .unwrap_or("");
@@ -284,72 +295,51 @@ fn each_enumerator_has_the_number_of_its_name() {
             count += 1;
         }
     }
-    // Roles, patterns, strategies, kinds of segments, variants and parts of messages.
-    assert_eq!(count, 9 + 4 + 2 + 3 + 2 + 2 + 3);
+    // Roles, patterns, strategies, kinds of segments, types of TOML and kinds of values, variants
+    // and parts of messages, causes, and settings.
+    assert_eq!(count, 9 + 4 + 2 + 3 + 2 + 7 + 8 + 2 + 3 + 5 + 25);
 }
 
-/// The field of Rust that an expression is the value of: what stands before the last single `:`.
-fn field_of(before: &str) -> Option<&str> {
-    let end = before.trim_end_matches(|letter| letter != ':');
-    let end = end.strip_suffix(':')?;
-    if end.ends_with(':') {
-        return field_of(end.trim_end_matches(':'));
+/// The fields of the tables that the file has of structs of the headers, by the structs.
+fn of_tables(file: &str) -> BTreeMap<String, BTreeSet<String>> {
+    let text = without_comments(&read(&format!("src/{file}")));
+    let mut tables = BTreeMap::new();
+    for table in text.split(" of iox2sd_").skip(1) {
+        let name = table.split([' ', '\n']).next().unwrap();
+        let (_, body) = table.split_once('{').unwrap();
+        let (body, _) = body.split_once('}').unwrap();
+        let field = |field: &str| Some(field.trim().split_once(": ")?.0.to_string());
+        tables.insert(
+            format!("iox2sd_{name}"),
+            body.split(',').filter_map(field).collect(),
+        );
     }
-    end.rsplit(|letter: char| !letter.is_alphanumeric() && letter != '_')
-        .next()
+    tables
 }
 
 #[test]
 fn each_field_of_a_struct_is_read_and_written_by_its_name() {
     let sys = of_sys(&read("src/sys.rs"));
-    let fields = |names: [&str; 4]| -> usize {
-        let fields = |name| sys[&format!("iox2sd_{name}")].split(", ").count();
-        names.into_iter().map(fields).sum()
-    };
-    let settings = fields([
-        "publish_subscribe_settings",
-        "event_settings",
-        "request_response_settings",
-        "blackboard_settings",
-    ]);
-    let fixed = fields([
-        "publish_subscribe_config",
-        "event_config",
-        "request_response_config",
-        "blackboard_config",
-    ]);
-    assert!(settings > 30 && fixed > 25);
     let mut count = 0;
-    // Where settings are read, where they are written, and where what they fix is read. A deadline
-    // has fields of its own.
-    for (file, from) in [
-        ("config/patterns.rs", "settings."),
-        ("library/descriptions.rs", "settings."),
-        ("static_config/publish_subscribe.rs", "fixed."),
-        ("static_config/event.rs", "fixed."),
-        ("static_config/request_response.rs", "fixed."),
-        ("static_config/blackboard.rs", "fixed."),
+    for file in [
+        "config/patterns.rs",
+        "static_config/publish_subscribe.rs",
+        "static_config/event.rs",
+        "static_config/request_response.rs",
+        "static_config/blackboard.rs",
     ] {
-        let code = without_comments(&read(&format!("src/{file}")));
-        let text = squeezed(&code).replace(" as u32", "").replace(' ', "");
-        for (at, _) in text.match_indices(from) {
-            let before = &text[..at];
-            let read = text[at + from.len()..]
-                .split(|letter: char| !letter.is_alphanumeric() && letter != '_')
-                .next();
-            if read == Some("deadline") {
-                continue;
-            }
-            assert_eq!(
-                field_of(before),
-                read,
-                "{file}: {}",
-                &before[at.saturating_sub(80)..]
-            );
-            count += 1;
+        for (name, fields) in of_tables(file) {
+            let of_struct = sys[&name].split(", ").map(|field| {
+                let name = field.split(':').next().unwrap_or_default();
+                name.trim().to_string()
+            });
+            assert_eq!(of_struct.collect::<BTreeSet<_>>(), fields, "{name}");
+            count += fields.len();
         }
     }
-    assert_eq!(count, 2 * (settings - 1) + fixed - 1);
+    // Those of settings, and those of what they fix.
+    let tables = 11 + 8 + 17 + 2 + 7 + 8 + 10 + 3;
+    assert_eq!(count, tables);
     let details = read("src/dynamic_config/details.rs");
     for line in details.lines().map(str::trim) {
         let Some((field, library)) = line.split_once(" = ") else {
@@ -368,5 +358,5 @@ fn each_field_of_a_struct_is_read_and_written_by_its_name() {
         }
         count += 1;
     }
-    assert_eq!(count, 2 * (settings - 1) + fixed - 1 + 4 + 1 + 5 + 5);
+    assert_eq!(count, tables + 4 + 1 + 5 + 5);
 }
