@@ -1,5 +1,12 @@
 // A service builder: opens a service that its maker has described, or reports the first reason for
 // which it may not be opened. Nothing stays registered where it may not.
+//
+// It prints:
+//     refused: color=blue: a required pair is not in the set
+//     refused: payload: the opener's type has a greater alignment than the service's
+//     refused: max_subscribers: a setting is not what the opener requires
+//     opened with slot 0, a message has 40 bytes, alignment 8
+//     refused: no slot or no ticket is left
 #include <iostream>
 
 #include "iox2sd.hpp"

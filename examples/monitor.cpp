@@ -1,5 +1,12 @@
 // A liveness monitor: removes dead nodes with their ports, but keeps the ports that are still being
 // read. The service is locked when its last node is removed.
+//
+// It prints:
+//     dead 100000000000000000000000a: 1 publishers, 0 subscribers removed, nodes are left
+//       kept: subscriber 1000000000000000000000015
+//     dead 100000000000000000000000a: 0 publishers, 1 subscribers removed, nodes are left
+//     dead 200000000000000000000000b: 1 publishers, 0 subscribers removed, the service is locked
+//     a late node: the service is locked for good
 #include <iostream>
 
 #include "iox2sd.hpp"

@@ -1,5 +1,13 @@
 // Reads a file of settings: what it says, which keys no setting has, and what is wrong with it. The
 // file is the first argument; without one there are two texts.
+//
+// It prints:
+//     services are in /run/my/services
+//     a publisher needs memory for 66 samples
+//     unknown: defaults.event.max-listener, meant is defaults.event.max-listeners
+//     refused: a value of another type is wanted
+//       global.creation-timeout: is an integer, and a table of `secs` and `nanos` is wanted
+//       defaults.event.max-nodes: is below 0
 #include <iostream>
 
 #include "iox2sd_config.hpp"
@@ -10,7 +18,7 @@ namespace {
 
 int report(const Result<ConfigFile, ConfigError>& file) {
     if (!file) {
-        std::cout << "refused: " << file.error() << '\n';
+        std::cout << "refused: " << text(file.status()) << '\n';
         for (const ConfigFault& fault : file.error().faults) std::cout << "  " << fault << '\n';
         return 1;
     }
@@ -32,7 +40,8 @@ int main(int count, char** arguments) {
     if (count > 1) return report(Config::from_toml_file(arguments[1]));
     const int good = report(Config::from_toml("[global]\nroot-path = '/run/my'\n"
                                               "[defaults.publish-subscribe]\n"
-                                              "max-subscribers = 16\nmax-publisher = 3\n"));
+                                              "max-subscribers = 16\n"
+                                              "[defaults.event]\nmax-listener = 3\n"));
     const int bad = report(Config::from_toml("[global]\ncreation-timeout = 5\n"
                                              "[defaults.event]\nmax-nodes = -1\n"));
     return good == 0 && bad == 1 ? 0 : 1;

@@ -661,7 +661,7 @@ protected:
     }
     template <class Self>
     static auto& the_error(Self& self) noexcept {
-        if (self.has_value()) end("a Result has no error", {});
+        if (self.has_value()) end("a Result has no error", "");
         return self.state_.error();
     }
 

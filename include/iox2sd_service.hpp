@@ -368,20 +368,13 @@ public:
     /// Error: `NoMemory`, before `NoService`; never where nothing is to be kept.
     template <class Range>
     Result<DeadNodeRemoval> remove_dead_node_id(const UniqueNodeId& dead, Range&& kept) {
-        const auto ids = List<iox2sd_port_id>::of_range(kept, [](const UniquePortId& port) {
-            return iox2sd_port_id{static_cast<std::uint64_t>(port.role()), port.parts()};
-        });
-        if (!ids) return ids.error();
-        const iox2sd_dead_node_removal answer =
-            iox2sd_remove_dead_node_id(&object_, dead.parts(), ids->data(), ids->size());
-        if (!is_state(answer.status)) return Status{answer.status};
-        return DeadNodeRemoval{state(answer.status), answer.first, answer.second};
+        return remove_but(dead, kept);
     }
     template <class = void>
     Result<DeadNodeRemoval>
     remove_dead_node_id(const UniqueNodeId& dead,
                         std::initializer_list<UniquePortId> kept = {}) noexcept {
-        return remove_dead_node_id<const std::initializer_list<UniquePortId>&>(dead, kept);
+        return remove_but(dead, kept);
     }
 
     /// The messaging pattern.
@@ -497,6 +490,18 @@ public:
 #undef IOX2SD_LISTING
 
 private:
+    template <class Range>
+    Result<DeadNodeRemoval> remove_but(const UniqueNodeId& dead, Range& kept) {
+        const auto ids = List<iox2sd_port_id>::of_range(kept, [](const UniquePortId& port) {
+            return iox2sd_port_id{number(port.role()), port.parts()};
+        });
+        if (!ids) return ids.error();
+        const iox2sd_dead_node_removal answer =
+            iox2sd_remove_dead_node_id(&object_, dead.parts(), ids->data(), ids->size());
+        if (!is_state(answer.status)) return Status{answer.status};
+        return DeadNodeRemoval{state(answer.status), answer.first, answer.second};
+    }
+
     static std::uint64_t number(Role role) noexcept { return static_cast<std::uint64_t>(role); }
 
     static Result<bool> flag(const iox2sd_flag_answer& answer) noexcept {
