@@ -12,7 +12,7 @@
 #include <stdio.h>
 #include <stdlib.h>
 
-static void remove_dead(iox2sd_service *service, iox2sd_id dead, const iox2sd_id *kept,
+static void remove_dead(iox2sd_service *service, iox2sd_id dead, const iox2sd_port_id *kept,
                         size_t kept_count) {
     const iox2sd_dead_node_removal gone =
         iox2sd_remove_dead_node_id(service, dead, kept, kept_count);
@@ -27,16 +27,15 @@ static void remove_dead(iox2sd_service *service, iox2sd_id dead, const iox2sd_id
 }
 
 int main(void) {
-    const iox2sd_id camera = {1, 0, 0, 10}, lidar = {2, 0, 0, 11}, read = {1, 0, 0, 21};
+    const iox2sd_id camera = {1, 0, 0, 10}, lidar = {2, 0, 0, 11};
+    const iox2sd_port_id read = {IOX2SD_SUBSCRIBER, {1, 0, 0, 21}};
     const iox2sd_publish_subscribe_capacities four = {4, 4, 4};
     const iox2sd_port_details ports[] = {
         {.role = IOX2SD_PUBLISHER, .port = {1, 0, 0, 20}, .node = camera},
-        {.role = IOX2SD_SUBSCRIBER, .port = read, .node = camera, .buffer_size = 2},
+        {.role = read.role, .port = read.port, .node = camera, .buffer_size = 2},
         {.role = IOX2SD_PUBLISHER, .port = {2, 0, 0, 22}, .node = lidar}};
     iox2sd_service service = IOX2SD_SERVICE_NONE;
-    if (iox2sd_service_create(&service, IOX2SD_PUBLISH_SUBSCRIBE, 7,
-                              iox2sd_capacities_of_publish_subscribe(four), UINT64_MAX) !=
-        IOX2SD_DONE) {
+    if (iox2sd_service_create_publish_subscribe(&service, 7, four) != IOX2SD_DONE) {
         return EXIT_FAILURE;
     }
     if (iox2sd_register_node_id(&service, camera).status != IOX2SD_DONE) return EXIT_FAILURE;

@@ -249,13 +249,18 @@ public:
         return released;
     }
 
+    /// A line has no kinds of ports: the port of the other kind with the number of one that is kept
+    /// is kept too.
     template <class Range>
     Result<DeadNodeRemoval> remove_dead_node_id(const UniqueNodeId& dead, Range&& kept) {
+        const PortRoles roles = service_.port_roles().value();
         std::vector<UniquePortId> ports;
         std::string command = "dead " + dotted(dead.parts());
         for (const UniquePortId& port : kept) {
             command += (ports.empty() ? " skip " : " ") + dotted(port.parts());
-            ports.push_back(port);
+            for (const Role role : {roles.first, roles.second}) {
+                ports.emplace_back(role, port.parts(), detail::FromLibrary());
+            }
         }
         Line line(*this, command);
         const auto removal = service_.remove_dead_node_id(dead, ports);

@@ -14,7 +14,7 @@
 namespace iox2sd {
 
 enum class Status : std::uint32_t;
-enum class PatternKind : std::uint32_t;
+enum class PatternKind : std::uint64_t;
 enum class Role : std::uint64_t;
 enum class TypeVariant : std::uint32_t;
 enum class MessagePart : std::uint32_t;

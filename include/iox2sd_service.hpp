@@ -288,7 +288,7 @@ public:
                                   std::uint64_t tickets = all_tickets) noexcept {
         Service made;
         const std::uint32_t status =
-            iox2sd_service_create(&made.object_, static_cast<std::uint32_t>(pattern), number,
+            iox2sd_service_create(&made.object_, static_cast<std::uint64_t>(pattern), number,
                                   capacities.as_c(), tickets);
         if (status != IOX2SD_DONE) return Status{status};
         return made;
@@ -380,8 +380,7 @@ public:
     /// The messaging pattern.
     Result<PatternKind> kind() const noexcept {
         const iox2sd_number_answer answer = iox2sd_messaging_pattern(&object_);
-        return detail::result(answer.status,
-                              PatternKind{static_cast<std::uint32_t>(answer.number)});
+        return detail::result(answer.status, PatternKind{answer.number});
     }
 
     /// The service's number, which each of its handles has.

@@ -264,7 +264,7 @@ private:
 };
 
 /// Messaging patterns.
-enum class PatternKind : std::uint32_t {
+enum class PatternKind : std::uint64_t {
     PublishSubscribe = IOX2SD_PUBLISH_SUBSCRIBE,
     Event = IOX2SD_EVENT,
     RequestResponse = IOX2SD_REQUEST_RESPONSE,
@@ -273,7 +273,7 @@ enum class PatternKind : std::uint32_t {
 
 /// The word for a pattern, as "publish-subscribe", in a static text.
 inline std::string_view text(PatternKind kind) noexcept {
-    return iox2sd_pattern_str(static_cast<std::uint32_t>(kind));
+    return iox2sd_pattern_str(static_cast<std::uint64_t>(kind));
 }
 template <>
 inline constexpr bool detail::is_written<PatternKind> = true;
@@ -284,7 +284,7 @@ public:
     /// Errors: `UnknownPattern`; `IllegalHash`, which SHA-1 is proved never to make.
     static Result<ServiceHash> create(const ServiceName& name, PatternKind kind) noexcept {
         const auto made = written_by([&](std::uint8_t* out, std::size_t capacity) {
-            return iox2sd_internal_hash_text(static_cast<std::uint32_t>(kind), detail::bytes(name),
+            return iox2sd_internal_hash_text(static_cast<std::uint64_t>(kind), detail::bytes(name),
                                              name.size(), out, capacity);
         });
         if (!made) return made.status();
@@ -406,6 +406,8 @@ public:
     /// The id of a port is one; that of a node or of a service does not convert.
     template <Role role, class = std::enable_if_t<role != Role::Node>>
     UniquePortId(const PortId<role>& id) noexcept : role_(role), parts_(id.parts()) {}
+    UniquePortId(Role role, const iox2sd_id& parts, detail::FromLibrary) noexcept
+        : role_(role), parts_(parts) {}
 
     Role role() const noexcept { return role_; }
     iox2sd_id parts() const noexcept { return parts_; }

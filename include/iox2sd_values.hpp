@@ -232,12 +232,7 @@ enum class MessagePart : std::uint32_t {
 
 /// The words for a part of a message, as "user header", in a static text.
 inline std::string_view text(MessagePart part) noexcept {
-    switch (part) {
-        case MessagePart::Header: return "header";
-        case MessagePart::UserHeader: return "user header";
-        case MessagePart::Payload: return "payload";
-    }
-    return "unknown part";
+    return iox2sd_part_str(static_cast<std::uint32_t>(part));
 }
 template <>
 inline constexpr bool detail::is_written<MessagePart> = true;
@@ -495,20 +490,7 @@ enum class SettingsField : std::uint32_t {
 
 /// The name of a field, as "max_subscribers", in a static text.
 inline std::string_view text(SettingsField field) noexcept {
-    constexpr std::string_view names[] = {
-        "backpressure_strategy", "publisher_allocation_strategy", "deadline",
-        "client_backpressure_strategy", "server_backpressure_strategy",
-        "client_allocation_strategy", "server_allocation_strategy", "creation_timeout",
-        "max_subscribers", "max_publishers", "history_size", "subscriber_max_buffer_size",
-        "subscriber_max_borrowed_samples", "enable_safe_overflow", "max_notifiers",
-        "max_listeners", "event_id_max_value", "notifier_created_event",
-        "notifier_dropped_event", "notifier_dead_event", "enable_safe_overflow_for_requests",
-        "enable_safe_overflow_for_responses", "enable_fire_and_forget_requests",
-        "max_active_requests_per_client", "max_loaned_requests", "max_response_buffer_size",
-        "max_servers", "max_clients", "max_borrowed_responses_per_pending_response",
-        "max_readers", "max_writers", "max_nodes"};
-    const auto number = static_cast<std::uint32_t>(field);
-    return number < std::size(names) ? names[number] : "unknown field";
+    return iox2sd_field_str(static_cast<std::uint32_t>(field));
 }
 template <>
 inline constexpr bool detail::is_written<SettingsField> = true;
@@ -618,9 +600,8 @@ struct PublishSubscribeSettings {
     /// The greatest number of one publisher's samples that can be in use at once, which its data
     /// segment is made for. Error: `TooLarge` past 2^64 - 1.
     Result<std::size_t> required_amount_of_samples_per_data_segment() const noexcept {
-        const iox2sd_count_answer answer = iox2sd_required_amount_of_samples_per_data_segment(
-            max_subscribers, subscriber_max_buffer_size, subscriber_max_borrowed_samples,
-            publisher_history_size, publisher_max_loaned_samples);
+        const iox2sd_publish_subscribe_settings c = as_c();
+        const iox2sd_count_answer answer = iox2sd_samples_of(&c);
         return detail::result(answer.status, answer.count);
     }
 };
@@ -678,14 +659,13 @@ struct RequestResponseSettings {
     /// The greatest number of one client's requests, and of one server's responses, that can be in
     /// use at once. Error: `TooLarge` past 2^64 - 1.
     Result<std::size_t> required_amount_of_chunks_per_client_data_segment() const noexcept {
-        const iox2sd_count_answer answer = iox2sd_required_amount_of_chunks_per_client_data_segment(
-            max_servers, max_active_requests_per_client, max_loaned_requests);
+        const iox2sd_request_response_settings c = as_c();
+        const iox2sd_count_answer answer = iox2sd_requests_of(&c);
         return detail::result(answer.status, answer.count);
     }
     Result<std::size_t> required_amount_of_chunks_per_server_data_segment() const noexcept {
-        const iox2sd_count_answer answer = iox2sd_required_amount_of_chunks_per_server_data_segment(
-            max_clients, max_active_requests_per_client, max_response_buffer_size,
-            max_borrowed_responses_per_pending_response, server_max_loaned_responses_per_request);
+        const iox2sd_request_response_settings c = as_c();
+        const iox2sd_count_answer answer = iox2sd_responses_of(&c);
         return detail::result(answer.status, answer.count);
     }
 };
@@ -1052,13 +1032,13 @@ public:
     /// Whether an opener may use the service: it has the required pattern and attributes, the types
     /// of its messages, then of its responses, are compatible, and its settings are enough. The
     /// types of a blackboard's keys are equal. Reported is the first reason in this order.
-    /// Errors: `UnknownPattern`; those of `AttributeVerifier::verify_requirements`; those of
+    /// Errors: `OtherPattern`; those of `AttributeVerifier::verify_requirements`; those of
     /// `MessageTypeDetails::is_compatible_to`; those of `satisfies` of the pattern's part.
     template <class Required = Requirements>
     Result<void, OpenError> satisfies(const Required& required) const noexcept {
         const MessagingPattern& wanted = required.messaging_pattern;
         if (wanted.index() != messaging_pattern_.index()) {
-            return OpenError{Status::UnknownPattern, Requirement::Pattern};
+            return OpenError{Status::OtherPattern, Requirement::Pattern};
         }
         const auto verified = required.attributes.verify_requirements(attributes_);
         if (!verified) {

@@ -68,12 +68,14 @@ constexpr StatusText texts[] = {
     {Status::UnknownStrategy, "unknown strategy"},
     {Status::BadDuration, "the nanoseconds of a duration are a second or more"},
     {Status::Unmet, "a setting is not what the opener requires"},
+    {Status::OtherPattern, "the service has another messaging pattern"},
     {Status::NotToml, "not TOML"},
     {Status::WrongType, "a value of another type is wanted"},
     {Status::BelowZero, "the number is below 0"},
     {Status::NoDuration, "not a duration: the integers secs and nanos"},
     {Status::NoTomlInteger, "TOML has no integer above 2^63 - 1"},
     {Status::NoFile, "the file cannot be read"},
+    {Status::TooDeep, "tables and arrays are nested too deeply"},
     {Status::NoRun, "no run gives the reply"},
     {Status::NoServiceLine, "the line of a service is expected"},
     {Status::NoCommandLine, "the line of a command is expected"},
@@ -324,12 +326,14 @@ std::uint64_t of_header(Status status) {
         case Status::UnknownStrategy: return IOX2SD_UNKNOWN_STRATEGY;
         case Status::BadDuration: return IOX2SD_BAD_DURATION;
         case Status::Unmet: return IOX2SD_UNMET;
+        case Status::OtherPattern: return IOX2SD_OTHER_PATTERN;
         case Status::NotToml: return IOX2SD_NOT_TOML;
         case Status::WrongType: return IOX2SD_WRONG_TYPE;
         case Status::BelowZero: return IOX2SD_BELOW_ZERO;
         case Status::NoDuration: return IOX2SD_NO_DURATION;
         case Status::NoTomlInteger: return IOX2SD_NO_TOML_INTEGER;
         case Status::NoFile: return IOX2SD_NO_FILE;
+        case Status::TooDeep: return IOX2SD_TOO_DEEP;
         case Status::NoRun: return IOX2SD_NO_RUN;
         case Status::NoServiceLine: return IOX2SD_NO_SERVICE_LINE;
         case Status::NoCommandLine: return IOX2SD_NO_COMMAND_LINE;

@@ -449,29 +449,29 @@ static iox2sd_request_response_settings given_requests;
 iox2sd_field_answer __wrap_iox2sd_global_settings_check_at(const iox2sd_global_settings* settings,
                                                            size_t) {
     given_global = *settings;
-    return {IOX2SD_DONE, 0};
+    return {IOX2SD_DONE, 0, 0};
 }
 iox2sd_field_answer __wrap_iox2sd_publish_subscribe_settings_check_at(
     const iox2sd_publish_subscribe_settings* settings, size_t) {
     given_samples = *settings;
-    return {IOX2SD_DONE, 0};
+    return {IOX2SD_DONE, 0, 0};
 }
 iox2sd_field_answer __wrap_iox2sd_event_settings_check_at(const iox2sd_event_settings* settings,
                                                           size_t) {
     given_events = *settings;
-    return {IOX2SD_DONE, 0};
+    return {IOX2SD_DONE, 0, 0};
 }
 iox2sd_field_answer __wrap_iox2sd_request_response_settings_check_at(
     const iox2sd_request_response_settings* settings, size_t) {
     given_requests = *settings;
-    return {IOX2SD_DONE, 0};
+    return {IOX2SD_DONE, 0, 0};
 }
 
 /// With what a service was to be made last. None is made.
 static iox2sd_capacities given_capacities;
 static std::uint64_t given_pattern, given_number, given_tickets;
 
-uint32_t __wrap_iox2sd_service_create_at(iox2sd_service*, size_t, uint32_t pattern,
+uint32_t __wrap_iox2sd_service_create_at(iox2sd_service*, size_t, uint64_t pattern,
                                          uint64_t number, iox2sd_capacities capacities,
                                          uint64_t tickets) {
     given_pattern = pattern, given_number = number;
@@ -504,13 +504,13 @@ void scripts() {
                           std::string_view replies) {
         CHECK(run.status == status && run.line == line && run.replies() == replies);
     };
-    const iox2sd_script_answer room{IOX2SD_BUFFER_TOO_SHORT, 0, 3};
-    ended(run({IOX2SD_DONE, 0, 0}, {}), Status::Done, 0, "");
-    ended(run({IOX2SD_BAD_LINE, 7, 0}, {}), Status::BadLine, 7, "");
-    ended(run({IOX2SD_NO_MEMORY, 0, 0}, {}), Status::NoMemory, 0, "");
-    ended(run(room, {IOX2SD_DONE, 0, 3}), Status::Done, 0, "abc");
-    ended(run(room, {IOX2SD_BAD_LINE, 7, 3}), Status::BadLine, 7, "abc");
-    ended(run(room, {IOX2SD_NO_MEMORY, 0, 2}), Status::NoMemory, 0, "ab");
+    const iox2sd_script_answer room{IOX2SD_BUFFER_TOO_SHORT, IOX2SD_DONE, 0, 3};
+    ended(run({IOX2SD_DONE, IOX2SD_DONE, 0, 0}, {}), Status::Done, 0, "");
+    ended(run({IOX2SD_BAD_LINE, IOX2SD_BAD_LINE, 7, 0}, {}), Status::BadLine, 7, "");
+    ended(run({IOX2SD_NO_MEMORY, IOX2SD_NO_MEMORY, 0, 0}, {}), Status::NoMemory, 0, "");
+    ended(run(room, {IOX2SD_DONE, IOX2SD_DONE, 0, 3}), Status::Done, 0, "abc");
+    ended(run(room, {IOX2SD_BAD_LINE, IOX2SD_BAD_LINE, 7, 3}), Status::BadLine, 7, "abc");
+    ended(run(room, {IOX2SD_NO_MEMORY, IOX2SD_NO_MEMORY, 0, 2}), Status::NoMemory, 0, "ab");
 }
 
 /// A service has all tickets where the caller names none.

@@ -384,7 +384,7 @@ void requirements() {
     };
     CHECK(service.satisfies({requests(settings, message, message)}));
     const OpenError pattern = error(EventSettings::defaults(), blue);
-    CHECK(pattern.status == Status::UnknownPattern && pattern.requirement == Requirement::Pattern);
+    CHECK(pattern.status == Status::OtherPattern && pattern.requirement == Requirement::Pattern);
     const OpenError pair = error(requests(more, other, other), blue);
     CHECK(pair.status == Status::MissingPair && pair.key == "color" && pair.value == "blue");
     CHECK(streamed(pair) == "color=blue: " + string(text(Status::MissingPair)));

@@ -237,17 +237,20 @@ void listings() {
     listing<WriterDetails>(3, [](const Service& s) { return s.list_writers(); });
 }
 
-/// What is kept is told by the numbers of ids, whatever their roles.
-void kept_numbers() {
+/// What is kept is one port, by its kind and its number.
+void kept_kinds() {
     Service service = make(PatternKind::Event, {1, 1, 1});
     const UniqueListenerId listener(1, 2, 3, 4);
     const UniqueNotifierId notifier(1, 2, 3, 4);
     CHECK(UniquePortId(listener) != UniquePortId(notifier));
     CHECK(service.register_node_id(a) && service.attach(ListenerDetails{listener, a}));
     CHECK(service.attach(NotifierDetails{notifier, a}));
-    CHECK(*service.remove_dead_node_id(a, {listener}) ==
+    CHECK(*service.remove_dead_node_id(a, {UniquePublisherId(1, 2, 3, 4), listener, notifier}) ==
           DeadNodeRemoval{DeregisterNodeState::HasOwners, 0, 0});
-    CHECK(*service.remove_dead_node_id(a) == DeadNodeRemoval{DeregisterNodeState::NoMoreOwners, 1, 1});
+    CHECK(*service.remove_dead_node_id(a, {listener}) ==
+          DeadNodeRemoval{DeregisterNodeState::HasOwners, 0, 1});
+    CHECK(*service.remove_dead_node_id(a, {notifier}) ==
+          DeadNodeRemoval{DeregisterNodeState::NoMoreOwners, 1, 0});
 }
 
 /// A range that is read once alone, as a stream is: the ids of listeners by counters from 1 on.
@@ -474,7 +477,7 @@ int main() {
     nodes();
     for (std::size_t pattern = 0; pattern < 4; ++pattern) ports(pattern);
     listings();
-    kept_numbers();
+    kept_kinds();
     kept_ranges();
     segments();
     moved_lists();
