@@ -19,7 +19,7 @@ choices! {
     /// use iox2sd::messaging_pattern::MessagingPattern;
     /// assert_eq!(MessagingPattern::Event.to_string(), "Event");
     /// ```
-    MessagingPattern of u32 in "messaging_pattern" {
+    MessagingPattern of u64 in "messaging_pattern" {
         /// Publishers send samples to all subscribers.
         PublishSubscribe = IOX2SD_PUBLISH_SUBSCRIBE;
         /// Notifiers wake listeners.

@@ -14,6 +14,7 @@ use crate::display::errors;
 use crate::library;
 use crate::messaging_pattern::MessagingPattern;
 use crate::paths::RestrictedFileName;
+use crate::plain::Plain;
 use crate::service_name::ServiceName;
 use crate::sys;
 use crate::text::shown_as_text;
@@ -71,7 +72,7 @@ impl ServiceHash {
     /// # Ok::<(), Box<dyn std::error::Error>>(())
     /// ```
     pub fn new(name: &ServiceName, pattern: MessagingPattern) -> Result<Self, ServiceHashError> {
-        match library::hash_text(pattern as u64, name) {
+        match library::hash_text(pattern.as_c(), name) {
             Ok(text) => Ok(ServiceHash {
                 text: RestrictedFileName::of_legal(&text),
             }),

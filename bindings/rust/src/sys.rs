@@ -42,6 +42,7 @@ pub const IOX2SD_WRONG_TYPE: u32 = 81;
 pub const IOX2SD_BELOW_ZERO: u32 = 82;
 pub const IOX2SD_NO_DURATION: u32 = 83;
 pub const IOX2SD_NO_TOML_INTEGER: u32 = 84;
+pub const IOX2SD_TOO_DEEP: u32 = 86;
 pub const IOX2SD_NO_RUN: u32 = 90;
 pub const IOX2SD_NO_SERVICE_LINE: u32 = 91;
 pub const IOX2SD_NO_COMMAND_LINE: u32 = 92;
@@ -77,10 +78,10 @@ pub const IOX2SD_MAX_READERS: u32 = 29;
 pub const IOX2SD_MAX_WRITERS: u32 = 30;
 pub const IOX2SD_MAX_NODES: u32 = 31;
 
-pub const IOX2SD_PUBLISH_SUBSCRIBE: u32 = 0;
-pub const IOX2SD_EVENT: u32 = 1;
-pub const IOX2SD_REQUEST_RESPONSE: u32 = 2;
-pub const IOX2SD_BLACKBOARD: u32 = 3;
+pub const IOX2SD_PUBLISH_SUBSCRIBE: u64 = 0;
+pub const IOX2SD_EVENT: u64 = 1;
+pub const IOX2SD_REQUEST_RESPONSE: u64 = 2;
+pub const IOX2SD_BLACKBOARD: u64 = 3;
 
 pub const IOX2SD_NODE: u64 = 0;
 pub const IOX2SD_PUBLISHER: u64 = 1;

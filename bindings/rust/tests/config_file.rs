@@ -289,6 +289,19 @@ fn types_are_told_that_are_found_and_wanted() {
 }
 
 #[test]
+fn a_text_that_is_nested_too_deeply_is_refused() {
+    for text in [
+        "a.".repeat(1000) + "b = 1",
+        "a = ".to_string() + &"[".repeat(100_000),
+    ] {
+        match Config::from_toml(&text) {
+            Err(ConfigError::TooDeep(reason)) => assert!(reason.contains("line 1"), "{reason}"),
+            other => panic!("{other:?}"),
+        }
+    }
+}
+
+#[test]
 fn all_faults_are_told_in_the_order_of_the_settings() {
     let text = "[defaults.blackboard]\nmax-nodes = 1.5\nmax-readers = true\n[global]\nprefix = 1\n";
     let refused = Config::from_toml(text).unwrap_err();

@@ -142,9 +142,8 @@ fn of_many_ports_those_that_are_skipped_stay() {
     }
 }
 
-/// The library keeps ids by their numbers, as the page of `remove_dead_node_id` says.
 #[test]
-fn ports_whose_ids_have_one_value_stay_together() {
+fn a_port_is_skipped_without_the_one_of_another_kind_whose_id_has_the_same_value() {
     let mut service = service(MessagingPattern::Event, 1, [1, 1]);
     let node_id = node(1);
     let listener_id = UniqueListenerId::new(1, 2, 3, 4);
@@ -162,18 +161,22 @@ fn ports_whose_ids_have_one_value_stay_together() {
         node_id,
     };
     service.attach(notifier).unwrap();
-    let state = service.remove_dead_node_id(&node_id, |port| {
-        if port == skipped {
-            PortCleanupAction::SkipPort
-        } else {
-            PortCleanupAction::RemovePort
-        }
-    });
-    assert_eq!(state, DeregisterNodeState::HasOwners);
-    assert_eq!(
-        ports_of(&service, 1),
-        [listener.into(), PortDetails::from(notifier)]
-    );
+    for (skipped, left) in [
+        (skipped, PortDetails::from(listener)),
+        (notifier_id.into(), notifier.into()),
+    ] {
+        let state = service.remove_dead_node_id(&node_id, |port| {
+            if port == skipped {
+                PortCleanupAction::SkipPort
+            } else {
+                PortCleanupAction::RemovePort
+            }
+        });
+        assert_eq!(state, DeregisterNodeState::HasOwners);
+        assert_eq!(ports_of(&service, 1), [left]);
+        let _ = service.attach(listener);
+        let _ = service.attach(notifier);
+    }
 }
 
 #[test]

@@ -124,7 +124,7 @@ fn no_text_of_the_layer_stands_in_the_code() {
 /// then.
 #[test]
 fn the_ids_to_keep_alone_are_sorted() {
-    let sorted = "kept.sort_unstable_by(|id, other| order(*id, *other));";
+    let sorted = "kept.sort_unstable_by(|one, other| {";
     assert_eq!(
         places(".sort"),
         [format!("dynamic_config/service.rs: {sorted}")]

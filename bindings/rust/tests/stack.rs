@@ -99,8 +99,16 @@ fn files_of_settings() {
                 .len(),
             1
         );
-        for wrong in ["=", "global = 1\ndefaults.event.max-nodes = -1\n"] {
-            assert!(!Config::from_toml(wrong).unwrap_err().to_string().is_empty());
+        let deep = [
+            "a.".repeat(54) + "a = 1",
+            "a = ".to_string() + &"{a = ".repeat(80),
+            "a = ".to_string() + &"[".repeat(80) + &"]".repeat(80),
+            "[a.".to_string() + &"a.".repeat(77) + "a]\na.a.a = 1",
+        ];
+        let wrong = ["=", "global = 1\ndefaults.event.max-nodes = -1\n"].map(String::from);
+        for text in wrong.into_iter().chain(deep) {
+            let read = Config::from_toml(&text).map(|file| file.unknown.len());
+            assert!(read.is_ok() || !read.unwrap_err().to_string().is_empty());
         }
     });
 }

@@ -169,6 +169,9 @@ impl fmt::Display for ConfigFault {
 pub enum ConfigError {
     /// It is no TOML, with the line and the column in words.
     NotToml(String),
+    /// Its tables and arrays are nested too deeply, with the line and the column in words. Dotted
+    /// keys nest too. This is found before anything else.
+    TooDeep(String),
     /// Values are not allowed: all of them, in the order of the settings.
     Faults(Vec<ConfigFault>),
     /// There was no memory.
@@ -179,7 +182,7 @@ pub enum ConfigError {
 impl fmt::Display for ConfigError {
     fn fmt(&self, f: &mut fmt::Formatter<'_>) -> fmt::Result {
         match self {
-            ConfigError::NotToml(reason) => f.pad(reason),
+            ConfigError::NotToml(reason) | ConfigError::TooDeep(reason) => f.pad(reason),
             ConfigError::NoMemory => f.pad("no memory"),
             ConfigError::Faults(faults) => {
                 let lines: Vec<_> = faults.iter().map(ToString::to_string).collect();
@@ -317,6 +320,9 @@ fn refusal(text: &str, first: &sys::iox2sd_config_fault) -> ConfigError {
         sys::IOX2SD_NO_MEMORY => return ConfigError::NoMemory,
         sys::IOX2SD_NOT_TOML => {
             return ConfigError::NotToml(front(&first.reason, first.reason_length))
+        }
+        sys::IOX2SD_TOO_DEEP => {
+            return ConfigError::TooDeep(front(&first.reason, first.reason_length))
         }
         _ => {}
     }

@@ -256,7 +256,9 @@ impl Recorder {
         removed
     }
 
-    /// [`DynamicConfig::remove_dead_node_id`], written down.
+    /// [`DynamicConfig::remove_dead_node_id`], written down. A log has the ids of ports that are
+    /// skipped without their kinds, so a log of ports of one node whose ids have one value conforms
+    /// only where all of them are skipped or none.
     ///
     /// ```
     /// # use iox2sd::{conform::Recorder, prelude::*};

@@ -293,7 +293,7 @@ impl DynamicConfig {
             first,
             second,
         };
-        match Service::make(kind.as_c().into(), service_number, capacities, tickets) {
+        match Service::make(kind.as_c(), service_number, capacities, tickets) {
             Ok(service) => Ok(Self::of(kind, service)),
             Err(sys::IOX2SD_NO_MEMORY) => Err(AllocError),
             Err(other) => library::unexpected(other),
