@@ -75,7 +75,7 @@ example() {
 # The statuses of the header are those of the crate that has them: a number has one name, and a name
 # one number.
 same_statuses() {
-    sed -n '/^enum iox2sd_status_number {/,/^}/s/^ *IOX2SD_\([A-Z0-9_]*\) = \([0-9]*\).*/\2 \1/p' ../include/iox2sd.h |
+    sed -n '/^enum iox2sd_status_number {/,/^}/s/^ *IOX2SD_STATUS_\([A-Z0-9_]*\) = \([0-9]*\).*/\2 \1/p' ../include/iox2sd.h |
         awk '{ n = split($2, words, "_"); name = ""
                for (i = 1; i <= n; i++) name = name substr(words[i], 1, 1) tolower(substr(words[i], 2))
                print $1, name }' | sort > "$work/header"

@@ -17,14 +17,14 @@ static void open_it(iox2sd_service *service, const iox2sd_offer *offer,
     const iox2sd_id node = {1, 0, 0, 2};
     const iox2sd_layout_answer message = iox2sd_message_sample_layout(offer->messages, 2);
     const iox2sd_open_answer checked = iox2sd_open_check(offer, required);
-    if (checked.status != IOX2SD_DONE) {
+    if (checked.status != IOX2SD_STATUS_DONE) {
         uint8_t words[256];
         const iox2sd_text_answer text = iox2sd_open_text(checked, words, sizeof words);
         printf("refused: %.*s\n", (int)text.length, (const char *)words);
         return;
     }
     const iox2sd_handle_answer opened = iox2sd_register_node_id(service, node);
-    if (opened.status != IOX2SD_DONE) {
+    if (opened.status != IOX2SD_STATUS_DONE) {
         printf("refused: %s\n", iox2sd_status_str(opened.status));
         return;
     }
@@ -45,10 +45,10 @@ int main(void) {
     iox2sd_service service = IOX2SD_SERVICE_NONE;
     settings.max_nodes = 1;
     if (iox2sd_describe_publish_subscribe_str(&settings, "My/Service", false, id, &described)
-            .status != IOX2SD_DONE) {
+            .status != IOX2SD_STATUS_DONE) {
         return EXIT_FAILURE;
     }
-    if (iox2sd_service_create_of_description(&service, 7, &described) != IOX2SD_DONE) {
+    if (iox2sd_service_create_of_description(&service, 7, &described) != IOX2SD_STATUS_DONE) {
         return EXIT_FAILURE;
     }
     const iox2sd_offer offer = {&described, &red, 1, &types, NULL};
@@ -63,5 +63,5 @@ int main(void) {
         {.description = &described, .pairs = &red, .pairs_length = 1, .messages = &types},
         {.description = &described}};
     for (size_t i = 0; i < 5; i++) open_it(&service, &offer, &required[i]);
-    return iox2sd_service_free(&service) == IOX2SD_DONE ? EXIT_SUCCESS : EXIT_FAILURE;
+    return iox2sd_service_free(&service) == IOX2SD_STATUS_DONE ? EXIT_SUCCESS : EXIT_FAILURE;
 }

@@ -13,7 +13,7 @@ static iox2sd_type_detail type_of(const char *name, size_t size, size_t alignmen
 
 /* Prints what a call wrote into `out`. */
 static void print_text(const char *what, iox2sd_text_answer answer, const uint8_t *out) {
-    if (answer.status != IOX2SD_DONE) exit(EXIT_FAILURE);
+    if (answer.status != IOX2SD_STATUS_DONE) exit(EXIT_FAILURE);
     printf("%s: %.*s\n", what, (int)answer.length, (const char *)out);
 }
 
@@ -27,7 +27,7 @@ static void print_id(const char *what, iox2sd_id id) {
 }
 
 static void print_handle(const char *what, iox2sd_handle_answer answer) {
-    if (answer.status != IOX2SD_DONE) exit(EXIT_FAILURE);
+    if (answer.status != IOX2SD_STATUS_DONE) exit(EXIT_FAILURE);
     printf("%s: slot %zu, ticket %llu\n", what, answer.handle.slot,
            (unsigned long long)answer.handle.ticket);
 }
@@ -36,9 +36,10 @@ static void print_handle(const char *what, iox2sd_handle_answer answer) {
 static void describe(const char *name, const iox2sd_publish_subscribe_settings *settings,
                      const iox2sd_attribute *attributes, size_t number_of_attributes) {
     uint8_t out[64];
-    if (iox2sd_service_name_check_str(name).status != IOX2SD_DONE) exit(EXIT_FAILURE);
+    if (iox2sd_service_name_check_str(name).status != IOX2SD_STATUS_DONE) exit(EXIT_FAILURE);
     printf("service: %s\n", name);
-    print_text("hash", iox2sd_hash_text_str(IOX2SD_PUBLISH_SUBSCRIBE, name, out, sizeof out), out);
+    print_text("hash",
+               iox2sd_hash_text_str(IOX2SD_PATTERN_PUBLISH_SUBSCRIBE, name, out, sizeof out), out);
     printf("capacities: %zu nodes, %zu publishers, %zu subscribers\n", settings->max_nodes,
            settings->max_publishers, settings->max_subscribers);
     printf("samples: %zu\n",
@@ -64,16 +65,16 @@ static void verify(const iox2sd_attribute *attributes, size_t number_of_attribut
     const iox2sd_layout_answer layout = iox2sd_message_sample_layout(&service, 2);
     iox2sd_place_answer verified =
         iox2sd_attributes_verify(attributes, number_of_attributes, &required, 1, keys, 1);
-    print_answer("an opener of color = red, unit", verified.status == IOX2SD_DONE);
+    print_answer("an opener of color = red, unit", verified.status == IOX2SD_STATUS_DONE);
     verified = iox2sd_attributes_verify(attributes, number_of_attributes, &required, 1, keys, 2);
-    if (verified.status != IOX2SD_MISSING_KEY) exit(EXIT_FAILURE);
+    if (verified.status != IOX2SD_STATUS_MISSING_KEY) exit(EXIT_FAILURE);
     printf("an opener of color = red, unit, rate: there is no %.*s\n",
            (int)keys[verified.at].length, (const char *)keys[verified.at].text);
     print_answer("an opener with these types",
-                 iox2sd_message_is_compatible_to(&opener, &service).status == IOX2SD_DONE);
+                 iox2sd_message_is_compatible_to(&opener, &service).status == IOX2SD_STATUS_DONE);
     opener.payload.alignment = 16;
     print_answer("an opener with a wider payload",
-                 iox2sd_message_is_compatible_to(&opener, &service).status == IOX2SD_DONE);
+                 iox2sd_message_is_compatible_to(&opener, &service).status == IOX2SD_STATUS_DONE);
     printf("a message: %zu bytes, alignment %zu\n", layout.size, layout.alignment);
 }
 
@@ -81,24 +82,25 @@ static void verify(const iox2sd_attribute *attributes, size_t number_of_attribut
 static void live(iox2sd_service *service) {
     const iox2sd_id node = {1, 0, 0, 2};
     iox2sd_port_details publisher = {
-        .role = IOX2SD_PUBLISHER, .port = {1, 0, 0, 3}, .node = {1, 0, 0, 2}};
+        .role = IOX2SD_ROLE_PUBLISHER, .port = {1, 0, 0, 3}, .node = {1, 0, 0, 2}};
     iox2sd_id nodes[20];
     iox2sd_port_details ports[2];
     iox2sd_count_answer found;
     iox2sd_dead_node_removal death;
     publisher.number_of_samples = 34;
-    publisher.data_segment = IOX2SD_STATIC_SEGMENT;
+    publisher.data_segment = IOX2SD_SEGMENT_STATIC;
     publisher.max_number_of_segments = 1;
     print_handle("node", iox2sd_register_node_id(service, node));
     print_handle("publisher", iox2sd_attach(service, &publisher));
     found = iox2sd_nodes(service, nodes, 20);
     for (size_t i = 0; i < found.count; i++) print_id("there is the node", nodes[i]);
-    found = iox2sd_ports(service, IOX2SD_PUBLISHER, ports, 2);
+    found = iox2sd_ports(service, IOX2SD_ROLE_PUBLISHER, ports, 2);
     for (size_t i = 0; i < found.count; i++) print_id("there is the publisher", ports[i].port);
     death = iox2sd_remove_dead_node_id(service, node, NULL, 0);
     printf("died with %zu publishers, %zu subscribers\n", death.first, death.second);
-    printf("the service is %s\n", death.status == IOX2SD_DONE_LOCKED ? "locked" : "open");
-    print_answer("a late node", iox2sd_register_node_id(service, node).status == IOX2SD_DONE);
+    printf("the service is %s\n", death.status == IOX2SD_STATUS_DONE_LOCKED ? "locked" : "open");
+    print_answer("a late node",
+                 iox2sd_register_node_id(service, node).status == IOX2SD_STATUS_DONE);
 }
 
 int main(void) {
@@ -110,13 +112,13 @@ int main(void) {
                                                        .subscribers = settings.max_subscribers};
     const iox2sd_capacities capacities = iox2sd_capacities_of_publish_subscribe(ports);
     iox2sd_service service = IOX2SD_SERVICE_NONE;
-    if (iox2sd_attributes_sort(attributes, 2).status != IOX2SD_DONE) return EXIT_FAILURE;
+    if (iox2sd_attributes_sort(attributes, 2).status != IOX2SD_STATUS_DONE) return EXIT_FAILURE;
     describe("My/Service", &settings, attributes, 2);
     verify(attributes, 2);
-    if (iox2sd_service_create(&service, IOX2SD_PUBLISH_SUBSCRIBE, 7, capacities, UINT64_MAX) !=
-        IOX2SD_DONE) {
+    if (iox2sd_service_create(&service, IOX2SD_PATTERN_PUBLISH_SUBSCRIBE, 7, capacities,
+                              UINT64_MAX) != IOX2SD_STATUS_DONE) {
         return EXIT_FAILURE;
     }
     live(&service);
-    return iox2sd_service_free(&service) == IOX2SD_DONE ? EXIT_SUCCESS : EXIT_FAILURE;
+    return iox2sd_service_free(&service) == IOX2SD_STATUS_DONE ? EXIT_SUCCESS : EXIT_FAILURE;
 }

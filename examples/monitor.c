@@ -20,7 +20,7 @@ static void remove_dead(iox2sd_service *service, iox2sd_id dead, const iox2sd_po
     const iox2sd_count_answer left = iox2sd_ports_of(service, dead, ports, 4);
     printf("dead node %u: %zu publishers, %zu subscribers removed, %s\n", (unsigned)dead.counter,
            gone.first, gone.second,
-           gone.status == IOX2SD_DONE_LOCKED ? "the service is locked" : "nodes are left");
+           gone.status == IOX2SD_STATUS_DONE_LOCKED ? "the service is locked" : "nodes are left");
     for (size_t i = 0; i < left.count; i++) {
         printf("  kept: %s %u\n", iox2sd_role_str(ports[i].role), (unsigned)ports[i].port.counter);
     }
@@ -28,25 +28,25 @@ static void remove_dead(iox2sd_service *service, iox2sd_id dead, const iox2sd_po
 
 int main(void) {
     const iox2sd_id camera = {1, 0, 0, 10}, lidar = {2, 0, 0, 11};
-    const iox2sd_port_id read = {IOX2SD_SUBSCRIBER, {1, 0, 0, 21}};
+    const iox2sd_port_id read = {IOX2SD_ROLE_SUBSCRIBER, {1, 0, 0, 21}};
     const iox2sd_publish_subscribe_capacities four = {4, 4, 4};
     const iox2sd_port_details ports[] = {
-        {.role = IOX2SD_PUBLISHER, .port = {1, 0, 0, 20}, .node = camera},
+        {.role = IOX2SD_ROLE_PUBLISHER, .port = {1, 0, 0, 20}, .node = camera},
         {.role = read.role, .port = read.port, .node = camera, .buffer_size = 2},
-        {.role = IOX2SD_PUBLISHER, .port = {2, 0, 0, 22}, .node = lidar}};
+        {.role = IOX2SD_ROLE_PUBLISHER, .port = {2, 0, 0, 22}, .node = lidar}};
     iox2sd_service service = IOX2SD_SERVICE_NONE;
-    if (iox2sd_service_create_publish_subscribe(&service, 7, four) != IOX2SD_DONE) {
+    if (iox2sd_service_create_publish_subscribe(&service, 7, four) != IOX2SD_STATUS_DONE) {
         return EXIT_FAILURE;
     }
-    if (iox2sd_register_node_id(&service, camera).status != IOX2SD_DONE) return EXIT_FAILURE;
-    if (iox2sd_register_node_id(&service, lidar).status != IOX2SD_DONE) return EXIT_FAILURE;
+    if (iox2sd_register_node_id(&service, camera).status != IOX2SD_STATUS_DONE) return EXIT_FAILURE;
+    if (iox2sd_register_node_id(&service, lidar).status != IOX2SD_STATUS_DONE) return EXIT_FAILURE;
     for (size_t i = 0; i < 3; i++) {
-        if (iox2sd_attach(&service, &ports[i]).status != IOX2SD_DONE) return EXIT_FAILURE;
+        if (iox2sd_attach(&service, &ports[i]).status != IOX2SD_STATUS_DONE) return EXIT_FAILURE;
     }
     remove_dead(&service, camera, &read, 1);
     remove_dead(&service, camera, NULL, 0);
     remove_dead(&service, lidar, NULL, 0);
     printf("a late node: %s\n",
            iox2sd_status_str(iox2sd_register_node_id(&service, camera).status));
-    return iox2sd_service_free(&service) == IOX2SD_DONE ? EXIT_SUCCESS : EXIT_FAILURE;
+    return iox2sd_service_free(&service) == IOX2SD_STATUS_DONE ? EXIT_SUCCESS : EXIT_FAILURE;
 }

@@ -11,7 +11,7 @@
 static bool report(const char *text) {
     iox2sd_config config;
     const iox2sd_config_answer read = iox2sd_config_read_str(text, &config);
-    if (read.status != IOX2SD_DONE) {
+    if (read.status != IOX2SD_STATUS_DONE) {
         printf("refused: %.*s: %s\n", (int)read.fault.key_length, (const char *)read.fault.key,
                iox2sd_status_str(read.status));
         return false;

@@ -10,9 +10,9 @@
  *   has changed, and the other fields are 0, unless a function says otherwise. A handle is then
  *   IOX2SD_HANDLE_NONE, which no call accepts.
  * - An array, a buffer or a text is a pointer and a number of elements. NULL is an empty one where
- *   the number is 0. With another number, NULL is IOX2SD_NULL, and so it is where one struct is
- *   expected; this is checked before all else. A function that ends in `_str` takes texts that end
- *   in a zero byte, without a number; there NULL is IOX2SD_NULL.
+ *   the number is 0. With another number, NULL is IOX2SD_STATUS_NULL, and so it is where one struct
+ *   is expected; this is checked before all else. A function that ends in `_str` takes texts that
+ *   end in a zero byte, without a number; there NULL is IOX2SD_STATUS_NULL.
  * - An array that a call writes overlaps no other argument of the call. No call writes past the
  *   number of elements that is passed, keeps a pointer, or calls back.
  * - No call starts a thread, takes a lock, or reads a file, the clock or the environment. There is
@@ -38,7 +38,7 @@
  *   say, and NULL with the number 0 is an empty array.
  * - Left to the caller: to free a service, to run no other call beside a change, and what is done
  *   with a pointer.
- */
+ * */
 #ifndef IOX2SD_H
 #define IOX2SD_H
 
@@ -77,92 +77,97 @@ extern "C" {
 /* What a call of this header, or of another C header here, returns. iox2sd_status_text has a text
  * for each. */
 enum iox2sd_status_number {
-    IOX2SD_DONE = 0,
+    IOX2SD_STATUS_DONE = 0,
     /* Success, and the service is locked for good: no node registers any more. */
-    IOX2SD_DONE_LOCKED = 1,
-    IOX2SD_BUFFER_TOO_SHORT = 2, /* The length that is needed is returned. */
-    IOX2SD_NO_MEMORY = 3,
-    IOX2SD_NO_SERVICE = 4,  /* The object holds no service. */
-    IOX2SD_HAS_SERVICE = 5, /* The object holds a service already. */
-    IOX2SD_UNKNOWN_PATTERN = 6,
+    IOX2SD_STATUS_DONE_LOCKED = 1,
+    IOX2SD_STATUS_BUFFER_TOO_SHORT = 2, /* The length that is needed is returned. */
+    IOX2SD_STATUS_NO_MEMORY = 3,
+    IOX2SD_STATUS_NO_SERVICE = 4,  /* The object holds no service. */
+    IOX2SD_STATUS_HAS_SERVICE = 5, /* The object holds a service already. */
+    IOX2SD_STATUS_UNKNOWN_PATTERN = 6,
     /* The number is that of no role, or that of nodes where a port is expected. */
-    IOX2SD_UNKNOWN_ROLE = 7,
-    IOX2SD_NO_NODE = 8,      /* The id is that of no node: its process and its counter are 0. */
-    IOX2SD_IS_LOCKED = 9,
-    IOX2SD_OUT_OF_SPACE = 10,         /* No slot or no ticket is left. */
-    IOX2SD_FOREIGN_HANDLE = 11,       /* No entry has the handle. */
+    IOX2SD_STATUS_UNKNOWN_ROLE = 7,
+    IOX2SD_STATUS_NO_NODE = 8, /* The id is that of no node: its process and its counter are 0. */
+    IOX2SD_STATUS_IS_LOCKED = 9,
+    IOX2SD_STATUS_OUT_OF_SPACE = 10,   /* No slot or no ticket is left. */
+    IOX2SD_STATUS_FOREIGN_HANDLE = 11, /* No entry has the handle. */
     /* The handle is its node's only one, and some port belongs to the node. */
-    IOX2SD_PORTS_STILL_ATTACHED = 12,
-    IOX2SD_NODE_NOT_REGISTERED = 13,  /* The port's node is not registered. */
-    IOX2SD_ROLE_NOT_IN_PATTERN = 14,
-    IOX2SD_UNKNOWN_SEGMENT = 15,
-    IOX2SD_BAD_KEY = 16,   /* A key of a pair is invalid: iox2sd_attribute_key_check says why. */
+    IOX2SD_STATUS_PORTS_STILL_ATTACHED = 12,
+    IOX2SD_STATUS_NODE_NOT_REGISTERED = 13, /* The port's node is not registered. */
+    IOX2SD_STATUS_ROLE_NOT_IN_PATTERN = 14,
+    IOX2SD_STATUS_UNKNOWN_SEGMENT = 15,
+    IOX2SD_STATUS_BAD_KEY =
+        16, /* A key of a pair is invalid: iox2sd_attribute_key_check says why. */
     /* A value of a pair is invalid: iox2sd_attribute_value_check says why. */
-    IOX2SD_BAD_VALUE = 17,
-    IOX2SD_TOO_MANY = 18,  /* There are more than sixteen pairs. */
-    IOX2SD_NULL = 20,      /* NULL where something is expected. */
-    IOX2SD_UNKNOWN_STATUS = 21,
-    IOX2SD_EMPTY = 40,
-    IOX2SD_TOO_LONG = 41,
-    IOX2SD_ILLEGAL_BYTE = 42,
-    IOX2SD_NO_FILE_NAME = 43, /* The name, or what follows the last `/`, is ".", ".." or empty. */
-    IOX2SD_RESERVED_PREFIX = 44,
-    IOX2SD_NOT_UTF8 = 45,
-    IOX2SD_BAD_SERVICE_NAME = 46,
-    IOX2SD_BAD_PATH = 47,
-    IOX2SD_BAD_ENTRY = 48,
-    IOX2SD_ILLEGAL_HASH = 49, /* SHA-1, which all calls use, is proved to make no such text. */
-    IOX2SD_BAD_REQUIRED_KEY = 50,
-    IOX2SD_BAD_REQUIRED_VALUE = 51,
-    IOX2SD_BAD_ASKED_KEY = 52,
-    IOX2SD_TOO_MANY_REQUIRED = 53,
-    IOX2SD_MISSING_PAIR = 54,
-    IOX2SD_MISSING_KEY = 55,
-    IOX2SD_NO_SUCH_VALUE = 56,
-    IOX2SD_BAD_ALIGNMENT = 57, /* An alignment is no power of two. */
-    IOX2SD_TOO_LARGE = 58,     /* The result would pass its range. */
-    IOX2SD_UNKNOWN_VARIANT = 59,
-    IOX2SD_OTHER_NAME = 60,
-    IOX2SD_OTHER_VARIANT = 61,
-    IOX2SD_OTHER_SIZE = 62,
-    IOX2SD_OTHER_ALIGNMENT = 63,
-    IOX2SD_GREATER_ALIGNMENT = 64,
-    IOX2SD_UNKNOWN_TEXT = 65,
-    IOX2SD_BAD_LINE = 66, /* A line of a script is not valid. */
-    IOX2SD_UNKNOWN_STRATEGY = 67,
-    IOX2SD_BAD_DURATION = 68, /* The nanoseconds beside the seconds are 1,000,000,000 or more. */
-    IOX2SD_UNMET = 69,        /* A setting of a service is not what an opener requires. */
+    IOX2SD_STATUS_BAD_VALUE = 17,
+    IOX2SD_STATUS_TOO_MANY = 18, /* There are more than sixteen pairs. */
+    IOX2SD_STATUS_NULL = 20,     /* NULL where something is expected. */
+    IOX2SD_STATUS_UNKNOWN_STATUS = 21,
+    IOX2SD_STATUS_EMPTY = 40,
+    IOX2SD_STATUS_TOO_LONG = 41,
+    IOX2SD_STATUS_ILLEGAL_BYTE = 42,
+    IOX2SD_STATUS_NO_FILE_NAME =
+        43, /* The name, or what follows the last `/`, is ".", ".." or empty. */
+    IOX2SD_STATUS_RESERVED_PREFIX = 44,
+    IOX2SD_STATUS_NOT_UTF8 = 45,
+    IOX2SD_STATUS_BAD_SERVICE_NAME = 46,
+    IOX2SD_STATUS_BAD_PATH = 47,
+    IOX2SD_STATUS_BAD_ENTRY = 48,
+    IOX2SD_STATUS_ILLEGAL_HASH =
+        49, /* SHA-1, which all calls use, is proved to make no such text. */
+    IOX2SD_STATUS_BAD_REQUIRED_KEY = 50,
+    IOX2SD_STATUS_BAD_REQUIRED_VALUE = 51,
+    IOX2SD_STATUS_BAD_ASKED_KEY = 52,
+    IOX2SD_STATUS_TOO_MANY_REQUIRED = 53,
+    IOX2SD_STATUS_MISSING_PAIR = 54,
+    IOX2SD_STATUS_MISSING_KEY = 55,
+    IOX2SD_STATUS_NO_SUCH_VALUE = 56,
+    IOX2SD_STATUS_BAD_ALIGNMENT = 57, /* An alignment is no power of two. */
+    IOX2SD_STATUS_TOO_LARGE = 58,     /* The result would pass its range. */
+    IOX2SD_STATUS_UNKNOWN_VARIANT = 59,
+    IOX2SD_STATUS_OTHER_NAME = 60,
+    IOX2SD_STATUS_OTHER_VARIANT = 61,
+    IOX2SD_STATUS_OTHER_SIZE = 62,
+    IOX2SD_STATUS_OTHER_ALIGNMENT = 63,
+    IOX2SD_STATUS_GREATER_ALIGNMENT = 64,
+    IOX2SD_STATUS_UNKNOWN_TEXT = 65,
+    IOX2SD_STATUS_BAD_LINE = 66, /* A line of a script is not valid. */
+    IOX2SD_STATUS_UNKNOWN_STRATEGY = 67,
+    IOX2SD_STATUS_BAD_DURATION =
+        68,                   /* The nanoseconds beside the seconds are 1,000,000,000 or more. */
+    IOX2SD_STATUS_UNMET = 69, /* A setting of a service is not what an opener requires. */
     /* A service has another messaging pattern than an opener requires. */
-    IOX2SD_OTHER_PATTERN = 70,
-    IOX2SD_NOT_TOML = 80,
-    IOX2SD_WRONG_TYPE = 81,     /* The value of a key is of another type than the wanted one. */
-    IOX2SD_BELOW_ZERO = 82,     /* The value of a key is below 0. */
-    IOX2SD_NO_DURATION = 83,    /* The value of a key is no table of the integers secs and nanos. */
-    IOX2SD_NO_TOML_INTEGER = 84, /* A number is above 2^63 - 1. */
-    IOX2SD_NO_FILE = 85,         /* A file cannot be read: C++ alone returns it. */
+    IOX2SD_STATUS_OTHER_PATTERN = 70,
+    IOX2SD_STATUS_NOT_TOML = 80,
+    IOX2SD_STATUS_WRONG_TYPE = 81, /* The value of a key is of another type than the wanted one. */
+    IOX2SD_STATUS_BELOW_ZERO = 82, /* The value of a key is below 0. */
+    IOX2SD_STATUS_NO_DURATION =
+        83, /* The value of a key is no table of the integers secs and nanos. */
+    IOX2SD_STATUS_NO_TOML_INTEGER = 84, /* A number is above 2^63 - 1. */
+    IOX2SD_STATUS_NO_FILE = 85,         /* A file cannot be read: C++ alone returns it. */
     /* Tables and arrays of a file are more than 32 deep in one another. */
-    IOX2SD_TOO_DEEP = 86,
-    IOX2SD_NO_RUN = 90,          /* No run of the proved machine gives a reply of a log. */
+    IOX2SD_STATUS_TOO_DEEP = 86,
+    IOX2SD_STATUS_NO_RUN = 90, /* No run of the proved machine gives a reply of a log. */
     /* A line of a log is not what is expected, or the log ends before it. */
-    IOX2SD_NO_SERVICE_LINE = 91,
-    IOX2SD_NO_COMMAND_LINE = 92,
-    IOX2SD_NO_REPLY_LINE = 93,
-    IOX2SD_NO_ORDER = 94,        /* No order of the calls of a group gives their replies. */
-    IOX2SD_TOO_MANY_STATES = 95, /* The orders of a group lead to more than 64 states. */
-    IOX2SD_NO_GROUP_LINE = 96,   /* A call of a group, or the end of the group, is expected. */
-    IOX2SD_NO_GROUP_END = 97     /* The end of a group of eight calls is expected. */
+    IOX2SD_STATUS_NO_SERVICE_LINE = 91,
+    IOX2SD_STATUS_NO_COMMAND_LINE = 92,
+    IOX2SD_STATUS_NO_REPLY_LINE = 93,
+    IOX2SD_STATUS_NO_ORDER = 94,        /* No order of the calls of a group gives their replies. */
+    IOX2SD_STATUS_TOO_MANY_STATES = 95, /* The orders of a group lead to more than 64 states. */
+    IOX2SD_STATUS_NO_GROUP_LINE = 96, /* A call of a group, or the end of the group, is expected. */
+    IOX2SD_STATUS_NO_GROUP_END = 97   /* The end of a group of eight calls is expected. */
 };
 typedef uint32_t iox2sd_status;
 
-/* Whether a call succeeded: with IOX2SD_DONE or IOX2SD_DONE_LOCKED. */
-#define IOX2SD_OK(status) ((uint32_t)(status) <= 1)
+/* Whether a call succeeded: with IOX2SD_STATUS_DONE or IOX2SD_STATUS_DONE_LOCKED. */
+#define IOX2SD_SUCCEEDED(status) ((uint32_t)(status) <= 1)
 
 /* Messaging patterns. */
 enum iox2sd_pattern_number {
-    IOX2SD_PUBLISH_SUBSCRIBE = 0,
-    IOX2SD_EVENT = 1,
-    IOX2SD_REQUEST_RESPONSE = 2,
-    IOX2SD_BLACKBOARD = 3
+    IOX2SD_PATTERN_PUBLISH_SUBSCRIBE = 0,
+    IOX2SD_PATTERN_EVENT = 1,
+    IOX2SD_PATTERN_REQUEST_RESPONSE = 2,
+    IOX2SD_PATTERN_BLACKBOARD = 3
 };
 typedef uint64_t iox2sd_pattern;
 
@@ -170,26 +175,26 @@ typedef uint64_t iox2sd_pattern;
  * listeners and notifiers, servers and clients, readers and writers. The ports of a dead node are
  * removed in this order. */
 enum iox2sd_role_number {
-    IOX2SD_NODE = 0,
-    IOX2SD_PUBLISHER = 1,
-    IOX2SD_SUBSCRIBER = 2,
-    IOX2SD_NOTIFIER = 3,
-    IOX2SD_LISTENER = 4,
-    IOX2SD_CLIENT = 5,
-    IOX2SD_SERVER = 6,
-    IOX2SD_READER = 7,
-    IOX2SD_WRITER = 8
+    IOX2SD_ROLE_NODE = 0,
+    IOX2SD_ROLE_PUBLISHER = 1,
+    IOX2SD_ROLE_SUBSCRIBER = 2,
+    IOX2SD_ROLE_NOTIFIER = 3,
+    IOX2SD_ROLE_LISTENER = 4,
+    IOX2SD_ROLE_CLIENT = 5,
+    IOX2SD_ROLE_SERVER = 6,
+    IOX2SD_ROLE_READER = 7,
+    IOX2SD_ROLE_WRITER = 8
 };
 typedef uint64_t iox2sd_role;
 
 /* The role of no entry and of no port. Each call with it, or with a handle that has it, is refused
- * with IOX2SD_UNKNOWN_ROLE. */
-#define IOX2SD_NO_ROLE UINT64_MAX
+ * with IOX2SD_STATUS_UNKNOWN_ROLE. */
+#define IOX2SD_ROLE_NONE UINT64_MAX
 
 /* Whether a data segment may grow. */
 enum iox2sd_segment_number {
-    IOX2SD_DYNAMIC_SEGMENT = 0, /* It may be replaced by a larger one. */
-    IOX2SD_STATIC_SEGMENT = 1   /* It keeps its size. */
+    IOX2SD_SEGMENT_DYNAMIC = 0, /* It may be replaced by a larger one. */
+    IOX2SD_SEGMENT_STATIC = 1   /* It keeps its size. */
 };
 typedef uint32_t iox2sd_segment;
 
@@ -204,28 +209,28 @@ typedef struct iox2sd_id {
 /* Registering and attaching return a handle; deregistering and releasing take it. */
 typedef struct iox2sd_handle {
     uint64_t service; /* The number of the service. */
-    iox2sd_role role; /* IOX2SD_NO_ROLE in a handle of no entry. */
+    iox2sd_role role; /* IOX2SD_ROLE_NONE in a handle of no entry. */
     size_t slot;
     uint64_t ticket; /* How many entries of its kind were made before it. */
 } iox2sd_handle;
 
 /* The id of a port, and what the port is. It has no padding, so memcmp compares it. */
 typedef struct iox2sd_port_id {
-    iox2sd_role role; /* Not IOX2SD_NODE. */
+    iox2sd_role role; /* Not IOX2SD_ROLE_NODE. */
     iox2sd_id port;
 } iox2sd_port_id;
 
 /* A handle of no entry. A handle whose bytes are all 0 is that of the first node of a service with
  * the number 0. */
-#define IOX2SD_HANDLE_NONE {0, IOX2SD_NO_ROLE, 0, 0}
+#define IOX2SD_HANDLE_NONE {0, IOX2SD_ROLE_NONE, 0, 0}
 iox2sd_handle iox2sd_handle_none(void);
 
-/* Whether a handle is that of no entry: its role is IOX2SD_NO_ROLE. */
+/* Whether a handle is that of no entry: its role is IOX2SD_ROLE_NONE. */
 bool iox2sd_handle_is_none(iox2sd_handle handle);
 
 /* The details of a port. A field that its kind does not have is ignored, and is 0 in an answer. */
 typedef struct iox2sd_port_details {
-    iox2sd_role role; /* Not IOX2SD_NODE. */
+    iox2sd_role role; /* Not IOX2SD_ROLE_NODE. */
     iox2sd_id port;
     iox2sd_id node;
     size_t number_of_samples;       /* Of publishers. */
@@ -287,7 +292,7 @@ typedef struct iox2sd_service {
 
 #define IOX2SD_SERVICE_NONE {false, NULL}
 
-/* A handle; IOX2SD_HANDLE_NONE where the status is not IOX2SD_DONE. */
+/* A handle; IOX2SD_HANDLE_NONE where the status is not IOX2SD_STATUS_DONE. */
 typedef struct iox2sd_handle_answer {
     iox2sd_status status;
     iox2sd_handle handle;
@@ -297,7 +302,7 @@ typedef struct iox2sd_handle_answer {
 typedef struct iox2sd_count_answer {
     iox2sd_status status;
     iox2sd_status cause; /* Why a key or a value is refused; 0 where none is. */
-    size_t count; /* Also with IOX2SD_BUFFER_TOO_SHORT: so many are needed. */
+    size_t count; /* Also with IOX2SD_STATUS_BUFFER_TOO_SHORT: so many are needed. */
 } iox2sd_count_answer;
 
 /* A text for a buffer. */
@@ -305,41 +310,42 @@ typedef struct iox2sd_text_answer {
     iox2sd_status status;
     iox2sd_status
         cause;     /* Why another text, which the status names, is refused; 0 where none is. */
-    size_t length; /* The text's bytes, also with IOX2SD_BUFFER_TOO_SHORT. */
+    size_t length; /* The text's bytes, also with IOX2SD_STATUS_BUFFER_TOO_SHORT. */
 } iox2sd_text_answer;
 
-/* A number of a service; 0 where the status is not IOX2SD_DONE. */
+/* A number of a service; 0 where the status is not IOX2SD_STATUS_DONE. */
 typedef struct iox2sd_number_answer {
     iox2sd_status status;
     uint64_t number;
 } iox2sd_number_answer;
 
-/* The roles of the two kinds of ports of a pattern; 0 where the status is not IOX2SD_DONE. */
+/* The roles of the two kinds of ports of a pattern; 0 where the status is not IOX2SD_STATUS_DONE.
+ */
 typedef struct iox2sd_roles_answer {
     iox2sd_status status;
     iox2sd_role first;
     iox2sd_role second;
 } iox2sd_roles_answer;
 
-/* Yes or no; no where the status is not IOX2SD_DONE. */
+/* Yes or no; no where the status is not IOX2SD_STATUS_DONE. */
 typedef struct iox2sd_flag_answer {
     iox2sd_status status;
     bool yes;
 } iox2sd_flag_answer;
 
-/* An id; all 0 where the status is not IOX2SD_DONE. */
+/* An id; all 0 where the status is not IOX2SD_STATUS_DONE. */
 typedef struct iox2sd_id_answer {
     iox2sd_status status;
     iox2sd_id id;
 } iox2sd_id_answer;
 
-/* A port; all 0 where the status is not IOX2SD_DONE. */
+/* A port; all 0 where the status is not IOX2SD_STATUS_DONE. */
 typedef struct iox2sd_port_answer {
     iox2sd_status status;
     iox2sd_port_details port;
 } iox2sd_port_answer;
 
-/* How many ports of a dead node were removed, also with IOX2SD_DONE_LOCKED. */
+/* How many ports of a dead node were removed, also with IOX2SD_STATUS_DONE_LOCKED. */
 typedef struct iox2sd_dead_node_removal {
     iox2sd_status status;
     size_t first;  /* Publishers, listeners, servers or readers. */
@@ -351,8 +357,8 @@ typedef struct iox2sd_dead_node_removal {
 uint32_t iox2sd_abi(void);
 
 /* Writes the text of a status to the front of `out`, without a zero byte, where all of it fits.
- * Errors: IOX2SD_NULL; IOX2SD_UNKNOWN_STATUS; IOX2SD_BUFFER_TOO_SHORT with the length that it
- * needs. */
+ * Errors: IOX2SD_STATUS_NULL; IOX2SD_STATUS_UNKNOWN_STATUS; IOX2SD_STATUS_BUFFER_TOO_SHORT with the
+ * length that it needs. */
 IOX2SD_CHECKED iox2sd_text_answer iox2sd_status_text(uint32_t status, uint8_t *out,
                                                      size_t capacity);
 
@@ -380,12 +386,13 @@ bool iox2sd_id_is_before(iox2sd_id id, iox2sd_id other);
 
 /* Writes that number in lower-case hexadecimal digits without leading zeros, at most 32 bytes,
  * without a zero byte.
- * Errors: IOX2SD_NULL; IOX2SD_BUFFER_TOO_SHORT with the length that it needs. */
+ * Errors: IOX2SD_STATUS_NULL; IOX2SD_STATUS_BUFFER_TOO_SHORT with the length that it needs. */
 IOX2SD_CHECKED iox2sd_text_answer iox2sd_id_text(iox2sd_id id, uint8_t *out, size_t capacity);
 
 /* The id of which iox2sd_id_text writes this text. It may be that of no node.
- * Errors: IOX2SD_NULL; IOX2SD_EMPTY; IOX2SD_TOO_LONG, for more than 32 bytes; IOX2SD_ILLEGAL_BYTE,
- * where a byte is not one of the digits 0 to 9 and a to f, or 0 stands before other digits. */
+ * Errors: IOX2SD_STATUS_NULL; IOX2SD_STATUS_EMPTY; IOX2SD_STATUS_TOO_LONG, for more than 32 bytes;
+ * IOX2SD_STATUS_ILLEGAL_BYTE, where a byte is not one of the digits 0 to 9 and a to f, or 0 stands
+ * before other digits. */
 IOX2SD_CHECKED iox2sd_id_answer iox2sd_id_from_text(const uint8_t *text, size_t length);
 IOX2SD_CHECKED iox2sd_id_answer iox2sd_id_from_text_str(const char *text);
 
@@ -398,20 +405,21 @@ typedef struct iox2sd_service_numbers {
 #define IOX2SD_SERVICE_NUMBERS_NONE {0}
 
 /* The next number: 1, 2, 3, .., each once. A service numbered so has no handle that is all-zero.
- * Errors: IOX2SD_NULL; IOX2SD_OUT_OF_SPACE after UINT64_MAX. */
+ * Errors: IOX2SD_STATUS_NULL; IOX2SD_STATUS_OUT_OF_SPACE after UINT64_MAX. */
 IOX2SD_CHECKED iox2sd_number_answer iox2sd_next_service_number(iox2sd_service_numbers *numbers);
 
 /* Creates a service with nothing attached. `number` is part of its handles. It has `tickets`
  * tickets for nodes, and as many for each kind of ports: each registering and each attaching uses
  * one, and tickets are never reused. UINT64_MAX is no limit.
- * Errors: IOX2SD_NULL; IOX2SD_HAS_SERVICE, and the object keeps what it holds;
- * IOX2SD_UNKNOWN_PATTERN; IOX2SD_NO_MEMORY. */
+ * Errors: IOX2SD_STATUS_NULL; IOX2SD_STATUS_HAS_SERVICE, and the object keeps what it holds;
+ * IOX2SD_STATUS_UNKNOWN_PATTERN; IOX2SD_STATUS_NO_MEMORY. */
 IOX2SD_CHECKED iox2sd_status iox2sd_service_create(iox2sd_service *service, iox2sd_pattern pattern,
                                               uint64_t number, iox2sd_capacities capacities,
                                               uint64_t tickets);
 
 /* Creates a service of each pattern in the same way, by the names of its ports, with as many
- * tickets as there are numbers. Errors: IOX2SD_NULL; IOX2SD_HAS_SERVICE; IOX2SD_NO_MEMORY. */
+ * tickets as there are numbers. Errors: IOX2SD_STATUS_NULL; IOX2SD_STATUS_HAS_SERVICE;
+ * IOX2SD_STATUS_NO_MEMORY. */
 IOX2SD_CHECKED iox2sd_status
 iox2sd_service_create_publish_subscribe(iox2sd_service *service, uint64_t number,
                                         iox2sd_publish_subscribe_capacities capacities);
@@ -425,43 +433,45 @@ iox2sd_service_create_blackboard(iox2sd_service *service, uint64_t number,
                                  iox2sd_blackboard_capacities capacities);
 
 /* Frees a service. The object is IOX2SD_SERVICE_NONE afterwards, and may be used for another
- * service; a second call reports IOX2SD_NO_SERVICE.
- * Errors: IOX2SD_NULL; IOX2SD_NO_SERVICE. */
+ * service; a second call reports IOX2SD_STATUS_NO_SERVICE.
+ * Errors: IOX2SD_STATUS_NULL; IOX2SD_STATUS_NO_SERVICE. */
 iox2sd_status iox2sd_service_free(iox2sd_service *service);
 
 /* Registers a node, which may have several handles.
- * Errors: IOX2SD_NULL; IOX2SD_NO_SERVICE; IOX2SD_NO_NODE; IOX2SD_IS_LOCKED; IOX2SD_OUT_OF_SPACE. */
+ * Errors: IOX2SD_STATUS_NULL; IOX2SD_STATUS_NO_SERVICE; IOX2SD_STATUS_NO_NODE;
+ * IOX2SD_STATUS_IS_LOCKED; IOX2SD_STATUS_OUT_OF_SPACE. */
 IOX2SD_CHECKED iox2sd_handle_answer iox2sd_register_node_id(iox2sd_service *service,
                                                             iox2sd_id node);
 
-/* Deregisters the node with this handle. IOX2SD_DONE_LOCKED where it was the last one: the service
- * is locked for good.
- * Errors: IOX2SD_NULL; IOX2SD_NO_SERVICE; IOX2SD_UNKNOWN_ROLE; IOX2SD_FOREIGN_HANDLE, also for a
- * port's handle; IOX2SD_PORTS_STILL_ATTACHED where it is the only handle of its node and some port
- * has that node. */
+/* Deregisters the node with this handle. IOX2SD_STATUS_DONE_LOCKED where it was the last one: the
+ * service is locked for good.
+ * Errors: IOX2SD_STATUS_NULL; IOX2SD_STATUS_NO_SERVICE; IOX2SD_STATUS_UNKNOWN_ROLE;
+ * IOX2SD_STATUS_FOREIGN_HANDLE, also for a port's handle; IOX2SD_STATUS_PORTS_STILL_ATTACHED where
+ * it is the only handle of its node and some port has that node. */
 IOX2SD_CHECKED iox2sd_status iox2sd_deregister_node_id(iox2sd_service *service,
                                                        iox2sd_handle handle);
 
 /* Attaches a port.
- * Errors: IOX2SD_NULL; IOX2SD_NO_SERVICE; IOX2SD_NO_NODE for the port's node; IOX2SD_UNKNOWN_ROLE,
- * also for IOX2SD_NODE; IOX2SD_UNKNOWN_SEGMENT; IOX2SD_ROLE_NOT_IN_PATTERN; IOX2SD_IS_LOCKED;
- * IOX2SD_NODE_NOT_REGISTERED, by the whole id; IOX2SD_OUT_OF_SPACE. */
+ * Errors: IOX2SD_STATUS_NULL; IOX2SD_STATUS_NO_SERVICE; IOX2SD_STATUS_NO_NODE for the port's node;
+ * IOX2SD_STATUS_UNKNOWN_ROLE, also for IOX2SD_ROLE_NODE; IOX2SD_STATUS_UNKNOWN_SEGMENT;
+ * IOX2SD_STATUS_ROLE_NOT_IN_PATTERN; IOX2SD_STATUS_IS_LOCKED; IOX2SD_STATUS_NODE_NOT_REGISTERED, by
+ * the whole id; IOX2SD_STATUS_OUT_OF_SPACE. */
 IOX2SD_CHECKED iox2sd_handle_answer iox2sd_attach(iox2sd_service *service,
                                                   const iox2sd_port_details *port);
 
 /* Releases the port with this handle.
- * Errors: IOX2SD_NULL; IOX2SD_NO_SERVICE; IOX2SD_UNKNOWN_ROLE; IOX2SD_FOREIGN_HANDLE, also for a
- * node's handle. */
+ * Errors: IOX2SD_STATUS_NULL; IOX2SD_STATUS_NO_SERVICE; IOX2SD_STATUS_UNKNOWN_ROLE;
+ * IOX2SD_STATUS_FOREIGN_HANDLE, also for a node's handle. */
 IOX2SD_CHECKED iox2sd_status iox2sd_release_port(iox2sd_service *service, iox2sd_handle handle);
 
 /* Removes those ports of a dead node that are not among `kept`, by their kinds and their ids, and
  * returns how many it removed. Where none of its ports is left, the node is removed too, with all
- * its handles. IOX2SD_DONE_LOCKED where the service is locked: it has no node any more. `kept` may
- * be in any order, and may have ports that the node has not. Where it is sorted as by
+ * its handles. IOX2SD_STATUS_DONE_LOCKED where the service is locked: it has no node any more.
+ * `kept` may be in any order, and may have ports that the node has not. Where it is sorted as by
  * iox2sd_id_is_before, and by roles where ids are the same, each port of the node is searched for
  * by halves, and otherwise one by one.
- * Errors: IOX2SD_NULL; IOX2SD_NO_SERVICE; IOX2SD_NO_NODE; IOX2SD_UNKNOWN_ROLE, of any of `kept`,
- * also for IOX2SD_NODE. */
+ * Errors: IOX2SD_STATUS_NULL; IOX2SD_STATUS_NO_SERVICE; IOX2SD_STATUS_NO_NODE;
+ * IOX2SD_STATUS_UNKNOWN_ROLE, of any of `kept`, also for IOX2SD_ROLE_NODE. */
 IOX2SD_CHECKED iox2sd_dead_node_removal iox2sd_remove_dead_node_id(iox2sd_service *service,
                                                                    iox2sd_id dead,
                                                                    const iox2sd_port_id *kept,
@@ -469,82 +479,84 @@ IOX2SD_CHECKED iox2sd_dead_node_removal iox2sd_remove_dead_node_id(iox2sd_servic
 
 /* Writes the ports of a role to the front of `out`, by rising slot. The other elements stay as they
  * were.
- * Errors: IOX2SD_NULL; IOX2SD_NO_SERVICE; IOX2SD_UNKNOWN_ROLE; IOX2SD_ROLE_NOT_IN_PATTERN, also for
- * IOX2SD_NODE; IOX2SD_BUFFER_TOO_SHORT with the number of ports that there are. Then `out` is as it
- * was. */
+ * Errors: IOX2SD_STATUS_NULL; IOX2SD_STATUS_NO_SERVICE; IOX2SD_STATUS_UNKNOWN_ROLE;
+ * IOX2SD_STATUS_ROLE_NOT_IN_PATTERN, also for IOX2SD_ROLE_NODE; IOX2SD_STATUS_BUFFER_TOO_SHORT with
+ * the number of ports that there are. Then `out` is as it was. */
 IOX2SD_CHECKED iox2sd_count_answer iox2sd_ports(const iox2sd_service *service, iox2sd_role role,
                                                 iox2sd_port_details *out, size_t capacity);
 
 /* Writes the ports of a node, by its whole id, to the front of `out`: those of the pattern's first
  * kind before those of its second, each kind by rising slot. The other elements of `out` stay as
  * they were. These are the ports that iox2sd_remove_dead_node_id removes or keeps.
- * Errors: IOX2SD_NULL; IOX2SD_NO_SERVICE; IOX2SD_NO_NODE; IOX2SD_BUFFER_TOO_SHORT with the number
- * of ports that there are, or IOX2SD_TOO_LARGE where that number passes SIZE_MAX. Then `out` is as
- * it was. */
+ * Errors: IOX2SD_STATUS_NULL; IOX2SD_STATUS_NO_SERVICE; IOX2SD_STATUS_NO_NODE;
+ * IOX2SD_STATUS_BUFFER_TOO_SHORT with the number of ports that there are, or
+ * IOX2SD_STATUS_TOO_LARGE where that number passes SIZE_MAX. Then `out` is as it was. */
 IOX2SD_CHECKED iox2sd_count_answer iox2sd_ports_of(const iox2sd_service *service, iox2sd_id node,
                                                    iox2sd_port_details *out, size_t capacity);
 
-/* The messaging pattern. Errors: IOX2SD_NULL; IOX2SD_NO_SERVICE. */
+/* The messaging pattern. Errors: IOX2SD_STATUS_NULL; IOX2SD_STATUS_NO_SERVICE. */
 IOX2SD_CHECKED iox2sd_number_answer iox2sd_messaging_pattern(const iox2sd_service *service);
 
-/* The service's number, which each of its handles has. Errors: IOX2SD_NULL; IOX2SD_NO_SERVICE. */
+/* The service's number, which each of its handles has. Errors: IOX2SD_STATUS_NULL;
+ * IOX2SD_STATUS_NO_SERVICE. */
 IOX2SD_CHECKED iox2sd_number_answer iox2sd_service_number(const iox2sd_service *service);
 
 /* The roles of the pattern's two kinds of ports, in the order in which a dead node's ports are
- * removed. Errors: IOX2SD_NULL; IOX2SD_NO_SERVICE. */
+ * removed. Errors: IOX2SD_STATUS_NULL; IOX2SD_STATUS_NO_SERVICE. */
 IOX2SD_CHECKED iox2sd_roles_answer iox2sd_port_roles(const iox2sd_service *service);
 
-/* Whether the pattern has ports of the role; no for IOX2SD_NODE.
- * Errors: IOX2SD_NULL; IOX2SD_NO_SERVICE; IOX2SD_UNKNOWN_ROLE. */
+/* Whether the pattern has ports of the role; no for IOX2SD_ROLE_NODE.
+ * Errors: IOX2SD_STATUS_NULL; IOX2SD_STATUS_NO_SERVICE; IOX2SD_STATUS_UNKNOWN_ROLE. */
 IOX2SD_CHECKED iox2sd_flag_answer iox2sd_has_role(const iox2sd_service *service, iox2sd_role role);
 
 /* Whether the service is locked for good: it has no node and no port, and none can join it.
- * Errors: IOX2SD_NULL; IOX2SD_NO_SERVICE. */
+ * Errors: IOX2SD_STATUS_NULL; IOX2SD_STATUS_NO_SERVICE. */
 IOX2SD_CHECKED iox2sd_flag_answer iox2sd_is_locked(const iox2sd_service *service);
 
 /* How many handles of nodes there are: a node that is registered twice counts twice. Errors:
- * IOX2SD_NULL; IOX2SD_NO_SERVICE. */
+ * IOX2SD_STATUS_NULL; IOX2SD_STATUS_NO_SERVICE. */
 IOX2SD_CHECKED iox2sd_count_answer iox2sd_number_of_nodes(const iox2sd_service *service);
 
-/* How many handles of nodes there may be at a time. Errors: IOX2SD_NULL; IOX2SD_NO_SERVICE. */
+/* How many handles of nodes there may be at a time. Errors: IOX2SD_STATUS_NULL;
+ * IOX2SD_STATUS_NO_SERVICE. */
 IOX2SD_CHECKED iox2sd_count_answer iox2sd_max_nodes(const iox2sd_service *service);
 
 /* Whether iox2sd_register_node_id would register a node: the service is not locked, and a slot and
  * a ticket are left.
- * Errors: IOX2SD_NULL; IOX2SD_NO_SERVICE. */
+ * Errors: IOX2SD_STATUS_NULL; IOX2SD_STATUS_NO_SERVICE. */
 IOX2SD_CHECKED iox2sd_flag_answer iox2sd_has_room_for_node(const iox2sd_service *service);
 
 /* How many ports of the role there are.
- * Errors: IOX2SD_NULL; IOX2SD_NO_SERVICE; IOX2SD_UNKNOWN_ROLE; IOX2SD_ROLE_NOT_IN_PATTERN, also for
- * IOX2SD_NODE. */
+ * Errors: IOX2SD_STATUS_NULL; IOX2SD_STATUS_NO_SERVICE; IOX2SD_STATUS_UNKNOWN_ROLE;
+ * IOX2SD_STATUS_ROLE_NOT_IN_PATTERN, also for IOX2SD_ROLE_NODE. */
 IOX2SD_CHECKED iox2sd_count_answer iox2sd_count_ports(const iox2sd_service *service,
                                                       iox2sd_role role);
 
 /* How many ports of the role there may be at a time.
- * Errors: IOX2SD_NULL; IOX2SD_NO_SERVICE; IOX2SD_UNKNOWN_ROLE; IOX2SD_ROLE_NOT_IN_PATTERN, also for
- * IOX2SD_NODE. */
+ * Errors: IOX2SD_STATUS_NULL; IOX2SD_STATUS_NO_SERVICE; IOX2SD_STATUS_UNKNOWN_ROLE;
+ * IOX2SD_STATUS_ROLE_NOT_IN_PATTERN, also for IOX2SD_ROLE_NODE. */
 IOX2SD_CHECKED iox2sd_count_answer iox2sd_max_ports(const iox2sd_service *service,
                                                     iox2sd_role role);
 
 /* Whether iox2sd_attach would attach a port of the role, if its node is registered.
- * Errors: IOX2SD_NULL; IOX2SD_NO_SERVICE; IOX2SD_UNKNOWN_ROLE; IOX2SD_ROLE_NOT_IN_PATTERN, also for
- * IOX2SD_NODE. */
+ * Errors: IOX2SD_STATUS_NULL; IOX2SD_STATUS_NO_SERVICE; IOX2SD_STATUS_UNKNOWN_ROLE;
+ * IOX2SD_STATUS_ROLE_NOT_IN_PATTERN, also for IOX2SD_ROLE_NODE. */
 IOX2SD_CHECKED iox2sd_flag_answer iox2sd_has_room(const iox2sd_service *service, iox2sd_role role);
 
 /* The node that was registered with this handle and is still there.
- * Errors: IOX2SD_NULL; IOX2SD_NO_SERVICE; IOX2SD_UNKNOWN_ROLE; IOX2SD_FOREIGN_HANDLE, also for a
- * port's handle. */
+ * Errors: IOX2SD_STATUS_NULL; IOX2SD_STATUS_NO_SERVICE; IOX2SD_STATUS_UNKNOWN_ROLE;
+ * IOX2SD_STATUS_FOREIGN_HANDLE, also for a port's handle. */
 IOX2SD_CHECKED iox2sd_id_answer iox2sd_node(const iox2sd_service *service, iox2sd_handle handle);
 
 /* The port that was attached with this handle and is still there.
- * Errors: IOX2SD_NULL; IOX2SD_NO_SERVICE; IOX2SD_UNKNOWN_ROLE; IOX2SD_FOREIGN_HANDLE, also for a
- * node's handle. */
+ * Errors: IOX2SD_STATUS_NULL; IOX2SD_STATUS_NO_SERVICE; IOX2SD_STATUS_UNKNOWN_ROLE;
+ * IOX2SD_STATUS_FOREIGN_HANDLE, also for a node's handle. */
 iox2sd_port_answer iox2sd_port(const iox2sd_service *service, iox2sd_handle handle);
 
 /* Writes the ids of the nodes to the front of `out`, by rising slot, one for each handle. The other
  * elements of `out` stay as they were.
- * Errors: IOX2SD_NULL; IOX2SD_NO_SERVICE; IOX2SD_BUFFER_TOO_SHORT with the number of handles that
- * there are. Then `out` is as it was. */
+ * Errors: IOX2SD_STATUS_NULL; IOX2SD_STATUS_NO_SERVICE; IOX2SD_STATUS_BUFFER_TOO_SHORT with the
+ * number of handles that there are. Then `out` is as it was. */
 IOX2SD_CHECKED iox2sd_count_answer iox2sd_nodes(const iox2sd_service *service, iox2sd_id *out,
                                                 size_t capacity);
 

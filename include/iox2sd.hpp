@@ -49,9 +49,9 @@ inline ScriptRun run_script(std::string_view script) noexcept {
     auto output = List<char>::written_by([&](char* out, std::size_t capacity) {
         auto* const bytes = reinterpret_cast<std::uint8_t*>(out);
         answer = iox2sd_script_run(detail::bytes(script), script.size(), bytes, capacity);
-        const bool has_ended = answer.status == IOX2SD_BAD_LINE ||
-                               (out != nullptr && answer.status == IOX2SD_NO_MEMORY);
-        return detail::counted(has_ended ? std::uint32_t{IOX2SD_DONE} : answer.status,
+        const bool has_ended = answer.status == IOX2SD_STATUS_BAD_LINE ||
+                               (out != nullptr && answer.status == IOX2SD_STATUS_NO_MEMORY);
+        return detail::counted(has_ended ? std::uint32_t{IOX2SD_STATUS_DONE} : answer.status,
                                answer.length);
     });
     if (!output) return {output.error(), 0, List<char>()};

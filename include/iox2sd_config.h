@@ -3,8 +3,9 @@
  * here too. docs/CONFIG.md shows a file.
  *
  * A call takes memory by malloc and realloc, and frees all of it before it returns; where it is
- * refused, the status is IOX2SD_NO_MEMORY. It takes at most IOX2SD_CONFIG_STACK_BYTES of the stack.
- */
+ * refused, the status is IOX2SD_STATUS_NO_MEMORY. It takes at most IOX2SD_CONFIG_STACK_BYTES of the
+ * stack.
+ * */
 #ifndef IOX2SD_CONFIG_H
 #define IOX2SD_CONFIG_H
 
@@ -100,7 +101,7 @@ typedef uint32_t iox2sd_setting_kind;
 typedef struct iox2sd_config_fault {
     iox2sd_status status;
     iox2sd_config_table table;  /* The table of the key. */
-    iox2sd_toml_type found;     /* The type of its value, with IOX2SD_WRONG_TYPE; 0 otherwise. */
+    iox2sd_toml_type found; /* The type of its value, with IOX2SD_STATUS_WRONG_TYPE; 0 otherwise. */
     iox2sd_setting_kind wanted; /* What its value may be; 0 where nothing is wrong with a key. */
     uint8_t key[80]; /* The path of the key, as "defaults.event.deadline", then zeros. */
     size_t key_length;
@@ -112,7 +113,7 @@ typedef struct iox2sd_config_fault {
 typedef struct iox2sd_config_answer {
     iox2sd_status status;
     size_t unknown;            /* How many keys no setting has. */
-    iox2sd_config_fault fault; /* The first fault; all 0 where the status is IOX2SD_DONE. */
+    iox2sd_config_fault fault; /* The first fault; all 0 where the status is IOX2SD_STATUS_DONE. */
 } iox2sd_config_answer;
 
 /* A key of a file that no setting has. */
@@ -134,7 +135,7 @@ typedef struct iox2sd_unknown_answer {
 typedef struct iox2sd_config_write_answer {
     iox2sd_status status;
     iox2sd_settings_field field; /* The field that is invalid; 0 where the status has none. */
-    size_t length;               /* The bytes of the text, also with IOX2SD_BUFFER_TOO_SHORT. */
+    size_t length;   /* The bytes of the text, also with IOX2SD_STATUS_BUFFER_TOO_SHORT. */
     uint8_t key[80]; /* The path of the key whose text or number is refused, then zeros. */
     size_t key_length;
 } iox2sd_config_write_answer;
@@ -143,20 +144,21 @@ typedef struct iox2sd_config_write_answer {
  * deep in one another: so many parts of the line's header, dots of its keys, arrays and inline
  * tables. A key that it does not have has its default, and all bytes of `out` are written. A text
  * of NULL and 0 is an empty one.
- * Errors, after which `out` is as it was: IOX2SD_NULL; IOX2SD_NOT_UTF8; IOX2SD_TOO_DEEP and then
- * IOX2SD_NOT_TOML, whose `reason` has the line and the column; and of the first key, in the order
- * of the settings, whose value is not allowed: IOX2SD_WRONG_TYPE; IOX2SD_BELOW_ZERO;
- * IOX2SD_TOO_LONG and IOX2SD_BAD_PATH of a path; IOX2SD_TOO_LONG and IOX2SD_NO_FILE_NAME of the
- * name of a file; IOX2SD_UNKNOWN_VARIANT of a strategy; IOX2SD_NO_DURATION; IOX2SD_BAD_DURATION. At
- * any point: IOX2SD_NO_MEMORY. */
+ * Errors, after which `out` is as it was: IOX2SD_STATUS_NULL; IOX2SD_STATUS_NOT_UTF8;
+ * IOX2SD_STATUS_TOO_DEEP and then IOX2SD_STATUS_NOT_TOML, whose `reason` has the line and the
+ * column; and of the first key, in the order of the settings, whose value is not allowed:
+ * IOX2SD_STATUS_WRONG_TYPE; IOX2SD_STATUS_BELOW_ZERO; IOX2SD_STATUS_TOO_LONG and
+ * IOX2SD_STATUS_BAD_PATH of a path; IOX2SD_STATUS_TOO_LONG and IOX2SD_STATUS_NO_FILE_NAME of the
+ * name of a file; IOX2SD_STATUS_UNKNOWN_VARIANT of a strategy; IOX2SD_STATUS_NO_DURATION;
+ * IOX2SD_STATUS_BAD_DURATION. At any point: IOX2SD_STATUS_NO_MEMORY. */
 IOX2SD_CHECKED iox2sd_config_answer iox2sd_config_read(const uint8_t *text, size_t length,
                                                        iox2sd_config *out);
 IOX2SD_CHECKED iox2sd_config_answer iox2sd_config_read_str(const char *text, iox2sd_config *out);
 
 /* Writes all faults of a file, in the order of the settings, to the front of `out`, where they fit.
- * Errors, after which `out` is as it was: IOX2SD_NULL; IOX2SD_NOT_UTF8; IOX2SD_TOO_DEEP;
- * IOX2SD_NOT_TOML; IOX2SD_BUFFER_TOO_SHORT, with the number of faults. At any point:
- * IOX2SD_NO_MEMORY. */
+ * Errors, after which `out` is as it was: IOX2SD_STATUS_NULL; IOX2SD_STATUS_NOT_UTF8;
+ * IOX2SD_STATUS_TOO_DEEP; IOX2SD_STATUS_NOT_TOML; IOX2SD_STATUS_BUFFER_TOO_SHORT, with the number
+ * of faults. At any point: IOX2SD_STATUS_NO_MEMORY. */
 IOX2SD_CHECKED iox2sd_count_answer iox2sd_config_faults(const uint8_t *text, size_t length,
                                                         iox2sd_config_fault *out, size_t capacity);
 IOX2SD_CHECKED iox2sd_count_answer iox2sd_config_faults_str(const char *text,
@@ -167,8 +169,9 @@ IOX2SD_CHECKED iox2sd_count_answer iox2sd_config_faults_str(const char *text,
  * each, to the front of `out`, and their paths, one after the other, to the front of `paths`, where
  * all of them fit. With each comes the known key of its table at the least edit distance, where
  * that is at most 2.
- * Errors, after which both are as they were: those of iox2sd_config_read; IOX2SD_BUFFER_TOO_SHORT,
- * with the lengths that they need. At any point: IOX2SD_NO_MEMORY. */
+ * Errors, after which both are as they were: those of iox2sd_config_read;
+ * IOX2SD_STATUS_BUFFER_TOO_SHORT, with the lengths that they need. At any point:
+ * IOX2SD_STATUS_NO_MEMORY. */
 IOX2SD_CHECKED iox2sd_unknown_answer iox2sd_config_unknown(const uint8_t *text, size_t length,
                                                            iox2sd_unknown_key *out, size_t capacity,
                                                            uint8_t *paths, size_t paths_capacity);
@@ -179,12 +182,13 @@ IOX2SD_CHECKED iox2sd_unknown_answer iox2sd_config_unknown_str(const char *text,
 
 /* Writes all settings as the text of a file, each below a comment with what it is and its default,
  * to the front of `out`, without a zero byte, where all of it fits.
- * Errors, after which `out` is as it was: IOX2SD_NULL; of the first path that is none, with its
- * key: IOX2SD_TOO_LONG, IOX2SD_BAD_PATH; of the first other text that is not the name of a file,
- * with its key: IOX2SD_TOO_LONG, IOX2SD_NO_FILE_NAME; of the first invalid field, which is
- * returned: IOX2SD_BAD_DURATION, IOX2SD_UNKNOWN_STRATEGY; IOX2SD_NO_TOML_INTEGER, of a number, or
- * of the seconds of a duration, above 2^63 - 1, with its key; IOX2SD_BUFFER_TOO_SHORT. At any point
- * after the fields: IOX2SD_NO_MEMORY. */
+ * Errors, after which `out` is as it was: IOX2SD_STATUS_NULL; of the first path that is none, with
+ * its key: IOX2SD_STATUS_TOO_LONG, IOX2SD_STATUS_BAD_PATH; of the first other text that is not the
+ * name of a file, with its key: IOX2SD_STATUS_TOO_LONG, IOX2SD_STATUS_NO_FILE_NAME; of the first
+ * invalid field, which is returned: IOX2SD_STATUS_BAD_DURATION, IOX2SD_STATUS_UNKNOWN_STRATEGY;
+ * IOX2SD_STATUS_NO_TOML_INTEGER, of a number, or of the seconds of a duration, above 2^63 - 1, with
+ * its key; IOX2SD_STATUS_BUFFER_TOO_SHORT. At any point after the fields: IOX2SD_STATUS_NO_MEMORY.
+ */
 iox2sd_config_write_answer iox2sd_config_write(const iox2sd_config *settings, uint8_t *out,
                                                size_t capacity);
 

@@ -292,7 +292,9 @@ inline Result<List<iox2sd_unknown_key>> unknown_keys(std::string_view text,
     return List<iox2sd_unknown_key>::written_by([&](iox2sd_unknown_key* keys, std::size_t size) {
         if (keys == nullptr) return detail::counted(needed.status, needed.count);
         auto written = List<char>::written_by([&](char* out, std::size_t capacity) {
-            if (out == nullptr) return detail::counted(IOX2SD_BUFFER_TOO_SHORT, needed.length);
+            if (out == nullptr) {
+                return detail::counted(IOX2SD_STATUS_BUFFER_TOO_SHORT, needed.length);
+            }
             const iox2sd_unknown_answer answer =
                 iox2sd_config_unknown(bytes(text), text.size(), keys, size,
                                       reinterpret_cast<std::uint8_t*>(out), capacity);
@@ -300,7 +302,7 @@ inline Result<List<iox2sd_unknown_key>> unknown_keys(std::string_view text,
         });
         if (!written) return detail::counted(static_cast<std::uint32_t>(written.status()), 0);
         paths = std::move(written).value();
-        return detail::counted(IOX2SD_DONE, size);
+        return detail::counted(IOX2SD_STATUS_DONE, size);
     });
 }
 
@@ -348,7 +350,7 @@ inline Result<ConfigFile, ConfigError> Config::from_toml(std::string_view text) 
     iox2sd_config made{};
     const iox2sd_config_answer answer =
         iox2sd_config_read(detail::bytes(text), text.size(), &made);
-    if (answer.status != IOX2SD_DONE) return detail::config_error(text, answer.fault);
+    if (answer.status != IOX2SD_STATUS_DONE) return detail::config_error(text, answer.fault);
     List<char> paths;
     const auto keys = detail::unknown_keys(text, paths);
     if (!keys) return ConfigError{keys.status(), {}};

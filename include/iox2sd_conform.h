@@ -23,23 +23,24 @@ typedef struct iox2sd_conform_answer {
     iox2sd_status status;
     iox2sd_status verdict; /* What the status is with a longer buffer. */
     size_t line;   /* The number of the line that the status is about, from 1 on; 0 where the log
-                    * conforms, and with IOX2SD_NO_MEMORY. */
+                    * conforms, and with IOX2SD_STATUS_NO_MEMORY. */
     size_t calls;  /* The calls of a log that conforms; 0 of another one. */
-    size_t length; /* The bytes of the report, also with IOX2SD_BUFFER_TOO_SHORT; 0 with
-                    * IOX2SD_NO_MEMORY. */
+    size_t length; /* The bytes of the report, also with IOX2SD_STATUS_BUFFER_TOO_SHORT; 0 with
+                    * IOX2SD_STATUS_NO_MEMORY. */
 } iox2sd_conform_answer;
 
 /* Judges a log, and writes the report to the front of `out`, without a zero byte, where it fits:
- * what iox2-conform writes. The status is IOX2SD_DONE where the log conforms. A log and a buffer of
- * NULL and 0 are empty ones.
- * Errors: IOX2SD_NULL. IOX2SD_NO_MEMORY. IOX2SD_BUFFER_TOO_SHORT, with `line`, `calls` and `length`
- * as they would be with a longer buffer; then `out` is as it was, and a call with a longer buffer
- * judges the log again from its start. Then of the first line that does not conform: IOX2SD_NO_RUN
- * where no run of the machine gives its reply; at the end of a group of calls that overlapped,
- * IOX2SD_NO_ORDER where no order of them gives their replies, and IOX2SD_TOO_MANY_STATES where
- * their orders lead to more than 64 states; IOX2SD_NO_SERVICE_LINE, IOX2SD_NO_COMMAND_LINE,
- * IOX2SD_NO_REPLY_LINE, IOX2SD_NO_GROUP_LINE and IOX2SD_NO_GROUP_END where it is not what is
- * expected, or has no newline, or the log ends before it. */
+ * what iox2-conform writes. The status is IOX2SD_STATUS_DONE where the log conforms. A log and a
+ * buffer of NULL and 0 are empty ones.
+ * Errors: IOX2SD_STATUS_NULL. IOX2SD_STATUS_NO_MEMORY. IOX2SD_STATUS_BUFFER_TOO_SHORT, with `line`,
+ * `calls` and `length` as they would be with a longer buffer; then `out` is as it was, and a call
+ * with a longer buffer judges the log again from its start. Then of the first line that does not
+ * conform: IOX2SD_STATUS_NO_RUN where no run of the machine gives its reply; at the end of a group
+ * of calls that overlapped, IOX2SD_STATUS_NO_ORDER where no order of them gives their replies, and
+ * IOX2SD_STATUS_TOO_MANY_STATES where their orders lead to more than 64 states;
+ * IOX2SD_STATUS_NO_SERVICE_LINE, IOX2SD_STATUS_NO_COMMAND_LINE, IOX2SD_STATUS_NO_REPLY_LINE,
+ * IOX2SD_STATUS_NO_GROUP_LINE and IOX2SD_STATUS_NO_GROUP_END where it is not what is expected, or
+ * has no newline, or the log ends before it. */
 IOX2SD_CHECKED iox2sd_conform_answer iox2sd_conform_run(const uint8_t *log, size_t length,
                                                         uint8_t *out, size_t capacity);
 IOX2SD_CHECKED iox2sd_conform_answer iox2sd_conform_run_str(const char *log, uint8_t *out,

@@ -170,17 +170,17 @@ inline LogVerdict check_log(std::string_view log) noexcept {
     std::uint8_t front[512];
     iox2sd_conform_answer answer =
         iox2sd_conform_run(detail::bytes(log), log.size(), front, sizeof front);
-    if (answer.status == IOX2SD_NO_MEMORY) return {Status::NoMemory, 0, 0, {}};
+    if (answer.status == IOX2SD_STATUS_NO_MEMORY) return {Status::NoMemory, 0, 0, {}};
     auto report = List<char>::written_by([&](char* out, std::size_t capacity) {
-        if (out == nullptr) return detail::counted(IOX2SD_BUFFER_TOO_SHORT, answer.length);
-        if (answer.status != IOX2SD_BUFFER_TOO_SHORT) {
+        if (out == nullptr) return detail::counted(IOX2SD_STATUS_BUFFER_TOO_SHORT, answer.length);
+        if (answer.status != IOX2SD_STATUS_BUFFER_TOO_SHORT) {
             std::memcpy(out, front, answer.length);
         } else {
             auto* const bytes = reinterpret_cast<std::uint8_t*>(out);
             answer = iox2sd_conform_run(detail::bytes(log), log.size(), bytes, capacity);
-            if (answer.status == IOX2SD_NO_MEMORY) return detail::counted(answer.status, 0);
+            if (answer.status == IOX2SD_STATUS_NO_MEMORY) return detail::counted(answer.status, 0);
         }
-        return detail::counted(IOX2SD_DONE, answer.length);
+        return detail::counted(IOX2SD_STATUS_DONE, answer.length);
     });
     if (!report) return {report.error(), 0, 0, {}};
     return {Status{answer.status}, answer.line, answer.calls, std::move(report).value()};

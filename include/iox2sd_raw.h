@@ -5,9 +5,9 @@
  *
  * Each export is that of its name without `_at`, but for its pointers. Where that one takes a
  * pointer to one struct, the export takes a pointer and a count: 1, or 0 where the pointer is NULL.
- * Then the status is IOX2SD_NULL. A pointer to an array, a text or a buffer may be NULL only where
- * the number of its elements is 0; the export does not check this.
- */
+ * Then the status is IOX2SD_STATUS_NULL. A pointer to an array, a text or a buffer may be NULL only
+ * where the number of its elements is 0; the export does not check this.
+ * */
 #ifndef IOX2SD_RAW_H
 #define IOX2SD_RAW_H
 

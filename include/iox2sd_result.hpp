@@ -36,73 +36,73 @@ namespace iox2sd {
 
 /// What a call answers, with the numbers of `enum iox2sd_status_number`. `text` says it in words.
 enum class Status : std::uint32_t {
-    Done = IOX2SD_DONE,
-    DoneLocked = IOX2SD_DONE_LOCKED,
-    BufferTooShort = IOX2SD_BUFFER_TOO_SHORT,
-    NoMemory = IOX2SD_NO_MEMORY,
-    NoService = IOX2SD_NO_SERVICE,
-    HasService = IOX2SD_HAS_SERVICE,
-    UnknownPattern = IOX2SD_UNKNOWN_PATTERN,
-    UnknownRole = IOX2SD_UNKNOWN_ROLE,
-    NoNode = IOX2SD_NO_NODE,
-    IsLocked = IOX2SD_IS_LOCKED,
-    OutOfSpace = IOX2SD_OUT_OF_SPACE,
-    ForeignHandle = IOX2SD_FOREIGN_HANDLE,
-    PortsStillAttached = IOX2SD_PORTS_STILL_ATTACHED,
-    NodeNotRegistered = IOX2SD_NODE_NOT_REGISTERED,
-    RoleNotInPattern = IOX2SD_ROLE_NOT_IN_PATTERN,
-    UnknownSegment = IOX2SD_UNKNOWN_SEGMENT,
-    BadKey = IOX2SD_BAD_KEY,
-    BadValue = IOX2SD_BAD_VALUE,
-    TooMany = IOX2SD_TOO_MANY,
-    Null = IOX2SD_NULL,
-    UnknownStatus = IOX2SD_UNKNOWN_STATUS,
-    Empty = IOX2SD_EMPTY,
-    TooLong = IOX2SD_TOO_LONG,
-    IllegalByte = IOX2SD_ILLEGAL_BYTE,
-    NoFileName = IOX2SD_NO_FILE_NAME,
-    ReservedPrefix = IOX2SD_RESERVED_PREFIX,
-    NotUtf8 = IOX2SD_NOT_UTF8,
-    BadServiceName = IOX2SD_BAD_SERVICE_NAME,
-    BadPath = IOX2SD_BAD_PATH,
-    BadEntry = IOX2SD_BAD_ENTRY,
-    IllegalHash = IOX2SD_ILLEGAL_HASH,
-    BadRequiredKey = IOX2SD_BAD_REQUIRED_KEY,
-    BadRequiredValue = IOX2SD_BAD_REQUIRED_VALUE,
-    BadAskedKey = IOX2SD_BAD_ASKED_KEY,
-    TooManyRequired = IOX2SD_TOO_MANY_REQUIRED,
-    MissingPair = IOX2SD_MISSING_PAIR,
-    MissingKey = IOX2SD_MISSING_KEY,
-    NoSuchValue = IOX2SD_NO_SUCH_VALUE,
-    BadAlignment = IOX2SD_BAD_ALIGNMENT,
-    TooLarge = IOX2SD_TOO_LARGE,
-    UnknownVariant = IOX2SD_UNKNOWN_VARIANT,
-    OtherName = IOX2SD_OTHER_NAME,
-    OtherVariant = IOX2SD_OTHER_VARIANT,
-    OtherSize = IOX2SD_OTHER_SIZE,
-    OtherAlignment = IOX2SD_OTHER_ALIGNMENT,
-    GreaterAlignment = IOX2SD_GREATER_ALIGNMENT,
-    UnknownText = IOX2SD_UNKNOWN_TEXT,
-    BadLine = IOX2SD_BAD_LINE,
-    UnknownStrategy = IOX2SD_UNKNOWN_STRATEGY,
-    BadDuration = IOX2SD_BAD_DURATION,
-    Unmet = IOX2SD_UNMET,
-    OtherPattern = IOX2SD_OTHER_PATTERN,
-    NotToml = IOX2SD_NOT_TOML,
-    WrongType = IOX2SD_WRONG_TYPE,
-    BelowZero = IOX2SD_BELOW_ZERO,
-    NoDuration = IOX2SD_NO_DURATION,
-    NoTomlInteger = IOX2SD_NO_TOML_INTEGER,
-    NoFile = IOX2SD_NO_FILE,
-    TooDeep = IOX2SD_TOO_DEEP,
-    NoRun = IOX2SD_NO_RUN,
-    NoServiceLine = IOX2SD_NO_SERVICE_LINE,
-    NoCommandLine = IOX2SD_NO_COMMAND_LINE,
-    NoReplyLine = IOX2SD_NO_REPLY_LINE,
-    NoOrder = IOX2SD_NO_ORDER,
-    TooManyStates = IOX2SD_TOO_MANY_STATES,
-    NoGroupLine = IOX2SD_NO_GROUP_LINE,
-    NoGroupEnd = IOX2SD_NO_GROUP_END,
+    Done = IOX2SD_STATUS_DONE,
+    DoneLocked = IOX2SD_STATUS_DONE_LOCKED,
+    BufferTooShort = IOX2SD_STATUS_BUFFER_TOO_SHORT,
+    NoMemory = IOX2SD_STATUS_NO_MEMORY,
+    NoService = IOX2SD_STATUS_NO_SERVICE,
+    HasService = IOX2SD_STATUS_HAS_SERVICE,
+    UnknownPattern = IOX2SD_STATUS_UNKNOWN_PATTERN,
+    UnknownRole = IOX2SD_STATUS_UNKNOWN_ROLE,
+    NoNode = IOX2SD_STATUS_NO_NODE,
+    IsLocked = IOX2SD_STATUS_IS_LOCKED,
+    OutOfSpace = IOX2SD_STATUS_OUT_OF_SPACE,
+    ForeignHandle = IOX2SD_STATUS_FOREIGN_HANDLE,
+    PortsStillAttached = IOX2SD_STATUS_PORTS_STILL_ATTACHED,
+    NodeNotRegistered = IOX2SD_STATUS_NODE_NOT_REGISTERED,
+    RoleNotInPattern = IOX2SD_STATUS_ROLE_NOT_IN_PATTERN,
+    UnknownSegment = IOX2SD_STATUS_UNKNOWN_SEGMENT,
+    BadKey = IOX2SD_STATUS_BAD_KEY,
+    BadValue = IOX2SD_STATUS_BAD_VALUE,
+    TooMany = IOX2SD_STATUS_TOO_MANY,
+    Null = IOX2SD_STATUS_NULL,
+    UnknownStatus = IOX2SD_STATUS_UNKNOWN_STATUS,
+    Empty = IOX2SD_STATUS_EMPTY,
+    TooLong = IOX2SD_STATUS_TOO_LONG,
+    IllegalByte = IOX2SD_STATUS_ILLEGAL_BYTE,
+    NoFileName = IOX2SD_STATUS_NO_FILE_NAME,
+    ReservedPrefix = IOX2SD_STATUS_RESERVED_PREFIX,
+    NotUtf8 = IOX2SD_STATUS_NOT_UTF8,
+    BadServiceName = IOX2SD_STATUS_BAD_SERVICE_NAME,
+    BadPath = IOX2SD_STATUS_BAD_PATH,
+    BadEntry = IOX2SD_STATUS_BAD_ENTRY,
+    IllegalHash = IOX2SD_STATUS_ILLEGAL_HASH,
+    BadRequiredKey = IOX2SD_STATUS_BAD_REQUIRED_KEY,
+    BadRequiredValue = IOX2SD_STATUS_BAD_REQUIRED_VALUE,
+    BadAskedKey = IOX2SD_STATUS_BAD_ASKED_KEY,
+    TooManyRequired = IOX2SD_STATUS_TOO_MANY_REQUIRED,
+    MissingPair = IOX2SD_STATUS_MISSING_PAIR,
+    MissingKey = IOX2SD_STATUS_MISSING_KEY,
+    NoSuchValue = IOX2SD_STATUS_NO_SUCH_VALUE,
+    BadAlignment = IOX2SD_STATUS_BAD_ALIGNMENT,
+    TooLarge = IOX2SD_STATUS_TOO_LARGE,
+    UnknownVariant = IOX2SD_STATUS_UNKNOWN_VARIANT,
+    OtherName = IOX2SD_STATUS_OTHER_NAME,
+    OtherVariant = IOX2SD_STATUS_OTHER_VARIANT,
+    OtherSize = IOX2SD_STATUS_OTHER_SIZE,
+    OtherAlignment = IOX2SD_STATUS_OTHER_ALIGNMENT,
+    GreaterAlignment = IOX2SD_STATUS_GREATER_ALIGNMENT,
+    UnknownText = IOX2SD_STATUS_UNKNOWN_TEXT,
+    BadLine = IOX2SD_STATUS_BAD_LINE,
+    UnknownStrategy = IOX2SD_STATUS_UNKNOWN_STRATEGY,
+    BadDuration = IOX2SD_STATUS_BAD_DURATION,
+    Unmet = IOX2SD_STATUS_UNMET,
+    OtherPattern = IOX2SD_STATUS_OTHER_PATTERN,
+    NotToml = IOX2SD_STATUS_NOT_TOML,
+    WrongType = IOX2SD_STATUS_WRONG_TYPE,
+    BelowZero = IOX2SD_STATUS_BELOW_ZERO,
+    NoDuration = IOX2SD_STATUS_NO_DURATION,
+    NoTomlInteger = IOX2SD_STATUS_NO_TOML_INTEGER,
+    NoFile = IOX2SD_STATUS_NO_FILE,
+    TooDeep = IOX2SD_STATUS_TOO_DEEP,
+    NoRun = IOX2SD_STATUS_NO_RUN,
+    NoServiceLine = IOX2SD_STATUS_NO_SERVICE_LINE,
+    NoCommandLine = IOX2SD_STATUS_NO_COMMAND_LINE,
+    NoReplyLine = IOX2SD_STATUS_NO_REPLY_LINE,
+    NoOrder = IOX2SD_STATUS_NO_ORDER,
+    TooManyStates = IOX2SD_STATUS_TOO_MANY_STATES,
+    NoGroupLine = IOX2SD_STATUS_NO_GROUP_LINE,
+    NoGroupEnd = IOX2SD_STATUS_NO_GROUP_END,
 };
 
 /// What a status says, in a static text. That of a number that is no status's is that of
@@ -758,12 +758,12 @@ namespace detail {
 /// The value of an answer whose status is `Done`, or its status.
 template <class T>
 Result<T> result(std::uint32_t status, T value) noexcept {
-    if (status != IOX2SD_DONE) return Status{status};
+    if (status != IOX2SD_STATUS_DONE) return Status{status};
     return value;
 }
 
 inline Result<void> result(std::uint32_t status) noexcept {
-    if (status != IOX2SD_DONE) return Status{status};
+    if (status != IOX2SD_STATUS_DONE) return Status{status};
     return {};
 }
 
@@ -833,8 +833,8 @@ public:
     template <class Call>
     static Result<List> written_by(Call call) noexcept {
         const iox2sd_count_answer needed = call(nullptr, 0);
-        if (needed.status == IOX2SD_DONE) return List();
-        if (needed.status != IOX2SD_BUFFER_TOO_SHORT) return Status{needed.status};
+        if (needed.status == IOX2SD_STATUS_DONE) return List();
+        if (needed.status != IOX2SD_STATUS_BUFFER_TOO_SHORT) return Status{needed.status};
         return written_by(call, needed.count);
     }
 
@@ -844,7 +844,7 @@ public:
         List made;
         if (!made.move_to(count)) return Status::NoMemory;
         const iox2sd_count_answer found = call(made.items_, count);
-        if (found.status != IOX2SD_DONE) return Status{found.status};
+        if (found.status != IOX2SD_STATUS_DONE) return Status{found.status};
         made.size_ = found.count;
         return made;
     }
@@ -855,8 +855,10 @@ public:
     static Result<List> made_by(Call call, T make(const C&)) noexcept {
         C few[16];
         const iox2sd_count_answer found = call(few, std::size(few));
-        if (found.status == IOX2SD_DONE) return made_of(few, few + found.count, found.count, make);
-        if (found.status != IOX2SD_BUFFER_TOO_SHORT) return Status{found.status};
+        if (found.status == IOX2SD_STATUS_DONE) {
+            return made_of(few, few + found.count, found.count, make);
+        }
+        if (found.status != IOX2SD_STATUS_BUFFER_TOO_SHORT) return Status{found.status};
         const Result<List<C>> many = List<C>::written_by(call, found.count);
         if (!many) return many.error();
         return made_of(many->begin(), many->end(), many->size(), make);

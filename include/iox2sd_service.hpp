@@ -10,8 +10,8 @@ namespace iox2sd {
 
 /// Whether a data segment may grow.
 enum class DataSegmentType : std::uint32_t {
-    Dynamic = IOX2SD_DYNAMIC_SEGMENT,  ///< It may be replaced by a larger one.
-    Static = IOX2SD_STATIC_SEGMENT,    ///< It keeps its size.
+    Dynamic = IOX2SD_SEGMENT_DYNAMIC,  ///< It may be replaced by a larger one.
+    Static = IOX2SD_SEGMENT_STATIC,    ///< It keeps its size.
 };
 
 /// What a kind of ports has beside its fields: its role, its id of any kind, and its way to C and
@@ -214,7 +214,7 @@ UniqueNodeId node_id(const Details& details) noexcept {
 /// entry: each call refuses it with `UnknownRole`.
 struct ContainerHandle {
     std::uint64_t service = 0;  ///< The number of the service.
-    Role role = Role{IOX2SD_NO_ROLE};
+    Role role = Role{IOX2SD_ROLE_NONE};
     std::size_t slot = 0;
     std::uint64_t ticket = 0;  ///< How many entries of its kind were made before it.
 
@@ -290,7 +290,7 @@ public:
         const std::uint32_t status =
             iox2sd_service_create(&made.object_, static_cast<std::uint64_t>(pattern), number,
                                   capacities.as_c(), tickets);
-        if (status != IOX2SD_DONE) return Status{status};
+        if (status != IOX2SD_STATUS_DONE) return Status{status};
         return made;
     }
 
@@ -446,7 +446,7 @@ public:
     template <class Details = PortDetails>
     Result<Details> port(const ContainerHandle& handle) const noexcept {
         const iox2sd_port_answer answer = iox2sd_port(&object_, handle.as_c());
-        if (answer.status != IOX2SD_DONE) return Status{answer.status};
+        if (answer.status != IOX2SD_STATUS_DONE) return Status{answer.status};
         return detail::port_details<Details>(answer.port);
     }
 
@@ -512,11 +512,11 @@ private:
     }
 
     static bool is_state(std::uint32_t status) noexcept {
-        return status == IOX2SD_DONE || status == IOX2SD_DONE_LOCKED;
+        return status == IOX2SD_STATUS_DONE || status == IOX2SD_STATUS_DONE_LOCKED;
     }
 
     static DeregisterNodeState state(std::uint32_t status) noexcept {
-        return status == IOX2SD_DONE_LOCKED ? DeregisterNodeState::NoMoreOwners
+        return status == IOX2SD_STATUS_DONE_LOCKED ? DeregisterNodeState::NoMoreOwners
                                             : DeregisterNodeState::HasOwners;
     }
 

@@ -20,7 +20,7 @@ public:
     static Result<Text> written_by(Write write) noexcept {
         Text text;
         const iox2sd_text_answer answer = write(text.bytes_, Capacity);
-        if (answer.status != IOX2SD_DONE) return Status{answer.status};
+        if (answer.status != IOX2SD_STATUS_DONE) return Status{answer.status};
         text.length_ = answer.length;
         return text;
     }
@@ -156,7 +156,7 @@ protected:
     template <class Made>
     static Result<Made, TextError> checked(const iox2sd_place_answer& answer,
                                            std::string_view text) noexcept {
-        if (answer.status != IOX2SD_DONE) return TextError{Status{answer.status}, answer.at};
+        if (answer.status != IOX2SD_STATUS_DONE) return TextError{Status{answer.status}, answer.at};
         return Made(text);
     }
 
@@ -265,10 +265,10 @@ private:
 
 /// Messaging patterns.
 enum class PatternKind : std::uint64_t {
-    PublishSubscribe = IOX2SD_PUBLISH_SUBSCRIBE,
-    Event = IOX2SD_EVENT,
-    RequestResponse = IOX2SD_REQUEST_RESPONSE,
-    Blackboard = IOX2SD_BLACKBOARD,
+    PublishSubscribe = IOX2SD_PATTERN_PUBLISH_SUBSCRIBE,
+    Event = IOX2SD_PATTERN_EVENT,
+    RequestResponse = IOX2SD_PATTERN_REQUEST_RESPONSE,
+    Blackboard = IOX2SD_PATTERN_BLACKBOARD,
 };
 
 /// The word for a pattern, as "publish-subscribe", in a static text.
@@ -342,15 +342,15 @@ inline constexpr bool detail::is_written<UniqueId<Kind>> = true;
 
 /// What an entry of a service is. Each pattern has two kinds of ports.
 enum class Role : std::uint64_t {
-    Node = IOX2SD_NODE,
-    Publisher = IOX2SD_PUBLISHER,
-    Subscriber = IOX2SD_SUBSCRIBER,
-    Notifier = IOX2SD_NOTIFIER,
-    Listener = IOX2SD_LISTENER,
-    Client = IOX2SD_CLIENT,
-    Server = IOX2SD_SERVER,
-    Reader = IOX2SD_READER,
-    Writer = IOX2SD_WRITER,
+    Node = IOX2SD_ROLE_NODE,
+    Publisher = IOX2SD_ROLE_PUBLISHER,
+    Subscriber = IOX2SD_ROLE_SUBSCRIBER,
+    Notifier = IOX2SD_ROLE_NOTIFIER,
+    Listener = IOX2SD_ROLE_LISTENER,
+    Client = IOX2SD_ROLE_CLIENT,
+    Server = IOX2SD_ROLE_SERVER,
+    Reader = IOX2SD_ROLE_READER,
+    Writer = IOX2SD_ROLE_WRITER,
 };
 
 /// The word for a role, as "publisher", in a static text.

@@ -7,20 +7,20 @@
  *   ends in `_str` takes texts that end in a zero byte, without a length.
  * - A buffer is a pointer to `capacity` bytes that the caller owns. It overlaps no other argument
  *   of the call. A text that fits is written to its front, without a zero byte. Where a text does
- *   not fit, nothing is written, the status is IOX2SD_BUFFER_TOO_SHORT, and `length` is the size
- *   that it needs.
- * - NULL is IOX2SD_NULL where one struct or a text of `_str` is expected. As an array, a text or a
- *   buffer, NULL is an empty one where its number is 0, and else IOX2SD_NULL. This is checked
- *   before all else; the comments below do not name it again for texts and buffers. A text within a
- *   struct is not checked for NULL.
- * - A status other than IOX2SD_DONE is an error: nothing was written, and the other fields of a
- *   result are 0, unless a function says otherwise. Errors are checked in the order in which they
- *   are listed.
+ *   not fit, nothing is written, the status is IOX2SD_STATUS_BUFFER_TOO_SHORT, and `length` is the
+ *   size that it needs.
+ * - NULL is IOX2SD_STATUS_NULL where one struct or a text of `_str` is expected. As an array, a
+ *   text or a buffer, NULL is an empty one where its number is 0, and else IOX2SD_STATUS_NULL. This
+ *   is checked before all else; the comments below do not name it again for texts and buffers. A
+ *   text within a struct is not checked for NULL.
+ * - A status other than IOX2SD_STATUS_DONE is an error: nothing was written, and the other fields
+ *   of a result are 0, unless a function says otherwise. Errors are checked in the order in which
+ *   they are listed.
  * - No call writes past the length that is passed, keeps a pointer, takes memory, or calls back.
  *   There is no global state: calls may run on several threads at once, where they share no buffer.
  *   A call takes at most IOX2SD_STACK_BYTES of the stack.
  * - Results have padding: compare them by their fields.
- */
+ * */
 #ifndef IOX2SD_VALUES_H
 #define IOX2SD_VALUES_H
 
@@ -41,13 +41,13 @@ typedef struct iox2sd_place_answer {
 
 /* Whether a text is the name that a user gives to a service: 1 to 255 bytes, each from 1 to 127,
  * not beginning with "iox2://".
- * Errors: IOX2SD_RESERVED_PREFIX; IOX2SD_EMPTY; IOX2SD_TOO_LONG, with `at` 255;
- * IOX2SD_ILLEGAL_BYTE, with the index of the first one. */
+ * Errors: IOX2SD_STATUS_RESERVED_PREFIX; IOX2SD_STATUS_EMPTY; IOX2SD_STATUS_TOO_LONG, with `at`
+ * 255; IOX2SD_STATUS_ILLEGAL_BYTE, with the index of the first one. */
 IOX2SD_CHECKED iox2sd_place_answer iox2sd_service_name_check(const uint8_t *text, size_t length);
 IOX2SD_CHECKED iox2sd_place_answer iox2sd_service_name_check_str(const char *text);
 
 /* Whether a text is the name of a service, which may be one of the system's own.
- * Errors: as above, but for IOX2SD_RESERVED_PREFIX. */
+ * Errors: as above, but for IOX2SD_STATUS_RESERVED_PREFIX. */
 IOX2SD_CHECKED iox2sd_place_answer iox2sd_internal_service_name_check(const uint8_t *text,
                                                                       size_t length);
 IOX2SD_CHECKED iox2sd_place_answer iox2sd_internal_service_name_check_str(const char *text);
@@ -57,16 +57,16 @@ bool iox2sd_has_iox2_prefix(const uint8_t *text, size_t length);
 bool iox2sd_has_iox2_prefix_str(const char *text);
 
 /* Writes the name of one of the system's own services: "iox2://" and the text.
- * Errors: IOX2SD_NOT_UTF8; IOX2SD_TOO_LONG, for more than 248 bytes; IOX2SD_ILLEGAL_BYTE;
- * IOX2SD_BUFFER_TOO_SHORT. */
+ * Errors: IOX2SD_STATUS_NOT_UTF8; IOX2SD_STATUS_TOO_LONG, for more than 248 bytes;
+ * IOX2SD_STATUS_ILLEGAL_BYTE; IOX2SD_STATUS_BUFFER_TOO_SHORT. */
 IOX2SD_CHECKED iox2sd_text_answer iox2sd_internal_service_name(const uint8_t *text, size_t length,
                                                                uint8_t *out, size_t capacity);
 IOX2SD_CHECKED iox2sd_text_answer iox2sd_internal_service_name_str(const char *text, uint8_t *out,
                                                                    size_t capacity);
 
 /* Whether a text is the key of an attribute: 1 to 64 bytes, each from 1 to 127.
- * Errors: IOX2SD_EMPTY; IOX2SD_TOO_LONG, with `at` 64; IOX2SD_ILLEGAL_BYTE, with the index of the
- * first one. */
+ * Errors: IOX2SD_STATUS_EMPTY; IOX2SD_STATUS_TOO_LONG, with `at` 64; IOX2SD_STATUS_ILLEGAL_BYTE,
+ * with the index of the first one. */
 IOX2SD_CHECKED iox2sd_place_answer iox2sd_attribute_key_check(const uint8_t *text, size_t length);
 IOX2SD_CHECKED iox2sd_place_answer iox2sd_attribute_key_check_str(const char *text);
 
@@ -76,14 +76,15 @@ IOX2SD_CHECKED iox2sd_place_answer iox2sd_attribute_value_check(const uint8_t *t
 IOX2SD_CHECKED iox2sd_place_answer iox2sd_attribute_value_check_str(const char *text);
 
 /* Whether a text is a path: at most 255 bytes, each from 1 to 127. It may be empty.
- * Errors: IOX2SD_TOO_LONG, with `at` 255; IOX2SD_ILLEGAL_BYTE, with the index of the first one. */
+ * Errors: IOX2SD_STATUS_TOO_LONG, with `at` 255; IOX2SD_STATUS_ILLEGAL_BYTE, with the index of the
+ * first one. */
 IOX2SD_CHECKED iox2sd_place_answer iox2sd_path_check(const uint8_t *text, size_t length);
 IOX2SD_CHECKED iox2sd_place_answer iox2sd_path_check_str(const char *text);
 
 /* Whether a text is the name of a file: 1 to 255 bytes, each from 1 to 127 and none a `/`, and
  * neither "." nor "..".
- * Errors: IOX2SD_EMPTY; IOX2SD_TOO_LONG, with `at` 255; IOX2SD_ILLEGAL_BYTE, with the index of the
- * first one; IOX2SD_NO_FILE_NAME. */
+ * Errors: IOX2SD_STATUS_EMPTY; IOX2SD_STATUS_TOO_LONG, with `at` 255; IOX2SD_STATUS_ILLEGAL_BYTE,
+ * with the index of the first one; IOX2SD_STATUS_NO_FILE_NAME. */
 IOX2SD_CHECKED iox2sd_place_answer iox2sd_file_name_check(const uint8_t *text, size_t length);
 IOX2SD_CHECKED iox2sd_place_answer iox2sd_file_name_check_str(const char *text);
 
@@ -94,15 +95,15 @@ IOX2SD_CHECKED iox2sd_place_answer iox2sd_file_path_check_str(const char *text);
 
 /* Whether a text is a restricted name of a file, as hash texts are: 1 to 64 letters A to Z and a to
  * z, digits, `-`, `.`, `:` and `_`, and neither "." nor "..". Errors as of the name of a file, with
- * `at` 64 for IOX2SD_TOO_LONG. */
+ * `at` 64 for IOX2SD_STATUS_TOO_LONG. */
 IOX2SD_CHECKED iox2sd_place_answer iox2sd_restricted_file_name_check(const uint8_t *text,
                                                                      size_t length);
 IOX2SD_CHECKED iox2sd_place_answer iox2sd_restricted_file_name_check_str(const char *text);
 
 /* Writes an entry, which is a path too, joined to a path, with one `/` between them unless the path
  * is empty or ends in `/`.
- * Errors: IOX2SD_BAD_PATH and IOX2SD_BAD_ENTRY, with the status of iox2sd_path_check as the cause;
- * IOX2SD_TOO_LONG, past 255 bytes; IOX2SD_BUFFER_TOO_SHORT. */
+ * Errors: IOX2SD_STATUS_BAD_PATH and IOX2SD_STATUS_BAD_ENTRY, with the status of iox2sd_path_check
+ * as the cause; IOX2SD_STATUS_TOO_LONG, past 255 bytes; IOX2SD_STATUS_BUFFER_TOO_SHORT. */
 IOX2SD_CHECKED iox2sd_text_answer iox2sd_path_add_path_entry(const uint8_t *path,
                                                              size_t path_length,
                                                              const uint8_t *entry,
@@ -113,7 +114,7 @@ IOX2SD_CHECKED iox2sd_text_answer iox2sd_path_add_path_entry_str(const char *pat
                                                                  size_t capacity);
 
 /* Writes the path of a file in a directory, joined in the same way. Errors as above; the cause of
- * IOX2SD_BAD_ENTRY is the status of iox2sd_file_name_check. */
+ * IOX2SD_STATUS_BAD_ENTRY is the status of iox2sd_file_name_check. */
 IOX2SD_CHECKED iox2sd_text_answer
 iox2sd_file_path_from_path_and_file(const uint8_t *path, size_t path_length, const uint8_t *file,
                                     size_t file_length, uint8_t *out, size_t capacity);
@@ -123,8 +124,9 @@ IOX2SD_CHECKED iox2sd_text_answer iox2sd_file_path_from_path_and_file_str(const 
                                                                           size_t capacity);
 
 /* Writes the hash text of a service's pattern and name, under which its files are found: 27 bytes.
- * Errors: IOX2SD_UNKNOWN_PATTERN; IOX2SD_NOT_UTF8; IOX2SD_BAD_SERVICE_NAME, with the status of
- * iox2sd_service_name_check as the cause; IOX2SD_ILLEGAL_HASH; IOX2SD_BUFFER_TOO_SHORT. */
+ * Errors: IOX2SD_STATUS_UNKNOWN_PATTERN; IOX2SD_STATUS_NOT_UTF8; IOX2SD_STATUS_BAD_SERVICE_NAME,
+ * with the status of iox2sd_service_name_check as the cause; IOX2SD_STATUS_ILLEGAL_HASH;
+ * IOX2SD_STATUS_BUFFER_TOO_SHORT. */
 IOX2SD_CHECKED iox2sd_text_answer iox2sd_hash_text(iox2sd_pattern pattern, const uint8_t *name,
                                                    size_t length, uint8_t *out, size_t capacity);
 IOX2SD_CHECKED iox2sd_text_answer iox2sd_hash_text_str(iox2sd_pattern pattern, const char *name,
@@ -161,9 +163,10 @@ iox2sd_attribute iox2sd_attribute_str(const char *key, const char *value);
 iox2sd_key iox2sd_key_str(const char *text);
 
 /* Whether pairs are a set: at most sixteen, each of legal texts, in any order and with repeats.
- * Errors: IOX2SD_NULL; of the first pair that is wrong, with its index: IOX2SD_BAD_KEY, with the
- * status of iox2sd_attribute_key_check as the cause; IOX2SD_BAD_VALUE, with that of
- * iox2sd_attribute_value_check; IOX2SD_TOO_MANY, of the seventeenth. */
+ * Errors: IOX2SD_STATUS_NULL; of the first pair that is wrong, with its index:
+ * IOX2SD_STATUS_BAD_KEY, with the status of iox2sd_attribute_key_check as the cause;
+ * IOX2SD_STATUS_BAD_VALUE, with that of iox2sd_attribute_value_check; IOX2SD_STATUS_TOO_MANY, of
+ * the seventeenth. */
 IOX2SD_CHECKED iox2sd_place_answer iox2sd_attributes_check(const iox2sd_attribute *pairs,
                                                            size_t length);
 
@@ -173,14 +176,14 @@ IOX2SD_CHECKED iox2sd_place_answer iox2sd_attributes_check(const iox2sd_attribut
 IOX2SD_CHECKED iox2sd_place_answer iox2sd_attributes_sort(iox2sd_attribute *pairs, size_t length);
 
 /* How many values a key has in a set. Errors: those of iox2sd_attributes_check, without an index;
- * IOX2SD_BAD_ASKED_KEY. */
+ * IOX2SD_STATUS_BAD_ASKED_KEY. */
 IOX2SD_CHECKED iox2sd_count_answer iox2sd_attributes_number_of_key_values(
     const iox2sd_attribute *pairs, size_t length, const uint8_t *key, size_t key_length);
 
 /* Writes the value at `index`, counted from 0, of the values that a key has in a set, by their
  * bytes from the least.
- * Errors: those of iox2sd_attributes_check, without an index; IOX2SD_BAD_ASKED_KEY;
- * IOX2SD_NO_SUCH_VALUE; IOX2SD_BUFFER_TOO_SHORT. */
+ * Errors: those of iox2sd_attributes_check, without an index; IOX2SD_STATUS_BAD_ASKED_KEY;
+ * IOX2SD_STATUS_NO_SUCH_VALUE; IOX2SD_STATUS_BUFFER_TOO_SHORT. */
 IOX2SD_CHECKED iox2sd_text_answer iox2sd_attributes_key_value(const iox2sd_attribute *pairs,
                                                               size_t length, const uint8_t *key,
                                                               size_t key_length, size_t index,
@@ -188,19 +191,19 @@ IOX2SD_CHECKED iox2sd_text_answer iox2sd_attributes_key_value(const iox2sd_attri
 
 /* Whether a set has each required pair, and for each required key some pair with it.
  * Errors, in this order:
- * - IOX2SD_NULL, of any of the three arrays;
+ * - IOX2SD_STATUS_NULL, of any of the three arrays;
  * - the others of iox2sd_attributes_check, of `pairs`;
  * - of the first required pair that is invalid, with its index in `required`:
- *   IOX2SD_BAD_REQUIRED_KEY; IOX2SD_BAD_REQUIRED_VALUE; IOX2SD_TOO_MANY_REQUIRED, of a valid
- *   seventeenth;
- * - of the first required key that is invalid, with its index in `keys`: IOX2SD_BAD_ASKED_KEY;
- *   IOX2SD_TOO_MANY_REQUIRED, of a valid key that is the seventeenth of pairs and keys together;
- * - IOX2SD_MISSING_PAIR, of the least required pair that the set lacks, with its first index in
- *   `required`;
- * - IOX2SD_MISSING_KEY, of the first required key that the set lacks, with its first index in
- *   `keys`.
- * So an invalid required key is not reported after a seventeenth required pair. The cause of an
- * invalid key or value is the status of its check. */
+ *   IOX2SD_STATUS_BAD_REQUIRED_KEY; IOX2SD_STATUS_BAD_REQUIRED_VALUE;
+ *   IOX2SD_STATUS_TOO_MANY_REQUIRED, of a valid seventeenth;
+ * - of the first required key that is invalid, with its index in `keys`:
+ *   IOX2SD_STATUS_BAD_ASKED_KEY; IOX2SD_STATUS_TOO_MANY_REQUIRED, of a valid key that is the
+ *   seventeenth of pairs and keys together;
+ * - IOX2SD_STATUS_MISSING_PAIR, of the least required pair that the set lacks, with its first index
+ *   in `required`;
+ * - IOX2SD_STATUS_MISSING_KEY, of the first required key that the set lacks, with its first index
+ *   in `keys`. So an invalid required key is not reported after a seventeenth required pair. The
+ *   cause of an invalid key or value is the status of its check. */
 IOX2SD_CHECKED iox2sd_place_answer iox2sd_attributes_verify(
     const iox2sd_attribute *pairs, size_t length, const iox2sd_attribute *required,
     size_t required_length, const iox2sd_key *keys, size_t keys_length);
@@ -250,9 +253,9 @@ typedef struct iox2sd_places_answer {
 
 /* The parts of a message, as results name them. */
 enum iox2sd_message_part_number {
-    IOX2SD_HEADER = 0,
-    IOX2SD_USER_HEADER = 1,
-    IOX2SD_PAYLOAD = 2
+    IOX2SD_PART_HEADER = 0,
+    IOX2SD_PART_USER_HEADER = 1,
+    IOX2SD_PART_PAYLOAD = 2
 };
 typedef uint32_t iox2sd_message_part;
 
@@ -268,31 +271,34 @@ typedef struct iox2sd_part_answer {
 const char *iox2sd_part_str(iox2sd_message_part part);
 
 /* Whether the type of a part of a message is valid.
- * Errors: IOX2SD_NULL; IOX2SD_UNKNOWN_VARIANT; IOX2SD_NOT_UTF8, IOX2SD_TOO_LONG and
- * IOX2SD_ILLEGAL_BYTE of its name; IOX2SD_BAD_ALIGNMENT. */
+ * Errors: IOX2SD_STATUS_NULL; IOX2SD_STATUS_UNKNOWN_VARIANT; IOX2SD_STATUS_NOT_UTF8,
+ * IOX2SD_STATUS_TOO_LONG and IOX2SD_STATUS_ILLEGAL_BYTE of its name; IOX2SD_STATUS_BAD_ALIGNMENT.
+ */
 IOX2SD_CHECKED iox2sd_status iox2sd_type_detail_check(const iox2sd_type_detail *detail);
 
 /* The layout of a message whose payload has so many elements. All parts lie in it, apart and
  * aligned, for the service and for every compatible opener. Names and variants are ignored.
- * Errors: IOX2SD_NULL; IOX2SD_BAD_ALIGNMENT; IOX2SD_TOO_LARGE past 2^63 - 1 bytes. */
+ * Errors: IOX2SD_STATUS_NULL; IOX2SD_STATUS_BAD_ALIGNMENT; IOX2SD_STATUS_TOO_LARGE past 2^63 - 1
+ * bytes. */
 IOX2SD_CHECKED iox2sd_layout_answer
 iox2sd_message_sample_layout(const iox2sd_message_details *details, size_t elements);
 
 /* The offsets of user header and payload in a message whose header is at the offset or address
  * `header`. Nothing is read there. Names and variants are ignored.
- * Errors: IOX2SD_NULL; IOX2SD_BAD_ALIGNMENT; IOX2SD_TOO_LARGE where the payload's offset would pass
- * 2^64 - 1. */
+ * Errors: IOX2SD_STATUS_NULL; IOX2SD_STATUS_BAD_ALIGNMENT; IOX2SD_STATUS_TOO_LARGE where the
+ * payload's offset would pass 2^64 - 1. */
 IOX2SD_CHECKED iox2sd_places_answer iox2sd_message_places(const iox2sd_message_details *details,
                                                           size_t header);
 
 /* Whether the messages of a service with these details may be used by an opener with those. The
  * headers must be equal. User headers and payloads must be equal but for their alignments, which
  * are at most those of the service.
- * Errors, each with its side and its part: IOX2SD_NULL, the opener's before the service's; of the
- * first invalid part, the opener's before the service's: IOX2SD_UNKNOWN_VARIANT; IOX2SD_NOT_UTF8,
- * IOX2SD_TOO_LONG, IOX2SD_ILLEGAL_BYTE of its name; IOX2SD_BAD_ALIGNMENT; and of the first part
- * that differs: IOX2SD_OTHER_NAME; IOX2SD_OTHER_VARIANT; IOX2SD_OTHER_SIZE; IOX2SD_OTHER_ALIGNMENT
- * of the header; IOX2SD_GREATER_ALIGNMENT of another part. */
+ * Errors, each with its side and its part: IOX2SD_STATUS_NULL, the opener's before the service's;
+ * of the first invalid part, the opener's before the service's: IOX2SD_STATUS_UNKNOWN_VARIANT;
+ * IOX2SD_STATUS_NOT_UTF8, IOX2SD_STATUS_TOO_LONG, IOX2SD_STATUS_ILLEGAL_BYTE of its name;
+ * IOX2SD_STATUS_BAD_ALIGNMENT; and of the first part that differs: IOX2SD_STATUS_OTHER_NAME;
+ * IOX2SD_STATUS_OTHER_VARIANT; IOX2SD_STATUS_OTHER_SIZE; IOX2SD_STATUS_OTHER_ALIGNMENT of the
+ * header; IOX2SD_STATUS_GREATER_ALIGNMENT of another part. */
 IOX2SD_CHECKED iox2sd_part_answer
 iox2sd_message_is_compatible_to(const iox2sd_message_details *service,
                                 const iox2sd_message_details *opener);
@@ -303,7 +309,7 @@ iox2sd_message_is_compatible_to(const iox2sd_message_details *service,
  * have loaned at once to be written (a server, for each request): publisher_max_loaned_samples,
  * max_loaned_requests or server_max_loaned_responses_per_request of the settings, or another
  * number.
- * Error: IOX2SD_TOO_LARGE past 2^64 - 1. */
+ * Error: IOX2SD_STATUS_TOO_LARGE past 2^64 - 1. */
 IOX2SD_CHECKED iox2sd_count_answer iox2sd_required_amount_of_samples_per_data_segment(
     size_t max_subscribers, size_t subscriber_max_buffer_size,
     size_t subscriber_max_borrowed_samples, size_t history_size, size_t loaned_samples);
@@ -317,8 +323,9 @@ IOX2SD_CHECKED iox2sd_count_answer iox2sd_required_amount_of_chunks_per_server_d
 
 /* What a sender does where a receiver's buffer is full and may not overflow. */
 enum iox2sd_backpressure_strategy_number {
-    IOX2SD_RETRY_UNTIL_DELIVERED = 0, /* It tries again until the receiver can take the message. */
-    IOX2SD_DISCARD_DATA = 1           /* It skips this receiver. */
+    IOX2SD_BACKPRESSURE_RETRY_UNTIL_DELIVERED =
+        0, /* It tries again until the receiver can take the message. */
+    IOX2SD_BACKPRESSURE_DISCARD_DATA = 1 /* It skips this receiver. */
 };
 typedef uint32_t iox2sd_backpressure_strategy;
 
@@ -426,7 +433,7 @@ typedef struct iox2sd_blackboard_settings {
 } iox2sd_blackboard_settings;
 
 /* How many chunks the data segment of a publisher, of a client or of a server needs with these
- * settings, by the functions above. Errors: IOX2SD_NULL; IOX2SD_TOO_LARGE. */
+ * settings, by the functions above. Errors: IOX2SD_STATUS_NULL; IOX2SD_STATUS_TOO_LARGE. */
 IOX2SD_CHECKED iox2sd_count_answer
 iox2sd_samples_of(const iox2sd_publish_subscribe_settings *settings);
 IOX2SD_CHECKED iox2sd_count_answer
@@ -445,39 +452,39 @@ iox2sd_blackboard_settings iox2sd_blackboard_defaults(void);
 
 /* The fields of settings and of what is fixed of a service, as results name them. */
 enum iox2sd_settings_field_number {
-    IOX2SD_BACKPRESSURE_STRATEGY = 0, /* Of publish-subscribe; so is the next. */
-    IOX2SD_PUBLISHER_ALLOCATION_STRATEGY = 1,
-    IOX2SD_DEADLINE = 2,                     /* Of an event service. */
-    IOX2SD_CLIENT_BACKPRESSURE_STRATEGY = 3, /* Of request-response; so are the next three. */
-    IOX2SD_SERVER_BACKPRESSURE_STRATEGY = 4,
-    IOX2SD_CLIENT_ALLOCATION_STRATEGY = 5,
-    IOX2SD_SERVER_ALLOCATION_STRATEGY = 6,
-    IOX2SD_CREATION_TIMEOUT = 7, /* Of a system. */
+    IOX2SD_FIELD_BACKPRESSURE_STRATEGY = 0, /* Of publish-subscribe; so is the next. */
+    IOX2SD_FIELD_PUBLISHER_ALLOCATION_STRATEGY = 1,
+    IOX2SD_FIELD_DEADLINE = 2,                     /* Of an event service. */
+    IOX2SD_FIELD_CLIENT_BACKPRESSURE_STRATEGY = 3, /* Of request-response; so are the next three. */
+    IOX2SD_FIELD_SERVER_BACKPRESSURE_STRATEGY = 4,
+    IOX2SD_FIELD_CLIENT_ALLOCATION_STRATEGY = 5,
+    IOX2SD_FIELD_SERVER_ALLOCATION_STRATEGY = 6,
+    IOX2SD_FIELD_CREATION_TIMEOUT = 7, /* Of a system. */
     /* What is fixed of a service, as iox2sd_event_satisfies and its like return it. */
-    IOX2SD_MAX_SUBSCRIBERS = 8,
-    IOX2SD_MAX_PUBLISHERS = 9,
-    IOX2SD_HISTORY_SIZE = 10,
-    IOX2SD_SUBSCRIBER_MAX_BUFFER_SIZE = 11,
-    IOX2SD_SUBSCRIBER_MAX_BORROWED_SAMPLES = 12,
-    IOX2SD_ENABLE_SAFE_OVERFLOW = 13,
-    IOX2SD_MAX_NOTIFIERS = 14,
-    IOX2SD_MAX_LISTENERS = 15,
-    IOX2SD_EVENT_ID_MAX_VALUE = 16,
-    IOX2SD_NOTIFIER_CREATED_EVENT = 17,
-    IOX2SD_NOTIFIER_DROPPED_EVENT = 18,
-    IOX2SD_NOTIFIER_DEAD_EVENT = 19,
-    IOX2SD_ENABLE_SAFE_OVERFLOW_FOR_REQUESTS = 20,
-    IOX2SD_ENABLE_SAFE_OVERFLOW_FOR_RESPONSES = 21,
-    IOX2SD_ENABLE_FIRE_AND_FORGET_REQUESTS = 22,
-    IOX2SD_MAX_ACTIVE_REQUESTS_PER_CLIENT = 23,
-    IOX2SD_MAX_LOANED_REQUESTS = 24,
-    IOX2SD_MAX_RESPONSE_BUFFER_SIZE = 25,
-    IOX2SD_MAX_SERVERS = 26,
-    IOX2SD_MAX_CLIENTS = 27,
-    IOX2SD_MAX_BORROWED_RESPONSES_PER_PENDING_RESPONSE = 28,
-    IOX2SD_MAX_READERS = 29,
-    IOX2SD_MAX_WRITERS = 30,
-    IOX2SD_MAX_NODES = 31
+    IOX2SD_FIELD_MAX_SUBSCRIBERS = 8,
+    IOX2SD_FIELD_MAX_PUBLISHERS = 9,
+    IOX2SD_FIELD_HISTORY_SIZE = 10,
+    IOX2SD_FIELD_SUBSCRIBER_MAX_BUFFER_SIZE = 11,
+    IOX2SD_FIELD_SUBSCRIBER_MAX_BORROWED_SAMPLES = 12,
+    IOX2SD_FIELD_ENABLE_SAFE_OVERFLOW = 13,
+    IOX2SD_FIELD_MAX_NOTIFIERS = 14,
+    IOX2SD_FIELD_MAX_LISTENERS = 15,
+    IOX2SD_FIELD_EVENT_ID_MAX_VALUE = 16,
+    IOX2SD_FIELD_NOTIFIER_CREATED_EVENT = 17,
+    IOX2SD_FIELD_NOTIFIER_DROPPED_EVENT = 18,
+    IOX2SD_FIELD_NOTIFIER_DEAD_EVENT = 19,
+    IOX2SD_FIELD_ENABLE_SAFE_OVERFLOW_FOR_REQUESTS = 20,
+    IOX2SD_FIELD_ENABLE_SAFE_OVERFLOW_FOR_RESPONSES = 21,
+    IOX2SD_FIELD_ENABLE_FIRE_AND_FORGET_REQUESTS = 22,
+    IOX2SD_FIELD_MAX_ACTIVE_REQUESTS_PER_CLIENT = 23,
+    IOX2SD_FIELD_MAX_LOANED_REQUESTS = 24,
+    IOX2SD_FIELD_MAX_RESPONSE_BUFFER_SIZE = 25,
+    IOX2SD_FIELD_MAX_SERVERS = 26,
+    IOX2SD_FIELD_MAX_CLIENTS = 27,
+    IOX2SD_FIELD_MAX_BORROWED_RESPONSES_PER_PENDING_RESPONSE = 28,
+    IOX2SD_FIELD_MAX_READERS = 29,
+    IOX2SD_FIELD_MAX_WRITERS = 30,
+    IOX2SD_FIELD_MAX_NODES = 31
 };
 typedef uint32_t iox2sd_settings_field;
 
@@ -494,8 +501,9 @@ typedef struct iox2sd_field_answer {
 
 /* Whether settings are valid. Where `is_some` of a deadline or an event is false, there is none,
  * whatever the other fields are. The settings of a blackboard service are always valid.
- * Errors: IOX2SD_NULL; of the first invalid field, which is returned: IOX2SD_UNKNOWN_STRATEGY;
- * IOX2SD_BAD_DURATION, of nanoseconds of 1,000,000,000 or more. */
+ * Errors: IOX2SD_STATUS_NULL; of the first invalid field, which is returned:
+ * IOX2SD_STATUS_UNKNOWN_STRATEGY; IOX2SD_STATUS_BAD_DURATION, of nanoseconds of 1,000,000,000 or
+ * more. */
 IOX2SD_CHECKED iox2sd_field_answer
 iox2sd_global_settings_check(const iox2sd_global_settings *settings);
 IOX2SD_CHECKED iox2sd_field_answer
@@ -517,41 +525,41 @@ iox2sd_blackboard_capacities_of_settings(const iox2sd_blackboard_settings *setti
 
 /* The texts of the configuration. */
 enum iox2sd_text_number {
-    IOX2SD_ROOT_PATH = 0,         /* The path below which everything else lies. */
-    IOX2SD_PREFIX = 1,            /* What the name of each file begins with. */
-    IOX2SD_SERVICE_DIRECTORY = 2, /* The directory of services, below the root path. */
+    IOX2SD_TEXT_ROOT_PATH = 0,         /* The path below which everything else lies. */
+    IOX2SD_TEXT_PREFIX = 1,            /* What the name of each file begins with. */
+    IOX2SD_TEXT_SERVICE_DIRECTORY = 2, /* The directory of services, below the root path. */
     /* The ends of the names of services' files. */
-    IOX2SD_DATA_SEGMENT_SUFFIX = 3,
-    IOX2SD_STATIC_CONFIG_STORAGE_SUFFIX = 4,
-    IOX2SD_DYNAMIC_CONFIG_STORAGE_SUFFIX = 5,
-    IOX2SD_CONNECTION_SUFFIX = 6,
-    IOX2SD_EVENT_CONNECTION_SUFFIX = 7,
-    IOX2SD_BLACKBOARD_MGMT_SUFFIX = 8,
-    IOX2SD_BLACKBOARD_DATA_SUFFIX = 9,
-    IOX2SD_NODE_DIRECTORY = 10, /* The directory of nodes, below the root path. */
+    IOX2SD_TEXT_DATA_SEGMENT_SUFFIX = 3,
+    IOX2SD_TEXT_STATIC_CONFIG_STORAGE_SUFFIX = 4,
+    IOX2SD_TEXT_DYNAMIC_CONFIG_STORAGE_SUFFIX = 5,
+    IOX2SD_TEXT_CONNECTION_SUFFIX = 6,
+    IOX2SD_TEXT_EVENT_CONNECTION_SUFFIX = 7,
+    IOX2SD_TEXT_BLACKBOARD_MGMT_SUFFIX = 8,
+    IOX2SD_TEXT_BLACKBOARD_DATA_SUFFIX = 9,
+    IOX2SD_TEXT_NODE_DIRECTORY = 10, /* The directory of nodes, below the root path. */
     /* The ends of the names of nodes' files. */
-    IOX2SD_MONITOR_SUFFIX = 11,
-    IOX2SD_NODE_STATIC_CONFIG_SUFFIX = 12,
-    IOX2SD_SERVICE_TAG_SUFFIX = 13,
-    IOX2SD_PORT_TAG_SUFFIX = 14,
-    IOX2SD_GLOBAL_MGMT_SUFFIX = 15,
-    IOX2SD_CONFIG_FILE_NAME = 16,     /* The name of a configuration file. */
-    IOX2SD_CONFIG_FILE_PATH = 17,     /* The configuration file in a working directory. */
+    IOX2SD_TEXT_MONITOR_SUFFIX = 11,
+    IOX2SD_TEXT_NODE_STATIC_CONFIG_SUFFIX = 12,
+    IOX2SD_TEXT_SERVICE_TAG_SUFFIX = 13,
+    IOX2SD_TEXT_PORT_TAG_SUFFIX = 14,
+    IOX2SD_TEXT_GLOBAL_MGMT_SUFFIX = 15,
+    IOX2SD_TEXT_CONFIG_FILE_NAME = 16,     /* The name of a configuration file. */
+    IOX2SD_TEXT_CONFIG_FILE_PATH = 17,     /* The configuration file in a working directory. */
     /* The directory of this system's configuration, below a directory for configurations. */
-    IOX2SD_RELATIVE_CONFIG_PATH = 18,
+    IOX2SD_TEXT_RELATIVE_CONFIG_PATH = 18,
     /* The configuration file below a user's directory for configurations. */
-    IOX2SD_USER_CONFIG_FILE_PATH = 19
+    IOX2SD_TEXT_USER_CONFIG_FILE_PATH = 19
 };
 typedef uint32_t iox2sd_text;
 
 /* Writes a default text of the configuration.
- * Errors: IOX2SD_UNKNOWN_TEXT; IOX2SD_BUFFER_TOO_SHORT. */
+ * Errors: IOX2SD_STATUS_UNKNOWN_TEXT; IOX2SD_STATUS_BUFFER_TOO_SHORT. */
 IOX2SD_CHECKED iox2sd_text_answer iox2sd_default_text(iox2sd_text which, uint8_t *out,
                                                       size_t capacity);
 
 /* Writes the directory of services below a root path.
- * Errors: IOX2SD_BAD_PATH, with the status of iox2sd_path_check as the cause; IOX2SD_TOO_LONG, past
- * 255 bytes; IOX2SD_BUFFER_TOO_SHORT. */
+ * Errors: IOX2SD_STATUS_BAD_PATH, with the status of iox2sd_path_check as the cause;
+ * IOX2SD_STATUS_TOO_LONG, past 255 bytes; IOX2SD_STATUS_BUFFER_TOO_SHORT. */
 IOX2SD_CHECKED iox2sd_text_answer iox2sd_service_dir(const uint8_t *root, size_t length,
                                                      uint8_t *out, size_t capacity);
 IOX2SD_CHECKED iox2sd_text_answer iox2sd_service_dir_str(const char *root, uint8_t *out,
@@ -628,10 +636,11 @@ typedef struct iox2sd_description {
 /* Fills a description from a service's settings, its name and its id. Where `internal` is true, the
  * name may be one of the system's own. The hash text is that of iox2sd_internal_hash_text, which
  * for a name that a user may give is that of iox2sd_hash_text.
- * Errors, after which `out` is as it was: IOX2SD_NULL, of the settings or of `out`;
- * IOX2SD_NOT_UTF8; IOX2SD_BAD_SERVICE_NAME, with the status of iox2sd_service_name_check as the
- * cause, or of iox2sd_internal_service_name_check where `internal` is true; IOX2SD_UNKNOWN_STRATEGY
- * or IOX2SD_BAD_DURATION with the field, as the checks of settings report; IOX2SD_ILLEGAL_HASH. */
+ * Errors, after which `out` is as it was: IOX2SD_STATUS_NULL, of the settings or of `out`;
+ * IOX2SD_STATUS_NOT_UTF8; IOX2SD_STATUS_BAD_SERVICE_NAME, with the status of
+ * iox2sd_service_name_check as the cause, or of iox2sd_internal_service_name_check where `internal`
+ * is true; IOX2SD_STATUS_UNKNOWN_STRATEGY or IOX2SD_STATUS_BAD_DURATION with the field, as the
+ * checks of settings report; IOX2SD_STATUS_ILLEGAL_HASH. */
 IOX2SD_CHECKED iox2sd_field_answer iox2sd_describe_publish_subscribe(
     const iox2sd_publish_subscribe_settings *settings, const uint8_t *name, size_t length,
     bool internal, iox2sd_id id, iox2sd_description *out);
@@ -662,7 +671,8 @@ iox2sd_describe_blackboard_str(const iox2sd_blackboard_settings *settings, const
 iox2sd_capacities iox2sd_capacities_of_description(const iox2sd_description *description);
 
 /* Creates a service as it is described, with as many tickets as there are numbers.
- * Errors: IOX2SD_NULL, of either; IOX2SD_HAS_SERVICE; IOX2SD_UNKNOWN_PATTERN; IOX2SD_NO_MEMORY. */
+ * Errors: IOX2SD_STATUS_NULL, of either; IOX2SD_STATUS_HAS_SERVICE; IOX2SD_STATUS_UNKNOWN_PATTERN;
+ * IOX2SD_STATUS_NO_MEMORY. */
 IOX2SD_CHECKED iox2sd_status
 iox2sd_service_create_of_description(iox2sd_service *service, uint64_t number,
                                      const iox2sd_description *description);
@@ -679,9 +689,10 @@ iox2sd_blackboard_capacities_of_config(const iox2sd_blackboard_config *config);
 /* Whether what is fixed of a service meets what an opener requires: each number is at least the
  * required one, and each choice, each event and the deadline are the same. Types and attributes are
  * not compared: iox2sd_message_is_compatible_to and iox2sd_attributes_verify do that.
- * Errors: IOX2SD_NULL; IOX2SD_BAD_DURATION with IOX2SD_DEADLINE, of nanoseconds of 1,000,000,000 or
- * more, the service's before the opener's; IOX2SD_UNMET with the first field that is not met. The
- * fields are compared in the order of the struct; of request-response, flags first. */
+ * Errors: IOX2SD_STATUS_NULL; IOX2SD_STATUS_BAD_DURATION with IOX2SD_FIELD_DEADLINE, of nanoseconds
+ * of 1,000,000,000 or more, the service's before the opener's; IOX2SD_STATUS_UNMET with the first
+ * field that is not met. The fields are compared in the order of the struct; of request-response,
+ * flags first. */
 IOX2SD_CHECKED iox2sd_field_answer
 iox2sd_publish_subscribe_satisfies(const iox2sd_publish_subscribe_config *service,
                                    const iox2sd_publish_subscribe_config *required);
@@ -693,7 +704,7 @@ IOX2SD_CHECKED iox2sd_field_answer iox2sd_blackboard_satisfies(
     const iox2sd_blackboard_config *service, const iox2sd_blackboard_config *required);
 
 /* Whether two numbers are those of one messaging pattern, as those of two descriptions.
- * Error: IOX2SD_UNKNOWN_PATTERN, of either. */
+ * Error: IOX2SD_STATUS_UNKNOWN_PATTERN, of either. */
 IOX2SD_CHECKED iox2sd_flag_answer iox2sd_has_same_messaging_pattern(iox2sd_pattern left,
                                                                     iox2sd_pattern right);
 
@@ -734,7 +745,7 @@ typedef uint32_t iox2sd_open_subject;
 typedef struct iox2sd_open_answer {
     iox2sd_status status;
     iox2sd_status cause;         /* Of attributes. */
-    iox2sd_open_subject subject; /* 0 where the status is IOX2SD_DONE. */
+    iox2sd_open_subject subject; /* 0 where the status is IOX2SD_STATUS_DONE. */
     uint32_t side;               /* Of messages and responses. */
     iox2sd_message_part part;    /* Of messages and responses. */
     iox2sd_settings_field field; /* Of settings. */
@@ -745,13 +756,13 @@ typedef struct iox2sd_open_answer {
  * attributes as by iox2sd_attributes_verify, the types of messages and then of responses as by
  * iox2sd_message_is_compatible_to where both have them, and the settings as by
  * iox2sd_event_satisfies and its like.
- * Errors: IOX2SD_NULL, of either or of a description; IOX2SD_UNKNOWN_PATTERN, of either;
- * IOX2SD_OTHER_PATTERN; then those of these calls. */
+ * Errors: IOX2SD_STATUS_NULL, of either or of a description; IOX2SD_STATUS_UNKNOWN_PATTERN, of
+ * either; IOX2SD_STATUS_OTHER_PATTERN; then those of these calls. */
 IOX2SD_CHECKED iox2sd_open_answer iox2sd_open_check(const iox2sd_offer *service,
                                                     const iox2sd_requirements *required);
 
 /* Writes the reason in words, as "max_nodes: a setting is not what the opener requires".
- * Errors: IOX2SD_NULL; IOX2SD_BUFFER_TOO_SHORT. */
+ * Errors: IOX2SD_STATUS_NULL; IOX2SD_STATUS_BUFFER_TOO_SHORT. */
 IOX2SD_CHECKED iox2sd_text_answer iox2sd_open_text(iox2sd_open_answer answer, uint8_t *out,
                                                    size_t capacity);
 

@@ -57,7 +57,7 @@ public:
         detail::Pairs pairs = as_pairs();
         pairs.push(added);
         const iox2sd_place_answer answer = iox2sd_attributes_sort(pairs.items, pairs.size);
-        if (answer.status != IOX2SD_DONE) return Status{answer.status};
+        if (answer.status != IOX2SD_STATUS_DONE) return Status{answer.status};
         std::size_t place = 0;
         while (pairs.items[place].key != detail::bytes(added.key())) ++place;
         for (std::size_t i = size_; i > place; --i) items_[i] = items_[i - 1];
@@ -171,8 +171,8 @@ public:
         const AttributeSet& attributes) const noexcept {
         const iox2sd_place_answer answer =
             verify(attributes.as_pairs(), required_.as_pairs(), keys_as_c());
-        if (answer.status == IOX2SD_DONE) return {};
-        if (answer.status == IOX2SD_MISSING_KEY) {
+        if (answer.status == IOX2SD_STATUS_DONE) return {};
+        if (answer.status == IOX2SD_STATUS_MISSING_KEY) {
             return AttributeVerificationError{Status::MissingKey, keys_[answer.at], {}};
         }
         const Attribute& missing = required_.begin()[answer.at];
@@ -206,7 +206,7 @@ private:
     /// Whether a verifier may require so much, which is reported before anything is missing.
     static Result<void> has_room(const detail::Pairs& required, const Keys& keys) noexcept {
         const iox2sd_place_answer answer = verify(detail::Pairs{}, required, keys);
-        if (answer.status == IOX2SD_TOO_MANY_REQUIRED) return Status::TooManyRequired;
+        if (answer.status == IOX2SD_STATUS_TOO_MANY_REQUIRED) return Status::TooManyRequired;
         return {};
     }
 
@@ -225,9 +225,9 @@ enum class TypeVariant : std::uint32_t {
 
 /// The parts of a message.
 enum class MessagePart : std::uint32_t {
-    Header = IOX2SD_HEADER,
-    UserHeader = IOX2SD_USER_HEADER,
-    Payload = IOX2SD_PAYLOAD,
+    Header = IOX2SD_PART_HEADER,
+    UserHeader = IOX2SD_PART_USER_HEADER,
+    Payload = IOX2SD_PART_PAYLOAD,
 };
 
 /// The words for a part of a message, as "user header", in a static text.
@@ -248,7 +248,7 @@ public:
         const iox2sd_type_detail detail{detail::bytes(type_name), type_name.size(),
                                         static_cast<std::uint32_t>(variant), size, alignment};
         const std::uint32_t status = iox2sd_type_detail_check(&detail);
-        if (status != IOX2SD_DONE) return Status{status};
+        if (status != IOX2SD_STATUS_DONE) return Status{status};
         return TypeDetail(variant, TypeName(type_name), size, alignment);
     }
 
@@ -353,7 +353,7 @@ struct MessageTypeDetails {
         const MessageTypeDetails& service) const noexcept {
         const iox2sd_message_details opener = as_c(), other = service.as_c();
         const iox2sd_part_answer answer = iox2sd_message_is_compatible_to(&other, &opener);
-        if (answer.status == IOX2SD_DONE) return {};
+        if (answer.status == IOX2SD_STATUS_DONE) return {};
         return IncompatibleTypes{Status{answer.status}, MessagePart{answer.part}};
     }
 
@@ -368,8 +368,9 @@ struct MessageTypeDetails {
 
 /// What a sender does where a receiver's buffer is full and may not overflow.
 enum class BackpressureStrategy : std::uint32_t {
-    RetryUntilDelivered = IOX2SD_RETRY_UNTIL_DELIVERED,  ///< It tries until the message fits.
-    DiscardData = IOX2SD_DISCARD_DATA,                   ///< It skips this receiver.
+    /// It tries until the message fits.
+    RetryUntilDelivered = IOX2SD_BACKPRESSURE_RETRY_UNTIL_DELIVERED,
+    DiscardData = IOX2SD_BACKPRESSURE_DISCARD_DATA,                   ///< It skips this receiver.
 };
 
 /// How a data segment grows for messages whose length is known only at run time.
@@ -454,38 +455,39 @@ struct EventId {
 /// The fields of settings that may be invalid, and from `MaxSubscribers` on, with `Deadline`, what
 /// is fixed of a service.
 enum class SettingsField : std::uint32_t {
-    BackpressureStrategy = IOX2SD_BACKPRESSURE_STRATEGY,
-    PublisherAllocationStrategy = IOX2SD_PUBLISHER_ALLOCATION_STRATEGY,
-    Deadline = IOX2SD_DEADLINE,
-    ClientBackpressureStrategy = IOX2SD_CLIENT_BACKPRESSURE_STRATEGY,
-    ServerBackpressureStrategy = IOX2SD_SERVER_BACKPRESSURE_STRATEGY,
-    ClientAllocationStrategy = IOX2SD_CLIENT_ALLOCATION_STRATEGY,
-    ServerAllocationStrategy = IOX2SD_SERVER_ALLOCATION_STRATEGY,
-    CreationTimeout = IOX2SD_CREATION_TIMEOUT,
-    MaxSubscribers = IOX2SD_MAX_SUBSCRIBERS,
-    MaxPublishers = IOX2SD_MAX_PUBLISHERS,
-    HistorySize = IOX2SD_HISTORY_SIZE,
-    SubscriberMaxBufferSize = IOX2SD_SUBSCRIBER_MAX_BUFFER_SIZE,
-    SubscriberMaxBorrowedSamples = IOX2SD_SUBSCRIBER_MAX_BORROWED_SAMPLES,
-    EnableSafeOverflow = IOX2SD_ENABLE_SAFE_OVERFLOW,
-    MaxNotifiers = IOX2SD_MAX_NOTIFIERS,
-    MaxListeners = IOX2SD_MAX_LISTENERS,
-    EventIdMaxValue = IOX2SD_EVENT_ID_MAX_VALUE,
-    NotifierCreatedEvent = IOX2SD_NOTIFIER_CREATED_EVENT,
-    NotifierDroppedEvent = IOX2SD_NOTIFIER_DROPPED_EVENT,
-    NotifierDeadEvent = IOX2SD_NOTIFIER_DEAD_EVENT,
-    EnableSafeOverflowForRequests = IOX2SD_ENABLE_SAFE_OVERFLOW_FOR_REQUESTS,
-    EnableSafeOverflowForResponses = IOX2SD_ENABLE_SAFE_OVERFLOW_FOR_RESPONSES,
-    EnableFireAndForgetRequests = IOX2SD_ENABLE_FIRE_AND_FORGET_REQUESTS,
-    MaxActiveRequestsPerClient = IOX2SD_MAX_ACTIVE_REQUESTS_PER_CLIENT,
-    MaxLoanedRequests = IOX2SD_MAX_LOANED_REQUESTS,
-    MaxResponseBufferSize = IOX2SD_MAX_RESPONSE_BUFFER_SIZE,
-    MaxServers = IOX2SD_MAX_SERVERS,
-    MaxClients = IOX2SD_MAX_CLIENTS,
-    MaxBorrowedResponsesPerPendingResponse = IOX2SD_MAX_BORROWED_RESPONSES_PER_PENDING_RESPONSE,
-    MaxReaders = IOX2SD_MAX_READERS,
-    MaxWriters = IOX2SD_MAX_WRITERS,
-    MaxNodes = IOX2SD_MAX_NODES,
+    BackpressureStrategy = IOX2SD_FIELD_BACKPRESSURE_STRATEGY,
+    PublisherAllocationStrategy = IOX2SD_FIELD_PUBLISHER_ALLOCATION_STRATEGY,
+    Deadline = IOX2SD_FIELD_DEADLINE,
+    ClientBackpressureStrategy = IOX2SD_FIELD_CLIENT_BACKPRESSURE_STRATEGY,
+    ServerBackpressureStrategy = IOX2SD_FIELD_SERVER_BACKPRESSURE_STRATEGY,
+    ClientAllocationStrategy = IOX2SD_FIELD_CLIENT_ALLOCATION_STRATEGY,
+    ServerAllocationStrategy = IOX2SD_FIELD_SERVER_ALLOCATION_STRATEGY,
+    CreationTimeout = IOX2SD_FIELD_CREATION_TIMEOUT,
+    MaxSubscribers = IOX2SD_FIELD_MAX_SUBSCRIBERS,
+    MaxPublishers = IOX2SD_FIELD_MAX_PUBLISHERS,
+    HistorySize = IOX2SD_FIELD_HISTORY_SIZE,
+    SubscriberMaxBufferSize = IOX2SD_FIELD_SUBSCRIBER_MAX_BUFFER_SIZE,
+    SubscriberMaxBorrowedSamples = IOX2SD_FIELD_SUBSCRIBER_MAX_BORROWED_SAMPLES,
+    EnableSafeOverflow = IOX2SD_FIELD_ENABLE_SAFE_OVERFLOW,
+    MaxNotifiers = IOX2SD_FIELD_MAX_NOTIFIERS,
+    MaxListeners = IOX2SD_FIELD_MAX_LISTENERS,
+    EventIdMaxValue = IOX2SD_FIELD_EVENT_ID_MAX_VALUE,
+    NotifierCreatedEvent = IOX2SD_FIELD_NOTIFIER_CREATED_EVENT,
+    NotifierDroppedEvent = IOX2SD_FIELD_NOTIFIER_DROPPED_EVENT,
+    NotifierDeadEvent = IOX2SD_FIELD_NOTIFIER_DEAD_EVENT,
+    EnableSafeOverflowForRequests = IOX2SD_FIELD_ENABLE_SAFE_OVERFLOW_FOR_REQUESTS,
+    EnableSafeOverflowForResponses = IOX2SD_FIELD_ENABLE_SAFE_OVERFLOW_FOR_RESPONSES,
+    EnableFireAndForgetRequests = IOX2SD_FIELD_ENABLE_FIRE_AND_FORGET_REQUESTS,
+    MaxActiveRequestsPerClient = IOX2SD_FIELD_MAX_ACTIVE_REQUESTS_PER_CLIENT,
+    MaxLoanedRequests = IOX2SD_FIELD_MAX_LOANED_REQUESTS,
+    MaxResponseBufferSize = IOX2SD_FIELD_MAX_RESPONSE_BUFFER_SIZE,
+    MaxServers = IOX2SD_FIELD_MAX_SERVERS,
+    MaxClients = IOX2SD_FIELD_MAX_CLIENTS,
+    MaxBorrowedResponsesPerPendingResponse =
+        IOX2SD_FIELD_MAX_BORROWED_RESPONSES_PER_PENDING_RESPONSE,
+    MaxReaders = IOX2SD_FIELD_MAX_READERS,
+    MaxWriters = IOX2SD_FIELD_MAX_WRITERS,
+    MaxNodes = IOX2SD_FIELD_MAX_NODES,
 };
 
 /// The name of a field, as "max_subscribers", in a static text.
@@ -514,7 +516,7 @@ inline constexpr bool detail::is_written<SettingsError> = true;
 namespace detail {
 
 inline Result<void, SettingsError> valid(const iox2sd_field_answer& answer) noexcept {
-    if (answer.status == IOX2SD_DONE) return {};
+    if (answer.status == IOX2SD_STATUS_DONE) return {};
     return SettingsError{Status{answer.status}, SettingsField{answer.field}};
 }
 
@@ -698,26 +700,26 @@ IOX2SD_CAPACITIES(Blackboard, blackboard, readers, writers)
 
 /// The texts of the configuration.
 enum class ConfigEntry : std::uint32_t {
-    RootPath = IOX2SD_ROOT_PATH,
-    Prefix = IOX2SD_PREFIX,
-    ServiceDirectory = IOX2SD_SERVICE_DIRECTORY,
-    DataSegmentSuffix = IOX2SD_DATA_SEGMENT_SUFFIX,
-    StaticConfigStorageSuffix = IOX2SD_STATIC_CONFIG_STORAGE_SUFFIX,
-    DynamicConfigStorageSuffix = IOX2SD_DYNAMIC_CONFIG_STORAGE_SUFFIX,
-    ConnectionSuffix = IOX2SD_CONNECTION_SUFFIX,
-    EventConnectionSuffix = IOX2SD_EVENT_CONNECTION_SUFFIX,
-    BlackboardMgmtSuffix = IOX2SD_BLACKBOARD_MGMT_SUFFIX,
-    BlackboardDataSuffix = IOX2SD_BLACKBOARD_DATA_SUFFIX,
-    NodeDirectory = IOX2SD_NODE_DIRECTORY,
-    MonitorSuffix = IOX2SD_MONITOR_SUFFIX,
-    NodeStaticConfigSuffix = IOX2SD_NODE_STATIC_CONFIG_SUFFIX,
-    ServiceTagSuffix = IOX2SD_SERVICE_TAG_SUFFIX,
-    PortTagSuffix = IOX2SD_PORT_TAG_SUFFIX,
-    GlobalMgmtSuffix = IOX2SD_GLOBAL_MGMT_SUFFIX,
-    ConfigFileName = IOX2SD_CONFIG_FILE_NAME,
-    ConfigFilePath = IOX2SD_CONFIG_FILE_PATH,
-    RelativeConfigPath = IOX2SD_RELATIVE_CONFIG_PATH,
-    UserConfigFilePath = IOX2SD_USER_CONFIG_FILE_PATH,
+    RootPath = IOX2SD_TEXT_ROOT_PATH,
+    Prefix = IOX2SD_TEXT_PREFIX,
+    ServiceDirectory = IOX2SD_TEXT_SERVICE_DIRECTORY,
+    DataSegmentSuffix = IOX2SD_TEXT_DATA_SEGMENT_SUFFIX,
+    StaticConfigStorageSuffix = IOX2SD_TEXT_STATIC_CONFIG_STORAGE_SUFFIX,
+    DynamicConfigStorageSuffix = IOX2SD_TEXT_DYNAMIC_CONFIG_STORAGE_SUFFIX,
+    ConnectionSuffix = IOX2SD_TEXT_CONNECTION_SUFFIX,
+    EventConnectionSuffix = IOX2SD_TEXT_EVENT_CONNECTION_SUFFIX,
+    BlackboardMgmtSuffix = IOX2SD_TEXT_BLACKBOARD_MGMT_SUFFIX,
+    BlackboardDataSuffix = IOX2SD_TEXT_BLACKBOARD_DATA_SUFFIX,
+    NodeDirectory = IOX2SD_TEXT_NODE_DIRECTORY,
+    MonitorSuffix = IOX2SD_TEXT_MONITOR_SUFFIX,
+    NodeStaticConfigSuffix = IOX2SD_TEXT_NODE_STATIC_CONFIG_SUFFIX,
+    ServiceTagSuffix = IOX2SD_TEXT_SERVICE_TAG_SUFFIX,
+    PortTagSuffix = IOX2SD_TEXT_PORT_TAG_SUFFIX,
+    GlobalMgmtSuffix = IOX2SD_TEXT_GLOBAL_MGMT_SUFFIX,
+    ConfigFileName = IOX2SD_TEXT_CONFIG_FILE_NAME,
+    ConfigFilePath = IOX2SD_TEXT_CONFIG_FILE_PATH,
+    RelativeConfigPath = IOX2SD_TEXT_RELATIVE_CONFIG_PATH,
+    UserConfigFilePath = IOX2SD_TEXT_USER_CONFIG_FILE_PATH,
 };
 
 /// A default text of the configuration. Error: `UnknownText`.

@@ -14,7 +14,7 @@ enum { LONGEST = 28 }; /* The bytes of a line of a script, and some. */
 static int wrong = 0;
 
 static void want(const char *name, size_t size, uint32_t status) {
-    if (status != IOX2SD_DONE) {
+    if (status != IOX2SD_STATUS_DONE) {
         fprintf(stderr, "%s at %zu: status %u\n", name, size, status);
         wrong = 1;
     }
@@ -22,7 +22,8 @@ static void want(const char *name, size_t size, uint32_t status) {
 
 /* A service of each pattern with this much room. */
 static void make(size_t size, iox2sd_capacities most) {
-    for (uint32_t pattern = IOX2SD_PUBLISH_SUBSCRIBE; pattern <= IOX2SD_BLACKBOARD; pattern++) {
+    for (uint32_t pattern = IOX2SD_PATTERN_PUBLISH_SUBSCRIBE; pattern <= IOX2SD_PATTERN_BLACKBOARD;
+         pattern++) {
         iox2sd_service service = IOX2SD_SERVICE_NONE;
         want("iox2sd_service_create", size,
              iox2sd_service_create(&service, pattern, 7, most, UINT64_MAX));
@@ -36,7 +37,7 @@ static void nodes(size_t size, iox2sd_id *out) {
     iox2sd_capacities most = {size, 1, 1};
     iox2sd_id node = {1, 0, 0, 1};
     want("iox2sd_service_create", size,
-         iox2sd_service_create(&service, IOX2SD_EVENT, 7, most, UINT64_MAX));
+         iox2sd_service_create(&service, IOX2SD_PATTERN_EVENT, 7, most, UINT64_MAX));
     for (size_t times = 0; times < size; times++)
         want("iox2sd_register_node_id", times, iox2sd_register_node_id(&service, node).status);
     want("iox2sd_nodes", size, iox2sd_nodes(&service, out, size).status);

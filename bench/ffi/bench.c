@@ -1,5 +1,5 @@
-/* Times of single calls from C, in nanoseconds: figures as this machine gives them, no test. Each is the
- * least of many short rounds, beside the time that it is to take at most. */
+/* Times of single calls from C, in nanoseconds: figures as this machine gives them, no test. Each
+ * is the least of many short rounds, beside the time that it is to take at most. */
 #define _POSIX_C_SOURCE 199309L
 #include "iox2sd_script.h"
 #include "iox2sd_values.h"
@@ -34,7 +34,7 @@ static volatile size_t sink;
 
 /* The call has to be done. */
 static size_t done(uint32_t status) {
-    if (status != IOX2SD_DONE) {
+    if (status != IOX2SD_STATUS_DONE) {
         printf("status %u\n", (unsigned)status);
         exit(1);
     }
@@ -64,39 +64,41 @@ static iox2sd_handle given(iox2sd_handle_answer answer) {
 static void fill(iox2sd_service *service, size_t nodes, size_t subscribers) {
     iox2sd_publish_subscribe_settings room = iox2sd_publish_subscribe_defaults();
     iox2sd_capacities most = {room.max_nodes, room.max_publishers, room.max_subscribers};
-    done(iox2sd_service_create(service, IOX2SD_PUBLISH_SUBSCRIBE, 7, most, UINT64_MAX));
+    done(iox2sd_service_create(service, IOX2SD_PATTERN_PUBLISH_SUBSCRIBE, 7, most, UINT64_MAX));
     for (uint32_t i = 0; i < nodes; i++) given(iox2sd_register_node_id(service, id(1 + i)));
     for (uint32_t i = 0; i < subscribers; i++) {
-        iox2sd_port_details its = port(IOX2SD_SUBSCRIBER, i, id(1));
+        iox2sd_port_details its = port(IOX2SD_ROLE_SUBSCRIBER, i, id(1));
         given(iox2sd_attach(service, &its));
     }
 }
 
 static void services(void) {
     iox2sd_service service = IOX2SD_SERVICE_NONE;
-    iox2sd_port_details out[8], its = port(IOX2SD_PUBLISHER, 50, id(1));
+    iox2sd_port_details out[8], its = port(IOX2SD_ROLE_PUBLISHER, 50, id(1));
     TIME("make and free", "", FEWER_CALLS, 2,
          fill(&service, 0, 0);
          sink += done(iox2sd_service_free(&service)));
     fill(&service, 1, 0);
     TIME("register, deregister; 1 node stands", "20", CALLS, 2,
-         sink += done(iox2sd_deregister_node_id(&service, given(iox2sd_register_node_id(&service, id(99))))));
+         sink += done(iox2sd_deregister_node_id(&service,
+                                                given(iox2sd_register_node_id(&service, id(99))))));
     done(iox2sd_service_free(&service));
     fill(&service, 19, 8);
     TIME("register, deregister; 19 nodes and 8 ports", "20", CALLS, 2,
-         sink += done(iox2sd_deregister_node_id(&service, given(iox2sd_register_node_id(&service, id(99))))));
+         sink += done(iox2sd_deregister_node_id(&service,
+                                                given(iox2sd_register_node_id(&service, id(99))))));
     TIME("attach, release; 19 nodes and 8 ports", "", CALLS, 2,
          sink += done(iox2sd_release_port(&service, given(iox2sd_attach(&service, &its)))));
     TIME("list of 8 ports of a role", "60", CALLS, 1,
-         sink += done(iox2sd_ports(&service, IOX2SD_SUBSCRIBER, out, 8).status));
+         sink += done(iox2sd_ports(&service, IOX2SD_ROLE_SUBSCRIBER, out, 8).status));
     TIME("list of 8 ports of a node", "", CALLS, 1,
          sink += done(iox2sd_ports_of(&service, id(1), out, 8).status));
     done(iox2sd_service_free(&service));
 }
 
 static iox2sd_type_detail part(const char *name, size_t size, size_t alignment) {
-    iox2sd_type_detail detail = {(const uint8_t *)name, strlen(name), IOX2SD_VARIANT_FIXED_SIZE, size,
-                                 alignment};
+    iox2sd_type_detail detail = {(const uint8_t *)name, strlen(name), IOX2SD_VARIANT_FIXED_SIZE,
+                                 size, alignment};
     return detail;
 }
 
@@ -127,7 +129,7 @@ static void values(void) {
     TIME("compatible messages", "", FEWER_CALLS, 1,
          sink += done(iox2sd_message_is_compatible_to(&details, &details).status));
     TIME("hash text", "", FEWER_CALLS, 1,
-         sink += done(iox2sd_hash_text(IOX2SD_EVENT, (const uint8_t *)"My/Service", 10, out,
+         sink += done(iox2sd_hash_text(IOX2SD_PATTERN_EVENT, (const uint8_t *)"My/Service", 10, out,
                                        sizeof out).status));
     TIME("2 pairs and 2 keys required of 16 pairs", "400", FEWER_CALLS, 1,
          sink += done(iox2sd_attributes_verify(pairs, PAIRS, required, REQUIRED / 2, asked,

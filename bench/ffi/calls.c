@@ -1,7 +1,7 @@
 /* Makes one kind of call as often as a line of standard input says, and writes a number of what was
- * answered: on the library, and where PLAIN is defined on the plain program of plain.cpp. A line is that
- * of bench_calls, CALL NODES SUBSCRIBERS PUBLISHERS ROUNDS CALLS: in each round all is set up anew.
- * The numbers of calls that bench_calls makes too are those that it writes. */
+ * answered: on the library, and where PLAIN is defined on the plain program of plain.cpp. A line is
+ * that of bench_calls, CALL NODES SUBSCRIBERS PUBLISHERS ROUNDS CALLS: in each round all is set up
+ * anew. The numbers of calls that bench_calls makes too are those that it writes. */
 #include <inttypes.h>
 #include <stdio.h>
 #include <stdlib.h>
@@ -32,7 +32,7 @@ static void *array(size_t count, size_t size) {
 
 /* The call has to succeed. */
 static uint64_t done(uint32_t status) {
-    if (!IOX2SD_OK(status)) {
+    if (!IOX2SD_SUCCEEDED(status)) {
         fprintf(stderr, "status %" PRIu32 "\n", status);
         exit(2);
     }
@@ -52,7 +52,7 @@ static iox2sd_id node(const attached *all, size_t number) {
 
 static iox2sd_port_details subscriber(const attached *all, size_t number) {
     iox2sd_port_details made = {0};
-    made.role = IOX2SD_SUBSCRIBER;
+    made.role = IOX2SD_ROLE_SUBSCRIBER;
     made.port = id(1, number);
     made.node = node(all, number);
     made.buffer_size = 2;
@@ -61,12 +61,12 @@ static iox2sd_port_details subscriber(const attached *all, size_t number) {
 
 static iox2sd_port_details publisher(const attached *all, size_t number) {
     iox2sd_port_details made = {0};
-    made.role = IOX2SD_PUBLISHER;
+    made.role = IOX2SD_ROLE_PUBLISHER;
     made.port = id(2, number);
     made.node = node(all, number);
     made.number_of_samples = 2;
     made.max_slice_len = 1;
-    made.data_segment = IOX2SD_STATIC_SEGMENT;
+    made.data_segment = IOX2SD_SEGMENT_STATIC;
     made.max_number_of_segments = 1;
     return made;
 }
@@ -125,7 +125,7 @@ static uint64_t is_locked(attached *all, size_t number) {
 }
 
 static uint64_t count(attached *all, size_t number) {
-    iox2sd_count_answer answer = SERVICE(count_ports)(&all->service, IOX2SD_SUBSCRIBER);
+    iox2sd_count_answer answer = SERVICE(count_ports)(&all->service, IOX2SD_ROLE_SUBSCRIBER);
     (void)number;
     done(answer.status);
     return answer.count;
@@ -140,7 +140,7 @@ static uint64_t port(attached *all, size_t number) {
 
 static uint64_t list(attached *all, size_t number) {
     iox2sd_count_answer answer =
-        SERVICE(ports)(&all->service, IOX2SD_SUBSCRIBER, all->out, all->subscribers);
+        SERVICE(ports)(&all->service, IOX2SD_ROLE_SUBSCRIBER, all->out, all->subscribers);
     (void)number;
     done(answer.status);
     return all->out[answer.count - 1].port.counter;
@@ -172,7 +172,8 @@ static const struct call {
 
 static void create(attached *all, enum set_up before) {
     iox2sd_capacities most = {all->nodes, all->publishers, all->subscribers};
-    done(SERVICE(service_create)(&all->service, IOX2SD_PUBLISH_SUBSCRIBE, 7, most, UINT64_MAX));
+    done(SERVICE(service_create)(&all->service, IOX2SD_PATTERN_PUBLISH_SUBSCRIBE, 7, most,
+                                 UINT64_MAX));
     for (size_t k = 0; before >= NODES && k < all->nodes; k++) register_one(all, k);
     for (size_t k = 0; before >= SUBSCRIBERS && k < all->subscribers; k++) attach_one(all, k);
     for (size_t k = 0; before >= ALL && k < all->publishers; k++) {

@@ -93,8 +93,8 @@ public:
 using Ports = Registry<iox2sd_port_details>;
 
 iox2sd_handle_answer answer(const std::optional<iox2sd_handle> &made) {
-    if (!made) return {IOX2SD_OUT_OF_SPACE, IOX2SD_HANDLE_NONE};
-    return {IOX2SD_DONE, *made};
+    if (!made) return {IOX2SD_STATUS_OUT_OF_SPACE, IOX2SD_HANDLE_NONE};
+    return {IOX2SD_STATUS_DONE, *made};
 }
 
 } // namespace
@@ -114,43 +114,43 @@ struct plain_registries {
         return nodes.any([&](const iox2sd_id &other) { return other == node; });
     }
 
-    uint32_t state() const { return locked ? IOX2SD_DONE_LOCKED : IOX2SD_DONE; }
+    uint32_t state() const { return locked ? IOX2SD_STATUS_DONE_LOCKED : IOX2SD_STATUS_DONE; }
 };
 
 uint32_t plain_service_create(plain_service *service, uint32_t pattern, uint64_t number,
                               iox2sd_capacities capacities, uint64_t tickets) {
-    static const uint64_t roles[4][2] = {{IOX2SD_PUBLISHER, IOX2SD_SUBSCRIBER},
-                                         {IOX2SD_LISTENER, IOX2SD_NOTIFIER},
-                                         {IOX2SD_SERVER, IOX2SD_CLIENT},
-                                         {IOX2SD_READER, IOX2SD_WRITER}};
-    if (pattern >= 4) return IOX2SD_UNKNOWN_PATTERN;
+    static const uint64_t roles[4][2] = {{IOX2SD_ROLE_PUBLISHER, IOX2SD_ROLE_SUBSCRIBER},
+                                         {IOX2SD_ROLE_LISTENER, IOX2SD_ROLE_NOTIFIER},
+                                         {IOX2SD_ROLE_SERVER, IOX2SD_ROLE_CLIENT},
+                                         {IOX2SD_ROLE_READER, IOX2SD_ROLE_WRITER}};
+    if (pattern >= 4) return IOX2SD_STATUS_UNKNOWN_PATTERN;
     service->registries = new plain_registries{
         number, roles[pattern][0], roles[pattern][1], false, {capacities.nodes, tickets},
         {capacities.first, tickets}, {capacities.second, tickets}};
-    return IOX2SD_DONE;
+    return IOX2SD_STATUS_DONE;
 }
 
 uint32_t plain_service_free(plain_service *service) {
     delete service->registries;
     service->registries = nullptr;
-    return IOX2SD_DONE;
+    return IOX2SD_STATUS_DONE;
 }
 
 iox2sd_handle_answer plain_register_node_id(plain_service *service, iox2sd_id node) {
     plain_registries &its = *service->registries;
-    if (its.locked) return {IOX2SD_IS_LOCKED, IOX2SD_HANDLE_NONE};
-    return answer(its.nodes.add(its.number, IOX2SD_NODE, node));
+    if (its.locked) return {IOX2SD_STATUS_IS_LOCKED, IOX2SD_HANDLE_NONE};
+    return answer(its.nodes.add(its.number, IOX2SD_ROLE_NODE, node));
 }
 
 uint32_t plain_deregister_node_id(plain_service *service, iox2sd_handle handle) {
     plain_registries &its = *service->registries;
-    if (handle.service != its.number || handle.role != IOX2SD_NODE) return IOX2SD_FOREIGN_HANDLE;
+    if (handle.service != its.number || handle.role != IOX2SD_ROLE_NODE) return IOX2SD_STATUS_FOREIGN_HANDLE;
     const iox2sd_id *node = its.nodes.find(handle);
-    if (node == nullptr) return IOX2SD_FOREIGN_HANDLE;
+    if (node == nullptr) return IOX2SD_STATUS_FOREIGN_HANDLE;
     const auto is_its = [&](const iox2sd_port_details &port) { return port.node == *node; };
     const auto is_it = [&](const iox2sd_id &other) { return other == *node; };
     if ((its.first.any(is_its) || its.second.any(is_its)) && its.nodes.count(is_it) == 1)
-        return IOX2SD_PORTS_STILL_ATTACHED;
+        return IOX2SD_STATUS_PORTS_STILL_ATTACHED;
     its.nodes.remove(handle.slot);
     its.locked = its.nodes.size() == 0;
     return its.state();
@@ -159,9 +159,9 @@ uint32_t plain_deregister_node_id(plain_service *service, iox2sd_handle handle) 
 iox2sd_handle_answer plain_attach(plain_service *service, const iox2sd_port_details *port) {
     plain_registries &its = *service->registries;
     Ports *ports = its.ports(port->role);
-    if (ports == nullptr) return {IOX2SD_ROLE_NOT_IN_PATTERN, IOX2SD_HANDLE_NONE};
-    if (its.locked) return {IOX2SD_IS_LOCKED, IOX2SD_HANDLE_NONE};
-    if (!its.is_registered(port->node)) return {IOX2SD_NODE_NOT_REGISTERED, IOX2SD_HANDLE_NONE};
+    if (ports == nullptr) return {IOX2SD_STATUS_ROLE_NOT_IN_PATTERN, IOX2SD_HANDLE_NONE};
+    if (its.locked) return {IOX2SD_STATUS_IS_LOCKED, IOX2SD_HANDLE_NONE};
+    if (!its.is_registered(port->node)) return {IOX2SD_STATUS_NODE_NOT_REGISTERED, IOX2SD_HANDLE_NONE};
     return answer(ports->add(its.number, port->role, *port));
 }
 
@@ -169,9 +169,9 @@ uint32_t plain_release_port(plain_service *service, iox2sd_handle handle) {
     plain_registries &its = *service->registries;
     Ports *ports = its.ports(handle.role);
     if (ports == nullptr || handle.service != its.number || ports->find(handle) == nullptr)
-        return IOX2SD_FOREIGN_HANDLE;
+        return IOX2SD_STATUS_FOREIGN_HANDLE;
     ports->remove(handle.slot);
-    return IOX2SD_DONE;
+    return IOX2SD_STATUS_DONE;
 }
 
 iox2sd_dead_node_removal plain_remove_dead_node_id(plain_service *service, iox2sd_id dead,
@@ -191,13 +191,13 @@ iox2sd_dead_node_removal plain_remove_dead_node_id(plain_service *service, iox2s
 }
 
 iox2sd_flag_answer plain_is_locked(const plain_service *service) {
-    return {IOX2SD_DONE, service->registries->locked};
+    return {IOX2SD_STATUS_DONE, service->registries->locked};
 }
 
 iox2sd_count_answer plain_count_ports(const plain_service *service, uint64_t role) {
     const Ports *ports = service->registries->ports(role);
-    if (ports == nullptr) return {IOX2SD_ROLE_NOT_IN_PATTERN, 0};
-    return {IOX2SD_DONE, ports->size()};
+    if (ports == nullptr) return {IOX2SD_STATUS_ROLE_NOT_IN_PATTERN, 0};
+    return {IOX2SD_STATUS_DONE, ports->size()};
 }
 
 iox2sd_port_answer plain_port(const plain_service *service, iox2sd_handle handle) {
@@ -205,17 +205,17 @@ iox2sd_port_answer plain_port(const plain_service *service, iox2sd_handle handle
     const Ports *ports = its.ports(handle.role);
     const iox2sd_port_details *port = nullptr;
     if (ports != nullptr && handle.service == its.number) port = ports->find(handle);
-    if (port == nullptr) return {IOX2SD_FOREIGN_HANDLE, {}};
-    return {IOX2SD_DONE, *port};
+    if (port == nullptr) return {IOX2SD_STATUS_FOREIGN_HANDLE, {}};
+    return {IOX2SD_STATUS_DONE, *port};
 }
 
 iox2sd_count_answer plain_ports(const plain_service *service, uint64_t role,
                                 iox2sd_port_details *out, size_t capacity) {
     const Ports *ports = service->registries->ports(role);
-    if (ports == nullptr) return {IOX2SD_ROLE_NOT_IN_PATTERN, 0};
-    if (ports->size() > capacity) return {IOX2SD_BUFFER_TOO_SHORT, ports->size()};
+    if (ports == nullptr) return {IOX2SD_STATUS_ROLE_NOT_IN_PATTERN, 0};
+    if (ports->size() > capacity) return {IOX2SD_STATUS_BUFFER_TOO_SHORT, ports->size()};
     ports->each([&](const iox2sd_port_details &port) { *out++ = port; });
-    return {IOX2SD_DONE, ports->size()};
+    return {IOX2SD_STATUS_DONE, ports->size()};
 }
 
 iox2sd_count_answer plain_ports_of(const plain_service *service, iox2sd_id node,
@@ -223,11 +223,11 @@ iox2sd_count_answer plain_ports_of(const plain_service *service, iox2sd_id node,
     const plain_registries &its = *service->registries;
     const auto is_its = [&](const iox2sd_port_details &port) { return port.node == node; };
     const size_t number = its.first.count(is_its) + its.second.count(is_its);
-    if (number > capacity) return {IOX2SD_BUFFER_TOO_SHORT, number};
+    if (number > capacity) return {IOX2SD_STATUS_BUFFER_TOO_SHORT, number};
     const auto list = [&](const iox2sd_port_details &port) {
         if (is_its(port)) *out++ = port;
     };
     its.first.each(list);
     its.second.each(list);
-    return {IOX2SD_DONE, number};
+    return {IOX2SD_STATUS_DONE, number};
 }

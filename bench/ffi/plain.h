@@ -1,5 +1,5 @@
-/* The calls of iox2sd.h that calls.c makes, by a plain program: what one writes in C++ in an afternoon. It
- * has the structs of iox2sd.h, and its ids to keep are sorted. */
+/* The calls of iox2sd.h that calls.c makes, by a plain program: what one writes in C++ in an
+ * afternoon. It has the structs of iox2sd.h, and its ids to keep are sorted. */
 #ifndef PLAIN_H
 #define PLAIN_H
 

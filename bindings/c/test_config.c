@@ -35,7 +35,7 @@ static bool is_text(const iox2sd_config_text *text, const char *wanted) {
 static bool is_default(const iox2sd_config_text *text, uint32_t which) {
     uint8_t wanted[256] = {0};
     iox2sd_text_answer answer = iox2sd_default_text(which, wanted, sizeof wanted);
-    return answer.status == IOX2SD_DONE && text->length == answer.length &&
+    return answer.status == IOX2SD_STATUS_DONE && text->length == answer.length &&
            memcmp(text->bytes, wanted, sizeof wanted) == 0;
 }
 
@@ -62,8 +62,8 @@ static iox2sd_config *soiled(iox2sd_config *config, int byte) {
 static void defaults(void) {
     static iox2sd_config made;
     iox2sd_config_answer answer = iox2sd_config_read(NULL, 0, soiled(&made, 0xAA));
-    CHECK(answer.status == IOX2SD_DONE && answer.unknown == 0);
-    CHECK(answer.fault.status == IOX2SD_DONE && has_key(&answer.fault, ""));
+    CHECK(answer.status == IOX2SD_STATUS_DONE && answer.unknown == 0);
+    CHECK(answer.fault.status == IOX2SD_STATUS_DONE && has_key(&answer.fault, ""));
     CHECK(has_reason(&answer.fault, ""));
     CHECK(answer.fault.table == 0 && answer.fault.found == 0 && answer.fault.wanted == 0);
     const iox2sd_config_text *const texts[] = {
@@ -84,7 +84,7 @@ static void defaults(void) {
         &made.texts.port_tag_suffix,
         &made.texts.global_mgmt_suffix,
     };
-    for (uint32_t which = IOX2SD_ROOT_PATH; which <= IOX2SD_GLOBAL_MGMT_SUFFIX; which++)
+    for (uint32_t which = IOX2SD_TEXT_ROOT_PATH; which <= IOX2SD_TEXT_GLOBAL_MGMT_SUFFIX; which++)
         CHECK(is_default(texts[which], which));
     iox2sd_global_settings global = iox2sd_global_defaults();
     CHECK(made.global.creation_timeout.seconds == global.creation_timeout.seconds);
@@ -150,7 +150,7 @@ static void are_all(const iox2sd_config *made) {
     CHECK(p->subscriber_max_buffer_size == 104 && p->subscriber_max_borrowed_samples == 105);
     CHECK(p->publisher_max_loaned_samples == 106 && p->publisher_history_size == 107);
     CHECK(p->subscriber_expired_connection_buffer == 108 && !p->enable_safe_overflow);
-    CHECK(p->backpressure_strategy == IOX2SD_DISCARD_DATA);
+    CHECK(p->backpressure_strategy == IOX2SD_BACKPRESSURE_DISCARD_DATA);
     CHECK(p->publisher_allocation_strategy == IOX2SD_ALLOCATION_POWER_OF_TWO);
     const iox2sd_event_settings *e = &made->event;
     CHECK(e->max_listeners == 201 && e->max_notifiers == 202 && e->max_nodes == 203);
@@ -165,8 +165,8 @@ static void are_all(const iox2sd_config *made) {
     CHECK(r->server_max_loaned_responses_per_request == 308);
     CHECK(r->client_expired_connection_buffer == 309);
     CHECK(r->server_expired_connection_buffer == 310);
-    CHECK(r->client_backpressure_strategy == IOX2SD_DISCARD_DATA);
-    CHECK(r->server_backpressure_strategy == IOX2SD_RETRY_UNTIL_DELIVERED);
+    CHECK(r->client_backpressure_strategy == IOX2SD_BACKPRESSURE_DISCARD_DATA);
+    CHECK(r->server_backpressure_strategy == IOX2SD_BACKPRESSURE_RETRY_UNTIL_DELIVERED);
     CHECK(r->client_allocation_strategy == IOX2SD_ALLOCATION_BEST_FIT);
     CHECK(r->server_allocation_strategy == IOX2SD_ALLOCATION_POWER_OF_TWO);
     CHECK(!r->enable_safe_overflow_for_requests && !r->enable_safe_overflow_for_responses);
@@ -181,12 +181,12 @@ static uint8_t out[MOST];
 static void every_setting(void) {
     static iox2sd_config made, again;
     iox2sd_config_answer answer = iox2sd_config_read_str(all, soiled(&made, 0xAA));
-    CHECK(answer.status == IOX2SD_DONE && answer.unknown == 0);
+    CHECK(answer.status == IOX2SD_STATUS_DONE && answer.unknown == 0);
     are_all(&made);
     iox2sd_config_write_answer written = iox2sd_config_write(&made, out, MOST);
-    CHECK(written.status == IOX2SD_DONE && written.field == 0 && written.key_length == 0);
+    CHECK(written.status == IOX2SD_STATUS_DONE && written.field == 0 && written.key_length == 0);
     answer = iox2sd_config_read(out, written.length, soiled(&again, 0x55));
-    CHECK(answer.status == IOX2SD_DONE && answer.unknown == 0);
+    CHECK(answer.status == IOX2SD_STATUS_DONE && answer.unknown == 0);
     are_all(&again);
 }
 
@@ -201,53 +201,54 @@ static const iox2sd_config_fault *first(const char *text, uint32_t status) {
 }
 
 static void each_fault(void) {
-    const iox2sd_config_fault *fault = first("global = 'a'", IOX2SD_WRONG_TYPE);
+    const iox2sd_config_fault *fault = first("global = 'a'", IOX2SD_STATUS_WRONG_TYPE);
     CHECK(fault->table == IOX2SD_TABLE_ROOT && has_key(fault, "global"));
     CHECK(fault->found == IOX2SD_TOML_STRING && fault->wanted == IOX2SD_KIND_TABLE);
     CHECK(has_reason(fault, "is a string, and a table is wanted"));
-    fault = first("[defaults.event]\nmax-nodes = true", IOX2SD_WRONG_TYPE);
+    fault = first("[defaults.event]\nmax-nodes = true", IOX2SD_STATUS_WRONG_TYPE);
     CHECK(fault->table == IOX2SD_TABLE_EVENT && has_key(fault, "defaults.event.max-nodes"));
     CHECK(fault->found == IOX2SD_TOML_BOOLEAN && fault->wanted == IOX2SD_KIND_NUMBER);
-    fault = first("global.node.cleanup-dead-nodes-on-creation = 1.5", IOX2SD_WRONG_TYPE);
+    fault = first("global.node.cleanup-dead-nodes-on-creation = 1.5", IOX2SD_STATUS_WRONG_TYPE);
     CHECK(fault->table == IOX2SD_TABLE_NODE && fault->found == IOX2SD_TOML_FLOAT);
     CHECK(fault->wanted == IOX2SD_KIND_FLAG);
-    fault = first("defaults.blackboard.max-readers = 1979-05-27", IOX2SD_WRONG_TYPE);
+    fault = first("defaults.blackboard.max-readers = 1979-05-27", IOX2SD_STATUS_WRONG_TYPE);
     CHECK(fault->table == IOX2SD_TABLE_BLACKBOARD && fault->found == IOX2SD_TOML_DATETIME);
-    fault = first("defaults = []", IOX2SD_WRONG_TYPE);
+    fault = first("defaults = []", IOX2SD_STATUS_WRONG_TYPE);
     CHECK(fault->found == IOX2SD_TOML_ARRAY && has_key(fault, "defaults"));
-    fault = first("defaults.event = 7", IOX2SD_WRONG_TYPE);
+    fault = first("defaults.event = 7", IOX2SD_STATUS_WRONG_TYPE);
     CHECK(fault->table == IOX2SD_TABLE_DEFAULTS && fault->found == IOX2SD_TOML_INTEGER);
-    fault = first("defaults.request-response.max-nodes = {}", IOX2SD_WRONG_TYPE);
+    fault = first("defaults.request-response.max-nodes = {}", IOX2SD_STATUS_WRONG_TYPE);
     CHECK(fault->table == IOX2SD_TABLE_REQUEST_RESPONSE && fault->found == IOX2SD_TOML_TABLE);
-    fault = first("defaults.publish-subscribe.max-nodes = -1", IOX2SD_BELOW_ZERO);
+    fault = first("defaults.publish-subscribe.max-nodes = -1", IOX2SD_STATUS_BELOW_ZERO);
     CHECK(fault->table == IOX2SD_TABLE_PUBLISH_SUBSCRIBE && fault->found == IOX2SD_TOML_NONE);
     CHECK(fault->wanted == IOX2SD_KIND_NUMBER && has_reason(fault, "is below 0"));
-    fault = first("global.root-path = '\xc3\xa4'", IOX2SD_BAD_PATH);
+    fault = first("global.root-path = '\xc3\xa4'", IOX2SD_STATUS_BAD_PATH);
     CHECK(fault->table == IOX2SD_TABLE_GLOBAL && fault->wanted == IOX2SD_KIND_PATH);
-    fault = first("global.service.connection-suffix = 'a/b'", IOX2SD_NO_FILE_NAME);
+    fault = first("global.service.connection-suffix = 'a/b'", IOX2SD_STATUS_NO_FILE_NAME);
     CHECK(fault->table == IOX2SD_TABLE_SERVICE && fault->wanted == IOX2SD_KIND_FILE_NAME);
     static char longer[400];
     snprintf(longer, sizeof longer, "global.prefix = '%0256d'", 0);
-    CHECK(first(longer, IOX2SD_TOO_LONG)->wanted == IOX2SD_KIND_FILE_NAME);
+    CHECK(first(longer, IOX2SD_STATUS_TOO_LONG)->wanted == IOX2SD_KIND_FILE_NAME);
     snprintf(longer, sizeof longer, "global.root-path = '%0256d'", 0);
-    CHECK(first(longer, IOX2SD_TOO_LONG)->wanted == IOX2SD_KIND_PATH);
+    CHECK(first(longer, IOX2SD_STATUS_TOO_LONG)->wanted == IOX2SD_KIND_PATH);
     fault = first("defaults.publish-subscribe.backpressure-strategy = 'discarddata'",
-                  IOX2SD_UNKNOWN_VARIANT);
+                  IOX2SD_STATUS_UNKNOWN_VARIANT);
     CHECK(fault->wanted == IOX2SD_KIND_BACKPRESSURE);
     CHECK(has_reason(fault, "is not \"RetryUntilDelivered\" or \"DiscardData\""));
     fault = first("defaults.request-response.client-allocation-strategy = ''",
-                  IOX2SD_UNKNOWN_VARIANT);
+                  IOX2SD_STATUS_UNKNOWN_VARIANT);
     CHECK(fault->wanted == IOX2SD_KIND_ALLOCATION);
-    fault = first("global.creation-timeout = {secs = 1}", IOX2SD_NO_DURATION);
+    fault = first("global.creation-timeout = {secs = 1}", IOX2SD_STATUS_NO_DURATION);
     CHECK(fault->wanted == IOX2SD_KIND_DURATION);
-    fault = first("global.creation-timeout = {secs = 1, nanos = 1000000000}", IOX2SD_BAD_DURATION);
+    fault = first("global.creation-timeout = {secs = 1, nanos = 1000000000}",
+                  IOX2SD_STATUS_BAD_DURATION);
     CHECK(fault->wanted == IOX2SD_KIND_DURATION && has_key(fault, "global.creation-timeout"));
-    fault = first("global = {}\nprefix", IOX2SD_NOT_TOML);
+    fault = first("global = {}\nprefix", IOX2SD_STATUS_NOT_TOML);
     CHECK(fault->key_length == 0 && strstr((const char *)fault->reason, "line 2") != NULL);
-    fault = first("\xff", IOX2SD_NOT_UTF8);
+    fault = first("\xff", IOX2SD_STATUS_NOT_UTF8);
     CHECK(fault->wanted == 0 && has_reason(fault, "not UTF-8"));
     fault = first("defaults.request-response.max-borrowed-responses-per-pending-response = ''",
-                  IOX2SD_WRONG_TYPE);
+                  IOX2SD_STATUS_WRONG_TYPE);
     CHECK(has_key(fault,
                   "defaults.request-response.max-borrowed-responses-per-pending-response"));
 }
@@ -263,22 +264,23 @@ static void all_faults(void) {
     static iox2sd_config_fault faults[4];
     for (size_t capacity = 0; capacity < 3; capacity++) {
         memset(faults, 0xAA, sizeof faults);
-        CHECK(is_count(iox2sd_config_faults_str(faulty, faults, capacity), IOX2SD_BUFFER_TOO_SHORT,
-                       3));
+        CHECK(is_count(iox2sd_config_faults_str(faulty, faults, capacity),
+                       IOX2SD_STATUS_BUFFER_TOO_SHORT, 3));
         for (size_t i = 0; i < sizeof faults; i++)
             CHECK(((const uint8_t *)faults)[i] == 0xAA);
     }
-    CHECK(is_count(iox2sd_config_faults_str(faulty, faults, 4), IOX2SD_DONE, 3));
-    CHECK(has_key(&faults[0], "global.prefix") && faults[0].status == IOX2SD_NO_FILE_NAME);
+    CHECK(is_count(iox2sd_config_faults_str(faulty, faults, 4), IOX2SD_STATUS_DONE, 3));
+    CHECK(has_key(&faults[0], "global.prefix") && faults[0].status == IOX2SD_STATUS_NO_FILE_NAME);
     CHECK(has_key(&faults[1], "defaults.event.max-listeners"));
-    CHECK(faults[1].status == IOX2SD_WRONG_TYPE && faults[2].status == IOX2SD_BELOW_ZERO);
+    CHECK(faults[1].status == IOX2SD_STATUS_WRONG_TYPE &&
+          faults[2].status == IOX2SD_STATUS_BELOW_ZERO);
     CHECK(has_key(&faults[2], "defaults.event.max-nodes"));
     CHECK(faults[3].status == 0xAAAAAAAA);
-    CHECK(is_count(iox2sd_config_faults_str(all, NULL, 0), IOX2SD_DONE, 0));
-    CHECK(is_count(iox2sd_config_faults_str("a", faults, 4), IOX2SD_NOT_TOML, 0));
-    CHECK(is_count(iox2sd_config_faults_str("\xff", faults, 4), IOX2SD_NOT_UTF8, 0));
-    CHECK(is_count(iox2sd_config_faults_str(NULL, faults, 4), IOX2SD_NULL, 0));
-    CHECK(is_count(iox2sd_config_faults((const uint8_t *)all, 1, NULL, 4), IOX2SD_NULL, 0));
+    CHECK(is_count(iox2sd_config_faults_str(all, NULL, 0), IOX2SD_STATUS_DONE, 0));
+    CHECK(is_count(iox2sd_config_faults_str("a", faults, 4), IOX2SD_STATUS_NOT_TOML, 0));
+    CHECK(is_count(iox2sd_config_faults_str("\xff", faults, 4), IOX2SD_STATUS_NOT_UTF8, 0));
+    CHECK(is_count(iox2sd_config_faults_str(NULL, faults, 4), IOX2SD_STATUS_NULL, 0));
+    CHECK(is_count(iox2sd_config_faults((const uint8_t *)all, 1, NULL, 4), IOX2SD_STATUS_NULL, 0));
 }
 
 static bool is_unknown(iox2sd_unknown_answer answer, uint32_t status, size_t count,
@@ -299,12 +301,12 @@ static void unknown_keys(void) {
     memset(keys, 0xAA, sizeof keys);
     memset(buffer, 0xAA, sizeof buffer);
     CHECK(is_unknown(iox2sd_config_unknown_str(misspelt, keys, 1, buffer, sizeof buffer),
-                     IOX2SD_BUFFER_TOO_SHORT, 2, LENGTH));
+                     IOX2SD_STATUS_BUFFER_TOO_SHORT, 2, LENGTH));
     CHECK(is_unknown(iox2sd_config_unknown_str(misspelt, keys, 3, buffer, LENGTH - 1),
-                     IOX2SD_BUFFER_TOO_SHORT, 2, LENGTH));
+                     IOX2SD_STATUS_BUFFER_TOO_SHORT, 2, LENGTH));
     CHECK(keys[0].table == 0xAAAAAAAA && buffer[0] == 0xAA);
-    CHECK(is_unknown(iox2sd_config_unknown_str(misspelt, keys, 2, buffer, LENGTH), IOX2SD_DONE, 2,
-                     LENGTH));
+    CHECK(is_unknown(iox2sd_config_unknown_str(misspelt, keys, 2, buffer, LENGTH),
+                     IOX2SD_STATUS_DONE, 2, LENGTH));
     CHECK(memcmp(buffer, paths, LENGTH) == 0 && buffer[LENGTH] == 0xAA);
     CHECK(keys[0].table == IOX2SD_TABLE_GLOBAL && keys[0].key_length == 22);
     CHECK(is_front(keys[0].meant, sizeof keys[0].meant, keys[0].meant_length, ""));
@@ -312,12 +314,12 @@ static void unknown_keys(void) {
     CHECK(keys[1].key_length == LENGTH - 22 && keys[2].table == 0xAAAAAAAA);
     CHECK(is_front(keys[1].meant, sizeof keys[1].meant, keys[1].meant_length,
                    "defaults.publish-subscribe.max-publishers"));
-    CHECK(is_unknown(iox2sd_config_unknown_str(all, NULL, 0, NULL, 0), IOX2SD_DONE, 0, 0));
-    CHECK(is_unknown(iox2sd_config_unknown_str(faulty, keys, 3, NULL, 0), IOX2SD_NO_FILE_NAME, 0,
-                     0));
-    CHECK(is_unknown(iox2sd_config_unknown_str(NULL, NULL, 0, NULL, 0), IOX2SD_NULL, 0, 0));
-    CHECK(is_unknown(iox2sd_config_unknown_str(all, NULL, 1, NULL, 0), IOX2SD_NULL, 0, 0));
-    CHECK(is_unknown(iox2sd_config_unknown_str(all, NULL, 0, NULL, 1), IOX2SD_NULL, 0, 0));
+    CHECK(is_unknown(iox2sd_config_unknown_str(all, NULL, 0, NULL, 0), IOX2SD_STATUS_DONE, 0, 0));
+    CHECK(is_unknown(iox2sd_config_unknown_str(faulty, keys, 3, NULL, 0),
+                     IOX2SD_STATUS_NO_FILE_NAME, 0, 0));
+    CHECK(is_unknown(iox2sd_config_unknown_str(NULL, NULL, 0, NULL, 0), IOX2SD_STATUS_NULL, 0, 0));
+    CHECK(is_unknown(iox2sd_config_unknown_str(all, NULL, 1, NULL, 0), IOX2SD_STATUS_NULL, 0, 0));
+    CHECK(is_unknown(iox2sd_config_unknown_str(all, NULL, 0, NULL, 1), IOX2SD_STATUS_NULL, 0, 0));
 }
 
 /* What writing is refused with, and the field, after which the buffer is as it was. */
@@ -338,25 +340,25 @@ static bool refuses_text(const iox2sd_config *settings, uint32_t status, const c
 
 static void writing(void) {
     static iox2sd_config made, bad;
-    CHECK(iox2sd_config_read_str("", &made).status == IOX2SD_DONE);
+    CHECK(iox2sd_config_read_str("", &made).status == IOX2SD_STATUS_DONE);
     size_t length = iox2sd_config_write(&made, NULL, 0).length;
     CHECK(1000 < length && length < MOST);
     for (size_t capacity = length - 3; capacity <= length + 1; capacity++) {
         memset(out, 0xAA, sizeof out);
         iox2sd_config_write_answer answer = iox2sd_config_write(&made, out, capacity);
         bool fits = capacity >= length;
-        CHECK(answer.status == (fits ? IOX2SD_DONE : IOX2SD_BUFFER_TOO_SHORT));
+        CHECK(answer.status == (fits ? IOX2SD_STATUS_DONE : IOX2SD_STATUS_BUFFER_TOO_SHORT));
         CHECK(answer.length == length && out[length] == 0xAA && (out[0] == '#') == fits);
     }
-    CHECK(refuses(NULL, IOX2SD_NULL, 0));
-    CHECK(iox2sd_config_write(&made, NULL, 1).status == IOX2SD_NULL);
+    CHECK(refuses(NULL, IOX2SD_STATUS_NULL, 0));
+    CHECK(iox2sd_config_write(&made, NULL, 1).status == IOX2SD_STATUS_NULL);
     bad = made;
     set(&bad.texts.service_directory, "\x80");
-    CHECK(refuses_text(&bad, IOX2SD_BAD_PATH, "global.service.directory"));
+    CHECK(refuses_text(&bad, IOX2SD_STATUS_BAD_PATH, "global.service.directory"));
     set(&bad.texts.prefix, "a/b");
-    CHECK(refuses_text(&bad, IOX2SD_BAD_PATH, "global.service.directory"));
+    CHECK(refuses_text(&bad, IOX2SD_STATUS_BAD_PATH, "global.service.directory"));
     bad.texts.service_directory = made.texts.service_directory;
-    CHECK(refuses_text(&bad, IOX2SD_NO_FILE_NAME, "global.prefix"));
+    CHECK(refuses_text(&bad, IOX2SD_STATUS_NO_FILE_NAME, "global.prefix"));
     /* each text in turn, with too many bytes and with a byte that is not allowed */
     static const char *const keys[16] = {
         "global.root-path",
@@ -378,29 +380,29 @@ static void writing(void) {
     };
     for (size_t i = 0; i < 16; i++) {
         const uint32_t status =
-            i == 0 || i == 2 || i == 10 ? IOX2SD_BAD_PATH : IOX2SD_NO_FILE_NAME;
+            i == 0 || i == 2 || i == 10 ? IOX2SD_STATUS_BAD_PATH : IOX2SD_STATUS_NO_FILE_NAME;
         bad = made;
         iox2sd_config_text *const text = &bad.texts.root_path + i;
         text->length = SIZE_MAX;
-        CHECK(refuses_text(&bad, IOX2SD_TOO_LONG, keys[i]));
+        CHECK(refuses_text(&bad, IOX2SD_STATUS_TOO_LONG, keys[i]));
         text->length = 256;
-        CHECK(refuses_text(&bad, IOX2SD_TOO_LONG, keys[i]));
+        CHECK(refuses_text(&bad, IOX2SD_STATUS_TOO_LONG, keys[i]));
         set(text, "\x7f\x80");
         CHECK(refuses_text(&bad, status, keys[i]));
     }
     bad = made;
     bad.request_response.server_allocation_strategy = 3;
-    CHECK(refuses(&bad, IOX2SD_UNKNOWN_STRATEGY, IOX2SD_SERVER_ALLOCATION_STRATEGY));
+    CHECK(refuses(&bad, IOX2SD_STATUS_UNKNOWN_STRATEGY, IOX2SD_FIELD_SERVER_ALLOCATION_STRATEGY));
     bad.event.deadline.is_some = true;
     bad.event.deadline.nanoseconds = 1000000000;
-    CHECK(refuses(&bad, IOX2SD_BAD_DURATION, IOX2SD_DEADLINE));
+    CHECK(refuses(&bad, IOX2SD_STATUS_BAD_DURATION, IOX2SD_FIELD_DEADLINE));
     bad.publish_subscribe.backpressure_strategy = 2;
-    CHECK(refuses(&bad, IOX2SD_UNKNOWN_STRATEGY, IOX2SD_BACKPRESSURE_STRATEGY));
+    CHECK(refuses(&bad, IOX2SD_STATUS_UNKNOWN_STRATEGY, IOX2SD_FIELD_BACKPRESSURE_STRATEGY));
     bad.global.creation_timeout.nanoseconds = 1000000000;
-    CHECK(refuses(&bad, IOX2SD_BAD_DURATION, IOX2SD_CREATION_TIMEOUT));
+    CHECK(refuses(&bad, IOX2SD_STATUS_BAD_DURATION, IOX2SD_FIELD_CREATION_TIMEOUT));
     bad = made;
     bad.blackboard.max_readers = SIZE_MAX;
-    CHECK(refuses(&bad, IOX2SD_NO_TOML_INTEGER, 0));
+    CHECK(refuses(&bad, IOX2SD_STATUS_NO_TOML_INTEGER, 0));
     iox2sd_config_write_answer answer = iox2sd_config_write(&bad, out, MOST);
     CHECK(is_front(answer.key, sizeof answer.key, answer.key_length,
                    "defaults.blackboard.max-readers"));
@@ -432,13 +434,13 @@ static bool is_deep(const char *place) {
     iox2sd_unknown_answer unknown = iox2sd_config_unknown_str(deep, NULL, 0, NULL, 0);
     deep[0] = 0;
     if (place == NULL)
-        return answer.status == IOX2SD_DONE && listed.status == IOX2SD_DONE &&
-               unknown.status != IOX2SD_TOO_DEEP;
+        return answer.status == IOX2SD_STATUS_DONE && listed.status == IOX2SD_STATUS_DONE &&
+               unknown.status != IOX2SD_STATUS_TOO_DEEP;
     sprintf(reason, "%s: tables and arrays are more than 32 deep in one another", place);
-    return answer.status == IOX2SD_TOO_DEEP && has_reason(&answer.fault, reason) &&
+    return answer.status == IOX2SD_STATUS_TOO_DEEP && has_reason(&answer.fault, reason) &&
            has_key(&answer.fault, "") && answer.unknown == 0 && is_soiled(&made) &&
-           listed.status == IOX2SD_TOO_DEEP && listed.count == 0 &&
-           unknown.status == IOX2SD_TOO_DEEP && unknown.count == 0;
+           listed.status == IOX2SD_STATUS_TOO_DEEP && listed.count == 0 &&
+           unknown.status == IOX2SD_STATUS_TOO_DEEP && unknown.count == 0;
 }
 
 /* Tables and arrays as deep as they may be, and one deeper. */
@@ -489,9 +491,9 @@ static void depth(void) {
 
 static void nulls(void) {
     static iox2sd_config made;
-    CHECK(iox2sd_config_read_str("", NULL).status == IOX2SD_NULL);
-    CHECK(iox2sd_config_read_str(NULL, &made).status == IOX2SD_NULL);
-    CHECK(iox2sd_config_read(NULL, 1, &made).fault.status == IOX2SD_NULL);
+    CHECK(iox2sd_config_read_str("", NULL).status == IOX2SD_STATUS_NULL);
+    CHECK(iox2sd_config_read_str(NULL, &made).status == IOX2SD_STATUS_NULL);
+    CHECK(iox2sd_config_read(NULL, 1, &made).fault.status == IOX2SD_STATUS_NULL);
 }
 
 /* The library's requests for memory, of which the one that this counts down to is refused, and all
@@ -525,7 +527,7 @@ static uint32_t reads(void) {
 static uint32_t reads_a_fault(void) {
     static iox2sd_config made;
     uint32_t status = iox2sd_config_read_str(faulty, &made).status;
-    return status == IOX2SD_NO_FILE_NAME ? IOX2SD_DONE : status;
+    return status == IOX2SD_STATUS_NO_FILE_NAME ? IOX2SD_STATUS_DONE : status;
 }
 
 static uint32_t lists_faults(void) {
@@ -544,7 +546,7 @@ static uint32_t writes(void) {
     if (made.texts.root_path.length == 0) {
         long was = left;
         left = -1;
-        CHECK(iox2sd_config_read_str("", &made).status == IOX2SD_DONE);
+        CHECK(iox2sd_config_read_str("", &made).status == IOX2SD_STATUS_DONE);
         left = was;
     }
     return iox2sd_config_write(&made, out, MOST).status;
@@ -562,11 +564,11 @@ static void no_memory(uint32_t (*call)(void)) {
             uint32_t status = call();
             left = -1;
             if (!refused) {
-                CHECK(status == IOX2SD_DONE);
+                CHECK(status == IOX2SD_STATUS_DONE);
                 break;
             }
-            CHECK(status == IOX2SD_NO_MEMORY || (!all && status == IOX2SD_DONE));
-            reported += status == IOX2SD_NO_MEMORY;
+            CHECK(status == IOX2SD_STATUS_NO_MEMORY || (!all && status == IOX2SD_STATUS_DONE));
+            reported += status == IOX2SD_STATUS_NO_MEMORY;
         }
         CHECK(0 < reported && request < 10000);
     }
@@ -586,7 +588,7 @@ static void large(void) {
     CHECK(iox2sd_config_read((uint8_t *)text, length, &made).unknown == COUNT);
     CHECK(is_unknown(iox2sd_config_unknown((uint8_t *)text, length, keys, COUNT, buffer,
                                            COUNT * 50),
-                     IOX2SD_DONE, COUNT, COUNT * 44));
+                     IOX2SD_STATUS_DONE, COUNT, COUNT * 44));
     free(text);
     free(keys);
     free(buffer);

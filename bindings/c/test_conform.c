@@ -144,7 +144,7 @@ static void buffers(const char *log, const char *report, uint32_t status, size_t
     CHECK(answers(run(log, MOST), status, line, calls, length) && wrote(report));
     CHECK(answers(run(log, length), status, line, calls, length) && wrote(report));
     for (size_t capacity = 0; capacity < length; capacity++) {
-        CHECK(answers(run(log, capacity), IOX2SD_BUFFER_TOO_SHORT, line, calls, length));
+        CHECK(answers(run(log, capacity), IOX2SD_STATUS_BUFFER_TOO_SHORT, line, calls, length));
         CHECK(wrote(""));
     }
 }
@@ -154,12 +154,12 @@ static void bad_lines(void) {
     static const char service[] = "line 1: the line of a service is expected\n";
     static const char command[] = "line 2: the line of a command is expected\n";
     static const char reply[] = "line 3: the line of a reply is expected\n";
-    buffers("", service, IOX2SD_NO_SERVICE_LINE, 1, 0);
-    buffers("service event 7 2 2 0", service, IOX2SD_NO_SERVICE_LINE, 1, 0);
-    buffers("\xff\n", service, IOX2SD_NO_SERVICE_LINE, 1, 0);
-    buffers("service event 7 2 2 0\nleave\n", command, IOX2SD_NO_COMMAND_LINE, 2, 0);
-    buffers("service event 7 2 2 0\nnodes\nlist\n", reply, IOX2SD_NO_REPLY_LINE, 3, 0);
-    buffers("service event 7 2 2 0\nnodes\n", reply, IOX2SD_NO_REPLY_LINE, 3, 0);
+    buffers("", service, IOX2SD_STATUS_NO_SERVICE_LINE, 1, 0);
+    buffers("service event 7 2 2 0", service, IOX2SD_STATUS_NO_SERVICE_LINE, 1, 0);
+    buffers("\xff\n", service, IOX2SD_STATUS_NO_SERVICE_LINE, 1, 0);
+    buffers("service event 7 2 2 0\nleave\n", command, IOX2SD_STATUS_NO_COMMAND_LINE, 2, 0);
+    buffers("service event 7 2 2 0\nnodes\nlist\n", reply, IOX2SD_STATUS_NO_REPLY_LINE, 3, 0);
+    buffers("service event 7 2 2 0\nnodes\n", reply, IOX2SD_STATUS_NO_REPLY_LINE, 3, 0);
 }
 
 /* Groups that are empty, are cut, have lines of other kinds, or have a ninth call. */
@@ -173,22 +173,22 @@ static void lines_of_groups(void) {
         "line 5: the line of a call of the group, or its end, is expected\n";
     static const char ninth[] = "line 19: the end of the group is expected, which has 8 calls\n";
     static const char command[] = "line 2: the line of a command is expected\n";
-    buffers(GROUP "end\n", "conforms, 0 calls on 1 service\n", IOX2SD_DONE, 0, 0);
-    buffers(GROUP "# a note\n" CALL "\nend\n", "conforms, 1 calls on 1 service\n", IOX2SD_DONE, 0,
-            1);
-    buffers(GROUP, third, IOX2SD_NO_GROUP_LINE, 3, 0);
-    buffers(GROUP "nodes\n= list\nend\n", third, IOX2SD_NO_GROUP_LINE, 3, 0);
-    buffers(GROUP "a: nodes\n= list\nend\n", third, IOX2SD_NO_GROUP_LINE, 3, 0);
-    buffers(GROUP "7: A: nodes\n= list\nend\n", third, IOX2SD_NO_GROUP_LINE, 3, 0);
-    buffers(GROUP "A: nodes\nend\n", no_reply, IOX2SD_NO_REPLY_LINE, 4, 0);
-    buffers(GROUP CALL, fifth, IOX2SD_NO_GROUP_LINE, 5, 0);
-    buffers(GROUP CALL "end", fifth, IOX2SD_NO_GROUP_LINE, 5, 0);
+    buffers(GROUP "end\n", "conforms, 0 calls on 1 service\n", IOX2SD_STATUS_DONE, 0, 0);
+    buffers(GROUP "# a note\n" CALL "\nend\n", "conforms, 1 calls on 1 service\n",
+            IOX2SD_STATUS_DONE, 0, 1);
+    buffers(GROUP, third, IOX2SD_STATUS_NO_GROUP_LINE, 3, 0);
+    buffers(GROUP "nodes\n= list\nend\n", third, IOX2SD_STATUS_NO_GROUP_LINE, 3, 0);
+    buffers(GROUP "a: nodes\n= list\nend\n", third, IOX2SD_STATUS_NO_GROUP_LINE, 3, 0);
+    buffers(GROUP "7: A: nodes\n= list\nend\n", third, IOX2SD_STATUS_NO_GROUP_LINE, 3, 0);
+    buffers(GROUP "A: nodes\nend\n", no_reply, IOX2SD_STATUS_NO_REPLY_LINE, 4, 0);
+    buffers(GROUP CALL, fifth, IOX2SD_STATUS_NO_GROUP_LINE, 5, 0);
+    buffers(GROUP CALL "end", fifth, IOX2SD_STATUS_NO_GROUP_LINE, 5, 0);
     buffers(GROUP CALL CALL CALL CALL CALL CALL CALL CALL "end\n",
-            "conforms, 8 calls on 1 service\n", IOX2SD_DONE, 0, 8);
-    buffers(GROUP CALL CALL CALL CALL CALL CALL CALL CALL CALL "end\n", ninth, IOX2SD_NO_GROUP_END,
-            19, 0);
-    buffers("service event 7 2 2 0\nend\n", command, IOX2SD_NO_COMMAND_LINE, 2, 0);
-    buffers("service event 7 2 2 0\noverlap", command, IOX2SD_NO_COMMAND_LINE, 2, 0);
+            "conforms, 8 calls on 1 service\n", IOX2SD_STATUS_DONE, 0, 8);
+    buffers(GROUP CALL CALL CALL CALL CALL CALL CALL CALL CALL "end\n", ninth,
+            IOX2SD_STATUS_NO_GROUP_END, 19, 0);
+    buffers("service event 7 2 2 0\nend\n", command, IOX2SD_STATUS_NO_COMMAND_LINE, 2, 0);
+    buffers("service event 7 2 2 0\noverlap", command, IOX2SD_STATUS_NO_COMMAND_LINE, 2, 0);
 #undef GROUP
 #undef CALL
 }
@@ -203,14 +203,14 @@ static void too_many_states(void) {
                                node, node, node);
     }
     for (int node = 0; node < 7; node++) {
-        if (node == 6) CHECK(answers(run(log, MOST), IOX2SD_DONE, 0, 20, 32));
+        if (node == 6) CHECK(answers(run(log, MOST), IOX2SD_STATUS_DONE, 0, 20, 32));
         at += (size_t)snprintf(log + at, sizeof log - at,
                                "overlap\nA: dead 1.0.0.%d\n= has-owners\n"
                                "B: register 1.0.0.%d\n= handle %d %d\nend\n",
                                node, node, node + 8, node + 8);
     }
     buffers(log, "line 59: orders of the group lead to more than 64 states\n",
-            IOX2SD_TOO_MANY_STATES, 59, 0);
+            IOX2SD_STATUS_TOO_MANY_STATES, 59, 0);
 }
 
 /* The library's requests for memory, of which the one that this counts down to is refused. */
@@ -237,33 +237,34 @@ static void no_memory(const char *log, size_t capacity, uint32_t status) {
         bool was_refused = left < 0;
         left = -1;
         if (!was_refused) break;
-        CHECK(answers(answer, IOX2SD_NO_MEMORY, 0, 0, 0) && wrote(""));
+        CHECK(answers(answer, IOX2SD_STATUS_NO_MEMORY, 0, 0, 0) && wrote(""));
     } while (request < 1000);
     CHECK(3 < request && request < 1000 && answer.status == status);
 }
 
 int main(void) {
-    buffers(conforming, conforming_report, IOX2SD_DONE, 0, 3);
-    buffers(two_services, "conforms, 2 calls on 2 services\n", IOX2SD_DONE, 0, 2);
-    buffers(refused, refused_report, IOX2SD_NO_RUN, 9, 0);
-    buffers(one_place, "conforms, 2 calls on 1 service\n", IOX2SD_DONE, 0, 2);
-    buffers(one_of_three, "conforms, 7 calls on 1 service\n", IOX2SD_DONE, 0, 7);
-    buffers(three_states, three_states_report, IOX2SD_NO_RUN, 15, 0);
-    buffers(no_order, no_order_report, IOX2SD_NO_ORDER, 7, 0);
-    buffers(no_order_of_three, no_order_of_three_report, IOX2SD_NO_ORDER, 17, 0);
+    buffers(conforming, conforming_report, IOX2SD_STATUS_DONE, 0, 3);
+    buffers(two_services, "conforms, 2 calls on 2 services\n", IOX2SD_STATUS_DONE, 0, 2);
+    buffers(refused, refused_report, IOX2SD_STATUS_NO_RUN, 9, 0);
+    buffers(one_place, "conforms, 2 calls on 1 service\n", IOX2SD_STATUS_DONE, 0, 2);
+    buffers(one_of_three, "conforms, 7 calls on 1 service\n", IOX2SD_STATUS_DONE, 0, 7);
+    buffers(three_states, three_states_report, IOX2SD_STATUS_NO_RUN, 15, 0);
+    buffers(no_order, no_order_report, IOX2SD_STATUS_NO_ORDER, 7, 0);
+    buffers(no_order_of_three, no_order_of_three_report, IOX2SD_STATUS_NO_ORDER, 17, 0);
     bad_lines();
     lines_of_groups();
     too_many_states();
-    CHECK(answers(iox2sd_conform_run(NULL, 1, out, MOST), IOX2SD_NULL, 0, 0, 0));
-    CHECK(answers(iox2sd_conform_run((const uint8_t *)"", 0, NULL, 1), IOX2SD_NULL, 0, 0, 0));
-    CHECK(answers(iox2sd_conform_run_str(NULL, out, MOST), IOX2SD_NULL, 0, 0, 0));
-    CHECK(answers(iox2sd_conform_run(NULL, 0, NULL, 0), IOX2SD_BUFFER_TOO_SHORT, 1, 0, 42));
-    CHECK(answers(iox2sd_conform_run_str(conforming, out, MOST), IOX2SD_DONE, 0, 3, 31));
-    no_memory(conforming, MOST, IOX2SD_DONE);
-    no_memory(refused, MOST, IOX2SD_NO_RUN);
-    no_memory(refused, 0, IOX2SD_BUFFER_TOO_SHORT);
-    no_memory(one_place, MOST, IOX2SD_DONE);
-    no_memory(three_states, MOST, IOX2SD_NO_RUN);
-    no_memory(no_order_of_three, MOST, IOX2SD_NO_ORDER);
+    CHECK(answers(iox2sd_conform_run(NULL, 1, out, MOST), IOX2SD_STATUS_NULL, 0, 0, 0));
+    CHECK(
+        answers(iox2sd_conform_run((const uint8_t *)"", 0, NULL, 1), IOX2SD_STATUS_NULL, 0, 0, 0));
+    CHECK(answers(iox2sd_conform_run_str(NULL, out, MOST), IOX2SD_STATUS_NULL, 0, 0, 0));
+    CHECK(answers(iox2sd_conform_run(NULL, 0, NULL, 0), IOX2SD_STATUS_BUFFER_TOO_SHORT, 1, 0, 42));
+    CHECK(answers(iox2sd_conform_run_str(conforming, out, MOST), IOX2SD_STATUS_DONE, 0, 3, 31));
+    no_memory(conforming, MOST, IOX2SD_STATUS_DONE);
+    no_memory(refused, MOST, IOX2SD_STATUS_NO_RUN);
+    no_memory(refused, 0, IOX2SD_STATUS_BUFFER_TOO_SHORT);
+    no_memory(one_place, MOST, IOX2SD_STATUS_DONE);
+    no_memory(three_states, MOST, IOX2SD_STATUS_NO_RUN);
+    no_memory(no_order_of_three, MOST, IOX2SD_STATUS_NO_ORDER);
     return end_of_checks();
 }

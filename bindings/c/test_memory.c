@@ -51,45 +51,46 @@ static void each_request_refused(uint32_t pattern) {
     const iox2sd_capacities room = capacities(2, 3, 4);
     long before = blocks, wanted;
     requests = 0;
-    CHECK(iox2sd_service_create(&service, pattern, 5, room, 9) == IOX2SD_DONE);
+    CHECK(iox2sd_service_create(&service, pattern, 5, room, 9) == IOX2SD_STATUS_DONE);
     wanted = requests;
     CHECK(wanted > 0 && blocks > before);
-    CHECK(iox2sd_service_free(&service) == IOX2SD_DONE && blocks == before);
+    CHECK(iox2sd_service_free(&service) == IOX2SD_STATUS_DONE && blocks == before);
     for (long request = 0; request < wanted; request++) {
         refused = request;
-        CHECK(iox2sd_service_create(&service, pattern, 5, room, 9) == IOX2SD_NO_MEMORY);
+        CHECK(iox2sd_service_create(&service, pattern, 5, room, 9) == IOX2SD_STATUS_NO_MEMORY);
         CHECK(refused == -1 && blocks == before);
-        CHECK(iox2sd_service_free(&service) == IOX2SD_NO_SERVICE);
+        CHECK(iox2sd_service_free(&service) == IOX2SD_STATUS_NO_SERVICE);
     }
     refused = wanted;
-    CHECK(iox2sd_service_create(&service, pattern, 5, room, 9) == IOX2SD_DONE);
+    CHECK(iox2sd_service_create(&service, pattern, 5, room, 9) == IOX2SD_STATUS_DONE);
     /* No other call takes any memory. */
     refused = 0;
-    CHECK(iox2sd_register_node_id(&service, id(1, 2, 3, 4)).status == IOX2SD_DONE);
-    CHECK(iox2sd_remove_dead_node_id(&service, id(1, 2, 3, 4), NULL, 0).status == IOX2SD_DONE_LOCKED);
+    CHECK(iox2sd_register_node_id(&service, id(1, 2, 3, 4)).status == IOX2SD_STATUS_DONE);
+    CHECK(iox2sd_remove_dead_node_id(&service, id(1, 2, 3, 4), NULL, 0).status ==
+          IOX2SD_STATUS_DONE_LOCKED);
     CHECK(refused == 0);
     refused = -1;
-    CHECK(iox2sd_service_free(&service) == IOX2SD_DONE && blocks == before);
+    CHECK(iox2sd_service_free(&service) == IOX2SD_STATUS_DONE && blocks == before);
 }
 
 static void flat_memory(void) {
     iox2sd_service service = IOX2SD_SERVICE_NONE;
     iox2sd_id stays = id(9, 9, 9, 9), node = id(1, 2, 3, 4);
     long bad = 0;
-    CHECK(iox2sd_service_create(&service, IOX2SD_PUBLISH_SUBSCRIBE, 1, capacities(20, 2, 8),
-                              UINT64_MAX) == IOX2SD_DONE);
-    CHECK(iox2sd_register_node_id(&service, stays).status == IOX2SD_DONE);
+    CHECK(iox2sd_service_create(&service, IOX2SD_PATTERN_PUBLISH_SUBSCRIBE, 1, capacities(20, 2, 8),
+                              UINT64_MAX) == IOX2SD_STATUS_DONE);
+    CHECK(iox2sd_register_node_id(&service, stays).status == IOX2SD_STATUS_DONE);
     size_t in_use = mallinfo2().uordblks;
     long before = requests;
     for (uint32_t i = 0; i < 5000000; i++) {
         node.counter = i;
         iox2sd_handle_answer made = iox2sd_register_node_id(&service, node);
-        bad += made.status != IOX2SD_DONE || made.handle.ticket != (uint64_t)i + 1;
-        bad += iox2sd_deregister_node_id(&service, made.handle) != IOX2SD_DONE;
+        bad += made.status != IOX2SD_STATUS_DONE || made.handle.ticket != (uint64_t)i + 1;
+        bad += iox2sd_deregister_node_id(&service, made.handle) != IOX2SD_STATUS_DONE;
     }
     CHECK(bad == 0);
     CHECK(mallinfo2().uordblks == in_use && requests == before);
-    CHECK(iox2sd_service_free(&service) == IOX2SD_DONE);
+    CHECK(iox2sd_service_free(&service) == IOX2SD_STATUS_DONE);
 }
 
 int main(void) {

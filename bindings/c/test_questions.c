@@ -65,13 +65,13 @@ enum { FIRST = 3, SECOND = 2, NODES = 2, PATTERNS = 4, ROLES = 11 };
 
 enum state { NONE, EMPTY, FULL, LOCKED, STATES };
 
-/* The roles that there are, one that is not, and IOX2SD_NO_ROLE. */
-static uint64_t role_at(size_t i) { return i < ROLES - 1 ? i : IOX2SD_NO_ROLE; }
+/* The roles that there are, one that is not, and IOX2SD_ROLE_NONE. */
+static uint64_t role_at(size_t i) { return i < ROLES - 1 ? i : IOX2SD_ROLE_NONE; }
 
-static const uint64_t first_role[PATTERNS] = {IOX2SD_PUBLISHER, IOX2SD_LISTENER, IOX2SD_SERVER,
-                                              IOX2SD_READER};
-static const uint64_t second_role[PATTERNS] = {IOX2SD_SUBSCRIBER, IOX2SD_NOTIFIER, IOX2SD_CLIENT,
-                                               IOX2SD_WRITER};
+static const uint64_t first_role[PATTERNS] = {IOX2SD_ROLE_PUBLISHER, IOX2SD_ROLE_LISTENER,
+                                              IOX2SD_ROLE_SERVER, IOX2SD_ROLE_READER};
+static const uint64_t second_role[PATTERNS] = {IOX2SD_ROLE_SUBSCRIBER, IOX2SD_ROLE_NOTIFIER,
+                                               IOX2SD_ROLE_CLIENT, IOX2SD_ROLE_WRITER};
 
 static iox2sd_id node_id(size_t i) { return id(1, 2, 3, (uint32_t)i + 1); }
 
@@ -81,7 +81,7 @@ static iox2sd_handle handles[NODES + FIRST + SECOND + 2];
 enum { HANDLES = sizeof handles / sizeof handles[0] };
 
 static iox2sd_handle handle_of(iox2sd_handle_answer answer) {
-    CHECK(answer.status == IOX2SD_DONE);
+    CHECK(answer.status == IOX2SD_STATUS_DONE);
     return answer.handle;
 }
 
@@ -115,15 +115,15 @@ static iox2sd_service *made(uint32_t pattern, enum state state) {
         handles[i] = none;
         handles[i].slot = i;
     }
-    handles[HANDLES - 1].role = IOX2SD_NODE;
+    handles[HANDLES - 1].role = IOX2SD_ROLE_NODE;
     if (state == NONE) return service;
     CHECK(iox2sd_service_create(service, pattern, 5, capacities(NODES, FIRST, SECOND), 99) ==
-          IOX2SD_DONE);
+          IOX2SD_STATUS_DONE);
     CHECK(used > STEP);
     if (state == FULL) fill(service, pattern);
     if (state == LOCKED) {
         iox2sd_handle handle = handle_of(iox2sd_register_node_id(service, node_id(0)));
-        CHECK(iox2sd_deregister_node_id(service, handle) == IOX2SD_DONE_LOCKED);
+        CHECK(iox2sd_deregister_node_id(service, handle) == IOX2SD_STATUS_DONE_LOCKED);
     }
     return service;
 }
@@ -160,9 +160,10 @@ static uint64_t with_number(uint64_t sum, iox2sd_number_answer answer) {
     return with(with(sum, answer.status), answer.number);
 }
 
-static uint64_t with_ports(uint64_t sum, iox2sd_count_answer answer, const iox2sd_port_details *ports) {
+static uint64_t with_ports(uint64_t sum, iox2sd_count_answer answer,
+                           const iox2sd_port_details *ports) {
     sum = with_count(sum, answer);
-    for (size_t i = 0; answer.status == IOX2SD_DONE && i < answer.count; i++) {
+    for (size_t i = 0; answer.status == IOX2SD_STATUS_DONE && i < answer.count; i++) {
         sum = with_port(sum, &ports[i]);
     }
     return sum;
@@ -199,7 +200,7 @@ static uint64_t asked(const iox2sd_service *service) {
     sum = with_count(sum, iox2sd_nodes(service, NULL, 0));
     iox2sd_count_answer listed = iox2sd_nodes(service, ids, NODES);
     sum = with_count(sum, listed);
-    for (size_t i = 0; listed.status == IOX2SD_DONE && i < listed.count; i++) {
+    for (size_t i = 0; listed.status == IOX2SD_STATUS_DONE && i < listed.count; i++) {
         sum = with_id(sum, ids[i]);
     }
     for (size_t i = 0; i < ROLES; i++) sum = with_role(sum, service, role_at(i));
@@ -215,7 +216,7 @@ static uint64_t asked(const iox2sd_service *service) {
 
 /* What is worked out by hand of a service in this state. */
 static void answers_are_right(const iox2sd_service *service, uint32_t pattern, enum state state) {
-    uint32_t status = state == NONE ? IOX2SD_NO_SERVICE : IOX2SD_DONE;
+    uint32_t status = state == NONE ? IOX2SD_STATUS_NO_SERVICE : IOX2SD_STATUS_DONE;
     bool is_full = state == FULL;
     uint64_t first = first_role[pattern], second = second_role[pattern];
     iox2sd_number_answer kind = iox2sd_messaging_pattern(service);
@@ -228,9 +229,9 @@ static void answers_are_right(const iox2sd_service *service, uint32_t pattern, e
     CHECK(iox2sd_count_ports(service, second).count == (is_full ? SECOND : 0));
     CHECK(iox2sd_ports_of(service, node_id(0), NULL, 0).count == (is_full ? 3 : 0));
     for (size_t i = 0; i < HANDLES; i++) {
-        CHECK((iox2sd_node(service, handles[i]).status == IOX2SD_DONE) ==
+        CHECK((iox2sd_node(service, handles[i]).status == IOX2SD_STATUS_DONE) ==
               (is_full && i < NODES));
-        CHECK((iox2sd_port(service, handles[i]).status == IOX2SD_DONE) ==
+        CHECK((iox2sd_port(service, handles[i]).status == IOX2SD_STATUS_DONE) ==
               (is_full && NODES <= i && i < NODES + FIRST + SECOND));
     }
 }
@@ -241,7 +242,7 @@ static bool change_is_stopped(iox2sd_service *service) {
     pid_t child = fork();
     if (child == 0) {
         signal(SIGSEGV, SIG_DFL);
-        _exit(iox2sd_register_node_id(service, node_id(0)).status == IOX2SD_DONE ? 0 : 1);
+        _exit(iox2sd_register_node_id(service, node_id(0)).status == IOX2SD_STATUS_DONE ? 0 : 1);
     }
     return child > 0 && waitpid(child, &status, 0) == child && WIFSIGNALED(status) &&
            WTERMSIG(status) == SIGSEGV;
@@ -288,7 +289,8 @@ static void questions_only_read(uint32_t pattern, enum state state) {
     CHECK(memcmp(before, pages, SIZE) == 0);
     if (state == EMPTY) CHECK(change_is_stopped(service));
     CHECK(mprotect(pages, SIZE, PROT_READ | PROT_WRITE) == 0);
-    CHECK(iox2sd_service_free(service) == (state == NONE ? IOX2SD_NO_SERVICE : IOX2SD_DONE));
+    CHECK(iox2sd_service_free(service) ==
+          (state == NONE ? IOX2SD_STATUS_NO_SERVICE : IOX2SD_STATUS_DONE));
 }
 
 int main(void) {

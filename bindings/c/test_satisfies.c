@@ -18,30 +18,32 @@ static void publish_subscribe(void) {
                                &required.history_size,
                                &required.subscriber_max_buffer_size,
                                &required.subscriber_max_borrowed_samples};
-    const uint32_t fields[] = {IOX2SD_MAX_SUBSCRIBERS,
-                               IOX2SD_MAX_PUBLISHERS,
-                               IOX2SD_MAX_NODES,
-                               IOX2SD_HISTORY_SIZE,
-                               IOX2SD_SUBSCRIBER_MAX_BUFFER_SIZE,
-                               IOX2SD_SUBSCRIBER_MAX_BORROWED_SAMPLES};
-    CHECK(is_field(iox2sd_publish_subscribe_satisfies(&service, &required), IOX2SD_DONE, 0));
+    const uint32_t fields[] = {IOX2SD_FIELD_MAX_SUBSCRIBERS,
+                               IOX2SD_FIELD_MAX_PUBLISHERS,
+                               IOX2SD_FIELD_MAX_NODES,
+                               IOX2SD_FIELD_HISTORY_SIZE,
+                               IOX2SD_FIELD_SUBSCRIBER_MAX_BUFFER_SIZE,
+                               IOX2SD_FIELD_SUBSCRIBER_MAX_BORROWED_SAMPLES};
+    CHECK(is_field(iox2sd_publish_subscribe_satisfies(&service, &required), IOX2SD_STATUS_DONE, 0));
     for (size_t i = 0; i < 6; i++) {
         *numbers[i] = 6;
-        CHECK(is_field(iox2sd_publish_subscribe_satisfies(&service, &required), IOX2SD_UNMET,
+        CHECK(is_field(iox2sd_publish_subscribe_satisfies(&service, &required), IOX2SD_STATUS_UNMET,
                        fields[i]));
-        CHECK(is_field(iox2sd_publish_subscribe_satisfies(&required, &service), IOX2SD_DONE, 0));
+        CHECK(is_field(iox2sd_publish_subscribe_satisfies(&required, &service), IOX2SD_STATUS_DONE,
+                       0));
         *numbers[i] = 4;
-        CHECK(is_field(iox2sd_publish_subscribe_satisfies(&service, &required), IOX2SD_DONE, 0));
+        CHECK(is_field(iox2sd_publish_subscribe_satisfies(&service, &required), IOX2SD_STATUS_DONE,
+                       0));
         *numbers[i] = 5;
     }
     required.enable_safe_overflow = false;
-    CHECK(is_field(iox2sd_publish_subscribe_satisfies(&service, &required), IOX2SD_UNMET,
-                   IOX2SD_ENABLE_SAFE_OVERFLOW));
+    CHECK(is_field(iox2sd_publish_subscribe_satisfies(&service, &required), IOX2SD_STATUS_UNMET,
+                   IOX2SD_FIELD_ENABLE_SAFE_OVERFLOW));
     required.max_nodes = 6;
-    CHECK(is_field(iox2sd_publish_subscribe_satisfies(&service, &required), IOX2SD_UNMET,
-                   IOX2SD_MAX_NODES));
-    CHECK(is_field(iox2sd_publish_subscribe_satisfies(NULL, &required), IOX2SD_NULL, 0));
-    CHECK(is_field(iox2sd_publish_subscribe_satisfies(&service, NULL), IOX2SD_NULL, 0));
+    CHECK(is_field(iox2sd_publish_subscribe_satisfies(&service, &required), IOX2SD_STATUS_UNMET,
+                   IOX2SD_FIELD_MAX_NODES));
+    CHECK(is_field(iox2sd_publish_subscribe_satisfies(NULL, &required), IOX2SD_STATUS_NULL, 0));
+    CHECK(is_field(iox2sd_publish_subscribe_satisfies(&service, NULL), IOX2SD_STATUS_NULL, 0));
 }
 
 static void event(void) {
@@ -50,40 +52,45 @@ static void event(void) {
     iox2sd_event_config required = service;
     size_t *const numbers[] = {&required.max_notifiers, &required.max_listeners,
                                &required.max_nodes, &required.event_id_max_value};
-    const uint32_t fields[] = {IOX2SD_MAX_NOTIFIERS, IOX2SD_MAX_LISTENERS, IOX2SD_MAX_NODES,
-                               IOX2SD_EVENT_ID_MAX_VALUE};
+    const uint32_t fields[] = {IOX2SD_FIELD_MAX_NOTIFIERS, IOX2SD_FIELD_MAX_LISTENERS,
+                               IOX2SD_FIELD_MAX_NODES, IOX2SD_FIELD_EVENT_ID_MAX_VALUE};
     iox2sd_optional_event_id *const events[] = {&required.notifier_created_event,
                                                 &required.notifier_dropped_event,
                                                 &required.notifier_dead_event};
-    const uint32_t numbered[] = {IOX2SD_NOTIFIER_CREATED_EVENT, IOX2SD_NOTIFIER_DROPPED_EVENT,
-                                 IOX2SD_NOTIFIER_DEAD_EVENT};
-    CHECK(is_field(iox2sd_event_satisfies(&service, &required), IOX2SD_DONE, 0));
+    const uint32_t numbered[] = {IOX2SD_FIELD_NOTIFIER_CREATED_EVENT,
+                                 IOX2SD_FIELD_NOTIFIER_DROPPED_EVENT,
+                                 IOX2SD_FIELD_NOTIFIER_DEAD_EVENT};
+    CHECK(is_field(iox2sd_event_satisfies(&service, &required), IOX2SD_STATUS_DONE, 0));
     for (size_t i = 0; i < 4; i++) {
         *numbers[i] = 6;
-        CHECK(is_field(iox2sd_event_satisfies(&service, &required), IOX2SD_UNMET, fields[i]));
+        CHECK(
+            is_field(iox2sd_event_satisfies(&service, &required), IOX2SD_STATUS_UNMET, fields[i]));
         *numbers[i] = 4;
-        CHECK(is_field(iox2sd_event_satisfies(&service, &required), IOX2SD_DONE, 0));
+        CHECK(is_field(iox2sd_event_satisfies(&service, &required), IOX2SD_STATUS_DONE, 0));
     }
     for (size_t i = 0; i < 3; i++) {
         const iox2sd_optional_event_id kept = *events[i], other = {3, true};
         *events[i] = other;
-        CHECK(is_field(iox2sd_event_satisfies(&service, &required), IOX2SD_UNMET, numbered[i]));
+        CHECK(is_field(iox2sd_event_satisfies(&service, &required), IOX2SD_STATUS_UNMET,
+                       numbered[i]));
         *events[i] = kept;
     }
     required.notifier_dead_event.number = 9;
-    CHECK(is_field(iox2sd_event_satisfies(&service, &required), IOX2SD_DONE, 0));
+    CHECK(is_field(iox2sd_event_satisfies(&service, &required), IOX2SD_STATUS_DONE, 0));
     required.deadline.nanoseconds = 9;
-    CHECK(is_field(iox2sd_event_satisfies(&service, &required), IOX2SD_UNMET, IOX2SD_DEADLINE));
+    CHECK(is_field(iox2sd_event_satisfies(&service, &required), IOX2SD_STATUS_UNMET,
+                   IOX2SD_FIELD_DEADLINE));
     required.deadline.is_some = false;
-    CHECK(is_field(iox2sd_event_satisfies(&service, &required), IOX2SD_UNMET, IOX2SD_DEADLINE));
+    CHECK(is_field(iox2sd_event_satisfies(&service, &required), IOX2SD_STATUS_UNMET,
+                   IOX2SD_FIELD_DEADLINE));
     required = service;
     required.deadline.nanoseconds = 1000000000;
-    CHECK(is_field(iox2sd_event_satisfies(&service, &required), IOX2SD_BAD_DURATION,
-                   IOX2SD_DEADLINE));
-    CHECK(is_field(iox2sd_event_satisfies(&required, &service), IOX2SD_BAD_DURATION,
-                   IOX2SD_DEADLINE));
-    CHECK(is_field(iox2sd_event_satisfies(NULL, &required), IOX2SD_NULL, 0));
-    CHECK(is_field(iox2sd_event_satisfies(&service, NULL), IOX2SD_NULL, 0));
+    CHECK(is_field(iox2sd_event_satisfies(&service, &required), IOX2SD_STATUS_BAD_DURATION,
+                   IOX2SD_FIELD_DEADLINE));
+    CHECK(is_field(iox2sd_event_satisfies(&required, &service), IOX2SD_STATUS_BAD_DURATION,
+                   IOX2SD_FIELD_DEADLINE));
+    CHECK(is_field(iox2sd_event_satisfies(NULL, &required), IOX2SD_STATUS_NULL, 0));
+    CHECK(is_field(iox2sd_event_satisfies(&service, NULL), IOX2SD_STATUS_NULL, 0));
 }
 
 static void request_response(void) {
@@ -96,52 +103,55 @@ static void request_response(void) {
                                &required.max_clients,
                                &required.max_nodes,
                                &required.max_borrowed_responses_per_pending_response};
-    const uint32_t fields[] = {IOX2SD_MAX_ACTIVE_REQUESTS_PER_CLIENT,
-                               IOX2SD_MAX_LOANED_REQUESTS,
-                               IOX2SD_MAX_RESPONSE_BUFFER_SIZE,
-                               IOX2SD_MAX_SERVERS,
-                               IOX2SD_MAX_CLIENTS,
-                               IOX2SD_MAX_NODES,
-                               IOX2SD_MAX_BORROWED_RESPONSES_PER_PENDING_RESPONSE};
+    const uint32_t fields[] = {IOX2SD_FIELD_MAX_ACTIVE_REQUESTS_PER_CLIENT,
+                               IOX2SD_FIELD_MAX_LOANED_REQUESTS,
+                               IOX2SD_FIELD_MAX_RESPONSE_BUFFER_SIZE,
+                               IOX2SD_FIELD_MAX_SERVERS,
+                               IOX2SD_FIELD_MAX_CLIENTS,
+                               IOX2SD_FIELD_MAX_NODES,
+                               IOX2SD_FIELD_MAX_BORROWED_RESPONSES_PER_PENDING_RESPONSE};
     bool *const flags[] = {&required.enable_safe_overflow_for_requests,
                            &required.enable_safe_overflow_for_responses,
                            &required.enable_fire_and_forget_requests};
-    const uint32_t choices[] = {IOX2SD_ENABLE_SAFE_OVERFLOW_FOR_REQUESTS,
-                                IOX2SD_ENABLE_SAFE_OVERFLOW_FOR_RESPONSES,
-                                IOX2SD_ENABLE_FIRE_AND_FORGET_REQUESTS};
-    CHECK(is_field(iox2sd_request_response_satisfies(&service, &required), IOX2SD_DONE, 0));
+    const uint32_t choices[] = {IOX2SD_FIELD_ENABLE_SAFE_OVERFLOW_FOR_REQUESTS,
+                                IOX2SD_FIELD_ENABLE_SAFE_OVERFLOW_FOR_RESPONSES,
+                                IOX2SD_FIELD_ENABLE_FIRE_AND_FORGET_REQUESTS};
+    CHECK(is_field(iox2sd_request_response_satisfies(&service, &required), IOX2SD_STATUS_DONE, 0));
     for (size_t i = 0; i < 7; i++) {
         *numbers[i] = 6;
-        CHECK(is_field(iox2sd_request_response_satisfies(&service, &required), IOX2SD_UNMET,
+        CHECK(is_field(iox2sd_request_response_satisfies(&service, &required), IOX2SD_STATUS_UNMET,
                        fields[i]));
         *numbers[i] = 4;
-        CHECK(is_field(iox2sd_request_response_satisfies(&service, &required), IOX2SD_DONE, 0));
+        CHECK(is_field(iox2sd_request_response_satisfies(&service, &required), IOX2SD_STATUS_DONE,
+                       0));
     }
     required.max_servers = 6;
     for (size_t i = 0; i < 3; i++) {
         *flags[i] = false;
-        CHECK(is_field(iox2sd_request_response_satisfies(&service, &required), IOX2SD_UNMET,
+        CHECK(is_field(iox2sd_request_response_satisfies(&service, &required), IOX2SD_STATUS_UNMET,
                        choices[i]));
         *flags[i] = true;
     }
-    CHECK(is_field(iox2sd_request_response_satisfies(NULL, &required), IOX2SD_NULL, 0));
-    CHECK(is_field(iox2sd_request_response_satisfies(&service, NULL), IOX2SD_NULL, 0));
+    CHECK(is_field(iox2sd_request_response_satisfies(NULL, &required), IOX2SD_STATUS_NULL, 0));
+    CHECK(is_field(iox2sd_request_response_satisfies(&service, NULL), IOX2SD_STATUS_NULL, 0));
 }
 
 static void blackboard(void) {
     const iox2sd_blackboard_config service = {5, 5, 5};
     iox2sd_blackboard_config required = service;
     size_t *const numbers[] = {&required.max_readers, &required.max_writers, &required.max_nodes};
-    const uint32_t fields[] = {IOX2SD_MAX_READERS, IOX2SD_MAX_WRITERS, IOX2SD_MAX_NODES};
-    CHECK(is_field(iox2sd_blackboard_satisfies(&service, &required), IOX2SD_DONE, 0));
+    const uint32_t fields[] = {IOX2SD_FIELD_MAX_READERS, IOX2SD_FIELD_MAX_WRITERS,
+                               IOX2SD_FIELD_MAX_NODES};
+    CHECK(is_field(iox2sd_blackboard_satisfies(&service, &required), IOX2SD_STATUS_DONE, 0));
     for (size_t i = 0; i < 3; i++) {
         *numbers[i] = 6;
-        CHECK(is_field(iox2sd_blackboard_satisfies(&service, &required), IOX2SD_UNMET, fields[i]));
+        CHECK(is_field(iox2sd_blackboard_satisfies(&service, &required), IOX2SD_STATUS_UNMET,
+                       fields[i]));
         *numbers[i] = 4;
-        CHECK(is_field(iox2sd_blackboard_satisfies(&service, &required), IOX2SD_DONE, 0));
+        CHECK(is_field(iox2sd_blackboard_satisfies(&service, &required), IOX2SD_STATUS_DONE, 0));
     }
-    CHECK(is_field(iox2sd_blackboard_satisfies(NULL, &required), IOX2SD_NULL, 0));
-    CHECK(is_field(iox2sd_blackboard_satisfies(&service, NULL), IOX2SD_NULL, 0));
+    CHECK(is_field(iox2sd_blackboard_satisfies(NULL, &required), IOX2SD_STATUS_NULL, 0));
+    CHECK(is_field(iox2sd_blackboard_satisfies(&service, NULL), IOX2SD_STATUS_NULL, 0));
 }
 
 /* By settings that were filled, and by what is fixed then. */
@@ -201,18 +211,19 @@ static void service_numbers(void) {
     iox2sd_number_answer answer;
     for (uint64_t number = 1; number < 4; number++) {
         answer = iox2sd_next_service_number(&numbers);
-        CHECK(answer.status == IOX2SD_DONE && answer.number == number && numbers.last == number);
+        CHECK(answer.status == IOX2SD_STATUS_DONE && answer.number == number &&
+              numbers.last == number);
     }
     numbers.last = UINT64_MAX - 1;
     answer = iox2sd_next_service_number(&numbers);
-    CHECK(answer.status == IOX2SD_DONE && answer.number == UINT64_MAX);
+    CHECK(answer.status == IOX2SD_STATUS_DONE && answer.number == UINT64_MAX);
     for (int again = 0; again < 2; again++) {
         answer = iox2sd_next_service_number(&numbers);
-        CHECK(answer.status == IOX2SD_OUT_OF_SPACE && answer.number == 0);
+        CHECK(answer.status == IOX2SD_STATUS_OUT_OF_SPACE && answer.number == 0);
         CHECK(numbers.last == UINT64_MAX);
     }
     answer = iox2sd_next_service_number(NULL);
-    CHECK(answer.status == IOX2SD_NULL && answer.number == 0);
+    CHECK(answer.status == IOX2SD_STATUS_NULL && answer.number == 0);
 }
 
 int main(void) {

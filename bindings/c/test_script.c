@@ -50,7 +50,8 @@ static iox2sd_script_answer run(const char *text, size_t capacity) {
 }
 
 static bool answers(iox2sd_script_answer answer, uint32_t status, size_t line, size_t length) {
-    if (answer.status != IOX2SD_BUFFER_TOO_SHORT && answer.verdict != answer.status) return false;
+    if (answer.status != IOX2SD_STATUS_BUFFER_TOO_SHORT && answer.verdict != answer.status)
+        return false;
     return answer.status == status && answer.line == line && answer.length == length;
 }
 
@@ -63,28 +64,30 @@ static bool wrote(const char *text, size_t length) {
 }
 
 static void buffers(void) {
-    CHECK(answers(run(script, MOST), IOX2SD_DONE, 0, LENGTH) && wrote(replies, LENGTH));
-    CHECK(answers(run(script, LENGTH), IOX2SD_DONE, 0, LENGTH) && wrote(replies, LENGTH));
+    CHECK(answers(run(script, MOST), IOX2SD_STATUS_DONE, 0, LENGTH) && wrote(replies, LENGTH));
+    CHECK(answers(run(script, LENGTH), IOX2SD_STATUS_DONE, 0, LENGTH) && wrote(replies, LENGTH));
     for (size_t capacity = 0; capacity < LENGTH; capacity++) {
-        CHECK(answers(run(script, capacity), IOX2SD_BUFFER_TOO_SHORT, 0, LENGTH) && wrote("", 0));
+        CHECK(answers(run(script, capacity), IOX2SD_STATUS_BUFFER_TOO_SHORT, 0, LENGTH) &&
+              wrote("", 0));
     }
     CHECK(answers(iox2sd_script_run((const uint8_t *)script, strlen(script), NULL, 0),
-                  IOX2SD_BUFFER_TOO_SHORT, 0, LENGTH));
-    CHECK(answers(run("service event 7 1 2 2\n", 0), IOX2SD_DONE, 0, 0));
+                  IOX2SD_STATUS_BUFFER_TOO_SHORT, 0, LENGTH));
+    CHECK(answers(run("service event 7 1 2 2\n", 0), IOX2SD_STATUS_DONE, 0, 0));
     memset(out, 0xAA, sizeof out);
-    CHECK(answers(iox2sd_script_run_str(script, out, MOST), IOX2SD_DONE, 0, LENGTH));
+    CHECK(answers(iox2sd_script_run_str(script, out, MOST), IOX2SD_STATUS_DONE, 0, LENGTH));
     CHECK(wrote(replies, LENGTH));
 }
 
 static void bad_lines(void) {
     static const char third[] = "service event 7 1 2 2\nregister 1.0.0.1\nnonsense\nnodes\n";
-    CHECK(answers(iox2sd_script_run(NULL, 0, NULL, 0), IOX2SD_BAD_LINE, 1, 0));
-    CHECK(answers(run(third, MOST), IOX2SD_BAD_LINE, 3, 11) && wrote("handle 0 0\n", 11));
-    CHECK(answers(run(third, 10), IOX2SD_BUFFER_TOO_SHORT, 3, 11) && wrote("", 0));
-    CHECK(answers(run("\xff\xfe\n", MOST), IOX2SD_BAD_LINE, 1, 0) && wrote("", 0));
-    CHECK(answers(run("service event 7 1 2 2", MOST), IOX2SD_BAD_LINE, 1, 0));
-    CHECK(answers(run("service event 7 1 2 2\nregister 0.1.1.0\n", MOST), IOX2SD_BAD_LINE, 2, 0));
-    CHECK(answers(run("service event 7 1 2 2\nlist node\n", MOST), IOX2SD_BAD_LINE, 2, 0));
+    CHECK(answers(iox2sd_script_run(NULL, 0, NULL, 0), IOX2SD_STATUS_BAD_LINE, 1, 0));
+    CHECK(answers(run(third, MOST), IOX2SD_STATUS_BAD_LINE, 3, 11) && wrote("handle 0 0\n", 11));
+    CHECK(answers(run(third, 10), IOX2SD_STATUS_BUFFER_TOO_SHORT, 3, 11) && wrote("", 0));
+    CHECK(answers(run("\xff\xfe\n", MOST), IOX2SD_STATUS_BAD_LINE, 1, 0) && wrote("", 0));
+    CHECK(answers(run("service event 7 1 2 2", MOST), IOX2SD_STATUS_BAD_LINE, 1, 0));
+    CHECK(answers(run("service event 7 1 2 2\nregister 0.1.1.0\n", MOST), IOX2SD_STATUS_BAD_LINE, 2,
+                  0));
+    CHECK(answers(run("service event 7 1 2 2\nlist node\n", MOST), IOX2SD_STATUS_BAD_LINE, 2, 0));
 }
 
 /* The library's requests for memory, of which the one that this counts down to is refused. */
@@ -111,7 +114,8 @@ static void no_memory(void) {
         answer = run(script, MOST);
         bool refused = left < 0;
         left = -1;
-        CHECK(refused ? answer.status == IOX2SD_NO_MEMORY : answer.status == IOX2SD_DONE);
+        CHECK(refused ? answer.status == IOX2SD_STATUS_NO_MEMORY
+                      : answer.status == IOX2SD_STATUS_DONE);
         CHECK(answer.line == 0 && answer.length <= LENGTH && wrote(replies, answer.length));
         CHECK(answer.length == 0 || replies[answer.length - 1] == '\n');
         if (!refused) break;
@@ -131,21 +135,22 @@ static void no_memory_in_a_short_buffer(size_t capacity) {
         left = -1;
         CHECK(answer.line == 0);
         if (!refused) break;
-        CHECK(answer.status == IOX2SD_NO_MEMORY && answer.length <= capacity);
+        CHECK(answer.status == IOX2SD_STATUS_NO_MEMORY && answer.length <= capacity);
         CHECK((answer.length == 0 || answer.length == 11) && wrote(replies, answer.length));
     } while (request < 1000);
     CHECK(3 < request && request < 1000);
-    CHECK(answer.status == IOX2SD_BUFFER_TOO_SHORT && answer.length == LENGTH && wrote("", 0));
+    CHECK(answer.status == IOX2SD_STATUS_BUFFER_TOO_SHORT && answer.length == LENGTH &&
+          wrote("", 0));
 }
 
 int main(void) {
     CHECK(answers(iox2sd_script_run((const uint8_t *)"service event 7 1 1 18446744073709551615\n",
                                     41, out, MOST),
-                  IOX2SD_NO_MEMORY, 0, 0));
-    CHECK(answers(iox2sd_script_run(NULL, 1, out, MOST), IOX2SD_NULL, 0, 0));
-    CHECK(answers(iox2sd_script_run((const uint8_t *)"", 0, NULL, 1), IOX2SD_NULL, 0, 0));
-    CHECK(answers(iox2sd_script_run_str(NULL, out, MOST), IOX2SD_NULL, 0, 0));
-    CHECK(answers(iox2sd_script_run_str("service", NULL, 0), IOX2SD_BAD_LINE, 1, 0));
+                  IOX2SD_STATUS_NO_MEMORY, 0, 0));
+    CHECK(answers(iox2sd_script_run(NULL, 1, out, MOST), IOX2SD_STATUS_NULL, 0, 0));
+    CHECK(answers(iox2sd_script_run((const uint8_t *)"", 0, NULL, 1), IOX2SD_STATUS_NULL, 0, 0));
+    CHECK(answers(iox2sd_script_run_str(NULL, out, MOST), IOX2SD_STATUS_NULL, 0, 0));
+    CHECK(answers(iox2sd_script_run_str("service", NULL, 0), IOX2SD_STATUS_BAD_LINE, 1, 0));
     buffers();
     bad_lines();
     no_memory();

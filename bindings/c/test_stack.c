@@ -103,117 +103,122 @@ static char nested[3][1024];
 #define TEXT(text) (const uint8_t *)(text), strlen(text)
 #define ALL(array) array, sizeof(array) / sizeof(array)[0]
 
-#define CALLS(CALL) \
-    CALL(abi, iox2sd_abi()) \
-    CALL(status_text, iox2sd_status_text_at(2, ALL(out))) \
-    CALL(id_text, iox2sd_id_text_at(node, ALL(out))) \
-    CALL(id_from_text, iox2sd_id_from_text_at(TEXT("00000001000000020000000300000004"))) \
-    CALL(service_create, iox2sd_service_create_at(&made, 1, IOX2SD_REQUEST_RESPONSE, 1, \
-        capacities(2, 2, 2), 9)) \
-    CALL(service_free, iox2sd_service_free_at(&made, 1)) \
-    CALL(register_node_id, iox2sd_register_node_id_at(&service, 1, dead)) \
-    CALL(attach, iox2sd_attach_at(&service, 1, &port, 1)) \
-    CALL(messaging_pattern, iox2sd_messaging_pattern_at(&service, 1)) \
-    CALL(service_number, iox2sd_service_number_at(&service, 1)) \
-    CALL(port_roles, iox2sd_port_roles_at(&service, 1)) \
-    CALL(has_role, iox2sd_has_role_at(&service, 1, IOX2SD_PUBLISHER)) \
-    CALL(is_locked, iox2sd_is_locked_at(&service, 1)) \
-    CALL(number_of_nodes, iox2sd_number_of_nodes_at(&service, 1)) \
-    CALL(max_nodes, iox2sd_max_nodes_at(&service, 1)) \
-    CALL(has_room_for_node, iox2sd_has_room_for_node_at(&service, 1)) \
-    CALL(count_ports, iox2sd_count_ports_at(&service, 1, IOX2SD_PUBLISHER)) \
-    CALL(max_ports, iox2sd_max_ports_at(&service, 1, IOX2SD_PUBLISHER)) \
-    CALL(has_room, iox2sd_has_room_at(&service, 1, IOX2SD_PUBLISHER)) \
-    CALL(node, iox2sd_node_at(&service, 1, node_handle)) \
-    CALL(port, iox2sd_port_at(&service, 1, port_handle)) \
-    CALL(nodes, iox2sd_nodes_at(&service, 1, ALL(ids))) \
-    CALL(ports, iox2sd_ports_at(&service, 1, IOX2SD_SUBSCRIBER, ALL(ports))) \
-    CALL(ports_of, iox2sd_ports_of_at(&service, 1, node, ALL(ports))) \
-    CALL(release_port, iox2sd_release_port_at(&service, 1, port_handle)) \
-    CALL(remove_dead_node_id, iox2sd_remove_dead_node_id_at(&service, 1, dead, kept, 4)) \
-    CALL(deregister_node_id, iox2sd_deregister_node_id_at(&service, 1, node_handle)) \
-    CALL(service_name_check, iox2sd_service_name_check_at(ALL(name))) \
-    CALL(internal_service_name_check, iox2sd_internal_service_name_check_at(ALL(name))) \
-    CALL(attribute_key_check, iox2sd_attribute_key_check_at(name, 64)) \
-    CALL(attribute_value_check, iox2sd_attribute_value_check_at(ALL(value))) \
-    CALL(path_check, iox2sd_path_check_at(ALL(name))) \
-    CALL(file_name_check, iox2sd_file_name_check_at(ALL(name))) \
-    CALL(file_path_check, iox2sd_file_path_check_at(ALL(name))) \
-    CALL(restricted_file_name_check, iox2sd_restricted_file_name_check_at(ALL(name))) \
-    CALL(has_iox2_prefix, iox2sd_has_iox2_prefix_at(ALL(name))) \
-    CALL(internal_service_name, iox2sd_internal_service_name_at(name, 200, ALL(out))) \
-    CALL(path_add_path_entry, iox2sd_path_add_path_entry_at(ALL(path), ALL(path), ALL(out))) \
-    CALL(file_path_from_path_and_file, iox2sd_file_path_from_path_and_file_at(ALL(path), \
-        ALL(path), ALL(out))) \
-    CALL(hash_text, iox2sd_hash_text_at(IOX2SD_EVENT, ALL(name), ALL(out))) \
-    CALL(internal_hash_text, iox2sd_internal_hash_text_at(IOX2SD_EVENT, name, 200, ALL(out))) \
-    CALL(default_text_root, iox2sd_default_text_at(IOX2SD_ROOT_PATH, ALL(out))) \
-    CALL(default_text_service, iox2sd_default_text_at(IOX2SD_DATA_SEGMENT_SUFFIX, ALL(out))) \
-    CALL(default_text_node, iox2sd_default_text_at(IOX2SD_GLOBAL_MGMT_SUFFIX, ALL(out))) \
-    CALL(default_text_file, iox2sd_default_text_at(IOX2SD_USER_CONFIG_FILE_PATH, ALL(out))) \
-    CALL(service_dir, iox2sd_service_dir_at(ALL(path), ALL(out))) \
-    CALL(node_dir, iox2sd_node_dir_at(ALL(path), ALL(out))) \
-    CALL(version, iox2sd_version_at(ALL(out))) \
-    CALL(layer_version, iox2sd_layer_version_at(ALL(out))) \
-    CALL(attributes_check, iox2sd_attributes_check_at(ALL(pairs))) \
-    CALL(attributes_sort, iox2sd_attributes_sort_at(ALL(pairs))) \
-    CALL(attributes_number_of_key_values, iox2sd_attributes_number_of_key_values_at(ALL(pairs), \
-        name, 64)) \
-    CALL(attributes_key_value, iox2sd_attributes_key_value_at(ALL(pairs), name, 64, 3, ALL(out))) \
-    CALL(attributes_verify, iox2sd_attributes_verify_at(ALL(pairs), pairs, 15, &key, 1)) \
-    CALL(type_detail_check, iox2sd_type_detail_check_at(&details.payload, 1)) \
-    CALL(message_sample_layout, iox2sd_message_sample_layout_at(&details, 1, 4)) \
-    CALL(message_places, iox2sd_message_places_at(&details, 1, 64)) \
-    CALL(message_is_compatible_to, iox2sd_message_is_compatible_to_at(&details, 1, &details, 1)) \
-    CALL(required_samples, samples = iox2sd_required_amount_of_samples_per_data_segment( \
-        1, 2, 3, 4, 5)) \
-    CALL(required_client_chunks, \
-        samples = iox2sd_required_amount_of_chunks_per_client_data_segment(1, 2, 3)) \
-    CALL(required_server_chunks, \
-        samples = iox2sd_required_amount_of_chunks_per_server_data_segment(1, 2, 3, 4, 5)) \
-    CALL(has_same_messaging_pattern, same = iox2sd_has_same_messaging_pattern(1, 2)) \
-    CALL(global_settings_check, iox2sd_global_settings_check_at(&global, 1)) \
-    CALL(publish_subscribe_settings_check, \
-        iox2sd_publish_subscribe_settings_check_at(&publish_subscribe, 1)) \
-    CALL(event_settings_check, iox2sd_event_settings_check_at(&event, 1)) \
-    CALL(request_response_settings_check, \
-        iox2sd_request_response_settings_check_at(&request_response, 1)) \
-    CALL(describe_publish_subscribe, iox2sd_describe_publish_subscribe_at(&publish_subscribe, 1, \
-        ALL(name), false, node, &described, 1)) \
-    CALL(describe_event, iox2sd_describe_event_at(&event, 1, ALL(name), false, node, &described, \
-        1)) \
-    CALL(describe_request_response, iox2sd_describe_request_response_at(&request_response, 1, \
-        ALL(name), false, node, &described, 1)) \
-    CALL(describe_blackboard, iox2sd_describe_blackboard_at(&blackboard, 1, ALL(name), false, \
-        node, &described, 1)) \
-    CALL(next_service_number, iox2sd_next_service_number_at(&numbers, 1)) \
-    CALL(publish_subscribe_satisfies, iox2sd_publish_subscribe_satisfies_at( \
-        &publish_subscribe_config, 1, &publish_subscribe_config, 1)) \
-    CALL(event_satisfies, iox2sd_event_satisfies_at(&event_config, 1, &event_config, 1)) \
-    CALL(request_response_satisfies, iox2sd_request_response_satisfies_at( \
-        &request_response_config, 1, &request_response_config, 1)) \
-    CALL(blackboard_satisfies, iox2sd_blackboard_satisfies_at(&blackboard_config, 1, \
-        &blackboard_config, 1)) \
-    CALL(publish_subscribe_capacities, \
-        iox2sd_publish_subscribe_capacities_of_settings_at(&publish_subscribe, 1)) \
-    CALL(event_capacities, iox2sd_event_capacities_of_settings_at(&event, 1)) \
-    CALL(request_response_capacities, \
-        iox2sd_request_response_capacities_of_settings_at(&request_response, 1)) \
-    CALL(blackboard_capacities, iox2sd_blackboard_capacities_of_settings_at(&blackboard, 1)) \
-    CALL(id_is_node, iox2sd_id_is_node(node)) \
-    CALL(id_owner_id, iox2sd_id_owner_id(node)) \
-    CALL(id_is_before, iox2sd_id_is_before(node, dead)) \
-    CALL(samples_of, samples = iox2sd_samples_of(&publish_subscribe)) \
-    CALL(responses_of, samples = iox2sd_responses_of(&request_response)) \
-    CALL(open_check, reason = iox2sd_open_check(&offer, &required)) \
-    CALL(open_text, text = iox2sd_open_text(reason, ALL(out))) \
-    CALL(global_defaults, iox2sd_global_defaults()) \
-    CALL(publish_subscribe_defaults, iox2sd_publish_subscribe_defaults()) \
-    CALL(event_defaults, iox2sd_event_defaults()) \
-    CALL(request_response_defaults, iox2sd_request_response_defaults()) \
-    CALL(blackboard_defaults, iox2sd_blackboard_defaults()) \
-    CALL(script_run, iox2sd_script_run_at(TEXT(script), ALL(out))) \
-    CALL(script_run_short, iox2sd_script_run_at(TEXT(script), out, 1)) \
+#define CALLS(CALL)                                                                                \
+    CALL(abi, iox2sd_abi())                                                                        \
+    CALL(status_text, iox2sd_status_text_at(2, ALL(out)))                                          \
+    CALL(id_text, iox2sd_id_text_at(node, ALL(out)))                                               \
+    CALL(id_from_text, iox2sd_id_from_text_at(TEXT("00000001000000020000000300000004")))           \
+    CALL(service_create, iox2sd_service_create_at(&made, 1, IOX2SD_PATTERN_REQUEST_RESPONSE, 1,    \
+                                                  capacities(2, 2, 2), 9))                         \
+    CALL(service_free, iox2sd_service_free_at(&made, 1))                                           \
+    CALL(register_node_id, iox2sd_register_node_id_at(&service, 1, dead))                          \
+    CALL(attach, iox2sd_attach_at(&service, 1, &port, 1))                                          \
+    CALL(messaging_pattern, iox2sd_messaging_pattern_at(&service, 1))                              \
+    CALL(service_number, iox2sd_service_number_at(&service, 1))                                    \
+    CALL(port_roles, iox2sd_port_roles_at(&service, 1))                                            \
+    CALL(has_role, iox2sd_has_role_at(&service, 1, IOX2SD_ROLE_PUBLISHER))                         \
+    CALL(is_locked, iox2sd_is_locked_at(&service, 1))                                              \
+    CALL(number_of_nodes, iox2sd_number_of_nodes_at(&service, 1))                                  \
+    CALL(max_nodes, iox2sd_max_nodes_at(&service, 1))                                              \
+    CALL(has_room_for_node, iox2sd_has_room_for_node_at(&service, 1))                              \
+    CALL(count_ports, iox2sd_count_ports_at(&service, 1, IOX2SD_ROLE_PUBLISHER))                   \
+    CALL(max_ports, iox2sd_max_ports_at(&service, 1, IOX2SD_ROLE_PUBLISHER))                       \
+    CALL(has_room, iox2sd_has_room_at(&service, 1, IOX2SD_ROLE_PUBLISHER))                         \
+    CALL(node, iox2sd_node_at(&service, 1, node_handle))                                           \
+    CALL(port, iox2sd_port_at(&service, 1, port_handle))                                           \
+    CALL(nodes, iox2sd_nodes_at(&service, 1, ALL(ids)))                                            \
+    CALL(ports, iox2sd_ports_at(&service, 1, IOX2SD_ROLE_SUBSCRIBER, ALL(ports)))                  \
+    CALL(ports_of, iox2sd_ports_of_at(&service, 1, node, ALL(ports)))                              \
+    CALL(release_port, iox2sd_release_port_at(&service, 1, port_handle))                           \
+    CALL(remove_dead_node_id, iox2sd_remove_dead_node_id_at(&service, 1, dead, kept, 4))           \
+    CALL(deregister_node_id, iox2sd_deregister_node_id_at(&service, 1, node_handle))               \
+    CALL(service_name_check, iox2sd_service_name_check_at(ALL(name)))                              \
+    CALL(internal_service_name_check, iox2sd_internal_service_name_check_at(ALL(name)))            \
+    CALL(attribute_key_check, iox2sd_attribute_key_check_at(name, 64))                             \
+    CALL(attribute_value_check, iox2sd_attribute_value_check_at(ALL(value)))                       \
+    CALL(path_check, iox2sd_path_check_at(ALL(name)))                                              \
+    CALL(file_name_check, iox2sd_file_name_check_at(ALL(name)))                                    \
+    CALL(file_path_check, iox2sd_file_path_check_at(ALL(name)))                                    \
+    CALL(restricted_file_name_check, iox2sd_restricted_file_name_check_at(ALL(name)))              \
+    CALL(has_iox2_prefix, iox2sd_has_iox2_prefix_at(ALL(name)))                                    \
+    CALL(internal_service_name, iox2sd_internal_service_name_at(name, 200, ALL(out)))              \
+    CALL(path_add_path_entry, iox2sd_path_add_path_entry_at(ALL(path), ALL(path), ALL(out)))       \
+    CALL(file_path_from_path_and_file,                                                             \
+         iox2sd_file_path_from_path_and_file_at(ALL(path), ALL(path), ALL(out)))                   \
+    CALL(hash_text, iox2sd_hash_text_at(IOX2SD_PATTERN_EVENT, ALL(name), ALL(out)))                \
+    CALL(internal_hash_text,                                                                       \
+         iox2sd_internal_hash_text_at(IOX2SD_PATTERN_EVENT, name, 200, ALL(out)))                  \
+    CALL(default_text_root, iox2sd_default_text_at(IOX2SD_TEXT_ROOT_PATH, ALL(out)))               \
+    CALL(default_text_service, iox2sd_default_text_at(IOX2SD_TEXT_DATA_SEGMENT_SUFFIX, ALL(out)))  \
+    CALL(default_text_node, iox2sd_default_text_at(IOX2SD_TEXT_GLOBAL_MGMT_SUFFIX, ALL(out)))      \
+    CALL(default_text_file, iox2sd_default_text_at(IOX2SD_TEXT_USER_CONFIG_FILE_PATH, ALL(out)))   \
+    CALL(service_dir, iox2sd_service_dir_at(ALL(path), ALL(out)))                                  \
+    CALL(node_dir, iox2sd_node_dir_at(ALL(path), ALL(out)))                                        \
+    CALL(version, iox2sd_version_at(ALL(out)))                                                     \
+    CALL(layer_version, iox2sd_layer_version_at(ALL(out)))                                         \
+    CALL(attributes_check, iox2sd_attributes_check_at(ALL(pairs)))                                 \
+    CALL(attributes_sort, iox2sd_attributes_sort_at(ALL(pairs)))                                   \
+    CALL(attributes_number_of_key_values,                                                          \
+         iox2sd_attributes_number_of_key_values_at(ALL(pairs), name, 64))                          \
+    CALL(attributes_key_value, iox2sd_attributes_key_value_at(ALL(pairs), name, 64, 3, ALL(out)))  \
+    CALL(attributes_verify, iox2sd_attributes_verify_at(ALL(pairs), pairs, 15, &key, 1))           \
+    CALL(type_detail_check, iox2sd_type_detail_check_at(&details.payload, 1))                      \
+    CALL(message_sample_layout, iox2sd_message_sample_layout_at(&details, 1, 4))                   \
+    CALL(message_places, iox2sd_message_places_at(&details, 1, 64))                                \
+    CALL(message_is_compatible_to, iox2sd_message_is_compatible_to_at(&details, 1, &details, 1))   \
+    CALL(required_samples,                                                                         \
+         samples = iox2sd_required_amount_of_samples_per_data_segment(1, 2, 3, 4, 5))              \
+    CALL(required_client_chunks,                                                                   \
+         samples = iox2sd_required_amount_of_chunks_per_client_data_segment(1, 2, 3))              \
+    CALL(required_server_chunks,                                                                   \
+         samples = iox2sd_required_amount_of_chunks_per_server_data_segment(1, 2, 3, 4, 5))        \
+    CALL(has_same_messaging_pattern, same = iox2sd_has_same_messaging_pattern(1, 2))               \
+    CALL(global_settings_check, iox2sd_global_settings_check_at(&global, 1))                       \
+    CALL(publish_subscribe_settings_check,                                                         \
+         iox2sd_publish_subscribe_settings_check_at(&publish_subscribe, 1))                        \
+    CALL(event_settings_check, iox2sd_event_settings_check_at(&event, 1))                          \
+    CALL(request_response_settings_check,                                                          \
+         iox2sd_request_response_settings_check_at(&request_response, 1))                          \
+    CALL(describe_publish_subscribe,                                                               \
+         iox2sd_describe_publish_subscribe_at(&publish_subscribe, 1, ALL(name), false, node,       \
+                                              &described, 1))                                      \
+    CALL(describe_event,                                                                           \
+         iox2sd_describe_event_at(&event, 1, ALL(name), false, node, &described, 1))               \
+    CALL(describe_request_response,                                                                \
+         iox2sd_describe_request_response_at(&request_response, 1, ALL(name), false, node,         \
+                                             &described, 1))                                       \
+    CALL(describe_blackboard,                                                                      \
+         iox2sd_describe_blackboard_at(&blackboard, 1, ALL(name), false, node, &described, 1))     \
+    CALL(next_service_number, iox2sd_next_service_number_at(&numbers, 1))                          \
+    CALL(publish_subscribe_satisfies,                                                              \
+         iox2sd_publish_subscribe_satisfies_at(&publish_subscribe_config, 1,                       \
+                                               &publish_subscribe_config, 1))                      \
+    CALL(event_satisfies, iox2sd_event_satisfies_at(&event_config, 1, &event_config, 1))           \
+    CALL(request_response_satisfies,                                                               \
+         iox2sd_request_response_satisfies_at(&request_response_config, 1,                         \
+                                              &request_response_config, 1))                        \
+    CALL(blackboard_satisfies,                                                                     \
+         iox2sd_blackboard_satisfies_at(&blackboard_config, 1, &blackboard_config, 1))             \
+    CALL(publish_subscribe_capacities,                                                             \
+         iox2sd_publish_subscribe_capacities_of_settings_at(&publish_subscribe, 1))                \
+    CALL(event_capacities, iox2sd_event_capacities_of_settings_at(&event, 1))                      \
+    CALL(request_response_capacities,                                                              \
+         iox2sd_request_response_capacities_of_settings_at(&request_response, 1))                  \
+    CALL(blackboard_capacities, iox2sd_blackboard_capacities_of_settings_at(&blackboard, 1))       \
+    CALL(id_is_node, iox2sd_id_is_node(node))                                                      \
+    CALL(id_owner_id, iox2sd_id_owner_id(node))                                                    \
+    CALL(id_is_before, iox2sd_id_is_before(node, dead))                                            \
+    CALL(samples_of, samples = iox2sd_samples_of(&publish_subscribe))                              \
+    CALL(responses_of, samples = iox2sd_responses_of(&request_response))                           \
+    CALL(open_check, reason = iox2sd_open_check(&offer, &required))                                \
+    CALL(open_text, text = iox2sd_open_text(reason, ALL(out)))                                     \
+    CALL(global_defaults, iox2sd_global_defaults())                                                \
+    CALL(publish_subscribe_defaults, iox2sd_publish_subscribe_defaults())                          \
+    CALL(event_defaults, iox2sd_event_defaults())                                                  \
+    CALL(request_response_defaults, iox2sd_request_response_defaults())                            \
+    CALL(blackboard_defaults, iox2sd_blackboard_defaults())                                        \
+    CALL(script_run, iox2sd_script_run_at(TEXT(script), ALL(out)))                                 \
+    CALL(script_run_short, iox2sd_script_run_at(TEXT(script), out, 1))                             \
     CALL(script_run_refused, iox2sd_script_run_at(TEXT(refusals), ALL(out)))
 
 #define CONFORM_CALLS(CALL) \
@@ -333,7 +338,7 @@ static void deep_files(bool told) {
             make_form(form, depths[i]);
             const size_t taken[] = {depth_of(read_deep), depth_of(list_deep), depth_of(name_deep)};
             const iox2sd_config_answer answer = iox2sd_config_read_str(deep, &config);
-            CHECK(answer.status == (depths[i] <= 32 ? IOX2SD_DONE : IOX2SD_TOO_DEEP));
+            CHECK(answer.status == (depths[i] <= 32 ? IOX2SD_STATUS_DONE : IOX2SD_STATUS_TOO_DEEP));
             for (size_t call = 0; call < 3; call++) {
                 CHECK(taken[call] <= IOX2SD_CONFIG_STACK_BYTES);
                 if (taken[call] > most) most = taken[call];
@@ -365,17 +370,17 @@ static void prepare(void) {
     event = iox2sd_event_defaults();
     request_response = iox2sd_request_response_defaults();
     blackboard = iox2sd_blackboard_defaults();
-    CHECK(iox2sd_service_create(&service, IOX2SD_PUBLISH_SUBSCRIBE, 1, capacities(2, 2, 2),
-                                UINT64_MAX) == IOX2SD_DONE);
+    CHECK(iox2sd_service_create(&service, IOX2SD_PATTERN_PUBLISH_SUBSCRIBE, 1, capacities(2, 2, 2),
+                                UINT64_MAX) == IOX2SD_STATUS_DONE);
     node_handle = iox2sd_register_node_id(&service, node).handle;
-    port.role = IOX2SD_SUBSCRIBER;
+    port.role = IOX2SD_ROLE_SUBSCRIBER;
     port.port = id(11, 12, 13, 14);
     port.node = node;
     port_handle = iox2sd_attach(&service, &port).handle;
-    CHECK(iox2sd_config_read(NULL, 0, &config).status == IOX2SD_DONE);
-    kept[0].role = kept[1].role = kept[2].role = kept[3].role = IOX2SD_SUBSCRIBER;
+    CHECK(iox2sd_config_read(NULL, 0, &config).status == IOX2SD_STATUS_DONE);
+    kept[0].role = kept[1].role = kept[2].role = kept[3].role = IOX2SD_ROLE_SUBSCRIBER;
     CHECK(iox2sd_describe_publish_subscribe_str(&publish_subscribe, "a", false, node, &described)
-              .status == IOX2SD_DONE);
+              .status == IOX2SD_STATUS_DONE);
     offer.description = required.description = &described;
     offer.messages = required.messages = &details;
     offer.attributes = required.pairs = pairs;
@@ -396,9 +401,9 @@ int main(int count, char **words) {
         }
     }
     deep_files(told);
-    CHECK(iox2sd_open_check(&offer, &required).status == IOX2SD_DONE);
-    CHECK(iox2sd_script_run_str(script, ALL(out)).status == IOX2SD_DONE);
+    CHECK(iox2sd_open_check(&offer, &required).status == IOX2SD_STATUS_DONE);
+    CHECK(iox2sd_script_run_str(script, ALL(out)).status == IOX2SD_STATUS_DONE);
     CHECK(iox2sd_script_run_str(refusals, ALL(out)).line == 14);
-    CHECK(iox2sd_service_free(&service) == IOX2SD_DONE);
+    CHECK(iox2sd_service_free(&service) == IOX2SD_STATUS_DONE);
     return end_of_checks();
 }

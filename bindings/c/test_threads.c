@@ -7,7 +7,7 @@
 
 static iox2sd_port_details subscriber(iox2sd_id node) {
     iox2sd_port_details made = {0};
-    made.role = IOX2SD_SUBSCRIBER;
+    made.role = IOX2SD_ROLE_SUBSCRIBER;
     made.port = id(11, 12, 13, 14);
     made.node = node;
     return made;
@@ -18,17 +18,17 @@ static long work(iox2sd_service *service, long rounds) {
     long bad = 0;
     iox2sd_id stays = id(9, 9, 9, 9), node = id(1, 2, 3, 4);
     iox2sd_port_details its = subscriber(stays), out[2];
-    bad += iox2sd_register_node_id(service, stays).status != IOX2SD_DONE;
+    bad += iox2sd_register_node_id(service, stays).status != IOX2SD_STATUS_DONE;
     for (long i = 0; i < rounds; i++) {
         node.counter = (uint32_t)i;
         iox2sd_handle_answer made = iox2sd_register_node_id(service, node);
-        bad += made.status != IOX2SD_DONE || made.handle.ticket != (uint64_t)i + 1;
+        bad += made.status != IOX2SD_STATUS_DONE || made.handle.ticket != (uint64_t)i + 1;
         iox2sd_handle_answer attached = iox2sd_attach(service, &its);
-        bad += attached.status != IOX2SD_DONE || attached.handle.ticket != (uint64_t)i;
-        iox2sd_count_answer listed = iox2sd_ports(service, IOX2SD_SUBSCRIBER, out, 2);
-        bad += listed.status != IOX2SD_DONE || listed.count != 1;
-        bad += iox2sd_release_port(service, attached.handle) != IOX2SD_DONE;
-        bad += iox2sd_deregister_node_id(service, made.handle) != IOX2SD_DONE;
+        bad += attached.status != IOX2SD_STATUS_DONE || attached.handle.ticket != (uint64_t)i;
+        iox2sd_count_answer listed = iox2sd_ports(service, IOX2SD_ROLE_SUBSCRIBER, out, 2);
+        bad += listed.status != IOX2SD_STATUS_DONE || listed.count != 1;
+        bad += iox2sd_release_port(service, attached.handle) != IOX2SD_STATUS_DONE;
+        bad += iox2sd_deregister_node_id(service, made.handle) != IOX2SD_STATUS_DONE;
     }
     return bad;
 }
@@ -41,11 +41,11 @@ typedef struct own {
 static void *own_service(void *argument) {
     own *mine = (own *)argument;
     iox2sd_service service = IOX2SD_SERVICE_NONE;
-    mine->bad = iox2sd_service_create(&service, IOX2SD_PUBLISH_SUBSCRIBE, mine->number,
-                                    capacities(20, 2, 8), UINT64_MAX) != IOX2SD_DONE;
+    mine->bad = iox2sd_service_create(&service, IOX2SD_PATTERN_PUBLISH_SUBSCRIBE, mine->number,
+                                    capacities(20, 2, 8), UINT64_MAX) != IOX2SD_STATUS_DONE;
     mine->bad += work(&service, 10000);
     mine->bad += iox2sd_register_node_id(&service, id(1, 2, 3, 4)).handle.service != mine->number;
-    mine->bad += iox2sd_service_free(&service) != IOX2SD_DONE;
+    mine->bad += iox2sd_service_free(&service) != IOX2SD_STATUS_DONE;
     return NULL;
 }
 
@@ -81,7 +81,8 @@ static void *run(void *argument) {
         if (turn < TURNS) {
             iox2sd_id node = id(1, 2, 3, (uint32_t)turn);
             iox2sd_handle_answer made = iox2sd_register_node_id(&shared->service, node);
-            shared->bad += made.status != IOX2SD_DONE || made.handle.ticket != (uint64_t)turn;
+            shared->bad +=
+                made.status != IOX2SD_STATUS_DONE || made.handle.ticket != (uint64_t)turn;
         }
         pthread_mutex_unlock(&shared->mutex);
         if (turn >= TURNS) return NULL;
@@ -91,7 +92,7 @@ static void *run(void *argument) {
 static void *free_it(void *argument) {
     relay *shared = (relay *)argument;
     shared->bad += iox2sd_number_of_nodes(&shared->service).count != TURNS;
-    shared->bad += iox2sd_service_free(&shared->service) != IOX2SD_DONE;
+    shared->bad += iox2sd_service_free(&shared->service) != IOX2SD_STATUS_DONE;
     return NULL;
 }
 
@@ -99,8 +100,8 @@ static void *free_it(void *argument) {
 static void a_service_handed_on(void) {
     relay shared = {PTHREAD_MUTEX_INITIALIZER, 0, IOX2SD_SERVICE_NONE, 0};
     pthread_t runners[RUNNERS], last;
-    CHECK(iox2sd_service_create(&shared.service, IOX2SD_EVENT, 5, capacities(TURNS, 0, 0),
-                              UINT64_MAX) == IOX2SD_DONE);
+    CHECK(iox2sd_service_create(&shared.service, IOX2SD_PATTERN_EVENT, 5, capacities(TURNS, 0, 0),
+                              UINT64_MAX) == IOX2SD_STATUS_DONE);
     for (size_t i = 0; i < RUNNERS; i++) {
         CHECK(pthread_create(&runners[i], NULL, run, &shared) == 0);
     }

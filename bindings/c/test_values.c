@@ -54,13 +54,13 @@ typedef iox2sd_place_answer (*check)(const uint8_t *text, size_t length);
 
 /* What all checks of names of 1 to `most` bytes share. */
 static void name_check(check checks, size_t most) {
-    CHECK(is_place(checks(with_byte(0, 'y'), most), IOX2SD_DONE, 0));
-    CHECK(is_place(checks(with_byte(0, 'y'), 1), IOX2SD_DONE, 0));
-    CHECK(is_place(checks(NULL, 0), IOX2SD_EMPTY, 0));
-    CHECK(is_place(checks(with_byte(3, 0), most + 1), IOX2SD_TOO_LONG, most));
-    CHECK(is_place(checks(with_byte(3, 0), most), IOX2SD_ILLEGAL_BYTE, 3));
-    CHECK(is_place(checks(with_byte(most - 1, 128), most), IOX2SD_ILLEGAL_BYTE, most - 1));
-    CHECK(is_place(checks(with_byte(0, 255), 1), IOX2SD_ILLEGAL_BYTE, 0));
+    CHECK(is_place(checks(with_byte(0, 'y'), most), IOX2SD_STATUS_DONE, 0));
+    CHECK(is_place(checks(with_byte(0, 'y'), 1), IOX2SD_STATUS_DONE, 0));
+    CHECK(is_place(checks(NULL, 0), IOX2SD_STATUS_EMPTY, 0));
+    CHECK(is_place(checks(with_byte(3, 0), most + 1), IOX2SD_STATUS_TOO_LONG, most));
+    CHECK(is_place(checks(with_byte(3, 0), most), IOX2SD_STATUS_ILLEGAL_BYTE, 3));
+    CHECK(is_place(checks(with_byte(most - 1, 128), most), IOX2SD_STATUS_ILLEGAL_BYTE, most - 1));
+    CHECK(is_place(checks(with_byte(0, 255), 1), IOX2SD_STATUS_ILLEGAL_BYTE, 0));
 }
 
 static void checks(void) {
@@ -72,27 +72,31 @@ static void checks(void) {
     name_check(iox2sd_file_path_check, 255);
     name_check(iox2sd_restricted_file_name_check, 64);
 
-    CHECK(is_place(iox2sd_path_check(NULL, 0), IOX2SD_DONE, 0));
-    CHECK(is_place(iox2sd_path_check(with_byte(0, '/'), 255), IOX2SD_DONE, 0));
-    CHECK(is_place(iox2sd_path_check(with_byte(0, 0), 256), IOX2SD_TOO_LONG, 255));
-    CHECK(is_place(iox2sd_path_check(with_byte(9, 128), 255), IOX2SD_ILLEGAL_BYTE, 9));
+    CHECK(is_place(iox2sd_path_check(NULL, 0), IOX2SD_STATUS_DONE, 0));
+    CHECK(is_place(iox2sd_path_check(with_byte(0, '/'), 255), IOX2SD_STATUS_DONE, 0));
+    CHECK(is_place(iox2sd_path_check(with_byte(0, 0), 256), IOX2SD_STATUS_TOO_LONG, 255));
+    CHECK(is_place(iox2sd_path_check(with_byte(9, 128), 255), IOX2SD_STATUS_ILLEGAL_BYTE, 9));
 
-    CHECK(is_place(iox2sd_service_name_check(bytes("iox2://\xff"), 8), IOX2SD_RESERVED_PREFIX, 0));
-    CHECK(is_place(iox2sd_service_name_check(bytes("iox2:/x"), 7), IOX2SD_DONE, 0));
-    CHECK(is_place(iox2sd_internal_service_name_check(bytes("iox2://\xff"), 8), IOX2SD_ILLEGAL_BYTE,
-                   7));
-    CHECK(is_place(iox2sd_internal_service_name_check(bytes("iox2://x"), 8), IOX2SD_DONE, 0));
+    CHECK(is_place(iox2sd_service_name_check(bytes("iox2://\xff"), 8),
+                   IOX2SD_STATUS_RESERVED_PREFIX, 0));
+    CHECK(is_place(iox2sd_service_name_check(bytes("iox2:/x"), 7), IOX2SD_STATUS_DONE, 0));
+    CHECK(is_place(iox2sd_internal_service_name_check(bytes("iox2://\xff"), 8),
+                   IOX2SD_STATUS_ILLEGAL_BYTE, 7));
+    CHECK(
+        is_place(iox2sd_internal_service_name_check(bytes("iox2://x"), 8), IOX2SD_STATUS_DONE, 0));
 
-    CHECK(is_place(iox2sd_file_name_check(bytes("a/b"), 3), IOX2SD_ILLEGAL_BYTE, 1));
-    CHECK(is_place(iox2sd_file_name_check(bytes("."), 1), IOX2SD_NO_FILE_NAME, 0));
-    CHECK(is_place(iox2sd_file_name_check(bytes(".."), 2), IOX2SD_NO_FILE_NAME, 0));
-    CHECK(is_place(iox2sd_file_name_check(bytes("..."), 3), IOX2SD_DONE, 0));
-    CHECK(is_place(iox2sd_file_path_check(bytes("a/b"), 3), IOX2SD_DONE, 0));
-    CHECK(is_place(iox2sd_file_path_check(bytes("a/"), 2), IOX2SD_NO_FILE_NAME, 0));
-    CHECK(is_place(iox2sd_file_path_check(bytes("a/.."), 4), IOX2SD_NO_FILE_NAME, 0));
-    CHECK(is_place(iox2sd_restricted_file_name_check(bytes("aZ9-.:_"), 7), IOX2SD_DONE, 0));
-    CHECK(is_place(iox2sd_restricted_file_name_check(bytes("a b"), 3), IOX2SD_ILLEGAL_BYTE, 1));
-    CHECK(is_place(iox2sd_restricted_file_name_check(bytes(".."), 2), IOX2SD_NO_FILE_NAME, 0));
+    CHECK(is_place(iox2sd_file_name_check(bytes("a/b"), 3), IOX2SD_STATUS_ILLEGAL_BYTE, 1));
+    CHECK(is_place(iox2sd_file_name_check(bytes("."), 1), IOX2SD_STATUS_NO_FILE_NAME, 0));
+    CHECK(is_place(iox2sd_file_name_check(bytes(".."), 2), IOX2SD_STATUS_NO_FILE_NAME, 0));
+    CHECK(is_place(iox2sd_file_name_check(bytes("..."), 3), IOX2SD_STATUS_DONE, 0));
+    CHECK(is_place(iox2sd_file_path_check(bytes("a/b"), 3), IOX2SD_STATUS_DONE, 0));
+    CHECK(is_place(iox2sd_file_path_check(bytes("a/"), 2), IOX2SD_STATUS_NO_FILE_NAME, 0));
+    CHECK(is_place(iox2sd_file_path_check(bytes("a/.."), 4), IOX2SD_STATUS_NO_FILE_NAME, 0));
+    CHECK(is_place(iox2sd_restricted_file_name_check(bytes("aZ9-.:_"), 7), IOX2SD_STATUS_DONE, 0));
+    CHECK(is_place(iox2sd_restricted_file_name_check(bytes("a b"), 3), IOX2SD_STATUS_ILLEGAL_BYTE,
+                   1));
+    CHECK(
+        is_place(iox2sd_restricted_file_name_check(bytes(".."), 2), IOX2SD_STATUS_NO_FILE_NAME, 0));
 }
 
 static void names(void) {
@@ -102,53 +106,58 @@ static void names(void) {
     CHECK(!iox2sd_has_iox2_prefix(NULL, 0));
 
     memset(out, 0xAA, sizeof out);
-    CHECK(
-        is_text(iox2sd_internal_service_name(bytes("ab"), 2, out, 8), IOX2SD_BUFFER_TOO_SHORT, 9));
+    CHECK(is_text(iox2sd_internal_service_name(bytes("ab"), 2, out, 8),
+                  IOX2SD_STATUS_BUFFER_TOO_SHORT, 9));
     CHECK(untouched(out, 0, sizeof out));
-    CHECK(is_text(iox2sd_internal_service_name(bytes("ab"), 2, out, 9), IOX2SD_DONE, 9));
+    CHECK(is_text(iox2sd_internal_service_name(bytes("ab"), 2, out, 9), IOX2SD_STATUS_DONE, 9));
     CHECK(memcmp(out, "iox2://ab", 9) == 0 && untouched(out, 9, sizeof out));
-    CHECK(is_text(iox2sd_internal_service_name(NULL, 0, out, sizeof out), IOX2SD_DONE, 7));
+    CHECK(is_text(iox2sd_internal_service_name(NULL, 0, out, sizeof out), IOX2SD_STATUS_DONE, 7));
     CHECK(is_text(iox2sd_internal_service_name(with_byte(0, 'y'), 248, out, sizeof out),
-                  IOX2SD_DONE, 255));
+                  IOX2SD_STATUS_DONE, 255));
     memset(out, 0xAA, sizeof out);
     CHECK(is_text(iox2sd_internal_service_name(with_byte(0, 0), 249, out, sizeof out),
-                  IOX2SD_TOO_LONG, 0));
+                  IOX2SD_STATUS_TOO_LONG, 0));
     CHECK(is_text(iox2sd_internal_service_name(with_byte(0, 0), 248, out, sizeof out),
-                  IOX2SD_ILLEGAL_BYTE, 0));
+                  IOX2SD_STATUS_ILLEGAL_BYTE, 0));
     CHECK(is_text(iox2sd_internal_service_name(with_byte(0, 255), 249, out, sizeof out),
-                  IOX2SD_NOT_UTF8, 0));
+                  IOX2SD_STATUS_NOT_UTF8, 0));
     CHECK(untouched(out, 0, sizeof out));
 
-    CHECK(is_text(iox2sd_hash_text(IOX2SD_EVENT, bytes("a"), 1, out, 26), IOX2SD_BUFFER_TOO_SHORT,
-                  27));
+    CHECK(is_text(iox2sd_hash_text(IOX2SD_PATTERN_EVENT, bytes("a"), 1, out, 26),
+                  IOX2SD_STATUS_BUFFER_TOO_SHORT, 27));
     CHECK(untouched(out, 0, sizeof out));
-    CHECK(is_text(iox2sd_hash_text(IOX2SD_EVENT, bytes("a"), 1, out, 27), IOX2SD_DONE, 27));
+    CHECK(is_text(iox2sd_hash_text(IOX2SD_PATTERN_EVENT, bytes("a"), 1, out, 27),
+                  IOX2SD_STATUS_DONE, 27));
     CHECK(memcmp(out, "mywygMzqC6QIJwxFGFv7zTYWQjc", 27) == 0 && untouched(out, 27, sizeof out));
-    CHECK(is_text(iox2sd_hash_text(IOX2SD_REQUEST_RESPONSE, bytes("My/Service"), 10, out, 27),
-                  IOX2SD_DONE, 27));
+    CHECK(
+        is_text(iox2sd_hash_text(IOX2SD_PATTERN_REQUEST_RESPONSE, bytes("My/Service"), 10, out, 27),
+                IOX2SD_STATUS_DONE, 27));
     CHECK(memcmp(out, "h8eTEKlg0S7w-piembOTeKmjrxo", 27) == 0);
     memset(out, 0xAA, sizeof out);
+    CHECK(is_text(iox2sd_hash_text(4, bytes("\xff"), 1, out, sizeof out),
+                  IOX2SD_STATUS_UNKNOWN_PATTERN, 0));
+    CHECK(is_text(iox2sd_hash_text(IOX2SD_PATTERN_EVENT, bytes("\xff"), 1, out, sizeof out),
+                  IOX2SD_STATUS_NOT_UTF8, 0));
+    CHECK(is_text(iox2sd_hash_text(IOX2SD_PATTERN_EVENT, NULL, 0, out, sizeof out),
+                  IOX2SD_STATUS_BAD_SERVICE_NAME, 0));
     CHECK(
-        is_text(iox2sd_hash_text(4, bytes("\xff"), 1, out, sizeof out), IOX2SD_UNKNOWN_PATTERN, 0));
-    CHECK(is_text(iox2sd_hash_text(IOX2SD_EVENT, bytes("\xff"), 1, out, sizeof out),
-                  IOX2SD_NOT_UTF8, 0));
-    CHECK(is_text(iox2sd_hash_text(IOX2SD_EVENT, NULL, 0, out, sizeof out), IOX2SD_BAD_SERVICE_NAME,
-                  0));
-    CHECK(is_text(iox2sd_hash_text(IOX2SD_BLACKBOARD, bytes("iox2://x"), 8, out, sizeof out),
-                  IOX2SD_BAD_SERVICE_NAME, 0));
+        is_text(iox2sd_hash_text(IOX2SD_PATTERN_BLACKBOARD, bytes("iox2://x"), 8, out, sizeof out),
+                IOX2SD_STATUS_BAD_SERVICE_NAME, 0));
     CHECK(untouched(out, 0, sizeof out));
-    CHECK(is_text(iox2sd_internal_hash_text(IOX2SD_BLACKBOARD, bytes("iox2://x"), 8, out, 27),
-                  IOX2SD_DONE, 27));
+    CHECK(
+        is_text(iox2sd_internal_hash_text(IOX2SD_PATTERN_BLACKBOARD, bytes("iox2://x"), 8, out, 27),
+                IOX2SD_STATUS_DONE, 27));
     CHECK(memcmp(out, "dBa6f4MAuXbGPrWuZe58tIdzmlw", 27) == 0 && untouched(out, 27, sizeof out));
     memset(out, 0xAA, sizeof out);
-    CHECK(is_text(iox2sd_internal_hash_text(IOX2SD_EVENT, bytes("a"), 1, out, 26),
-                  IOX2SD_BUFFER_TOO_SHORT, 27));
+    CHECK(is_text(iox2sd_internal_hash_text(IOX2SD_PATTERN_EVENT, bytes("a"), 1, out, 26),
+                  IOX2SD_STATUS_BUFFER_TOO_SHORT, 27));
     CHECK(is_text(iox2sd_internal_hash_text(4, bytes("\xff"), 1, out, sizeof out),
-                  IOX2SD_UNKNOWN_PATTERN, 0));
-    CHECK(is_text(iox2sd_internal_hash_text(IOX2SD_EVENT, bytes("\xff"), 1, out, sizeof out),
-                  IOX2SD_NOT_UTF8, 0));
-    CHECK(is_text(iox2sd_internal_hash_text(IOX2SD_EVENT, NULL, 0, out, sizeof out),
-                  IOX2SD_BAD_SERVICE_NAME, 0));
+                  IOX2SD_STATUS_UNKNOWN_PATTERN, 0));
+    CHECK(
+        is_text(iox2sd_internal_hash_text(IOX2SD_PATTERN_EVENT, bytes("\xff"), 1, out, sizeof out),
+                IOX2SD_STATUS_NOT_UTF8, 0));
+    CHECK(is_text(iox2sd_internal_hash_text(IOX2SD_PATTERN_EVENT, NULL, 0, out, sizeof out),
+                  IOX2SD_STATUS_BAD_SERVICE_NAME, 0));
     CHECK(untouched(out, 0, sizeof out));
 }
 
@@ -156,44 +165,45 @@ static void paths(void) {
     uint8_t out[300];
     memset(out, 0xAA, sizeof out);
     CHECK(is_text(iox2sd_path_add_path_entry(bytes("a"), 1, bytes("bc"), 2, out, 3),
-                  IOX2SD_BUFFER_TOO_SHORT, 4));
+                  IOX2SD_STATUS_BUFFER_TOO_SHORT, 4));
     CHECK(untouched(out, 0, sizeof out));
-    CHECK(
-        is_text(iox2sd_path_add_path_entry(bytes("a"), 1, bytes("bc"), 2, out, 4), IOX2SD_DONE, 4));
+    CHECK(is_text(iox2sd_path_add_path_entry(bytes("a"), 1, bytes("bc"), 2, out, 4),
+                  IOX2SD_STATUS_DONE, 4));
     CHECK(memcmp(out, "a/bc", 4) == 0 && untouched(out, 4, sizeof out));
-    CHECK(is_text(iox2sd_path_add_path_entry(bytes("a/"), 2, bytes("bc"), 2, out, 4), IOX2SD_DONE,
-                  4));
-    CHECK(is_text(iox2sd_path_add_path_entry(NULL, 0, bytes("bc"), 2, out, 4), IOX2SD_DONE, 2) &&
+    CHECK(is_text(iox2sd_path_add_path_entry(bytes("a/"), 2, bytes("bc"), 2, out, 4),
+                  IOX2SD_STATUS_DONE, 4));
+    CHECK(is_text(iox2sd_path_add_path_entry(NULL, 0, bytes("bc"), 2, out, 4), IOX2SD_STATUS_DONE,
+                  2) &&
           memcmp(out, "bc", 2) == 0);
-    CHECK(is_text(iox2sd_path_add_path_entry(NULL, 0, NULL, 0, NULL, 0), IOX2SD_DONE, 0));
+    CHECK(is_text(iox2sd_path_add_path_entry(NULL, 0, NULL, 0, NULL, 0), IOX2SD_STATUS_DONE, 0));
     CHECK(is_text(
         iox2sd_path_add_path_entry(with_byte(0, 'y'), 127, with_byte(0, 'y'), 127, out, sizeof out),
-        IOX2SD_DONE, 255));
+        IOX2SD_STATUS_DONE, 255));
     memset(out, 0xAA, sizeof out);
     CHECK(is_text(
         iox2sd_path_add_path_entry(with_byte(0, 'y'), 127, with_byte(0, 'y'), 128, out, sizeof out),
-        IOX2SD_TOO_LONG, 0));
+        IOX2SD_STATUS_TOO_LONG, 0));
     CHECK(is_text(iox2sd_path_add_path_entry(bytes("\xff"), 1, bytes("\xff"), 1, out, sizeof out),
-                  IOX2SD_BAD_PATH, 0));
+                  IOX2SD_STATUS_BAD_PATH, 0));
     CHECK(is_text(iox2sd_path_add_path_entry(bytes("a"), 1, bytes("\xff"), 1, out, sizeof out),
-                  IOX2SD_BAD_ENTRY, 0));
+                  IOX2SD_STATUS_BAD_ENTRY, 0));
     CHECK(untouched(out, 0, sizeof out));
 
     CHECK(is_text(iox2sd_file_path_from_path_and_file(bytes("a"), 1, bytes("bc"), 2, out, 3),
-                  IOX2SD_BUFFER_TOO_SHORT, 4));
+                  IOX2SD_STATUS_BUFFER_TOO_SHORT, 4));
     CHECK(untouched(out, 0, sizeof out));
     CHECK(is_text(iox2sd_file_path_from_path_and_file(bytes("a"), 1, bytes("bc"), 2, out, 4),
-                  IOX2SD_DONE, 4));
+                  IOX2SD_STATUS_DONE, 4));
     CHECK(memcmp(out, "a/bc", 4) == 0 && untouched(out, 4, sizeof out));
     memset(out, 0xAA, sizeof out);
     CHECK(is_text(
         iox2sd_file_path_from_path_and_file(bytes("a"), 1, bytes("b/c"), 3, out, sizeof out),
-        IOX2SD_BAD_ENTRY, 0));
+        IOX2SD_STATUS_BAD_ENTRY, 0));
     CHECK(is_text(iox2sd_file_path_from_path_and_file(bytes("\xff"), 1, NULL, 0, out, sizeof out),
-                  IOX2SD_BAD_PATH, 0));
+                  IOX2SD_STATUS_BAD_PATH, 0));
     CHECK(is_text(
         iox2sd_file_path_from_path_and_file(bytes("a"), 1, with_byte(0, 'y'), 254, out, sizeof out),
-        IOX2SD_TOO_LONG, 0));
+        IOX2SD_STATUS_TOO_LONG, 0));
     CHECK(untouched(out, 0, sizeof out));
 }
 
@@ -219,56 +229,59 @@ static void sets(void) {
     uint8_t out[8];
     size_t i;
     for (i = 0; i < 17; i++) pairs[i] = pair("k", "v");
-    CHECK(is_place(iox2sd_attributes_check(NULL, 0), IOX2SD_DONE, 0));
-    CHECK(is_place(iox2sd_attributes_check(pairs, 16), IOX2SD_DONE, 0));
-    CHECK(is_place(iox2sd_attributes_check(pairs, 17), IOX2SD_TOO_MANY, 16));
+    CHECK(is_place(iox2sd_attributes_check(NULL, 0), IOX2SD_STATUS_DONE, 0));
+    CHECK(is_place(iox2sd_attributes_check(pairs, 16), IOX2SD_STATUS_DONE, 0));
+    CHECK(is_place(iox2sd_attributes_check(pairs, 17), IOX2SD_STATUS_TOO_MANY, 16));
     pairs[16] = pair("k", "");
-    CHECK(is_place(iox2sd_attributes_check(pairs, 17), IOX2SD_BAD_VALUE, 16));
+    CHECK(is_place(iox2sd_attributes_check(pairs, 17), IOX2SD_STATUS_BAD_VALUE, 16));
     pairs[5] = pair("", "");
-    CHECK(is_place(iox2sd_attributes_check(pairs, 17), IOX2SD_BAD_KEY, 5));
+    CHECK(is_place(iox2sd_attributes_check(pairs, 17), IOX2SD_STATUS_BAD_KEY, 5));
     pairs[3] = pair("k", "\xff");
-    CHECK(is_place(iox2sd_attributes_check(pairs, 17), IOX2SD_BAD_VALUE, 3));
+    CHECK(is_place(iox2sd_attributes_check(pairs, 17), IOX2SD_STATUS_BAD_VALUE, 3));
 
     pairs[0] = pair("b", "1");
     pairs[1] = pair("a", "2");
     pairs[2] = pair("b", "0");
     pairs[3] = pair("a", "10");
     memcpy(before, pairs, sizeof pairs);
-    CHECK(is_place(iox2sd_attributes_sort(pairs, 6), IOX2SD_BAD_KEY, 5));
+    CHECK(is_place(iox2sd_attributes_sort(pairs, 6), IOX2SD_STATUS_BAD_KEY, 5));
     CHECK(memcmp(before, pairs, sizeof pairs) == 0);
-    CHECK(is_place(iox2sd_attributes_sort(pairs, 4), IOX2SD_DONE, 0));
+    CHECK(is_place(iox2sd_attributes_sort(pairs, 4), IOX2SD_STATUS_DONE, 0));
     CHECK(memcmp(&pairs[0], &before[3], sizeof pairs[0]) == 0 &&
           memcmp(&pairs[1], &before[1], sizeof pairs[0]) == 0);
     CHECK(memcmp(&pairs[2], &before[2], sizeof pairs[0]) == 0 &&
           memcmp(&pairs[3], &before[0], sizeof pairs[0]) == 0);
     CHECK(memcmp(&pairs[4], &before[4], 13 * sizeof pairs[0]) == 0);
-    CHECK(is_place(iox2sd_attributes_sort(NULL, 0), IOX2SD_DONE, 0));
+    CHECK(is_place(iox2sd_attributes_sort(NULL, 0), IOX2SD_STATUS_DONE, 0));
 
-    CHECK(
-        is_count(iox2sd_attributes_number_of_key_values(before, 4, bytes("b"), 1), IOX2SD_DONE, 2));
-    CHECK(
-        is_count(iox2sd_attributes_number_of_key_values(before, 4, bytes("c"), 1), IOX2SD_DONE, 0));
-    CHECK(is_count(iox2sd_attributes_number_of_key_values(NULL, 0, bytes("b"), 1), IOX2SD_DONE, 0));
-    CHECK(is_count(iox2sd_attributes_number_of_key_values(before, 4, NULL, 0), IOX2SD_BAD_ASKED_KEY,
-                   0));
-    CHECK(is_count(iox2sd_attributes_number_of_key_values(before, 6, NULL, 0), IOX2SD_BAD_KEY, 0));
+    CHECK(is_count(iox2sd_attributes_number_of_key_values(before, 4, bytes("b"), 1),
+                   IOX2SD_STATUS_DONE, 2));
+    CHECK(is_count(iox2sd_attributes_number_of_key_values(before, 4, bytes("c"), 1),
+                   IOX2SD_STATUS_DONE, 0));
+    CHECK(is_count(iox2sd_attributes_number_of_key_values(NULL, 0, bytes("b"), 1),
+                   IOX2SD_STATUS_DONE, 0));
+    CHECK(is_count(iox2sd_attributes_number_of_key_values(before, 4, NULL, 0),
+                   IOX2SD_STATUS_BAD_ASKED_KEY, 0));
+    CHECK(is_count(iox2sd_attributes_number_of_key_values(before, 6, NULL, 0),
+                   IOX2SD_STATUS_BAD_KEY, 0));
 
     memset(out, 0xAA, sizeof out);
     CHECK(is_text(iox2sd_attributes_key_value(before, 4, bytes("a"), 1, 0, out, 1),
-                  IOX2SD_BUFFER_TOO_SHORT, 2));
+                  IOX2SD_STATUS_BUFFER_TOO_SHORT, 2));
     CHECK(untouched(out, 0, sizeof out));
-    CHECK(
-        is_text(iox2sd_attributes_key_value(before, 4, bytes("a"), 1, 0, out, 2), IOX2SD_DONE, 2));
+    CHECK(is_text(iox2sd_attributes_key_value(before, 4, bytes("a"), 1, 0, out, 2),
+                  IOX2SD_STATUS_DONE, 2));
     CHECK(memcmp(out, "10", 2) == 0 && untouched(out, 2, sizeof out));
-    CHECK(
-        is_text(iox2sd_attributes_key_value(before, 4, bytes("a"), 1, 1, out, 8), IOX2SD_DONE, 1) &&
-        out[0] == '2');
+    CHECK(is_text(iox2sd_attributes_key_value(before, 4, bytes("a"), 1, 1, out, 8),
+                  IOX2SD_STATUS_DONE, 1) &&
+          out[0] == '2');
     memset(out, 0xAA, sizeof out);
     CHECK(is_text(iox2sd_attributes_key_value(before, 4, bytes("a"), 1, 2, out, 8),
-                  IOX2SD_NO_SUCH_VALUE, 0));
-    CHECK(is_text(iox2sd_attributes_key_value(before, 4, NULL, 0, 2, out, 8), IOX2SD_BAD_ASKED_KEY,
+                  IOX2SD_STATUS_NO_SUCH_VALUE, 0));
+    CHECK(is_text(iox2sd_attributes_key_value(before, 4, NULL, 0, 2, out, 8),
+                  IOX2SD_STATUS_BAD_ASKED_KEY, 0));
+    CHECK(is_text(iox2sd_attributes_key_value(before, 6, NULL, 0, 2, out, 8), IOX2SD_STATUS_BAD_KEY,
                   0));
-    CHECK(is_text(iox2sd_attributes_key_value(before, 6, NULL, 0, 2, out, 8), IOX2SD_BAD_KEY, 0));
     CHECK(untouched(out, 0, sizeof out));
 }
 
@@ -284,13 +297,15 @@ static void requirements(void) {
         required[i] = pair("b", "0");
         keys[i] = key_of("a");
     }
-    CHECK(is_place(iox2sd_attributes_verify(pairs, 3, NULL, 0, NULL, 0), IOX2SD_DONE, 0));
-    CHECK(is_place(iox2sd_attributes_verify(pairs, 3, required, 16, NULL, 0), IOX2SD_DONE, 0));
-    CHECK(is_place(iox2sd_attributes_verify(pairs, 3, required, 3, keys, 13), IOX2SD_DONE, 0));
+    CHECK(is_place(iox2sd_attributes_verify(pairs, 3, NULL, 0, NULL, 0), IOX2SD_STATUS_DONE, 0));
+    CHECK(
+        is_place(iox2sd_attributes_verify(pairs, 3, required, 16, NULL, 0), IOX2SD_STATUS_DONE, 0));
+    CHECK(
+        is_place(iox2sd_attributes_verify(pairs, 3, required, 3, keys, 13), IOX2SD_STATUS_DONE, 0));
     CHECK(is_place(iox2sd_attributes_verify(pairs, 3, required, 17, keys, 0),
-                   IOX2SD_TOO_MANY_REQUIRED, 16));
+                   IOX2SD_STATUS_TOO_MANY_REQUIRED, 16));
     CHECK(is_place(iox2sd_attributes_verify(pairs, 3, required, 3, keys, 14),
-                   IOX2SD_TOO_MANY_REQUIRED, 13));
+                   IOX2SD_STATUS_TOO_MANY_REQUIRED, 13));
 
     required[1] = pair("b", "3");
     required[2] = pair("b", "2");
@@ -298,24 +313,25 @@ static void requirements(void) {
     keys[1] = key_of("c");
     keys[2] = key_of("0");
     keys[3] = key_of("c");
-    CHECK(
-        is_place(iox2sd_attributes_verify(pairs, 3, required, 4, keys, 4), IOX2SD_MISSING_PAIR, 2));
-    CHECK(
-        is_place(iox2sd_attributes_verify(pairs, 3, required, 1, keys, 4), IOX2SD_MISSING_KEY, 1));
-    CHECK(
-        is_place(iox2sd_attributes_verify(NULL, 0, required, 1, keys, 4), IOX2SD_MISSING_PAIR, 0));
+    CHECK(is_place(iox2sd_attributes_verify(pairs, 3, required, 4, keys, 4),
+                   IOX2SD_STATUS_MISSING_PAIR, 2));
+    CHECK(is_place(iox2sd_attributes_verify(pairs, 3, required, 1, keys, 4),
+                   IOX2SD_STATUS_MISSING_KEY, 1));
+    CHECK(is_place(iox2sd_attributes_verify(NULL, 0, required, 1, keys, 4),
+                   IOX2SD_STATUS_MISSING_PAIR, 0));
 
     keys[4] = key_of("");
-    CHECK(is_place(iox2sd_attributes_verify(pairs, 3, required, 4, keys, 5), IOX2SD_BAD_ASKED_KEY,
-                   4));
+    CHECK(is_place(iox2sd_attributes_verify(pairs, 3, required, 4, keys, 5),
+                   IOX2SD_STATUS_BAD_ASKED_KEY, 4));
     required[6] = pair("b", "");
     CHECK(is_place(iox2sd_attributes_verify(pairs, 3, required, 7, keys, 5),
-                   IOX2SD_BAD_REQUIRED_VALUE, 6));
+                   IOX2SD_STATUS_BAD_REQUIRED_VALUE, 6));
     required[5] = pair("", "");
     CHECK(is_place(iox2sd_attributes_verify(pairs, 3, required, 7, keys, 5),
-                   IOX2SD_BAD_REQUIRED_KEY, 5));
+                   IOX2SD_STATUS_BAD_REQUIRED_KEY, 5));
     pairs[1] = pair("a", "");
-    CHECK(is_place(iox2sd_attributes_verify(pairs, 3, required, 7, keys, 5), IOX2SD_BAD_VALUE, 1));
+    CHECK(is_place(iox2sd_attributes_verify(pairs, 3, required, 7, keys, 5),
+                   IOX2SD_STATUS_BAD_VALUE, 1));
 }
 
 static iox2sd_type_detail type_of(const char *name, size_t size, size_t alignment) {
@@ -345,23 +361,25 @@ static void layouts(void) {
     iox2sd_layout_answer room = iox2sd_message_sample_layout(&details, 2);
     iox2sd_places_answer places = iox2sd_message_places(&details, 64);
     /* 8 + 4 and at most 3 before it, 2 * 8 and at most 7 before it: 38, in eights */
-    CHECK(room.status == IOX2SD_DONE && room.size == 40 && room.alignment == 8);
-    CHECK(places.status == IOX2SD_DONE && places.user_header == 72 && places.payload == 80);
+    CHECK(room.status == IOX2SD_STATUS_DONE && room.size == 40 && room.alignment == 8);
+    CHECK(places.status == IOX2SD_STATUS_DONE && places.user_header == 72 && places.payload == 80);
 
     room = iox2sd_message_sample_layout(NULL, 2);
     places = iox2sd_message_places(NULL, 64);
-    CHECK(room.status == IOX2SD_NULL && room.size == 0 && room.alignment == 0);
-    CHECK(places.status == IOX2SD_NULL && places.user_header == 0 && places.payload == 0);
+    CHECK(room.status == IOX2SD_STATUS_NULL && room.size == 0 && room.alignment == 0);
+    CHECK(places.status == IOX2SD_STATUS_NULL && places.user_header == 0 && places.payload == 0);
     details = details_of(SIZE_MAX, 3);
     room = iox2sd_message_sample_layout(&details, SIZE_MAX);
     places = iox2sd_message_places(&details, SIZE_MAX);
-    CHECK(room.status == IOX2SD_BAD_ALIGNMENT && room.size == 0 && room.alignment == 0);
-    CHECK(places.status == IOX2SD_BAD_ALIGNMENT && places.user_header == 0 && places.payload == 0);
+    CHECK(room.status == IOX2SD_STATUS_BAD_ALIGNMENT && room.size == 0 && room.alignment == 0);
+    CHECK(places.status == IOX2SD_STATUS_BAD_ALIGNMENT && places.user_header == 0 &&
+          places.payload == 0);
     details = details_of(SIZE_MAX, 8);
     room = iox2sd_message_sample_layout(&details, 1);
     places = iox2sd_message_places(&details, SIZE_MAX);
-    CHECK(room.status == IOX2SD_TOO_LARGE && room.size == 0 && room.alignment == 0);
-    CHECK(places.status == IOX2SD_TOO_LARGE && places.user_header == 0 && places.payload == 0);
+    CHECK(room.status == IOX2SD_STATUS_TOO_LARGE && room.size == 0 && room.alignment == 0);
+    CHECK(places.status == IOX2SD_STATUS_TOO_LARGE && places.user_header == 0 &&
+          places.payload == 0);
 }
 
 static void compatible(void) {
@@ -370,44 +388,44 @@ static void compatible(void) {
     char long_name[258];
     memset(long_name, 'x', sizeof long_name);
     long_name[257] = 0;
-    CHECK(is_part(iox2sd_message_is_compatible_to(&service, &opener), IOX2SD_DONE, 0, 0));
-    CHECK(is_part(iox2sd_message_is_compatible_to(&opener, &service), IOX2SD_GREATER_ALIGNMENT, 0,
-                  IOX2SD_PAYLOAD));
-    CHECK(is_part(iox2sd_message_is_compatible_to(NULL, NULL), IOX2SD_NULL, 0, 0));
-    CHECK(is_part(iox2sd_message_is_compatible_to(NULL, &opener), IOX2SD_NULL, 1, 0));
+    CHECK(is_part(iox2sd_message_is_compatible_to(&service, &opener), IOX2SD_STATUS_DONE, 0, 0));
+    CHECK(is_part(iox2sd_message_is_compatible_to(&opener, &service),
+                  IOX2SD_STATUS_GREATER_ALIGNMENT, 0, IOX2SD_PART_PAYLOAD));
+    CHECK(is_part(iox2sd_message_is_compatible_to(NULL, NULL), IOX2SD_STATUS_NULL, 0, 0));
+    CHECK(is_part(iox2sd_message_is_compatible_to(NULL, &opener), IOX2SD_STATUS_NULL, 1, 0));
 
     opener.payload.size = 9;
-    CHECK(is_part(iox2sd_message_is_compatible_to(&service, &opener), IOX2SD_OTHER_SIZE, 0,
-                  IOX2SD_PAYLOAD));
+    CHECK(is_part(iox2sd_message_is_compatible_to(&service, &opener), IOX2SD_STATUS_OTHER_SIZE, 0,
+                  IOX2SD_PART_PAYLOAD));
     opener.payload.variant = IOX2SD_VARIANT_DYNAMIC;
-    CHECK(is_part(iox2sd_message_is_compatible_to(&service, &opener), IOX2SD_OTHER_VARIANT, 0,
-                  IOX2SD_PAYLOAD));
+    CHECK(is_part(iox2sd_message_is_compatible_to(&service, &opener), IOX2SD_STATUS_OTHER_VARIANT,
+                  0, IOX2SD_PART_PAYLOAD));
     opener.user_header.name = bytes("Userheader");
-    CHECK(is_part(iox2sd_message_is_compatible_to(&service, &opener), IOX2SD_OTHER_NAME, 0,
-                  IOX2SD_USER_HEADER));
+    CHECK(is_part(iox2sd_message_is_compatible_to(&service, &opener), IOX2SD_STATUS_OTHER_NAME, 0,
+                  IOX2SD_PART_USER_HEADER));
     opener.header.alignment = 4;
-    CHECK(is_part(iox2sd_message_is_compatible_to(&service, &opener), IOX2SD_OTHER_ALIGNMENT, 0,
-                  IOX2SD_HEADER));
+    CHECK(is_part(iox2sd_message_is_compatible_to(&service, &opener), IOX2SD_STATUS_OTHER_ALIGNMENT,
+                  0, IOX2SD_PART_HEADER));
     opener.header.size = 4;
-    CHECK(is_part(iox2sd_message_is_compatible_to(&service, &opener), IOX2SD_OTHER_SIZE, 0,
-                  IOX2SD_HEADER));
+    CHECK(is_part(iox2sd_message_is_compatible_to(&service, &opener), IOX2SD_STATUS_OTHER_SIZE, 0,
+                  IOX2SD_PART_HEADER));
 
     service.payload.alignment = 12;
-    CHECK(is_part(iox2sd_message_is_compatible_to(&service, &opener), IOX2SD_BAD_ALIGNMENT, 1,
-                  IOX2SD_PAYLOAD));
+    CHECK(is_part(iox2sd_message_is_compatible_to(&service, &opener), IOX2SD_STATUS_BAD_ALIGNMENT,
+                  1, IOX2SD_PART_PAYLOAD));
     service.user_header.name = bytes("\xc3\xa4");
     service.user_header.name_length = 2;
-    CHECK(is_part(iox2sd_message_is_compatible_to(&service, &opener), IOX2SD_ILLEGAL_BYTE, 1,
-                  IOX2SD_USER_HEADER));
+    CHECK(is_part(iox2sd_message_is_compatible_to(&service, &opener), IOX2SD_STATUS_ILLEGAL_BYTE, 1,
+                  IOX2SD_PART_USER_HEADER));
     service.header = type_of(long_name, 8, 8);
-    CHECK(is_part(iox2sd_message_is_compatible_to(&service, &opener), IOX2SD_TOO_LONG, 1,
-                  IOX2SD_HEADER));
+    CHECK(is_part(iox2sd_message_is_compatible_to(&service, &opener), IOX2SD_STATUS_TOO_LONG, 1,
+                  IOX2SD_PART_HEADER));
     opener.payload = type_of("\xff", 8, 3);
-    CHECK(is_part(iox2sd_message_is_compatible_to(&service, &opener), IOX2SD_NOT_UTF8, 0,
-                  IOX2SD_PAYLOAD));
+    CHECK(is_part(iox2sd_message_is_compatible_to(&service, &opener), IOX2SD_STATUS_NOT_UTF8, 0,
+                  IOX2SD_PART_PAYLOAD));
     opener.user_header.variant = 2;
-    CHECK(is_part(iox2sd_message_is_compatible_to(&service, &opener), IOX2SD_UNKNOWN_VARIANT, 0,
-                  IOX2SD_USER_HEADER));
+    CHECK(is_part(iox2sd_message_is_compatible_to(&service, &opener), IOX2SD_STATUS_UNKNOWN_VARIANT,
+                  0, IOX2SD_PART_USER_HEADER));
 }
 
 /* Each cause, over those that are reported later. */
@@ -415,51 +433,51 @@ static void type_details(void) {
     char name[257];
     iox2sd_type_detail type = type_of("u64", SIZE_MAX, (size_t)1 << 63);
     memset(name, 'x', sizeof name);
-    CHECK(iox2sd_type_detail_check(&type) == IOX2SD_DONE);
+    CHECK(iox2sd_type_detail_check(&type) == IOX2SD_STATUS_DONE);
     type = type_of("", 0, 1);
     type.variant = IOX2SD_VARIANT_DYNAMIC;
-    CHECK(iox2sd_type_detail_check(&type) == IOX2SD_DONE);
+    CHECK(iox2sd_type_detail_check(&type) == IOX2SD_STATUS_DONE);
     type.name = bytes(name);
     type.name_length = 256;
-    CHECK(iox2sd_type_detail_check(&type) == IOX2SD_DONE);
+    CHECK(iox2sd_type_detail_check(&type) == IOX2SD_STATUS_DONE);
     type.alignment = 0;
-    CHECK(iox2sd_type_detail_check(&type) == IOX2SD_BAD_ALIGNMENT);
+    CHECK(iox2sd_type_detail_check(&type) == IOX2SD_STATUS_BAD_ALIGNMENT);
     type.alignment = 3;
-    CHECK(iox2sd_type_detail_check(&type) == IOX2SD_BAD_ALIGNMENT);
+    CHECK(iox2sd_type_detail_check(&type) == IOX2SD_STATUS_BAD_ALIGNMENT);
     name[255] = 0;
-    CHECK(iox2sd_type_detail_check(&type) == IOX2SD_ILLEGAL_BYTE);
+    CHECK(iox2sd_type_detail_check(&type) == IOX2SD_STATUS_ILLEGAL_BYTE);
     type.name_length = 257;
-    CHECK(iox2sd_type_detail_check(&type) == IOX2SD_TOO_LONG);
+    CHECK(iox2sd_type_detail_check(&type) == IOX2SD_STATUS_TOO_LONG);
     name[0] = (char)0xFF;
-    CHECK(iox2sd_type_detail_check(&type) == IOX2SD_NOT_UTF8);
+    CHECK(iox2sd_type_detail_check(&type) == IOX2SD_STATUS_NOT_UTF8);
     type.variant = 2;
-    CHECK(iox2sd_type_detail_check(&type) == IOX2SD_UNKNOWN_VARIANT);
+    CHECK(iox2sd_type_detail_check(&type) == IOX2SD_STATUS_UNKNOWN_VARIANT);
     type.variant = UINT32_MAX;
-    CHECK(iox2sd_type_detail_check(&type) == IOX2SD_UNKNOWN_VARIANT);
-    CHECK(iox2sd_type_detail_check(NULL) == IOX2SD_NULL);
+    CHECK(iox2sd_type_detail_check(&type) == IOX2SD_STATUS_UNKNOWN_VARIANT);
+    CHECK(iox2sd_type_detail_check(NULL) == IOX2SD_STATUS_NULL);
 }
 
 static void chunks(void) {
     const size_t most = SIZE_MAX;
-    CHECK(is_count(iox2sd_required_amount_of_samples_per_data_segment(3, 5, 7, 11, 13), IOX2SD_DONE,
-                   3 * (5 + 7) + 11 + 13));
-    CHECK(is_count(iox2sd_required_amount_of_chunks_per_client_data_segment(3, 5, 7), IOX2SD_DONE,
-                   3 * 2 * 5 + 7));
-    CHECK(is_count(iox2sd_required_amount_of_chunks_per_client_data_segment(5, 3, 0), IOX2SD_DONE,
-                   5 * 2 * 3));
+    CHECK(is_count(iox2sd_required_amount_of_samples_per_data_segment(3, 5, 7, 11, 13),
+                   IOX2SD_STATUS_DONE, 3 * (5 + 7) + 11 + 13));
+    CHECK(is_count(iox2sd_required_amount_of_chunks_per_client_data_segment(3, 5, 7),
+                   IOX2SD_STATUS_DONE, 3 * 2 * 5 + 7));
+    CHECK(is_count(iox2sd_required_amount_of_chunks_per_client_data_segment(5, 3, 0),
+                   IOX2SD_STATUS_DONE, 5 * 2 * 3));
     CHECK(is_count(iox2sd_required_amount_of_chunks_per_server_data_segment(3, 5, 7, 11, 13),
-                   IOX2SD_DONE, 3 * 2 * 5 * (7 + 11 + 13)));
+                   IOX2SD_STATUS_DONE, 3 * 2 * 5 * (7 + 11 + 13)));
     CHECK(is_count(iox2sd_required_amount_of_samples_per_data_segment(1, most, 0, 0, 0),
-                   IOX2SD_DONE, most));
+                   IOX2SD_STATUS_DONE, most));
     CHECK(is_count(iox2sd_required_amount_of_samples_per_data_segment(1, most, 0, 0, 1),
-                   IOX2SD_TOO_LARGE, 0));
+                   IOX2SD_STATUS_TOO_LARGE, 0));
     CHECK(is_count(iox2sd_required_amount_of_chunks_per_client_data_segment(0, most, most),
-                   IOX2SD_DONE, most));
+                   IOX2SD_STATUS_DONE, most));
     CHECK(is_count(iox2sd_required_amount_of_chunks_per_client_data_segment(most, most, most),
-                   IOX2SD_TOO_LARGE, 0));
+                   IOX2SD_STATUS_TOO_LARGE, 0));
     CHECK(is_count(
         iox2sd_required_amount_of_chunks_per_server_data_segment(most, most, most, most, most),
-        IOX2SD_TOO_LARGE, 0));
+        IOX2SD_STATUS_TOO_LARGE, 0));
 }
 
 static void settings(void) {
@@ -472,7 +490,7 @@ static void settings(void) {
     CHECK(p.subscriber_max_borrowed_samples == 2 && p.publisher_max_loaned_samples == 2 &&
           p.publisher_history_size == 0);
     CHECK(p.subscriber_expired_connection_buffer == 128 &&
-          p.backpressure_strategy == IOX2SD_RETRY_UNTIL_DELIVERED);
+          p.backpressure_strategy == IOX2SD_BACKPRESSURE_RETRY_UNTIL_DELIVERED);
     CHECK(p.publisher_allocation_strategy == IOX2SD_ALLOCATION_STATIC && p.enable_safe_overflow);
     CHECK(e.max_listeners == 16 && e.max_notifiers == 16 && e.max_nodes == 36 &&
           e.event_id_max_value == 255);
@@ -485,7 +503,7 @@ static void settings(void) {
           r.max_borrowed_responses_per_pending_response == 2);
     CHECK(r.max_loaned_requests == 2 && r.server_max_loaned_responses_per_request == 2);
     CHECK(r.client_expired_connection_buffer == 128 && r.server_expired_connection_buffer == 128);
-    CHECK(r.client_backpressure_strategy == IOX2SD_RETRY_UNTIL_DELIVERED &&
+    CHECK(r.client_backpressure_strategy == IOX2SD_BACKPRESSURE_RETRY_UNTIL_DELIVERED &&
           r.server_backpressure_strategy == 0);
     CHECK(r.client_allocation_strategy == IOX2SD_ALLOCATION_STATIC &&
           r.server_allocation_strategy == IOX2SD_ALLOCATION_STATIC);
@@ -501,59 +519,61 @@ static void global_settings(void) {
     CHECK(g.cleanup_dead_nodes_on_destruction);
     g.creation_timeout.seconds = UINT64_MAX;
     g.creation_timeout.nanoseconds = 999999999;
-    CHECK(is_field(iox2sd_global_settings_check(&g), IOX2SD_DONE, 0));
+    CHECK(is_field(iox2sd_global_settings_check(&g), IOX2SD_STATUS_DONE, 0));
     g.creation_timeout.nanoseconds = 1000000000;
-    CHECK(is_field(iox2sd_global_settings_check(&g), IOX2SD_BAD_DURATION, IOX2SD_CREATION_TIMEOUT));
-    CHECK(is_field(iox2sd_global_settings_check(NULL), IOX2SD_NULL, 0));
+    CHECK(is_field(iox2sd_global_settings_check(&g), IOX2SD_STATUS_BAD_DURATION,
+                   IOX2SD_FIELD_CREATION_TIMEOUT));
+    CHECK(is_field(iox2sd_global_settings_check(NULL), IOX2SD_STATUS_NULL, 0));
 }
 
 static void publish_subscribe_settings(void) {
     iox2sd_publish_subscribe_settings p = iox2sd_publish_subscribe_defaults();
-    CHECK(is_field(iox2sd_publish_subscribe_settings_check(&p), IOX2SD_DONE, 0));
-    p.backpressure_strategy = IOX2SD_DISCARD_DATA;
+    CHECK(is_field(iox2sd_publish_subscribe_settings_check(&p), IOX2SD_STATUS_DONE, 0));
+    p.backpressure_strategy = IOX2SD_BACKPRESSURE_DISCARD_DATA;
     for (uint32_t number = 0; number < 3; number++) {
         p.publisher_allocation_strategy = number;
-        CHECK(is_field(iox2sd_publish_subscribe_settings_check(&p), IOX2SD_DONE, 0));
+        CHECK(is_field(iox2sd_publish_subscribe_settings_check(&p), IOX2SD_STATUS_DONE, 0));
     }
     p.publisher_allocation_strategy = 3;
-    CHECK(is_field(iox2sd_publish_subscribe_settings_check(&p), IOX2SD_UNKNOWN_STRATEGY,
-                   IOX2SD_PUBLISHER_ALLOCATION_STRATEGY));
+    CHECK(is_field(iox2sd_publish_subscribe_settings_check(&p), IOX2SD_STATUS_UNKNOWN_STRATEGY,
+                   IOX2SD_FIELD_PUBLISHER_ALLOCATION_STRATEGY));
     p.backpressure_strategy = 2;
-    CHECK(is_field(iox2sd_publish_subscribe_settings_check(&p), IOX2SD_UNKNOWN_STRATEGY,
-                   IOX2SD_BACKPRESSURE_STRATEGY));
-    CHECK(is_field(iox2sd_publish_subscribe_settings_check(NULL), IOX2SD_NULL, 0));
+    CHECK(is_field(iox2sd_publish_subscribe_settings_check(&p), IOX2SD_STATUS_UNKNOWN_STRATEGY,
+                   IOX2SD_FIELD_BACKPRESSURE_STRATEGY));
+    CHECK(is_field(iox2sd_publish_subscribe_settings_check(NULL), IOX2SD_STATUS_NULL, 0));
 }
 
 static void event_settings(void) {
     iox2sd_event_settings e = iox2sd_event_defaults();
-    CHECK(is_field(iox2sd_event_settings_check(&e), IOX2SD_DONE, 0));
+    CHECK(is_field(iox2sd_event_settings_check(&e), IOX2SD_STATUS_DONE, 0));
     e.notifier_dead_event.number = 5;
     e.deadline.nanoseconds = 1000000000;
-    CHECK(is_field(iox2sd_event_settings_check(&e), IOX2SD_DONE, 0));
+    CHECK(is_field(iox2sd_event_settings_check(&e), IOX2SD_STATUS_DONE, 0));
     e.deadline.is_some = true;
-    CHECK(is_field(iox2sd_event_settings_check(&e), IOX2SD_BAD_DURATION, IOX2SD_DEADLINE));
+    CHECK(is_field(iox2sd_event_settings_check(&e), IOX2SD_STATUS_BAD_DURATION,
+                   IOX2SD_FIELD_DEADLINE));
     e.deadline.nanoseconds = 999999999;
     e.deadline.seconds = UINT64_MAX;
-    CHECK(is_field(iox2sd_event_settings_check(&e), IOX2SD_DONE, 0));
-    CHECK(is_field(iox2sd_event_settings_check(NULL), IOX2SD_NULL, 0));
+    CHECK(is_field(iox2sd_event_settings_check(&e), IOX2SD_STATUS_DONE, 0));
+    CHECK(is_field(iox2sd_event_settings_check(NULL), IOX2SD_STATUS_NULL, 0));
 }
 
 static void request_response_settings(void) {
     iox2sd_request_response_settings r = iox2sd_request_response_defaults();
-    CHECK(is_field(iox2sd_request_response_settings_check(&r), IOX2SD_DONE, 0));
+    CHECK(is_field(iox2sd_request_response_settings_check(&r), IOX2SD_STATUS_DONE, 0));
     r.server_allocation_strategy = 3;
-    CHECK(is_field(iox2sd_request_response_settings_check(&r), IOX2SD_UNKNOWN_STRATEGY,
-                   IOX2SD_SERVER_ALLOCATION_STRATEGY));
+    CHECK(is_field(iox2sd_request_response_settings_check(&r), IOX2SD_STATUS_UNKNOWN_STRATEGY,
+                   IOX2SD_FIELD_SERVER_ALLOCATION_STRATEGY));
     r.client_allocation_strategy = 3;
-    CHECK(is_field(iox2sd_request_response_settings_check(&r), IOX2SD_UNKNOWN_STRATEGY,
-                   IOX2SD_CLIENT_ALLOCATION_STRATEGY));
+    CHECK(is_field(iox2sd_request_response_settings_check(&r), IOX2SD_STATUS_UNKNOWN_STRATEGY,
+                   IOX2SD_FIELD_CLIENT_ALLOCATION_STRATEGY));
     r.server_backpressure_strategy = 2;
-    CHECK(is_field(iox2sd_request_response_settings_check(&r), IOX2SD_UNKNOWN_STRATEGY,
-                   IOX2SD_SERVER_BACKPRESSURE_STRATEGY));
+    CHECK(is_field(iox2sd_request_response_settings_check(&r), IOX2SD_STATUS_UNKNOWN_STRATEGY,
+                   IOX2SD_FIELD_SERVER_BACKPRESSURE_STRATEGY));
     r.client_backpressure_strategy = UINT32_MAX;
-    CHECK(is_field(iox2sd_request_response_settings_check(&r), IOX2SD_UNKNOWN_STRATEGY,
-                   IOX2SD_CLIENT_BACKPRESSURE_STRATEGY));
-    CHECK(is_field(iox2sd_request_response_settings_check(NULL), IOX2SD_NULL, 0));
+    CHECK(is_field(iox2sd_request_response_settings_check(&r), IOX2SD_STATUS_UNKNOWN_STRATEGY,
+                   IOX2SD_FIELD_CLIENT_BACKPRESSURE_STRATEGY));
+    CHECK(is_field(iox2sd_request_response_settings_check(NULL), IOX2SD_STATUS_NULL, 0));
 }
 
 typedef iox2sd_text_answer (*teller)(uint8_t *out, size_t capacity);
@@ -563,10 +583,11 @@ static bool tells(teller tell, const char *expected) {
     uint8_t out[64];
     const size_t length = strlen(expected);
     memset(out, 0xAA, sizeof out);
-    return is_text(tell(out, length - 1), IOX2SD_BUFFER_TOO_SHORT, length) &&
-           untouched(out, 0, sizeof out) && is_text(tell(out, length), IOX2SD_DONE, length) &&
+    return is_text(tell(out, length - 1), IOX2SD_STATUS_BUFFER_TOO_SHORT, length) &&
+           untouched(out, 0, sizeof out) &&
+           is_text(tell(out, length), IOX2SD_STATUS_DONE, length) &&
            memcmp(out, expected, length) == 0 && untouched(out, length, sizeof out) &&
-           is_text(tell(NULL, 0), IOX2SD_BUFFER_TOO_SHORT, length);
+           is_text(tell(NULL, 0), IOX2SD_STATUS_BUFFER_TOO_SHORT, length);
 }
 
 static uint32_t asked;
@@ -599,19 +620,22 @@ static void files(void) {
     uint8_t out[300];
     for (asked = 0; asked < 20; asked++) CHECK(tells(tell_asked, expected[asked]));
     memset(out, 0xAA, sizeof out);
-    CHECK(is_text(iox2sd_default_text(20, out, sizeof out), IOX2SD_UNKNOWN_TEXT, 0));
-    CHECK(is_text(iox2sd_service_dir(bytes("/a"), 2, out, 10), IOX2SD_BUFFER_TOO_SHORT, 11));
-    CHECK(is_text(iox2sd_node_dir(bytes("/a"), 2, out, 7), IOX2SD_BUFFER_TOO_SHORT, 8));
-    CHECK(is_text(iox2sd_service_dir(bytes("\xff"), 1, out, sizeof out), IOX2SD_BAD_PATH, 0));
-    CHECK(is_text(iox2sd_node_dir(bytes("\xff"), 1, out, sizeof out), IOX2SD_BAD_PATH, 0));
-    CHECK(is_text(iox2sd_service_dir(with_byte(0, 'y'), 247, out, sizeof out), IOX2SD_TOO_LONG, 0));
-    CHECK(is_text(iox2sd_node_dir(with_byte(0, 'y'), 250, out, sizeof out), IOX2SD_TOO_LONG, 0));
+    CHECK(is_text(iox2sd_default_text(20, out, sizeof out), IOX2SD_STATUS_UNKNOWN_TEXT, 0));
+    CHECK(is_text(iox2sd_service_dir(bytes("/a"), 2, out, 10), IOX2SD_STATUS_BUFFER_TOO_SHORT, 11));
+    CHECK(is_text(iox2sd_node_dir(bytes("/a"), 2, out, 7), IOX2SD_STATUS_BUFFER_TOO_SHORT, 8));
+    CHECK(
+        is_text(iox2sd_service_dir(bytes("\xff"), 1, out, sizeof out), IOX2SD_STATUS_BAD_PATH, 0));
+    CHECK(is_text(iox2sd_node_dir(bytes("\xff"), 1, out, sizeof out), IOX2SD_STATUS_BAD_PATH, 0));
+    CHECK(is_text(iox2sd_service_dir(with_byte(0, 'y'), 247, out, sizeof out),
+                  IOX2SD_STATUS_TOO_LONG, 0));
+    CHECK(is_text(iox2sd_node_dir(with_byte(0, 'y'), 250, out, sizeof out), IOX2SD_STATUS_TOO_LONG,
+                  0));
     CHECK(untouched(out, 0, sizeof out));
-    CHECK(is_text(iox2sd_service_dir(bytes("/a"), 2, out, 11), IOX2SD_DONE, 11));
+    CHECK(is_text(iox2sd_service_dir(bytes("/a"), 2, out, 11), IOX2SD_STATUS_DONE, 11));
     CHECK(memcmp(out, "/a/services", 11) == 0 && untouched(out, 11, sizeof out));
-    CHECK(is_text(iox2sd_node_dir(bytes("/a/"), 3, out, 8), IOX2SD_DONE, 8) &&
+    CHECK(is_text(iox2sd_node_dir(bytes("/a/"), 3, out, 8), IOX2SD_STATUS_DONE, 8) &&
           memcmp(out, "/a/nodes", 8) == 0);
-    CHECK(is_text(iox2sd_node_dir(NULL, 0, out, 5), IOX2SD_DONE, 5) &&
+    CHECK(is_text(iox2sd_node_dir(NULL, 0, out, 5), IOX2SD_STATUS_DONE, 5) &&
           memcmp(out, "nodes", 5) == 0);
     CHECK(tells(iox2sd_version, "0.1.0") && tells(iox2sd_layer_version, "0.9.3"));
 }
@@ -633,7 +657,7 @@ static bool holds(const uint8_t *found, size_t length, size_t end, const char *t
 static bool describes(const iox2sd_description *d, uint32_t pattern, const char *name) {
     uint8_t hash[28] = {0};
     CHECK(iox2sd_internal_hash_text(pattern, bytes(name), strlen(name), hash, sizeof hash)
-              .status == IOX2SD_DONE);
+              .status == IOX2SD_STATUS_DONE);
     return holds(d->name, d->name_length, sizeof d->name, name) && d->pattern == pattern
            && holds(d->hash, d->hash_length, sizeof d->hash, (const char *)hash)
            && d->id.process == 1 && d->id.seconds == 2 && d->id.nanoseconds == 3
@@ -658,8 +682,8 @@ static void describe_publish_subscribe(void) {
     s.subscriber_max_buffer_size = 13;
     s.subscriber_max_borrowed_samples = 17;
     CHECK(is_field(iox2sd_describe_publish_subscribe(&s, bytes("a/b"), 3, false, some_id, &d),
-                   IOX2SD_DONE, 0));
-    CHECK(describes(&d, IOX2SD_PUBLISH_SUBSCRIBE, "a/b"));
+                   IOX2SD_STATUS_DONE, 0));
+    CHECK(describes(&d, IOX2SD_PATTERN_PUBLISH_SUBSCRIBE, "a/b"));
     CHECK(c->max_subscribers == 3 && c->max_publishers == 5 && c->max_nodes == 7);
     CHECK(c->history_size == 11 && c->subscriber_max_buffer_size == 13);
     CHECK(c->subscriber_max_borrowed_samples == 17 && c->enable_safe_overflow);
@@ -667,8 +691,8 @@ static void describe_publish_subscribe(void) {
     CHECK(!d.request_response.enable_fire_and_forget_requests && d.blackboard.max_writers == 0);
     CHECK(
         is_field(iox2sd_describe_publish_subscribe(&s, bytes("iox2://a"), 8, true, some_id, &d),
-                 IOX2SD_DONE, 0));
-    CHECK(describes(&d, IOX2SD_PUBLISH_SUBSCRIBE, "iox2://a"));
+                 IOX2SD_STATUS_DONE, 0));
+    CHECK(describes(&d, IOX2SD_PATTERN_PUBLISH_SUBSCRIBE, "iox2://a"));
 }
 
 /* Each refusal, in the order in which they are reported: the place is as it was. */
@@ -679,17 +703,17 @@ static void describe_refusals(void) {
     memset(&before, 0xAA, sizeof before);
     s.publisher_allocation_strategy = 3;
     CHECK(is_field(iox2sd_describe_publish_subscribe(NULL, bytes("\xff"), 1, false, some_id, &d),
-                   IOX2SD_NULL, 0));
+                   IOX2SD_STATUS_NULL, 0));
     CHECK(is_field(iox2sd_describe_publish_subscribe(&s, bytes("\xff"), 1, false, some_id, NULL),
-                   IOX2SD_NULL, 0));
+                   IOX2SD_STATUS_NULL, 0));
     CHECK(is_field(iox2sd_describe_publish_subscribe(&s, bytes("\xff"), 1, false, some_id, &d),
-                   IOX2SD_NOT_UTF8, 0));
+                   IOX2SD_STATUS_NOT_UTF8, 0));
     CHECK(is_field(iox2sd_describe_publish_subscribe(&s, bytes("iox2://a"), 8, false, some_id, &d),
-                   IOX2SD_BAD_SERVICE_NAME, 0));
+                   IOX2SD_STATUS_BAD_SERVICE_NAME, 0));
     CHECK(is_field(iox2sd_describe_publish_subscribe(&s, NULL, 0, true, some_id, &d),
-                   IOX2SD_BAD_SERVICE_NAME, 0));
+                   IOX2SD_STATUS_BAD_SERVICE_NAME, 0));
     CHECK(is_field(iox2sd_describe_publish_subscribe(&s, bytes("a"), 1, false, some_id, &d),
-                   IOX2SD_UNKNOWN_STRATEGY, IOX2SD_PUBLISHER_ALLOCATION_STRATEGY));
+                   IOX2SD_STATUS_UNKNOWN_STRATEGY, IOX2SD_FIELD_PUBLISHER_ALLOCATION_STRATEGY));
     CHECK(memcmp(&d, &before, sizeof d) == 0);
 }
 
@@ -706,9 +730,9 @@ static void describe_event(void) {
     s.max_listeners = 3;
     s.max_notifiers = 7;
     CHECK(is_field(iox2sd_describe_event(&s, with_byte(0, 'y'), 255, false, some_id, &d),
-                   IOX2SD_DONE, 0));
+                   IOX2SD_STATUS_DONE, 0));
     CHECK(d.name_length == 255 && memcmp(d.name, with_byte(0, 'y'), 255) == 0 && d.name[255] == 0);
-    CHECK(d.pattern == IOX2SD_EVENT && is_unset(&d.publish_subscribe)
+    CHECK(d.pattern == IOX2SD_PATTERN_EVENT && is_unset(&d.publish_subscribe)
           && d.blackboard.max_nodes == 0);
     CHECK(c->max_listeners == 3 && c->max_notifiers == 7 && c->max_nodes == 36
           && c->event_id_max_value == 255);
@@ -718,14 +742,14 @@ static void describe_event(void) {
     CHECK(!c->notifier_dead_event.is_some);
     s.deadline.nanoseconds = 1000000000;
     CHECK(is_field(iox2sd_describe_event(&s, bytes("iox2://a"), 8, true, some_id, &d),
-                   IOX2SD_BAD_DURATION, IOX2SD_DEADLINE));
+                   IOX2SD_STATUS_BAD_DURATION, IOX2SD_FIELD_DEADLINE));
     s.deadline.is_some = false;
     CHECK(is_field(iox2sd_describe_event(&s, bytes("iox2://a"), 8, true, some_id, &d),
-                   IOX2SD_DONE, 0));
-    CHECK(describes(&d, IOX2SD_EVENT, "iox2://a") && !c->deadline.is_some
+                   IOX2SD_STATUS_DONE, 0));
+    CHECK(describes(&d, IOX2SD_PATTERN_EVENT, "iox2://a") && !c->deadline.is_some
           && c->deadline.nanoseconds == 0);
     CHECK(is_field(iox2sd_describe_event(&s, bytes("iox2://a"), 8, false, some_id, &d),
-                   IOX2SD_BAD_SERVICE_NAME, 0));
+                   IOX2SD_STATUS_BAD_SERVICE_NAME, 0));
 }
 
 static void describe_request_response(void) {
@@ -742,35 +766,35 @@ static void describe_request_response(void) {
     s.max_borrowed_responses_per_pending_response = 19;
     s.enable_safe_overflow_for_requests = false;
     CHECK(is_field(iox2sd_describe_request_response(&s, bytes("a"), 1, false, some_id, &d),
-                   IOX2SD_DONE, 0));
-    CHECK(describes(&d, IOX2SD_REQUEST_RESPONSE, "a") && is_unset(&d.publish_subscribe));
+                   IOX2SD_STATUS_DONE, 0));
+    CHECK(describes(&d, IOX2SD_PATTERN_REQUEST_RESPONSE, "a") && is_unset(&d.publish_subscribe));
     CHECK(c->max_active_requests_per_client == 3 && c->max_loaned_requests == 5);
     CHECK(c->max_response_buffer_size == 7 && c->max_servers == 11 && c->max_clients == 13);
     CHECK(c->max_nodes == 17 && c->max_borrowed_responses_per_pending_response == 19);
     CHECK(!c->enable_safe_overflow_for_requests && c->enable_safe_overflow_for_responses);
     CHECK(c->enable_fire_and_forget_requests);
     CHECK(is_field(iox2sd_describe_request_response(&s, bytes("iox2://a"), 8, true, some_id, &d),
-                   IOX2SD_DONE, 0));
-    CHECK(describes(&d, IOX2SD_REQUEST_RESPONSE, "iox2://a"));
+                   IOX2SD_STATUS_DONE, 0));
+    CHECK(describes(&d, IOX2SD_PATTERN_REQUEST_RESPONSE, "iox2://a"));
     s.server_backpressure_strategy = 2;
     CHECK(is_field(iox2sd_describe_request_response(&s, bytes("a"), 1, false, some_id, &d),
-                   IOX2SD_UNKNOWN_STRATEGY, IOX2SD_SERVER_BACKPRESSURE_STRATEGY));
+                   IOX2SD_STATUS_UNKNOWN_STRATEGY, IOX2SD_FIELD_SERVER_BACKPRESSURE_STRATEGY));
 }
 
 static void describe_blackboard(void) {
     const iox2sd_blackboard_settings s = {3, 5};
     iox2sd_description d;
     memset(&d, 0xAA, sizeof d);
-    CHECK(is_field(iox2sd_describe_blackboard(&s, bytes("a"), 1, false, some_id, &d), IOX2SD_DONE,
-                   0));
-    CHECK(describes(&d, IOX2SD_BLACKBOARD, "a") && is_unset(&d.publish_subscribe));
+    CHECK(is_field(iox2sd_describe_blackboard(&s, bytes("a"), 1, false, some_id, &d),
+                   IOX2SD_STATUS_DONE, 0));
+    CHECK(describes(&d, IOX2SD_PATTERN_BLACKBOARD, "a") && is_unset(&d.publish_subscribe));
     CHECK(d.blackboard.max_readers == 3 && d.blackboard.max_writers == 1
           && d.blackboard.max_nodes == 5);
     CHECK(is_field(iox2sd_describe_blackboard(&s, bytes("iox2://a"), 8, false, some_id, &d),
-                   IOX2SD_BAD_SERVICE_NAME, 0));
+                   IOX2SD_STATUS_BAD_SERVICE_NAME, 0));
     CHECK(is_field(iox2sd_describe_blackboard(&s, bytes("iox2://a"), 8, true, some_id, &d),
-                   IOX2SD_DONE, 0));
-    CHECK(describes(&d, IOX2SD_BLACKBOARD, "iox2://a"));
+                   IOX2SD_STATUS_DONE, 0));
+    CHECK(describes(&d, IOX2SD_PATTERN_BLACKBOARD, "iox2://a"));
 }
 
 static bool is_flag(iox2sd_flag_answer answer, uint32_t status, bool yes) {
@@ -781,14 +805,15 @@ static void same_patterns(void) {
     uint32_t left, right;
     for (left = 0; left < 4; left++) {
         for (right = 0; right < 4; right++) {
-            CHECK(is_flag(iox2sd_has_same_messaging_pattern(left, right), IOX2SD_DONE,
+            CHECK(is_flag(iox2sd_has_same_messaging_pattern(left, right), IOX2SD_STATUS_DONE,
                           left == right));
         }
-        CHECK(is_flag(iox2sd_has_same_messaging_pattern(left, 4), IOX2SD_UNKNOWN_PATTERN, false));
-        CHECK(is_flag(iox2sd_has_same_messaging_pattern(UINT32_MAX, left), IOX2SD_UNKNOWN_PATTERN,
+        CHECK(is_flag(iox2sd_has_same_messaging_pattern(left, 4), IOX2SD_STATUS_UNKNOWN_PATTERN,
                       false));
+        CHECK(is_flag(iox2sd_has_same_messaging_pattern(UINT32_MAX, left),
+                      IOX2SD_STATUS_UNKNOWN_PATTERN, false));
     }
-    CHECK(is_flag(iox2sd_has_same_messaging_pattern(4, 4), IOX2SD_UNKNOWN_PATTERN, false));
+    CHECK(is_flag(iox2sd_has_same_messaging_pattern(4, 4), IOX2SD_STATUS_UNKNOWN_PATTERN, false));
 }
 
 /* Why a text is refused, where the status says which one: the status of the check of that text. */
@@ -811,41 +836,47 @@ static void causes(void) {
         const uint32_t name = iox2sd_service_name_check(text, length).status;
         const uint32_t internal = iox2sd_internal_service_name_check(text, length).status;
         iox2sd_text_answer told = iox2sd_path_add_path_entry(text, length, bytes("p"), 1, out, 300);
-        CHECK(told.cause == path && (told.status == IOX2SD_BAD_PATH) == (path != IOX2SD_DONE));
+        CHECK(told.cause == path &&
+              (told.status == IOX2SD_STATUS_BAD_PATH) == (path != IOX2SD_STATUS_DONE));
         told = iox2sd_path_add_path_entry(bytes("p"), 1, text, length, out, 300);
-        CHECK(told.cause == path && (told.status == IOX2SD_BAD_ENTRY) == (path != IOX2SD_DONE));
+        CHECK(told.cause == path &&
+              (told.status == IOX2SD_STATUS_BAD_ENTRY) == (path != IOX2SD_STATUS_DONE));
         told = iox2sd_file_path_from_path_and_file(bytes("p"), 1, text, length, out, 300);
-        CHECK(told.cause == file && (told.status == IOX2SD_BAD_ENTRY) == (file != IOX2SD_DONE));
+        CHECK(told.cause == file &&
+              (told.status == IOX2SD_STATUS_BAD_ENTRY) == (file != IOX2SD_STATUS_DONE));
         told = iox2sd_service_dir(text, length, out, 300);
-        CHECK(told.cause == path && (told.status == IOX2SD_BAD_PATH) == (path != IOX2SD_DONE));
+        CHECK(told.cause == path &&
+              (told.status == IOX2SD_STATUS_BAD_PATH) == (path != IOX2SD_STATUS_DONE));
         told = iox2sd_node_dir(text, length, out, 300);
-        CHECK(told.cause == path && (told.status == IOX2SD_BAD_PATH) == (path != IOX2SD_DONE));
+        CHECK(told.cause == path &&
+              (told.status == IOX2SD_STATUS_BAD_PATH) == (path != IOX2SD_STATUS_DONE));
         const bool is_utf8 = i != 1;
-        told = iox2sd_hash_text(IOX2SD_EVENT, text, length, out, 300);
-        CHECK(told.cause == (is_utf8 ? name : IOX2SD_DONE));
-        CHECK((told.status == IOX2SD_BAD_SERVICE_NAME) == (is_utf8 && name != IOX2SD_DONE));
-        told = iox2sd_internal_hash_text(IOX2SD_EVENT, text, length, out, 300);
-        CHECK(told.cause == (is_utf8 ? internal : IOX2SD_DONE));
+        told = iox2sd_hash_text(IOX2SD_PATTERN_EVENT, text, length, out, 300);
+        CHECK(told.cause == (is_utf8 ? name : IOX2SD_STATUS_DONE));
+        CHECK((told.status == IOX2SD_STATUS_BAD_SERVICE_NAME) ==
+              (is_utf8 && name != IOX2SD_STATUS_DONE));
+        told = iox2sd_internal_hash_text(IOX2SD_PATTERN_EVENT, text, length, out, 300);
+        CHECK(told.cause == (is_utf8 ? internal : IOX2SD_STATUS_DONE));
         iox2sd_description made;
         iox2sd_field_answer field = iox2sd_describe_publish_subscribe(&settings, text, length,
                                                                       false, service, &made);
-        CHECK(field.cause == (is_utf8 ? name : IOX2SD_DONE) && field.field == 0);
+        CHECK(field.cause == (is_utf8 ? name : IOX2SD_STATUS_DONE) && field.field == 0);
         field = iox2sd_describe_publish_subscribe(&settings, text, length, true, service, &made);
-        CHECK(field.cause == (is_utf8 ? internal : IOX2SD_DONE));
+        CHECK(field.cause == (is_utf8 ? internal : IOX2SD_STATUS_DONE));
         iox2sd_attribute pairs[2] = {iox2sd_attribute_str("k", "v"), {text, length, bytes("v"), 1}};
         iox2sd_key keys[2] = {iox2sd_key_str("k"), {text, length}};
         const iox2sd_attribute good = pairs[0];
         iox2sd_place_answer place = iox2sd_attributes_check(pairs, 2);
-        CHECK(place.cause == key && place.at == (key != IOX2SD_DONE));
+        CHECK(place.cause == key && place.at == (key != IOX2SD_STATUS_DONE));
         place = iox2sd_attributes_sort(pairs, 2);
         CHECK(place.cause == key);
         pairs[0] = good;
         pairs[1].key = text;
         pairs[1].key_length = length;
         place = iox2sd_attributes_verify(&good, 1, pairs, 2, NULL, 0);
-        CHECK(place.cause == key && (place.status == IOX2SD_BAD_REQUIRED_KEY) == (key != 0));
+        CHECK(place.cause == key && (place.status == IOX2SD_STATUS_BAD_REQUIRED_KEY) == (key != 0));
         place = iox2sd_attributes_verify(&good, 1, NULL, 0, keys, 2);
-        CHECK(place.cause == key && (place.status == IOX2SD_BAD_ASKED_KEY) == (key != 0));
+        CHECK(place.cause == key && (place.status == IOX2SD_STATUS_BAD_ASKED_KEY) == (key != 0));
         CHECK(iox2sd_attributes_number_of_key_values(&good, 1, text, length).cause == key);
         CHECK(iox2sd_attributes_number_of_key_values(pairs, 2, bytes("k"), 1).cause == key);
         CHECK(iox2sd_attributes_key_value(&good, 1, text, length, 0, out, 300).cause == key);
@@ -857,7 +888,8 @@ static void causes(void) {
         CHECK(iox2sd_attributes_verify(pairs, 2, &good, 1, NULL, 0).cause == value);
         CHECK(iox2sd_attributes_number_of_key_values(pairs, 2, bytes("k"), 1).cause == value);
         place = iox2sd_attributes_verify(&good, 1, pairs, 2, NULL, 0);
-        CHECK(place.cause == value && (place.status == IOX2SD_BAD_REQUIRED_VALUE) == (value != 0));
+        CHECK(place.cause == value &&
+              (place.status == IOX2SD_STATUS_BAD_REQUIRED_VALUE) == (value != 0));
     }
 }
 
@@ -871,22 +903,22 @@ static void counts_of_settings(void) {
     iox2sd_count_answer one = iox2sd_samples_of(&samples);
     iox2sd_count_answer other =
         iox2sd_required_amount_of_samples_per_data_segment(3, 5, 7, 11, 13);
-    CHECK(one.status == IOX2SD_DONE && one.count == other.count);
+    CHECK(one.status == IOX2SD_STATUS_DONE && one.count == other.count);
     requests.max_servers = 3, requests.max_clients = 5, requests.max_loaned_requests = 7;
     requests.max_active_requests_per_client = 11, requests.max_response_buffer_size = 13;
     requests.max_borrowed_responses_per_pending_response = 17;
     requests.server_max_loaned_responses_per_request = 19;
     one = iox2sd_requests_of(&requests);
     other = iox2sd_required_amount_of_chunks_per_client_data_segment(3, 11, 7);
-    CHECK(one.status == IOX2SD_DONE && one.count == other.count);
+    CHECK(one.status == IOX2SD_STATUS_DONE && one.count == other.count);
     one = iox2sd_responses_of(&requests);
     other = iox2sd_required_amount_of_chunks_per_server_data_segment(5, 11, 13, 17, 19);
-    CHECK(one.status == IOX2SD_DONE && one.count == other.count);
-    CHECK(iox2sd_samples_of(NULL).status == IOX2SD_NULL);
-    CHECK(iox2sd_requests_of(NULL).status == IOX2SD_NULL);
-    CHECK(iox2sd_responses_of(NULL).status == IOX2SD_NULL);
+    CHECK(one.status == IOX2SD_STATUS_DONE && one.count == other.count);
+    CHECK(iox2sd_samples_of(NULL).status == IOX2SD_STATUS_NULL);
+    CHECK(iox2sd_requests_of(NULL).status == IOX2SD_STATUS_NULL);
+    CHECK(iox2sd_responses_of(NULL).status == IOX2SD_STATUS_NULL);
     samples.max_subscribers = SIZE_MAX, samples.subscriber_max_buffer_size = SIZE_MAX;
-    CHECK(iox2sd_samples_of(&samples).status == IOX2SD_TOO_LARGE);
+    CHECK(iox2sd_samples_of(&samples).status == IOX2SD_STATUS_TOO_LARGE);
 }
 
 int main(void) {

@@ -90,26 +90,26 @@ static uint64_t some_role(walk *w) {
 }
 
 static void reply_handle(walk *w, iox2sd_handle_answer made) {
-    w->has_handle[w->calls] = made.status == IOX2SD_DONE;
+    w->has_handle[w->calls] = made.status == IOX2SD_STATUS_DONE;
     w->handles[w->calls] = made.handle;
     switch (made.status) {
-    case IOX2SD_DONE:
+    case IOX2SD_STATUS_DONE:
         add(&w->replies, "handle %zu %" PRIu64 "\n", made.handle.slot, made.handle.ticket);
         break;
-    case IOX2SD_IS_LOCKED: add(&w->replies, "locked\n"); break;
-    case IOX2SD_OUT_OF_SPACE: add(&w->replies, "full\n"); break;
-    case IOX2SD_NODE_NOT_REGISTERED: add(&w->replies, "not-registered\n"); break;
-    case IOX2SD_ROLE_NOT_IN_PATTERN: add(&w->replies, "wrong-pattern\n"); break;
+    case IOX2SD_STATUS_IS_LOCKED: add(&w->replies, "locked\n"); break;
+    case IOX2SD_STATUS_OUT_OF_SPACE: add(&w->replies, "full\n"); break;
+    case IOX2SD_STATUS_NODE_NOT_REGISTERED: add(&w->replies, "not-registered\n"); break;
+    case IOX2SD_STATUS_ROLE_NOT_IN_PATTERN: add(&w->replies, "wrong-pattern\n"); break;
     default: give_up("a status that registering and attaching cannot have");
     }
 }
 
 static void reply_state(walk *w, uint32_t status) {
     switch (status) {
-    case IOX2SD_DONE: add(&w->replies, "has-owners\n"); break;
-    case IOX2SD_DONE_LOCKED: add(&w->replies, "no-owners\n"); break;
-    case IOX2SD_FOREIGN_HANDLE: add(&w->replies, "not-owned\n"); break;
-    case IOX2SD_PORTS_STILL_ATTACHED: add(&w->replies, "ports-attached\n"); break;
+    case IOX2SD_STATUS_DONE: add(&w->replies, "has-owners\n"); break;
+    case IOX2SD_STATUS_DONE_LOCKED: add(&w->replies, "no-owners\n"); break;
+    case IOX2SD_STATUS_FOREIGN_HANDLE: add(&w->replies, "not-owned\n"); break;
+    case IOX2SD_STATUS_PORTS_STILL_ATTACHED: add(&w->replies, "ports-attached\n"); break;
     default: give_up("a status that deregistering and dying cannot have");
     }
 }
@@ -117,7 +117,7 @@ static void reply_state(walk *w, uint32_t status) {
 static void reply_id(walk *w, iox2sd_id id) {
     uint8_t out[32];
     iox2sd_text_answer written = iox2sd_id_text(id, out, sizeof out);
-    if (written.status != IOX2SD_DONE) give_up("an id without a text");
+    if (written.status != IOX2SD_STATUS_DONE) give_up("an id without a text");
     add(&w->replies, " %.*s", (int)written.length, (const char *)out);
 }
 
@@ -134,7 +134,7 @@ static void attach(walk *w) {
     port.role = some_role(w);
     port.port = some_port();
     port.node = some_node();
-    port.data_segment = IOX2SD_STATIC_SEGMENT;
+    port.data_segment = IOX2SD_SEGMENT_STATIC;
     port.max_number_of_segments = 1;
     add(&w->script, "add %s %s %s\n", roles[port.role], spelled(port.port, its),
         spelled(port.node, of));
@@ -154,9 +154,9 @@ static void give_back(walk *w, bool of_node) {
         reply_state(w, iox2sd_deregister_node_id(&w->service, w->handles[call]));
     } else {
         uint32_t status = iox2sd_release_port(&w->service, w->handles[call]);
-        if (status != IOX2SD_DONE && status != IOX2SD_FOREIGN_HANDLE)
+        if (status != IOX2SD_STATUS_DONE && status != IOX2SD_STATUS_FOREIGN_HANDLE)
             give_up("a status that releasing cannot have");
-        add(&w->replies, status == IOX2SD_DONE ? "released\n" : "not-owned\n");
+        add(&w->replies, status == IOX2SD_STATUS_DONE ? "released\n" : "not-owned\n");
     }
 }
 
@@ -165,11 +165,11 @@ static void list_ports(walk *w) {
     uint64_t role = some_role(w);
     iox2sd_count_answer listed = iox2sd_ports(&w->service, role, out, MOST_LISTED);
     add(&w->script, "list %s\n", roles[role]);
-    if (listed.status == IOX2SD_ROLE_NOT_IN_PATTERN) {
+    if (listed.status == IOX2SD_STATUS_ROLE_NOT_IN_PATTERN) {
         add(&w->replies, "wrong-pattern\n");
         return;
     }
-    if (listed.status != IOX2SD_DONE) give_up("a status that listing cannot have");
+    if (listed.status != IOX2SD_STATUS_DONE) give_up("a status that listing cannot have");
     add(&w->replies, "list");
     for (size_t i = 0; i < listed.count; i++) reply_id(w, out[i].port);
     add(&w->replies, "\n");
@@ -179,7 +179,7 @@ static void list_nodes(walk *w) {
     iox2sd_id out[MOST_LISTED];
     iox2sd_count_answer listed = iox2sd_nodes(&w->service, out, MOST_LISTED);
     add(&w->script, "nodes\n");
-    if (listed.status != IOX2SD_DONE) give_up("a status that listing cannot have");
+    if (listed.status != IOX2SD_STATUS_DONE) give_up("a status that listing cannot have");
     add(&w->replies, "list");
     for (size_t i = 0; i < listed.count; i++) reply_id(w, out[i]);
     add(&w->replies, "\n");
@@ -189,7 +189,7 @@ static void count_ports(walk *w) {
     uint64_t role = some_role(w);
     iox2sd_count_answer counted = iox2sd_count_ports(&w->service, role);
     add(&w->script, "count %s\n", roles[role]);
-    if (counted.status == IOX2SD_ROLE_NOT_IN_PATTERN) {
+    if (counted.status == IOX2SD_STATUS_ROLE_NOT_IN_PATTERN) {
         add(&w->replies, "wrong-pattern\n");
     } else {
         add(&w->replies, "count %zu\n", counted.count);
@@ -216,7 +216,7 @@ static void die(walk *w) {
             its++;
         }
     }
-    if (asked.status != IOX2SD_DONE || its != asked.count) give_up("more ports of a node");
+    if (asked.status != IOX2SD_STATUS_DONE || its != asked.count) give_up("more ports of a node");
     add(&w->script, number == 0 ? "dead %s" : "dead %s skip", spelled(dead, out));
     for (size_t i = 0; i < number; i++) {
         /* A script keeps the ports of both kinds. */
@@ -256,7 +256,8 @@ static size_t take(size_t most) {
     uint64_t number = next();
     iox2sd_capacities room = {1 + below(6), below(6), below(6)};
     w.pattern = below(4);
-    if (iox2sd_service_create(&w.service, w.pattern, number, room, UINT64_MAX) != IOX2SD_DONE)
+    if (iox2sd_service_create(&w.service, w.pattern, number, room, UINT64_MAX) !=
+        IOX2SD_STATUS_DONE)
         give_up("no service");
     add(&w.script, "service %s %" PRIu64 " %zu %zu %zu\n", patterns[w.pattern], number, room.nodes,
         room.first, room.second);
@@ -266,18 +267,18 @@ static size_t take(size_t most) {
         w.calls++;
         when_locked += iox2sd_is_locked(&w.service).yes;
     }
-    if (iox2sd_service_free(&w.service) != IOX2SD_DONE) give_up("no service to free");
+    if (iox2sd_service_free(&w.service) != IOX2SD_STATUS_DONE) give_up("no service to free");
     uint8_t *out = malloc(w.replies.length + 1);
     if (out == NULL) give_up("no memory");
     iox2sd_script_answer ran =
         iox2sd_script_run((const uint8_t *)w.script.at, w.script.length, out, w.replies.length);
-    if (ran.status != IOX2SD_DONE || ran.length != w.replies.length ||
+    if (ran.status != IOX2SD_STATUS_DONE || ran.length != w.replies.length ||
         memcmp(out, w.replies.at, ran.length) != 0) {
         printf("status %" PRIu32
                ", line %zu, length %zu; script:\n%.*sreplies of the typed calls:\n%.*s",
                ran.status, ran.line, ran.length, (int)w.script.length, w.script.at,
                (int)w.replies.length, w.replies.at);
-        if (ran.status == IOX2SD_DONE)
+        if (ran.status == IOX2SD_STATUS_DONE)
             printf("replies of the script:\n%.*s", (int)ran.length, (const char *)out);
         exit(1);
     }

@@ -93,33 +93,33 @@ constexpr std::uint64_t none = UINT64_MAX;
 
 std::uint64_t of_header(Role role) {
     switch (role) {
-        case Role::Node: return IOX2SD_NODE;
-        case Role::Publisher: return IOX2SD_PUBLISHER;
-        case Role::Subscriber: return IOX2SD_SUBSCRIBER;
-        case Role::Notifier: return IOX2SD_NOTIFIER;
-        case Role::Listener: return IOX2SD_LISTENER;
-        case Role::Client: return IOX2SD_CLIENT;
-        case Role::Server: return IOX2SD_SERVER;
-        case Role::Reader: return IOX2SD_READER;
-        case Role::Writer: return IOX2SD_WRITER;
+        case Role::Node: return IOX2SD_ROLE_NODE;
+        case Role::Publisher: return IOX2SD_ROLE_PUBLISHER;
+        case Role::Subscriber: return IOX2SD_ROLE_SUBSCRIBER;
+        case Role::Notifier: return IOX2SD_ROLE_NOTIFIER;
+        case Role::Listener: return IOX2SD_ROLE_LISTENER;
+        case Role::Client: return IOX2SD_ROLE_CLIENT;
+        case Role::Server: return IOX2SD_ROLE_SERVER;
+        case Role::Reader: return IOX2SD_ROLE_READER;
+        case Role::Writer: return IOX2SD_ROLE_WRITER;
     }
     return none;
 }
 
 std::uint64_t of_header(PatternKind kind) {
     switch (kind) {
-        case PatternKind::PublishSubscribe: return IOX2SD_PUBLISH_SUBSCRIBE;
-        case PatternKind::Event: return IOX2SD_EVENT;
-        case PatternKind::RequestResponse: return IOX2SD_REQUEST_RESPONSE;
-        case PatternKind::Blackboard: return IOX2SD_BLACKBOARD;
+        case PatternKind::PublishSubscribe: return IOX2SD_PATTERN_PUBLISH_SUBSCRIBE;
+        case PatternKind::Event: return IOX2SD_PATTERN_EVENT;
+        case PatternKind::RequestResponse: return IOX2SD_PATTERN_REQUEST_RESPONSE;
+        case PatternKind::Blackboard: return IOX2SD_PATTERN_BLACKBOARD;
     }
     return none;
 }
 
 std::uint64_t of_header(DataSegmentType type) {
     switch (type) {
-        case DataSegmentType::Dynamic: return IOX2SD_DYNAMIC_SEGMENT;
-        case DataSegmentType::Static: return IOX2SD_STATIC_SEGMENT;
+        case DataSegmentType::Dynamic: return IOX2SD_SEGMENT_DYNAMIC;
+        case DataSegmentType::Static: return IOX2SD_SEGMENT_STATIC;
     }
     return none;
 }
@@ -134,17 +134,17 @@ std::uint64_t of_header(TypeVariant variant) {
 
 std::uint64_t of_header(MessagePart part) {
     switch (part) {
-        case MessagePart::Header: return IOX2SD_HEADER;
-        case MessagePart::UserHeader: return IOX2SD_USER_HEADER;
-        case MessagePart::Payload: return IOX2SD_PAYLOAD;
+        case MessagePart::Header: return IOX2SD_PART_HEADER;
+        case MessagePart::UserHeader: return IOX2SD_PART_USER_HEADER;
+        case MessagePart::Payload: return IOX2SD_PART_PAYLOAD;
     }
     return none;
 }
 
 std::uint64_t of_header(BackpressureStrategy strategy) {
     switch (strategy) {
-        case BackpressureStrategy::RetryUntilDelivered: return IOX2SD_RETRY_UNTIL_DELIVERED;
-        case BackpressureStrategy::DiscardData: return IOX2SD_DISCARD_DATA;
+        case BackpressureStrategy::RetryUntilDelivered: return IOX2SD_BACKPRESSURE_RETRY_UNTIL_DELIVERED;
+        case BackpressureStrategy::DiscardData: return IOX2SD_BACKPRESSURE_DISCARD_DATA;
     }
     return none;
 }
@@ -160,71 +160,71 @@ std::uint64_t of_header(AllocationStrategy strategy) {
 
 std::uint64_t of_header(SettingsField field) {
     switch (field) {
-        case SettingsField::BackpressureStrategy: return IOX2SD_BACKPRESSURE_STRATEGY;
+        case SettingsField::BackpressureStrategy: return IOX2SD_FIELD_BACKPRESSURE_STRATEGY;
         case SettingsField::PublisherAllocationStrategy:
-            return IOX2SD_PUBLISHER_ALLOCATION_STRATEGY;
-        case SettingsField::Deadline: return IOX2SD_DEADLINE;
-        case SettingsField::ClientBackpressureStrategy: return IOX2SD_CLIENT_BACKPRESSURE_STRATEGY;
-        case SettingsField::ServerBackpressureStrategy: return IOX2SD_SERVER_BACKPRESSURE_STRATEGY;
-        case SettingsField::ClientAllocationStrategy: return IOX2SD_CLIENT_ALLOCATION_STRATEGY;
-        case SettingsField::ServerAllocationStrategy: return IOX2SD_SERVER_ALLOCATION_STRATEGY;
-        case SettingsField::CreationTimeout: return IOX2SD_CREATION_TIMEOUT;
-        case SettingsField::MaxSubscribers: return IOX2SD_MAX_SUBSCRIBERS;
-        case SettingsField::MaxPublishers: return IOX2SD_MAX_PUBLISHERS;
-        case SettingsField::HistorySize: return IOX2SD_HISTORY_SIZE;
-        case SettingsField::SubscriberMaxBufferSize: return IOX2SD_SUBSCRIBER_MAX_BUFFER_SIZE;
+            return IOX2SD_FIELD_PUBLISHER_ALLOCATION_STRATEGY;
+        case SettingsField::Deadline: return IOX2SD_FIELD_DEADLINE;
+        case SettingsField::ClientBackpressureStrategy: return IOX2SD_FIELD_CLIENT_BACKPRESSURE_STRATEGY;
+        case SettingsField::ServerBackpressureStrategy: return IOX2SD_FIELD_SERVER_BACKPRESSURE_STRATEGY;
+        case SettingsField::ClientAllocationStrategy: return IOX2SD_FIELD_CLIENT_ALLOCATION_STRATEGY;
+        case SettingsField::ServerAllocationStrategy: return IOX2SD_FIELD_SERVER_ALLOCATION_STRATEGY;
+        case SettingsField::CreationTimeout: return IOX2SD_FIELD_CREATION_TIMEOUT;
+        case SettingsField::MaxSubscribers: return IOX2SD_FIELD_MAX_SUBSCRIBERS;
+        case SettingsField::MaxPublishers: return IOX2SD_FIELD_MAX_PUBLISHERS;
+        case SettingsField::HistorySize: return IOX2SD_FIELD_HISTORY_SIZE;
+        case SettingsField::SubscriberMaxBufferSize: return IOX2SD_FIELD_SUBSCRIBER_MAX_BUFFER_SIZE;
         case SettingsField::SubscriberMaxBorrowedSamples:
-            return IOX2SD_SUBSCRIBER_MAX_BORROWED_SAMPLES;
-        case SettingsField::EnableSafeOverflow: return IOX2SD_ENABLE_SAFE_OVERFLOW;
-        case SettingsField::MaxNotifiers: return IOX2SD_MAX_NOTIFIERS;
-        case SettingsField::MaxListeners: return IOX2SD_MAX_LISTENERS;
-        case SettingsField::EventIdMaxValue: return IOX2SD_EVENT_ID_MAX_VALUE;
-        case SettingsField::NotifierCreatedEvent: return IOX2SD_NOTIFIER_CREATED_EVENT;
-        case SettingsField::NotifierDroppedEvent: return IOX2SD_NOTIFIER_DROPPED_EVENT;
-        case SettingsField::NotifierDeadEvent: return IOX2SD_NOTIFIER_DEAD_EVENT;
+            return IOX2SD_FIELD_SUBSCRIBER_MAX_BORROWED_SAMPLES;
+        case SettingsField::EnableSafeOverflow: return IOX2SD_FIELD_ENABLE_SAFE_OVERFLOW;
+        case SettingsField::MaxNotifiers: return IOX2SD_FIELD_MAX_NOTIFIERS;
+        case SettingsField::MaxListeners: return IOX2SD_FIELD_MAX_LISTENERS;
+        case SettingsField::EventIdMaxValue: return IOX2SD_FIELD_EVENT_ID_MAX_VALUE;
+        case SettingsField::NotifierCreatedEvent: return IOX2SD_FIELD_NOTIFIER_CREATED_EVENT;
+        case SettingsField::NotifierDroppedEvent: return IOX2SD_FIELD_NOTIFIER_DROPPED_EVENT;
+        case SettingsField::NotifierDeadEvent: return IOX2SD_FIELD_NOTIFIER_DEAD_EVENT;
         case SettingsField::EnableSafeOverflowForRequests:
-            return IOX2SD_ENABLE_SAFE_OVERFLOW_FOR_REQUESTS;
+            return IOX2SD_FIELD_ENABLE_SAFE_OVERFLOW_FOR_REQUESTS;
         case SettingsField::EnableSafeOverflowForResponses:
-            return IOX2SD_ENABLE_SAFE_OVERFLOW_FOR_RESPONSES;
+            return IOX2SD_FIELD_ENABLE_SAFE_OVERFLOW_FOR_RESPONSES;
         case SettingsField::EnableFireAndForgetRequests:
-            return IOX2SD_ENABLE_FIRE_AND_FORGET_REQUESTS;
+            return IOX2SD_FIELD_ENABLE_FIRE_AND_FORGET_REQUESTS;
         case SettingsField::MaxActiveRequestsPerClient:
-            return IOX2SD_MAX_ACTIVE_REQUESTS_PER_CLIENT;
-        case SettingsField::MaxLoanedRequests: return IOX2SD_MAX_LOANED_REQUESTS;
-        case SettingsField::MaxResponseBufferSize: return IOX2SD_MAX_RESPONSE_BUFFER_SIZE;
-        case SettingsField::MaxServers: return IOX2SD_MAX_SERVERS;
-        case SettingsField::MaxClients: return IOX2SD_MAX_CLIENTS;
+            return IOX2SD_FIELD_MAX_ACTIVE_REQUESTS_PER_CLIENT;
+        case SettingsField::MaxLoanedRequests: return IOX2SD_FIELD_MAX_LOANED_REQUESTS;
+        case SettingsField::MaxResponseBufferSize: return IOX2SD_FIELD_MAX_RESPONSE_BUFFER_SIZE;
+        case SettingsField::MaxServers: return IOX2SD_FIELD_MAX_SERVERS;
+        case SettingsField::MaxClients: return IOX2SD_FIELD_MAX_CLIENTS;
         case SettingsField::MaxBorrowedResponsesPerPendingResponse:
-            return IOX2SD_MAX_BORROWED_RESPONSES_PER_PENDING_RESPONSE;
-        case SettingsField::MaxReaders: return IOX2SD_MAX_READERS;
-        case SettingsField::MaxWriters: return IOX2SD_MAX_WRITERS;
-        case SettingsField::MaxNodes: return IOX2SD_MAX_NODES;
+            return IOX2SD_FIELD_MAX_BORROWED_RESPONSES_PER_PENDING_RESPONSE;
+        case SettingsField::MaxReaders: return IOX2SD_FIELD_MAX_READERS;
+        case SettingsField::MaxWriters: return IOX2SD_FIELD_MAX_WRITERS;
+        case SettingsField::MaxNodes: return IOX2SD_FIELD_MAX_NODES;
     }
     return none;
 }
 
 std::uint64_t of_header(ConfigEntry entry) {
     switch (entry) {
-        case ConfigEntry::RootPath: return IOX2SD_ROOT_PATH;
-        case ConfigEntry::Prefix: return IOX2SD_PREFIX;
-        case ConfigEntry::ServiceDirectory: return IOX2SD_SERVICE_DIRECTORY;
-        case ConfigEntry::DataSegmentSuffix: return IOX2SD_DATA_SEGMENT_SUFFIX;
-        case ConfigEntry::StaticConfigStorageSuffix: return IOX2SD_STATIC_CONFIG_STORAGE_SUFFIX;
-        case ConfigEntry::DynamicConfigStorageSuffix: return IOX2SD_DYNAMIC_CONFIG_STORAGE_SUFFIX;
-        case ConfigEntry::ConnectionSuffix: return IOX2SD_CONNECTION_SUFFIX;
-        case ConfigEntry::EventConnectionSuffix: return IOX2SD_EVENT_CONNECTION_SUFFIX;
-        case ConfigEntry::BlackboardMgmtSuffix: return IOX2SD_BLACKBOARD_MGMT_SUFFIX;
-        case ConfigEntry::BlackboardDataSuffix: return IOX2SD_BLACKBOARD_DATA_SUFFIX;
-        case ConfigEntry::NodeDirectory: return IOX2SD_NODE_DIRECTORY;
-        case ConfigEntry::MonitorSuffix: return IOX2SD_MONITOR_SUFFIX;
-        case ConfigEntry::NodeStaticConfigSuffix: return IOX2SD_NODE_STATIC_CONFIG_SUFFIX;
-        case ConfigEntry::ServiceTagSuffix: return IOX2SD_SERVICE_TAG_SUFFIX;
-        case ConfigEntry::PortTagSuffix: return IOX2SD_PORT_TAG_SUFFIX;
-        case ConfigEntry::GlobalMgmtSuffix: return IOX2SD_GLOBAL_MGMT_SUFFIX;
-        case ConfigEntry::ConfigFileName: return IOX2SD_CONFIG_FILE_NAME;
-        case ConfigEntry::ConfigFilePath: return IOX2SD_CONFIG_FILE_PATH;
-        case ConfigEntry::RelativeConfigPath: return IOX2SD_RELATIVE_CONFIG_PATH;
-        case ConfigEntry::UserConfigFilePath: return IOX2SD_USER_CONFIG_FILE_PATH;
+        case ConfigEntry::RootPath: return IOX2SD_TEXT_ROOT_PATH;
+        case ConfigEntry::Prefix: return IOX2SD_TEXT_PREFIX;
+        case ConfigEntry::ServiceDirectory: return IOX2SD_TEXT_SERVICE_DIRECTORY;
+        case ConfigEntry::DataSegmentSuffix: return IOX2SD_TEXT_DATA_SEGMENT_SUFFIX;
+        case ConfigEntry::StaticConfigStorageSuffix: return IOX2SD_TEXT_STATIC_CONFIG_STORAGE_SUFFIX;
+        case ConfigEntry::DynamicConfigStorageSuffix: return IOX2SD_TEXT_DYNAMIC_CONFIG_STORAGE_SUFFIX;
+        case ConfigEntry::ConnectionSuffix: return IOX2SD_TEXT_CONNECTION_SUFFIX;
+        case ConfigEntry::EventConnectionSuffix: return IOX2SD_TEXT_EVENT_CONNECTION_SUFFIX;
+        case ConfigEntry::BlackboardMgmtSuffix: return IOX2SD_TEXT_BLACKBOARD_MGMT_SUFFIX;
+        case ConfigEntry::BlackboardDataSuffix: return IOX2SD_TEXT_BLACKBOARD_DATA_SUFFIX;
+        case ConfigEntry::NodeDirectory: return IOX2SD_TEXT_NODE_DIRECTORY;
+        case ConfigEntry::MonitorSuffix: return IOX2SD_TEXT_MONITOR_SUFFIX;
+        case ConfigEntry::NodeStaticConfigSuffix: return IOX2SD_TEXT_NODE_STATIC_CONFIG_SUFFIX;
+        case ConfigEntry::ServiceTagSuffix: return IOX2SD_TEXT_SERVICE_TAG_SUFFIX;
+        case ConfigEntry::PortTagSuffix: return IOX2SD_TEXT_PORT_TAG_SUFFIX;
+        case ConfigEntry::GlobalMgmtSuffix: return IOX2SD_TEXT_GLOBAL_MGMT_SUFFIX;
+        case ConfigEntry::ConfigFileName: return IOX2SD_TEXT_CONFIG_FILE_NAME;
+        case ConfigEntry::ConfigFilePath: return IOX2SD_TEXT_CONFIG_FILE_PATH;
+        case ConfigEntry::RelativeConfigPath: return IOX2SD_TEXT_RELATIVE_CONFIG_PATH;
+        case ConfigEntry::UserConfigFilePath: return IOX2SD_TEXT_USER_CONFIG_FILE_PATH;
     }
     return none;
 }
@@ -275,73 +275,73 @@ std::uint64_t of_header(SettingKind kind) {
 
 std::uint64_t of_header(Status status) {
     switch (status) {
-        case Status::Done: return IOX2SD_DONE;
-        case Status::DoneLocked: return IOX2SD_DONE_LOCKED;
-        case Status::BufferTooShort: return IOX2SD_BUFFER_TOO_SHORT;
-        case Status::NoMemory: return IOX2SD_NO_MEMORY;
-        case Status::NoService: return IOX2SD_NO_SERVICE;
-        case Status::HasService: return IOX2SD_HAS_SERVICE;
-        case Status::UnknownPattern: return IOX2SD_UNKNOWN_PATTERN;
-        case Status::UnknownRole: return IOX2SD_UNKNOWN_ROLE;
-        case Status::NoNode: return IOX2SD_NO_NODE;
-        case Status::IsLocked: return IOX2SD_IS_LOCKED;
-        case Status::OutOfSpace: return IOX2SD_OUT_OF_SPACE;
-        case Status::ForeignHandle: return IOX2SD_FOREIGN_HANDLE;
-        case Status::PortsStillAttached: return IOX2SD_PORTS_STILL_ATTACHED;
-        case Status::NodeNotRegistered: return IOX2SD_NODE_NOT_REGISTERED;
-        case Status::RoleNotInPattern: return IOX2SD_ROLE_NOT_IN_PATTERN;
-        case Status::UnknownSegment: return IOX2SD_UNKNOWN_SEGMENT;
-        case Status::BadKey: return IOX2SD_BAD_KEY;
-        case Status::BadValue: return IOX2SD_BAD_VALUE;
-        case Status::TooMany: return IOX2SD_TOO_MANY;
-        case Status::Null: return IOX2SD_NULL;
-        case Status::UnknownStatus: return IOX2SD_UNKNOWN_STATUS;
-        case Status::Empty: return IOX2SD_EMPTY;
-        case Status::TooLong: return IOX2SD_TOO_LONG;
-        case Status::IllegalByte: return IOX2SD_ILLEGAL_BYTE;
-        case Status::NoFileName: return IOX2SD_NO_FILE_NAME;
-        case Status::ReservedPrefix: return IOX2SD_RESERVED_PREFIX;
-        case Status::NotUtf8: return IOX2SD_NOT_UTF8;
-        case Status::BadServiceName: return IOX2SD_BAD_SERVICE_NAME;
-        case Status::BadPath: return IOX2SD_BAD_PATH;
-        case Status::BadEntry: return IOX2SD_BAD_ENTRY;
-        case Status::IllegalHash: return IOX2SD_ILLEGAL_HASH;
-        case Status::BadRequiredKey: return IOX2SD_BAD_REQUIRED_KEY;
-        case Status::BadRequiredValue: return IOX2SD_BAD_REQUIRED_VALUE;
-        case Status::BadAskedKey: return IOX2SD_BAD_ASKED_KEY;
-        case Status::TooManyRequired: return IOX2SD_TOO_MANY_REQUIRED;
-        case Status::MissingPair: return IOX2SD_MISSING_PAIR;
-        case Status::MissingKey: return IOX2SD_MISSING_KEY;
-        case Status::NoSuchValue: return IOX2SD_NO_SUCH_VALUE;
-        case Status::BadAlignment: return IOX2SD_BAD_ALIGNMENT;
-        case Status::TooLarge: return IOX2SD_TOO_LARGE;
-        case Status::UnknownVariant: return IOX2SD_UNKNOWN_VARIANT;
-        case Status::OtherName: return IOX2SD_OTHER_NAME;
-        case Status::OtherVariant: return IOX2SD_OTHER_VARIANT;
-        case Status::OtherSize: return IOX2SD_OTHER_SIZE;
-        case Status::OtherAlignment: return IOX2SD_OTHER_ALIGNMENT;
-        case Status::GreaterAlignment: return IOX2SD_GREATER_ALIGNMENT;
-        case Status::UnknownText: return IOX2SD_UNKNOWN_TEXT;
-        case Status::BadLine: return IOX2SD_BAD_LINE;
-        case Status::UnknownStrategy: return IOX2SD_UNKNOWN_STRATEGY;
-        case Status::BadDuration: return IOX2SD_BAD_DURATION;
-        case Status::Unmet: return IOX2SD_UNMET;
-        case Status::OtherPattern: return IOX2SD_OTHER_PATTERN;
-        case Status::NotToml: return IOX2SD_NOT_TOML;
-        case Status::WrongType: return IOX2SD_WRONG_TYPE;
-        case Status::BelowZero: return IOX2SD_BELOW_ZERO;
-        case Status::NoDuration: return IOX2SD_NO_DURATION;
-        case Status::NoTomlInteger: return IOX2SD_NO_TOML_INTEGER;
-        case Status::NoFile: return IOX2SD_NO_FILE;
-        case Status::TooDeep: return IOX2SD_TOO_DEEP;
-        case Status::NoRun: return IOX2SD_NO_RUN;
-        case Status::NoServiceLine: return IOX2SD_NO_SERVICE_LINE;
-        case Status::NoCommandLine: return IOX2SD_NO_COMMAND_LINE;
-        case Status::NoReplyLine: return IOX2SD_NO_REPLY_LINE;
-        case Status::NoOrder: return IOX2SD_NO_ORDER;
-        case Status::TooManyStates: return IOX2SD_TOO_MANY_STATES;
-        case Status::NoGroupLine: return IOX2SD_NO_GROUP_LINE;
-        case Status::NoGroupEnd: return IOX2SD_NO_GROUP_END;
+        case Status::Done: return IOX2SD_STATUS_DONE;
+        case Status::DoneLocked: return IOX2SD_STATUS_DONE_LOCKED;
+        case Status::BufferTooShort: return IOX2SD_STATUS_BUFFER_TOO_SHORT;
+        case Status::NoMemory: return IOX2SD_STATUS_NO_MEMORY;
+        case Status::NoService: return IOX2SD_STATUS_NO_SERVICE;
+        case Status::HasService: return IOX2SD_STATUS_HAS_SERVICE;
+        case Status::UnknownPattern: return IOX2SD_STATUS_UNKNOWN_PATTERN;
+        case Status::UnknownRole: return IOX2SD_STATUS_UNKNOWN_ROLE;
+        case Status::NoNode: return IOX2SD_STATUS_NO_NODE;
+        case Status::IsLocked: return IOX2SD_STATUS_IS_LOCKED;
+        case Status::OutOfSpace: return IOX2SD_STATUS_OUT_OF_SPACE;
+        case Status::ForeignHandle: return IOX2SD_STATUS_FOREIGN_HANDLE;
+        case Status::PortsStillAttached: return IOX2SD_STATUS_PORTS_STILL_ATTACHED;
+        case Status::NodeNotRegistered: return IOX2SD_STATUS_NODE_NOT_REGISTERED;
+        case Status::RoleNotInPattern: return IOX2SD_STATUS_ROLE_NOT_IN_PATTERN;
+        case Status::UnknownSegment: return IOX2SD_STATUS_UNKNOWN_SEGMENT;
+        case Status::BadKey: return IOX2SD_STATUS_BAD_KEY;
+        case Status::BadValue: return IOX2SD_STATUS_BAD_VALUE;
+        case Status::TooMany: return IOX2SD_STATUS_TOO_MANY;
+        case Status::Null: return IOX2SD_STATUS_NULL;
+        case Status::UnknownStatus: return IOX2SD_STATUS_UNKNOWN_STATUS;
+        case Status::Empty: return IOX2SD_STATUS_EMPTY;
+        case Status::TooLong: return IOX2SD_STATUS_TOO_LONG;
+        case Status::IllegalByte: return IOX2SD_STATUS_ILLEGAL_BYTE;
+        case Status::NoFileName: return IOX2SD_STATUS_NO_FILE_NAME;
+        case Status::ReservedPrefix: return IOX2SD_STATUS_RESERVED_PREFIX;
+        case Status::NotUtf8: return IOX2SD_STATUS_NOT_UTF8;
+        case Status::BadServiceName: return IOX2SD_STATUS_BAD_SERVICE_NAME;
+        case Status::BadPath: return IOX2SD_STATUS_BAD_PATH;
+        case Status::BadEntry: return IOX2SD_STATUS_BAD_ENTRY;
+        case Status::IllegalHash: return IOX2SD_STATUS_ILLEGAL_HASH;
+        case Status::BadRequiredKey: return IOX2SD_STATUS_BAD_REQUIRED_KEY;
+        case Status::BadRequiredValue: return IOX2SD_STATUS_BAD_REQUIRED_VALUE;
+        case Status::BadAskedKey: return IOX2SD_STATUS_BAD_ASKED_KEY;
+        case Status::TooManyRequired: return IOX2SD_STATUS_TOO_MANY_REQUIRED;
+        case Status::MissingPair: return IOX2SD_STATUS_MISSING_PAIR;
+        case Status::MissingKey: return IOX2SD_STATUS_MISSING_KEY;
+        case Status::NoSuchValue: return IOX2SD_STATUS_NO_SUCH_VALUE;
+        case Status::BadAlignment: return IOX2SD_STATUS_BAD_ALIGNMENT;
+        case Status::TooLarge: return IOX2SD_STATUS_TOO_LARGE;
+        case Status::UnknownVariant: return IOX2SD_STATUS_UNKNOWN_VARIANT;
+        case Status::OtherName: return IOX2SD_STATUS_OTHER_NAME;
+        case Status::OtherVariant: return IOX2SD_STATUS_OTHER_VARIANT;
+        case Status::OtherSize: return IOX2SD_STATUS_OTHER_SIZE;
+        case Status::OtherAlignment: return IOX2SD_STATUS_OTHER_ALIGNMENT;
+        case Status::GreaterAlignment: return IOX2SD_STATUS_GREATER_ALIGNMENT;
+        case Status::UnknownText: return IOX2SD_STATUS_UNKNOWN_TEXT;
+        case Status::BadLine: return IOX2SD_STATUS_BAD_LINE;
+        case Status::UnknownStrategy: return IOX2SD_STATUS_UNKNOWN_STRATEGY;
+        case Status::BadDuration: return IOX2SD_STATUS_BAD_DURATION;
+        case Status::Unmet: return IOX2SD_STATUS_UNMET;
+        case Status::OtherPattern: return IOX2SD_STATUS_OTHER_PATTERN;
+        case Status::NotToml: return IOX2SD_STATUS_NOT_TOML;
+        case Status::WrongType: return IOX2SD_STATUS_WRONG_TYPE;
+        case Status::BelowZero: return IOX2SD_STATUS_BELOW_ZERO;
+        case Status::NoDuration: return IOX2SD_STATUS_NO_DURATION;
+        case Status::NoTomlInteger: return IOX2SD_STATUS_NO_TOML_INTEGER;
+        case Status::NoFile: return IOX2SD_STATUS_NO_FILE;
+        case Status::TooDeep: return IOX2SD_STATUS_TOO_DEEP;
+        case Status::NoRun: return IOX2SD_STATUS_NO_RUN;
+        case Status::NoServiceLine: return IOX2SD_STATUS_NO_SERVICE_LINE;
+        case Status::NoCommandLine: return IOX2SD_STATUS_NO_COMMAND_LINE;
+        case Status::NoReplyLine: return IOX2SD_STATUS_NO_REPLY_LINE;
+        case Status::NoOrder: return IOX2SD_STATUS_NO_ORDER;
+        case Status::TooManyStates: return IOX2SD_STATUS_TOO_MANY_STATES;
+        case Status::NoGroupLine: return IOX2SD_STATUS_NO_GROUP_LINE;
+        case Status::NoGroupEnd: return IOX2SD_STATUS_NO_GROUP_END;
     }
     return none;
 }
@@ -356,15 +356,15 @@ void numbers(std::uint32_t first, std::uint32_t count) {
 }
 
 void enumerators() {
-    numbers<Role>(IOX2SD_NODE, 9);
-    numbers<PatternKind>(IOX2SD_PUBLISH_SUBSCRIBE, 4);
-    numbers<DataSegmentType>(IOX2SD_DYNAMIC_SEGMENT, 2);
+    numbers<Role>(IOX2SD_ROLE_NODE, 9);
+    numbers<PatternKind>(IOX2SD_PATTERN_PUBLISH_SUBSCRIBE, 4);
+    numbers<DataSegmentType>(IOX2SD_SEGMENT_DYNAMIC, 2);
     numbers<TypeVariant>(IOX2SD_VARIANT_FIXED_SIZE, 2);
-    numbers<MessagePart>(IOX2SD_HEADER, 3);
-    numbers<BackpressureStrategy>(IOX2SD_RETRY_UNTIL_DELIVERED, 2);
+    numbers<MessagePart>(IOX2SD_PART_HEADER, 3);
+    numbers<BackpressureStrategy>(IOX2SD_BACKPRESSURE_RETRY_UNTIL_DELIVERED, 2);
     numbers<AllocationStrategy>(IOX2SD_ALLOCATION_BEST_FIT, 3);
-    numbers<SettingsField>(IOX2SD_BACKPRESSURE_STRATEGY, 32);
-    numbers<ConfigEntry>(IOX2SD_ROOT_PATH, 20);
+    numbers<SettingsField>(IOX2SD_FIELD_BACKPRESSURE_STRATEGY, 32);
+    numbers<ConfigEntry>(IOX2SD_TEXT_ROOT_PATH, 20);
     numbers<ConfigTable>(IOX2SD_TABLE_ROOT, 9);
     numbers<TomlType>(IOX2SD_TOML_NONE, 8);
     numbers<SettingKind>(IOX2SD_KIND_NONE, 9);
@@ -372,7 +372,7 @@ void enumerators() {
     std::size_t statuses = 0;
     for (std::uint32_t number = 0; number < 1000; ++number) {
         const std::uint64_t found = of_header(Status{number});
-        const bool is_status = number == IOX2SD_UNKNOWN_STATUS ||
+        const bool is_status = number == IOX2SD_STATUS_UNKNOWN_STATUS ||
                                std::string_view(iox2sd_status_str(number)) != "unknown status";
         CHECK(found == (is_status ? number : none));
         statuses += is_status;

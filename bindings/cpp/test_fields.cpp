@@ -304,7 +304,7 @@ void descriptions() {
 /// A struct of C with a value of its own in each field.
 iox2sd_port_details c_port(Role role) {
     return {static_cast<std::uint64_t>(role), {11, 12, 13, 14}, {21, 22, 23, 24}, 31, 32, 33, 34,
-            35, 36, 37, IOX2SD_DYNAMIC_SEGMENT, 38};
+            35, 36, 37, IOX2SD_SEGMENT_DYNAMIC, 38};
 }
 
 bool is_same(const iox2sd_id& a, const iox2sd_id& b) {
@@ -394,7 +394,7 @@ void ports() {
         each_counts(made, a, b);
     }
     std::vector<PortDetails> kinds;
-    for (std::uint64_t role = IOX2SD_PUBLISHER; role <= IOX2SD_WRITER; ++role) {
+    for (std::uint64_t role = IOX2SD_ROLE_PUBLISHER; role <= IOX2SD_ROLE_WRITER; ++role) {
         kinds.push_back(detail::port_details(c_port(Role{role})));
         CHECK(iox2sd::role(kinds.back()) == Role{role});
     }
@@ -402,10 +402,10 @@ void ports() {
 }
 
 void handles() {
-    const ContainerHandle handle = ContainerHandle::from_c({1, IOX2SD_READER, 3, 4});
+    const ContainerHandle handle = ContainerHandle::from_c({1, IOX2SD_ROLE_READER, 3, 4});
     CHECK(handle == ContainerHandle{1, Role::Reader, 3, 4});
     const iox2sd_handle c = handle.as_c();
-    CHECK(c.service == 1 && c.role == IOX2SD_READER && c.slot == 3 && c.ticket == 4);
+    CHECK(c.service == 1 && c.role == IOX2SD_ROLE_READER && c.slot == 3 && c.ticket == 4);
 }
 
 /// What an array has no room for is cut off.
@@ -426,7 +426,7 @@ extern "C" {
 iox2sd_global_settings __wrap_iox2sd_global_defaults() { return {{1, 2}, true, false, true}; }
 
 iox2sd_publish_subscribe_settings __wrap_iox2sd_publish_subscribe_defaults() {
-    return {1, 2, 3, 4, 5, 6, 7, 8, IOX2SD_DISCARD_DATA, IOX2SD_ALLOCATION_STATIC, true};
+    return {1, 2, 3, 4, 5, 6, 7, 8, IOX2SD_BACKPRESSURE_DISCARD_DATA, IOX2SD_ALLOCATION_STATIC, true};
 }
 
 iox2sd_event_settings __wrap_iox2sd_event_defaults() {
@@ -434,7 +434,7 @@ iox2sd_event_settings __wrap_iox2sd_event_defaults() {
 }
 
 iox2sd_request_response_settings __wrap_iox2sd_request_response_defaults() {
-    return {1, 2, 3, 4, 5, 6, 7, 8, 9, 10, IOX2SD_DISCARD_DATA, IOX2SD_RETRY_UNTIL_DELIVERED,
+    return {1, 2, 3, 4, 5, 6, 7, 8, 9, 10, IOX2SD_BACKPRESSURE_DISCARD_DATA, IOX2SD_BACKPRESSURE_RETRY_UNTIL_DELIVERED,
             IOX2SD_ALLOCATION_STATIC, IOX2SD_ALLOCATION_POWER_OF_TWO, true, false, true};
 }
 
@@ -449,22 +449,22 @@ static iox2sd_request_response_settings given_requests;
 iox2sd_field_answer __wrap_iox2sd_global_settings_check_at(const iox2sd_global_settings* settings,
                                                            size_t) {
     given_global = *settings;
-    return {IOX2SD_DONE, 0, 0};
+    return {IOX2SD_STATUS_DONE, 0, 0};
 }
 iox2sd_field_answer __wrap_iox2sd_publish_subscribe_settings_check_at(
     const iox2sd_publish_subscribe_settings* settings, size_t) {
     given_samples = *settings;
-    return {IOX2SD_DONE, 0, 0};
+    return {IOX2SD_STATUS_DONE, 0, 0};
 }
 iox2sd_field_answer __wrap_iox2sd_event_settings_check_at(const iox2sd_event_settings* settings,
                                                           size_t) {
     given_events = *settings;
-    return {IOX2SD_DONE, 0, 0};
+    return {IOX2SD_STATUS_DONE, 0, 0};
 }
 iox2sd_field_answer __wrap_iox2sd_request_response_settings_check_at(
     const iox2sd_request_response_settings* settings, size_t) {
     given_requests = *settings;
-    return {IOX2SD_DONE, 0, 0};
+    return {IOX2SD_STATUS_DONE, 0, 0};
 }
 
 /// With what a service was to be made last. None is made.
@@ -476,7 +476,7 @@ uint32_t __wrap_iox2sd_service_create_at(iox2sd_service*, size_t, uint64_t patte
                                          uint64_t tickets) {
     given_pattern = pattern, given_number = number;
     given_capacities = capacities, given_tickets = tickets;
-    return IOX2SD_DONE;
+    return IOX2SD_STATUS_DONE;
 }
 
 /// How a script's calls end: the first, which asks for room, and the second.
@@ -504,13 +504,13 @@ void scripts() {
                           std::string_view replies) {
         CHECK(run.status == status && run.line == line && run.replies() == replies);
     };
-    const iox2sd_script_answer room{IOX2SD_BUFFER_TOO_SHORT, IOX2SD_DONE, 0, 3};
-    ended(run({IOX2SD_DONE, IOX2SD_DONE, 0, 0}, {}), Status::Done, 0, "");
-    ended(run({IOX2SD_BAD_LINE, IOX2SD_BAD_LINE, 7, 0}, {}), Status::BadLine, 7, "");
-    ended(run({IOX2SD_NO_MEMORY, IOX2SD_NO_MEMORY, 0, 0}, {}), Status::NoMemory, 0, "");
-    ended(run(room, {IOX2SD_DONE, IOX2SD_DONE, 0, 3}), Status::Done, 0, "abc");
-    ended(run(room, {IOX2SD_BAD_LINE, IOX2SD_BAD_LINE, 7, 3}), Status::BadLine, 7, "abc");
-    ended(run(room, {IOX2SD_NO_MEMORY, IOX2SD_NO_MEMORY, 0, 2}), Status::NoMemory, 0, "ab");
+    const iox2sd_script_answer room{IOX2SD_STATUS_BUFFER_TOO_SHORT, IOX2SD_STATUS_DONE, 0, 3};
+    ended(run({IOX2SD_STATUS_DONE, IOX2SD_STATUS_DONE, 0, 0}, {}), Status::Done, 0, "");
+    ended(run({IOX2SD_STATUS_BAD_LINE, IOX2SD_STATUS_BAD_LINE, 7, 0}, {}), Status::BadLine, 7, "");
+    ended(run({IOX2SD_STATUS_NO_MEMORY, IOX2SD_STATUS_NO_MEMORY, 0, 0}, {}), Status::NoMemory, 0, "");
+    ended(run(room, {IOX2SD_STATUS_DONE, IOX2SD_STATUS_DONE, 0, 3}), Status::Done, 0, "abc");
+    ended(run(room, {IOX2SD_STATUS_BAD_LINE, IOX2SD_STATUS_BAD_LINE, 7, 3}), Status::BadLine, 7, "abc");
+    ended(run(room, {IOX2SD_STATUS_NO_MEMORY, IOX2SD_STATUS_NO_MEMORY, 0, 2}), Status::NoMemory, 0, "ab");
 }
 
 /// A service has all tickets where the caller names none.
@@ -571,7 +571,7 @@ void crossing_samples() {
     CHECK(c.subscriber_max_buffer_size == 4 && c.subscriber_max_borrowed_samples == 5);
     CHECK(c.publisher_max_loaned_samples == 6 && c.publisher_history_size == 7);
     CHECK(c.subscriber_expired_connection_buffer == 8 && c.enable_safe_overflow);
-    CHECK(c.backpressure_strategy == IOX2SD_DISCARD_DATA);
+    CHECK(c.backpressure_strategy == IOX2SD_BACKPRESSURE_DISCARD_DATA);
     CHECK(c.publisher_allocation_strategy == IOX2SD_ALLOCATION_STATIC);
 
     const PublishSubscribeStaticConfig fixed(read, message("p"));
@@ -599,8 +599,8 @@ void crossing_requests() {
     CHECK(c.max_borrowed_responses_per_pending_response == 6 && c.max_loaned_requests == 7);
     CHECK(c.server_max_loaned_responses_per_request == 8);
     CHECK(c.client_expired_connection_buffer == 9 && c.server_expired_connection_buffer == 10);
-    CHECK(c.client_backpressure_strategy == IOX2SD_DISCARD_DATA);
-    CHECK(c.server_backpressure_strategy == IOX2SD_RETRY_UNTIL_DELIVERED);
+    CHECK(c.client_backpressure_strategy == IOX2SD_BACKPRESSURE_DISCARD_DATA);
+    CHECK(c.server_backpressure_strategy == IOX2SD_BACKPRESSURE_RETRY_UNTIL_DELIVERED);
     CHECK(c.client_allocation_strategy == IOX2SD_ALLOCATION_STATIC);
     CHECK(c.server_allocation_strategy == IOX2SD_ALLOCATION_POWER_OF_TWO);
     CHECK(c.enable_safe_overflow_for_requests && !c.enable_safe_overflow_for_responses);

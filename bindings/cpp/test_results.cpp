@@ -344,14 +344,14 @@ void services_of() {
 /// A service is used by calls of C, and crosses to C and back.
 void services_of_c() {
     Service service = Service::create(EventCapacities{2, 1, 1}, 7).value();
-    CHECK(iox2sd_register_node_id(service.as_c(), node(1).parts()).status == IOX2SD_DONE);
+    CHECK(iox2sd_register_node_id(service.as_c(), node(1).parts()).status == IOX2SD_STATUS_DONE);
     const Service& queried = service;
     CHECK(iox2sd_number_of_nodes(queried.as_c()).count == 1);
     iox2sd_service object = service.release();
     CHECK(service.kind() == Status::NoService && iox2sd_number_of_nodes(&object).count == 1);
     Service back = Service::from_c(object);
     CHECK(back.number_of_nodes() == std::size_t{1});
-    CHECK(iox2sd_number_of_nodes(&object).status == IOX2SD_NO_SERVICE);
+    CHECK(iox2sd_number_of_nodes(&object).status == IOX2SD_STATUS_NO_SERVICE);
     const iox2sd_id other = {5, 6, 7, 8};
     CHECK(UniqueServiceId(other).parts().counter == 8);
     CHECK(Service::from_c(object).is_locked() == Status::NoService);

@@ -721,7 +721,7 @@ iox2sd_description described(const Settings& settings, Describe describe) {
     iox2sd_description made{};
     CHECK(describe(&settings, reinterpret_cast<const std::uint8_t*>("a"), 1, false, iox2sd_id{},
                    &made)
-              .status == IOX2SD_DONE);
+              .status == IOX2SD_STATUS_DONE);
     return made;
 }
 

@@ -9,15 +9,17 @@
 static size_t length_of(const char *text) { return text != NULL ? strlen(text) : 1; }
 
 /* The answers where NULL stands for something. */
-static const iox2sd_text_answer null_text = {.status = IOX2SD_NULL};
-static const iox2sd_id_answer null_id = {.status = IOX2SD_NULL};
-static const iox2sd_dead_node_removal null_removal = {.status = IOX2SD_NULL};
-static const iox2sd_count_answer null_count = {.status = IOX2SD_NULL};
-static const iox2sd_place_answer null_place = {.status = IOX2SD_NULL};
-static const iox2sd_field_answer null_field = {.status = IOX2SD_NULL};
-static const iox2sd_unknown_answer null_unknown = {.status = IOX2SD_NULL};
-static const iox2sd_script_answer null_script = {.status = IOX2SD_NULL, .verdict = IOX2SD_NULL};
-static const iox2sd_conform_answer null_conform = {.status = IOX2SD_NULL, .verdict = IOX2SD_NULL};
+static const iox2sd_text_answer null_text = {.status = IOX2SD_STATUS_NULL};
+static const iox2sd_id_answer null_id = {.status = IOX2SD_STATUS_NULL};
+static const iox2sd_dead_node_removal null_removal = {.status = IOX2SD_STATUS_NULL};
+static const iox2sd_count_answer null_count = {.status = IOX2SD_STATUS_NULL};
+static const iox2sd_place_answer null_place = {.status = IOX2SD_STATUS_NULL};
+static const iox2sd_field_answer null_field = {.status = IOX2SD_STATUS_NULL};
+static const iox2sd_unknown_answer null_unknown = {.status = IOX2SD_STATUS_NULL};
+static const iox2sd_script_answer null_script = {.status = IOX2SD_STATUS_NULL,
+                                                 .verdict = IOX2SD_STATUS_NULL};
+static const iox2sd_conform_answer null_conform = {.status = IOX2SD_STATUS_NULL,
+                                                   .verdict = IOX2SD_STATUS_NULL};
 
 /* ---- iox2sd.h ---- */
 
@@ -26,7 +28,7 @@ iox2sd_handle iox2sd_handle_none(void) {
     return none;
 }
 
-bool iox2sd_handle_is_none(iox2sd_handle handle) { return handle.role == IOX2SD_NO_ROLE; }
+bool iox2sd_handle_is_none(iox2sd_handle handle) { return handle.role == IOX2SD_ROLE_NONE; }
 
 iox2sd_capacities
 iox2sd_capacities_of_publish_subscribe(iox2sd_publish_subscribe_capacities capacities) {
@@ -69,100 +71,104 @@ iox2sd_text_answer iox2sd_status_text(uint32_t status, uint8_t *out, size_t capa
 
 const char *iox2sd_status_str(iox2sd_status status) {
     switch (status) {
-        case IOX2SD_DONE: return "done";
-        case IOX2SD_DONE_LOCKED: return "done, and the service is locked for good";
-        case IOX2SD_BUFFER_TOO_SHORT: return "the buffer is too short";
-        case IOX2SD_NO_MEMORY: return "no memory";
-        case IOX2SD_NO_SERVICE: return "the object holds no service";
-        case IOX2SD_HAS_SERVICE: return "the object holds a service already";
-        case IOX2SD_UNKNOWN_PATTERN: return "unknown messaging pattern";
-        case IOX2SD_UNKNOWN_ROLE: return "unknown role";
-        case IOX2SD_NO_NODE: return "not the id of a node";
-        case IOX2SD_IS_LOCKED: return "the service is locked for good";
-        case IOX2SD_OUT_OF_SPACE: return "no slot or no ticket is left";
-        case IOX2SD_FOREIGN_HANDLE: return "no entry has the handle";
-        case IOX2SD_PORTS_STILL_ATTACHED: return "ports are still attached";
-        case IOX2SD_NODE_NOT_REGISTERED: return "the node is not registered";
-        case IOX2SD_ROLE_NOT_IN_PATTERN: return "the pattern has no ports of the role";
-        case IOX2SD_UNKNOWN_SEGMENT: return "unknown kind of data segment";
-        case IOX2SD_BAD_KEY: return "not a key of a pair";
-        case IOX2SD_BAD_VALUE: return "not a value of a pair";
-        case IOX2SD_TOO_MANY: return "more than sixteen pairs";
-        case IOX2SD_NULL: return "NULL";
-        case IOX2SD_UNKNOWN_STATUS: return "unknown status";
-        case IOX2SD_EMPTY: return "the text is empty";
-        case IOX2SD_TOO_LONG: return "the text is too long";
-        case IOX2SD_ILLEGAL_BYTE: return "a byte may not stand in the text";
-        case IOX2SD_NO_FILE_NAME: return "not the name of a file";
-        case IOX2SD_RESERVED_PREFIX: return "the name begins with a reserved prefix";
-        case IOX2SD_NOT_UTF8: return "not UTF-8";
-        case IOX2SD_BAD_SERVICE_NAME: return "not the name of a service";
-        case IOX2SD_BAD_PATH: return "not a path";
-        case IOX2SD_BAD_ENTRY: return "the text may not be joined to a path";
-        case IOX2SD_ILLEGAL_HASH: return "the hash text cannot be the name of a file";
-        case IOX2SD_BAD_REQUIRED_KEY: return "not a key of a required pair";
-        case IOX2SD_BAD_REQUIRED_VALUE: return "not a value of a required pair";
-        case IOX2SD_BAD_ASKED_KEY: return "not a key that may be searched for";
-        case IOX2SD_TOO_MANY_REQUIRED: return "more than sixteen pairs and keys are required";
-        case IOX2SD_MISSING_PAIR: return "a required pair is not in the set";
-        case IOX2SD_MISSING_KEY: return "no pair of the set has a required key";
-        case IOX2SD_NO_SUCH_VALUE: return "the key has no value of this index";
-        case IOX2SD_BAD_ALIGNMENT: return "an alignment is not a power of two";
-        case IOX2SD_TOO_LARGE: return "the answer would pass its range";
-        case IOX2SD_UNKNOWN_VARIANT: return "unknown variant";
-        case IOX2SD_OTHER_NAME: return "the types of a part have other names";
-        case IOX2SD_OTHER_VARIANT: return "the types of a part are of other variants";
-        case IOX2SD_OTHER_SIZE: return "the types of a part have other sizes";
-        case IOX2SD_OTHER_ALIGNMENT: return "the types of the headers have other alignments";
-        case IOX2SD_GREATER_ALIGNMENT:
+        case IOX2SD_STATUS_DONE: return "done";
+        case IOX2SD_STATUS_DONE_LOCKED: return "done, and the service is locked for good";
+        case IOX2SD_STATUS_BUFFER_TOO_SHORT: return "the buffer is too short";
+        case IOX2SD_STATUS_NO_MEMORY: return "no memory";
+        case IOX2SD_STATUS_NO_SERVICE: return "the object holds no service";
+        case IOX2SD_STATUS_HAS_SERVICE: return "the object holds a service already";
+        case IOX2SD_STATUS_UNKNOWN_PATTERN: return "unknown messaging pattern";
+        case IOX2SD_STATUS_UNKNOWN_ROLE: return "unknown role";
+        case IOX2SD_STATUS_NO_NODE: return "not the id of a node";
+        case IOX2SD_STATUS_IS_LOCKED: return "the service is locked for good";
+        case IOX2SD_STATUS_OUT_OF_SPACE: return "no slot or no ticket is left";
+        case IOX2SD_STATUS_FOREIGN_HANDLE: return "no entry has the handle";
+        case IOX2SD_STATUS_PORTS_STILL_ATTACHED: return "ports are still attached";
+        case IOX2SD_STATUS_NODE_NOT_REGISTERED: return "the node is not registered";
+        case IOX2SD_STATUS_ROLE_NOT_IN_PATTERN: return "the pattern has no ports of the role";
+        case IOX2SD_STATUS_UNKNOWN_SEGMENT: return "unknown kind of data segment";
+        case IOX2SD_STATUS_BAD_KEY: return "not a key of a pair";
+        case IOX2SD_STATUS_BAD_VALUE: return "not a value of a pair";
+        case IOX2SD_STATUS_TOO_MANY: return "more than sixteen pairs";
+        case IOX2SD_STATUS_NULL: return "NULL";
+        case IOX2SD_STATUS_UNKNOWN_STATUS: return "unknown status";
+        case IOX2SD_STATUS_EMPTY: return "the text is empty";
+        case IOX2SD_STATUS_TOO_LONG: return "the text is too long";
+        case IOX2SD_STATUS_ILLEGAL_BYTE: return "a byte may not stand in the text";
+        case IOX2SD_STATUS_NO_FILE_NAME: return "not the name of a file";
+        case IOX2SD_STATUS_RESERVED_PREFIX: return "the name begins with a reserved prefix";
+        case IOX2SD_STATUS_NOT_UTF8: return "not UTF-8";
+        case IOX2SD_STATUS_BAD_SERVICE_NAME: return "not the name of a service";
+        case IOX2SD_STATUS_BAD_PATH: return "not a path";
+        case IOX2SD_STATUS_BAD_ENTRY: return "the text may not be joined to a path";
+        case IOX2SD_STATUS_ILLEGAL_HASH: return "the hash text cannot be the name of a file";
+        case IOX2SD_STATUS_BAD_REQUIRED_KEY: return "not a key of a required pair";
+        case IOX2SD_STATUS_BAD_REQUIRED_VALUE: return "not a value of a required pair";
+        case IOX2SD_STATUS_BAD_ASKED_KEY: return "not a key that may be searched for";
+        case IOX2SD_STATUS_TOO_MANY_REQUIRED:
+            return "more than sixteen pairs and keys are required";
+        case IOX2SD_STATUS_MISSING_PAIR: return "a required pair is not in the set";
+        case IOX2SD_STATUS_MISSING_KEY: return "no pair of the set has a required key";
+        case IOX2SD_STATUS_NO_SUCH_VALUE: return "the key has no value of this index";
+        case IOX2SD_STATUS_BAD_ALIGNMENT: return "an alignment is not a power of two";
+        case IOX2SD_STATUS_TOO_LARGE: return "the answer would pass its range";
+        case IOX2SD_STATUS_UNKNOWN_VARIANT: return "unknown variant";
+        case IOX2SD_STATUS_OTHER_NAME: return "the types of a part have other names";
+        case IOX2SD_STATUS_OTHER_VARIANT: return "the types of a part are of other variants";
+        case IOX2SD_STATUS_OTHER_SIZE: return "the types of a part have other sizes";
+        case IOX2SD_STATUS_OTHER_ALIGNMENT: return "the types of the headers have other alignments";
+        case IOX2SD_STATUS_GREATER_ALIGNMENT:
             return "the opener's type has a greater alignment than the service's";
-        case IOX2SD_UNKNOWN_TEXT: return "unknown text of the configuration";
-        case IOX2SD_BAD_LINE: return "a line of the script is not valid";
-        case IOX2SD_UNKNOWN_STRATEGY: return "unknown strategy";
-        case IOX2SD_BAD_DURATION: return "the nanoseconds of a duration are a second or more";
-        case IOX2SD_UNMET: return "a setting is not what the opener requires";
-        case IOX2SD_OTHER_PATTERN: return "the service has another messaging pattern";
-        case IOX2SD_NOT_TOML: return "not TOML";
-        case IOX2SD_WRONG_TYPE: return "a value of another type is wanted";
-        case IOX2SD_BELOW_ZERO: return "the number is below 0";
-        case IOX2SD_NO_DURATION: return "not a duration: the integers secs and nanos";
-        case IOX2SD_NO_TOML_INTEGER: return "TOML has no integer above 2^63 - 1";
-        case IOX2SD_NO_FILE: return "the file cannot be read";
-        case IOX2SD_TOO_DEEP: return "tables and arrays are nested too deeply";
-        case IOX2SD_NO_RUN: return "no run gives the reply";
-        case IOX2SD_NO_SERVICE_LINE: return "the line of a service is expected";
-        case IOX2SD_NO_COMMAND_LINE: return "the line of a command is expected";
-        case IOX2SD_NO_REPLY_LINE: return "the line of a reply is expected";
-        case IOX2SD_NO_ORDER: return "no order of the group gives the replies";
-        case IOX2SD_TOO_MANY_STATES: return "orders of the group lead to more than 64 states";
-        case IOX2SD_NO_GROUP_LINE:
+        case IOX2SD_STATUS_UNKNOWN_TEXT: return "unknown text of the configuration";
+        case IOX2SD_STATUS_BAD_LINE: return "a line of the script is not valid";
+        case IOX2SD_STATUS_UNKNOWN_STRATEGY: return "unknown strategy";
+        case IOX2SD_STATUS_BAD_DURATION:
+            return "the nanoseconds of a duration are a second or more";
+        case IOX2SD_STATUS_UNMET: return "a setting is not what the opener requires";
+        case IOX2SD_STATUS_OTHER_PATTERN: return "the service has another messaging pattern";
+        case IOX2SD_STATUS_NOT_TOML: return "not TOML";
+        case IOX2SD_STATUS_WRONG_TYPE: return "a value of another type is wanted";
+        case IOX2SD_STATUS_BELOW_ZERO: return "the number is below 0";
+        case IOX2SD_STATUS_NO_DURATION: return "not a duration: the integers secs and nanos";
+        case IOX2SD_STATUS_NO_TOML_INTEGER: return "TOML has no integer above 2^63 - 1";
+        case IOX2SD_STATUS_NO_FILE: return "the file cannot be read";
+        case IOX2SD_STATUS_TOO_DEEP: return "tables and arrays are nested too deeply";
+        case IOX2SD_STATUS_NO_RUN: return "no run gives the reply";
+        case IOX2SD_STATUS_NO_SERVICE_LINE: return "the line of a service is expected";
+        case IOX2SD_STATUS_NO_COMMAND_LINE: return "the line of a command is expected";
+        case IOX2SD_STATUS_NO_REPLY_LINE: return "the line of a reply is expected";
+        case IOX2SD_STATUS_NO_ORDER: return "no order of the group gives the replies";
+        case IOX2SD_STATUS_TOO_MANY_STATES:
+            return "orders of the group lead to more than 64 states";
+        case IOX2SD_STATUS_NO_GROUP_LINE:
             return "the line of a call of the group, or its end, is expected";
-        case IOX2SD_NO_GROUP_END: return "the end of the group is expected, which has 8 calls";
+        case IOX2SD_STATUS_NO_GROUP_END:
+            return "the end of the group is expected, which has 8 calls";
         default: return "unknown status";
     }
 }
 
 const char *iox2sd_role_str(iox2sd_role role) {
     switch (role) {
-        case IOX2SD_NODE: return "node";
-        case IOX2SD_PUBLISHER: return "publisher";
-        case IOX2SD_SUBSCRIBER: return "subscriber";
-        case IOX2SD_NOTIFIER: return "notifier";
-        case IOX2SD_LISTENER: return "listener";
-        case IOX2SD_CLIENT: return "client";
-        case IOX2SD_SERVER: return "server";
-        case IOX2SD_READER: return "reader";
-        case IOX2SD_WRITER: return "writer";
+        case IOX2SD_ROLE_NODE: return "node";
+        case IOX2SD_ROLE_PUBLISHER: return "publisher";
+        case IOX2SD_ROLE_SUBSCRIBER: return "subscriber";
+        case IOX2SD_ROLE_NOTIFIER: return "notifier";
+        case IOX2SD_ROLE_LISTENER: return "listener";
+        case IOX2SD_ROLE_CLIENT: return "client";
+        case IOX2SD_ROLE_SERVER: return "server";
+        case IOX2SD_ROLE_READER: return "reader";
+        case IOX2SD_ROLE_WRITER: return "writer";
         default: return "unknown role";
     }
 }
 
 const char *iox2sd_pattern_str(iox2sd_pattern pattern) {
     switch (pattern) {
-        case IOX2SD_PUBLISH_SUBSCRIBE: return "publish-subscribe";
-        case IOX2SD_EVENT: return "event";
-        case IOX2SD_REQUEST_RESPONSE: return "request-response";
-        case IOX2SD_BLACKBOARD: return "blackboard";
+        case IOX2SD_PATTERN_PUBLISH_SUBSCRIBE: return "publish-subscribe";
+        case IOX2SD_PATTERN_EVENT: return "event";
+        case IOX2SD_PATTERN_REQUEST_RESPONSE: return "request-response";
+        case IOX2SD_PATTERN_BLACKBOARD: return "blackboard";
         default: return "unknown messaging pattern";
     }
 }
@@ -194,32 +200,32 @@ iox2sd_status iox2sd_service_create(iox2sd_service *service, iox2sd_pattern patt
 iox2sd_status
 iox2sd_service_create_publish_subscribe(iox2sd_service *service, uint64_t number,
                                         iox2sd_publish_subscribe_capacities capacities) {
-    return iox2sd_service_create(service, IOX2SD_PUBLISH_SUBSCRIBE, number,
+    return iox2sd_service_create(service, IOX2SD_PATTERN_PUBLISH_SUBSCRIBE, number,
                                  iox2sd_capacities_of_publish_subscribe(capacities), UINT64_MAX);
 }
 
 iox2sd_status iox2sd_service_create_event(iox2sd_service *service, uint64_t number,
                                           iox2sd_event_capacities capacities) {
-    return iox2sd_service_create(service, IOX2SD_EVENT, number,
+    return iox2sd_service_create(service, IOX2SD_PATTERN_EVENT, number,
                                  iox2sd_capacities_of_event(capacities), UINT64_MAX);
 }
 
 iox2sd_status
 iox2sd_service_create_request_response(iox2sd_service *service, uint64_t number,
                                        iox2sd_request_response_capacities capacities) {
-    return iox2sd_service_create(service, IOX2SD_REQUEST_RESPONSE, number,
+    return iox2sd_service_create(service, IOX2SD_PATTERN_REQUEST_RESPONSE, number,
                                  iox2sd_capacities_of_request_response(capacities), UINT64_MAX);
 }
 
 iox2sd_status iox2sd_service_create_blackboard(iox2sd_service *service, uint64_t number,
                                                iox2sd_blackboard_capacities capacities) {
-    return iox2sd_service_create(service, IOX2SD_BLACKBOARD, number,
+    return iox2sd_service_create(service, IOX2SD_PATTERN_BLACKBOARD, number,
                                  iox2sd_capacities_of_blackboard(capacities), UINT64_MAX);
 }
 
 iox2sd_status iox2sd_service_free(iox2sd_service *service) {
     const iox2sd_status status = iox2sd_service_free_at(service, service != NULL);
-    if (status == IOX2SD_DONE) service->at = NULL;
+    if (status == IOX2SD_STATUS_DONE) service->at = NULL;
     return status;
 }
 
@@ -531,9 +537,9 @@ iox2sd_type_detail iox2sd_type_detail_str(const char *name, uint32_t variant, si
 
 const char *iox2sd_part_str(iox2sd_message_part part) {
     switch (part) {
-        case IOX2SD_HEADER: return "header";
-        case IOX2SD_USER_HEADER: return "user header";
-        case IOX2SD_PAYLOAD: return "payload";
+        case IOX2SD_PART_HEADER: return "header";
+        case IOX2SD_PART_USER_HEADER: return "user header";
+        case IOX2SD_PART_PAYLOAD: return "payload";
         default: return "unknown part";
     }
 }
@@ -581,39 +587,41 @@ iox2sd_count_answer iox2sd_responses_of(const iox2sd_request_response_settings *
 
 const char *iox2sd_field_str(iox2sd_settings_field field) {
     switch (field) {
-        case IOX2SD_BACKPRESSURE_STRATEGY: return "backpressure_strategy";
-        case IOX2SD_PUBLISHER_ALLOCATION_STRATEGY: return "publisher_allocation_strategy";
-        case IOX2SD_DEADLINE: return "deadline";
-        case IOX2SD_CLIENT_BACKPRESSURE_STRATEGY: return "client_backpressure_strategy";
-        case IOX2SD_SERVER_BACKPRESSURE_STRATEGY: return "server_backpressure_strategy";
-        case IOX2SD_CLIENT_ALLOCATION_STRATEGY: return "client_allocation_strategy";
-        case IOX2SD_SERVER_ALLOCATION_STRATEGY: return "server_allocation_strategy";
-        case IOX2SD_CREATION_TIMEOUT: return "creation_timeout";
-        case IOX2SD_MAX_SUBSCRIBERS: return "max_subscribers";
-        case IOX2SD_MAX_PUBLISHERS: return "max_publishers";
-        case IOX2SD_HISTORY_SIZE: return "history_size";
-        case IOX2SD_SUBSCRIBER_MAX_BUFFER_SIZE: return "subscriber_max_buffer_size";
-        case IOX2SD_SUBSCRIBER_MAX_BORROWED_SAMPLES: return "subscriber_max_borrowed_samples";
-        case IOX2SD_ENABLE_SAFE_OVERFLOW: return "enable_safe_overflow";
-        case IOX2SD_MAX_NOTIFIERS: return "max_notifiers";
-        case IOX2SD_MAX_LISTENERS: return "max_listeners";
-        case IOX2SD_EVENT_ID_MAX_VALUE: return "event_id_max_value";
-        case IOX2SD_NOTIFIER_CREATED_EVENT: return "notifier_created_event";
-        case IOX2SD_NOTIFIER_DROPPED_EVENT: return "notifier_dropped_event";
-        case IOX2SD_NOTIFIER_DEAD_EVENT: return "notifier_dead_event";
-        case IOX2SD_ENABLE_SAFE_OVERFLOW_FOR_REQUESTS: return "enable_safe_overflow_for_requests";
-        case IOX2SD_ENABLE_SAFE_OVERFLOW_FOR_RESPONSES: return "enable_safe_overflow_for_responses";
-        case IOX2SD_ENABLE_FIRE_AND_FORGET_REQUESTS: return "enable_fire_and_forget_requests";
-        case IOX2SD_MAX_ACTIVE_REQUESTS_PER_CLIENT: return "max_active_requests_per_client";
-        case IOX2SD_MAX_LOANED_REQUESTS: return "max_loaned_requests";
-        case IOX2SD_MAX_RESPONSE_BUFFER_SIZE: return "max_response_buffer_size";
-        case IOX2SD_MAX_SERVERS: return "max_servers";
-        case IOX2SD_MAX_CLIENTS: return "max_clients";
-        case IOX2SD_MAX_BORROWED_RESPONSES_PER_PENDING_RESPONSE:
+        case IOX2SD_FIELD_BACKPRESSURE_STRATEGY: return "backpressure_strategy";
+        case IOX2SD_FIELD_PUBLISHER_ALLOCATION_STRATEGY: return "publisher_allocation_strategy";
+        case IOX2SD_FIELD_DEADLINE: return "deadline";
+        case IOX2SD_FIELD_CLIENT_BACKPRESSURE_STRATEGY: return "client_backpressure_strategy";
+        case IOX2SD_FIELD_SERVER_BACKPRESSURE_STRATEGY: return "server_backpressure_strategy";
+        case IOX2SD_FIELD_CLIENT_ALLOCATION_STRATEGY: return "client_allocation_strategy";
+        case IOX2SD_FIELD_SERVER_ALLOCATION_STRATEGY: return "server_allocation_strategy";
+        case IOX2SD_FIELD_CREATION_TIMEOUT: return "creation_timeout";
+        case IOX2SD_FIELD_MAX_SUBSCRIBERS: return "max_subscribers";
+        case IOX2SD_FIELD_MAX_PUBLISHERS: return "max_publishers";
+        case IOX2SD_FIELD_HISTORY_SIZE: return "history_size";
+        case IOX2SD_FIELD_SUBSCRIBER_MAX_BUFFER_SIZE: return "subscriber_max_buffer_size";
+        case IOX2SD_FIELD_SUBSCRIBER_MAX_BORROWED_SAMPLES: return "subscriber_max_borrowed_samples";
+        case IOX2SD_FIELD_ENABLE_SAFE_OVERFLOW: return "enable_safe_overflow";
+        case IOX2SD_FIELD_MAX_NOTIFIERS: return "max_notifiers";
+        case IOX2SD_FIELD_MAX_LISTENERS: return "max_listeners";
+        case IOX2SD_FIELD_EVENT_ID_MAX_VALUE: return "event_id_max_value";
+        case IOX2SD_FIELD_NOTIFIER_CREATED_EVENT: return "notifier_created_event";
+        case IOX2SD_FIELD_NOTIFIER_DROPPED_EVENT: return "notifier_dropped_event";
+        case IOX2SD_FIELD_NOTIFIER_DEAD_EVENT: return "notifier_dead_event";
+        case IOX2SD_FIELD_ENABLE_SAFE_OVERFLOW_FOR_REQUESTS:
+            return "enable_safe_overflow_for_requests";
+        case IOX2SD_FIELD_ENABLE_SAFE_OVERFLOW_FOR_RESPONSES:
+            return "enable_safe_overflow_for_responses";
+        case IOX2SD_FIELD_ENABLE_FIRE_AND_FORGET_REQUESTS: return "enable_fire_and_forget_requests";
+        case IOX2SD_FIELD_MAX_ACTIVE_REQUESTS_PER_CLIENT: return "max_active_requests_per_client";
+        case IOX2SD_FIELD_MAX_LOANED_REQUESTS: return "max_loaned_requests";
+        case IOX2SD_FIELD_MAX_RESPONSE_BUFFER_SIZE: return "max_response_buffer_size";
+        case IOX2SD_FIELD_MAX_SERVERS: return "max_servers";
+        case IOX2SD_FIELD_MAX_CLIENTS: return "max_clients";
+        case IOX2SD_FIELD_MAX_BORROWED_RESPONSES_PER_PENDING_RESPONSE:
             return "max_borrowed_responses_per_pending_response";
-        case IOX2SD_MAX_READERS: return "max_readers";
-        case IOX2SD_MAX_WRITERS: return "max_writers";
-        case IOX2SD_MAX_NODES: return "max_nodes";
+        case IOX2SD_FIELD_MAX_READERS: return "max_readers";
+        case IOX2SD_FIELD_MAX_WRITERS: return "max_writers";
+        case IOX2SD_FIELD_MAX_NODES: return "max_nodes";
         default: return "unknown field";
     }
 }
@@ -750,22 +758,22 @@ iox2sd_capacities iox2sd_capacities_of_description(const iox2sd_description *des
     iox2sd_capacities made = {0, 0, 0};
     if (description == NULL) return made;
     switch (description->pattern) {
-        case IOX2SD_PUBLISH_SUBSCRIBE:
+        case IOX2SD_PATTERN_PUBLISH_SUBSCRIBE:
             made.nodes = description->publish_subscribe.max_nodes;
             made.first = description->publish_subscribe.max_publishers;
             made.second = description->publish_subscribe.max_subscribers;
             break;
-        case IOX2SD_EVENT:
+        case IOX2SD_PATTERN_EVENT:
             made.nodes = description->event.max_nodes;
             made.first = description->event.max_listeners;
             made.second = description->event.max_notifiers;
             break;
-        case IOX2SD_REQUEST_RESPONSE:
+        case IOX2SD_PATTERN_REQUEST_RESPONSE:
             made.nodes = description->request_response.max_nodes;
             made.first = description->request_response.max_servers;
             made.second = description->request_response.max_clients;
             break;
-        case IOX2SD_BLACKBOARD:
+        case IOX2SD_PATTERN_BLACKBOARD:
             made.nodes = description->blackboard.max_nodes;
             made.first = description->blackboard.max_readers;
             made.second = description->blackboard.max_writers;
@@ -778,7 +786,7 @@ iox2sd_capacities iox2sd_capacities_of_description(const iox2sd_description *des
 iox2sd_status
 iox2sd_service_create_of_description(iox2sd_service *service, uint64_t number,
                                      const iox2sd_description *description) {
-    if (description == NULL) return IOX2SD_NULL;
+    if (description == NULL) return IOX2SD_STATUS_NULL;
     return iox2sd_service_create(service, description->pattern, number,
                                  iox2sd_capacities_of_description(description), UINT64_MAX);
 }
@@ -850,11 +858,11 @@ iox2sd_field_answer iox2sd_blackboard_satisfies(const iox2sd_blackboard_config *
 static iox2sd_field_answer satisfies(const iox2sd_description *service,
                                      const iox2sd_description *required) {
     switch (service->pattern) {
-        case IOX2SD_PUBLISH_SUBSCRIBE:
+        case IOX2SD_PATTERN_PUBLISH_SUBSCRIBE:
             return iox2sd_publish_subscribe_satisfies(&service->publish_subscribe,
                                                       &required->publish_subscribe);
-        case IOX2SD_EVENT: return iox2sd_event_satisfies(&service->event, &required->event);
-        case IOX2SD_REQUEST_RESPONSE:
+        case IOX2SD_PATTERN_EVENT: return iox2sd_event_satisfies(&service->event, &required->event);
+        case IOX2SD_PATTERN_REQUEST_RESPONSE:
             return iox2sd_request_response_satisfies(&service->request_response,
                                                      &required->request_response);
         default: return iox2sd_blackboard_satisfies(&service->blackboard, &required->blackboard);
@@ -864,9 +872,9 @@ static iox2sd_field_answer satisfies(const iox2sd_description *service,
 static iox2sd_open_answer open_check_pattern(iox2sd_pattern service, iox2sd_pattern required) {
     const iox2sd_flag_answer same = iox2sd_has_same_messaging_pattern(service, required);
     const iox2sd_open_answer made = {
-        .status = same.status != IOX2SD_DONE ? same.status
-                  : same.yes                 ? IOX2SD_DONE
-                                             : IOX2SD_OTHER_PATTERN,
+        .status = same.status != IOX2SD_STATUS_DONE ? same.status
+                  : same.yes                 ? IOX2SD_STATUS_DONE
+                                             : IOX2SD_STATUS_OTHER_PATTERN,
         .subject = IOX2SD_OPEN_PATTERN,
     };
     return made;
@@ -889,7 +897,7 @@ static iox2sd_open_answer open_check_attributes(const iox2sd_offer *service,
 static iox2sd_open_answer open_check_types(iox2sd_open_subject subject,
                                            const iox2sd_message_details *service,
                                            const iox2sd_message_details *required) {
-    iox2sd_open_answer made = {.status = IOX2SD_DONE, .subject = subject};
+    iox2sd_open_answer made = {.status = IOX2SD_STATUS_DONE, .subject = subject};
     if (service != NULL && required != NULL) {
         const iox2sd_part_answer verdict = iox2sd_message_is_compatible_to(service, required);
         made.status = verdict.status;
@@ -912,21 +920,21 @@ static iox2sd_open_answer open_check_settings(const iox2sd_description *service,
 
 iox2sd_open_answer iox2sd_open_check(const iox2sd_offer *service,
                                      const iox2sd_requirements *required) {
-    iox2sd_open_answer made = {.status = IOX2SD_NULL};
+    iox2sd_open_answer made = {.status = IOX2SD_STATUS_NULL};
     if (service == NULL || required == NULL) return made;
     if (service->description == NULL || required->description == NULL) return made;
     made = open_check_pattern(service->description->pattern, required->description->pattern);
-    if (made.status == IOX2SD_DONE) made = open_check_attributes(service, required);
-    if (made.status == IOX2SD_DONE) {
+    if (made.status == IOX2SD_STATUS_DONE) made = open_check_attributes(service, required);
+    if (made.status == IOX2SD_STATUS_DONE) {
         made = open_check_types(IOX2SD_OPEN_MESSAGES, service->messages, required->messages);
     }
-    if (made.status == IOX2SD_DONE) {
+    if (made.status == IOX2SD_STATUS_DONE) {
         made = open_check_types(IOX2SD_OPEN_RESPONSES, service->responses, required->responses);
     }
-    if (made.status == IOX2SD_DONE) {
+    if (made.status == IOX2SD_STATUS_DONE) {
         made = open_check_settings(service->description, required->description);
     }
-    if (made.status == IOX2SD_DONE) made.subject = IOX2SD_OPEN_PATTERN;
+    if (made.status == IOX2SD_STATUS_DONE) made.subject = IOX2SD_OPEN_PATTERN;
     return made;
 }
 
@@ -951,7 +959,7 @@ static size_t append(const char *text, uint8_t *words, size_t length) {
 iox2sd_text_answer iox2sd_open_text(iox2sd_open_answer answer, uint8_t *out, size_t capacity) {
     const char *const subject = subject_of(answer);
     uint8_t words[256];
-    iox2sd_text_answer told = {.status = IOX2SD_DONE};
+    iox2sd_text_answer told = {.status = IOX2SD_STATUS_DONE};
     if (out == NULL && capacity != 0) return null_text;
     if (answer.subject == IOX2SD_OPEN_RESPONSES) {
         told.length = append("responses, ", words, told.length);
@@ -962,7 +970,7 @@ iox2sd_text_answer iox2sd_open_text(iox2sd_open_answer answer, uint8_t *out, siz
     }
     told.length = append(iox2sd_status_str(answer.status), words, told.length);
     if (told.length > capacity) {
-        told.status = IOX2SD_BUFFER_TOO_SHORT;
+        told.status = IOX2SD_STATUS_BUFFER_TOO_SHORT;
     } else {
         memcpy(out, words, told.length);
     }

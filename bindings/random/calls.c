@@ -106,7 +106,7 @@ static iox2sd_message_details details(void) {
 static void say(uint32_t status) {
     uint8_t out[MOST_BYTES];
     iox2sd_text_answer answer = iox2sd_status_text(status, out, sizeof out);
-    if (answer.status == IOX2SD_DONE) {
+    if (answer.status == IOX2SD_STATUS_DONE) {
         printf("%.*s", (int)answer.length, (const char *)out);
     } else {
         printf("status %" PRIu32, status);
@@ -149,27 +149,27 @@ static void say_port(const iox2sd_port_details *port) {
 
 static void answer_text(iox2sd_text_answer answer, const uint8_t *out) {
     say(answer.status);
-    if (answer.status == IOX2SD_DONE) say_bytes(out, answer.length);
+    if (answer.status == IOX2SD_STATUS_DONE) say_bytes(out, answer.length);
 }
 
 static void answer_count(iox2sd_count_answer answer) {
     say(answer.status);
-    if (answer.status == IOX2SD_DONE) say_number(answer.count);
+    if (answer.status == IOX2SD_STATUS_DONE) say_number(answer.count);
 }
 
 static void answer_flag(iox2sd_flag_answer answer) {
     say(answer.status);
-    if (answer.status == IOX2SD_DONE) say_number(answer.yes);
+    if (answer.status == IOX2SD_STATUS_DONE) say_number(answer.yes);
 }
 
 static void answer_number(iox2sd_number_answer answer) {
     say(answer.status);
-    if (answer.status == IOX2SD_DONE) say_number(answer.number);
+    if (answer.status == IOX2SD_STATUS_DONE) say_number(answer.number);
 }
 
 static void answer_handle(iox2sd_handle_answer answer) {
     say(answer.status);
-    if (answer.status != IOX2SD_DONE) return;
+    if (answer.status != IOX2SD_STATUS_DONE) return;
     say_number(answer.handle.service);
     say_number(answer.handle.role);
     say_number(answer.handle.slot);
@@ -182,7 +182,7 @@ static void checked(iox2sd_place_answer (*check)(const uint8_t *, size_t)) {
     text given = bytes();
     iox2sd_place_answer answer = check(given.at, given.length);
     say(answer.status);
-    if (answer.status == IOX2SD_DONE) {
+    if (answer.status == IOX2SD_STATUS_DONE) {
         say_bytes(given.at, given.length);
     } else {
         say_number(answer.at);
@@ -228,7 +228,7 @@ static void internal_hash(void) { hashed(iox2sd_internal_hash_text); }
 
 static void prefix(void) {
     text given = bytes();
-    say(IOX2SD_DONE);
+    say(IOX2SD_STATUS_DONE);
     say_number(iox2sd_has_iox2_prefix(given.at, given.length));
 }
 
@@ -257,14 +257,14 @@ static void refuse_pair(iox2sd_place_answer answer, const iox2sd_attribute *pair
 }
 
 static void refuse_set(iox2sd_place_answer answer, const iox2sd_attribute *pairs) {
-    refuse_pair(answer, pairs, IOX2SD_BAD_KEY, IOX2SD_BAD_VALUE);
+    refuse_pair(answer, pairs, IOX2SD_STATUS_BAD_KEY, IOX2SD_STATUS_BAD_VALUE);
 }
 
 static void sorted(void) {
     iox2sd_attribute set[MOST_PAIRS];
     size_t size = pairs(set);
     iox2sd_place_answer answer = iox2sd_attributes_sort(set, size);
-    if (answer.status != IOX2SD_DONE) {
+    if (answer.status != IOX2SD_STATUS_DONE) {
         refuse_set(answer, set);
         return;
     }
@@ -281,16 +281,18 @@ static void values(void) {
     text asked = bytes();
     size_t index = number(), size = pairs(set);
     iox2sd_place_answer checked = iox2sd_attributes_check(set, size);
-    if (checked.status != IOX2SD_DONE) {
+    if (checked.status != IOX2SD_STATUS_DONE) {
         refuse_set(checked, set);
         return;
     }
-    iox2sd_count_answer count = iox2sd_attributes_number_of_key_values(set, size, asked.at, asked.length);
+    iox2sd_count_answer count =
+        iox2sd_attributes_number_of_key_values(set, size, asked.at, asked.length);
     answer_count(count);
-    if (count.status != IOX2SD_DONE) return;
+    if (count.status != IOX2SD_STATUS_DONE) return;
     printf("\t");
-    answer_text(iox2sd_attributes_key_value(set, size, asked.at, asked.length, index, out, sizeof out),
-                out);
+    answer_text(
+        iox2sd_attributes_key_value(set, size, asked.at, asked.length, index, out, sizeof out),
+        out);
 }
 
 static void verify(void) {
@@ -305,22 +307,23 @@ static void verify(void) {
     }
     iox2sd_place_answer answer =
         iox2sd_attributes_verify(set, size, required, required_size, keys, keys_size);
-    if (answer.status == IOX2SD_BAD_KEY || answer.status == IOX2SD_BAD_VALUE ||
-        answer.status == IOX2SD_TOO_MANY) {
+    if (answer.status == IOX2SD_STATUS_BAD_KEY || answer.status == IOX2SD_STATUS_BAD_VALUE ||
+        answer.status == IOX2SD_STATUS_TOO_MANY) {
         refuse_set(answer, set);
         return;
     }
-    if (answer.status == IOX2SD_MISSING_PAIR) {
+    if (answer.status == IOX2SD_STATUS_MISSING_PAIR) {
         say(answer.status);
         say_bytes(required[answer.at].key, required[answer.at].key_length);
         say_bytes(required[answer.at].value, required[answer.at].value_length);
-    } else if (answer.status == IOX2SD_MISSING_KEY) {
+    } else if (answer.status == IOX2SD_STATUS_MISSING_KEY) {
         say(answer.status);
         say_bytes(keys[answer.at].text, keys[answer.at].length);
-    } else if (answer.status == IOX2SD_DONE) {
+    } else if (answer.status == IOX2SD_STATUS_DONE) {
         say(answer.status);
     } else {
-        refuse_pair(answer, required, IOX2SD_BAD_REQUIRED_KEY, IOX2SD_BAD_REQUIRED_VALUE);
+        refuse_pair(answer, required, IOX2SD_STATUS_BAD_REQUIRED_KEY,
+                    IOX2SD_STATUS_BAD_REQUIRED_VALUE);
     }
 }
 
@@ -329,7 +332,7 @@ static void verify(void) {
 /* Whether all parts are types; what is wrong with the first that is none is said. */
 static bool are_types(const iox2sd_message_details *details) {
     iox2sd_part_answer answer = iox2sd_message_is_compatible_to(details, details);
-    if (answer.status == IOX2SD_DONE) return true;
+    if (answer.status == IOX2SD_STATUS_DONE) return true;
     say(answer.status);
     say_number(answer.part);
     return false;
@@ -341,7 +344,7 @@ static void layout(void) {
     if (!are_types(&given)) return;
     iox2sd_layout_answer answer = iox2sd_message_sample_layout(&given, elements);
     say(answer.status);
-    if (answer.status != IOX2SD_DONE) return;
+    if (answer.status != IOX2SD_STATUS_DONE) return;
     say_number(answer.size);
     say_number(answer.alignment);
 }
@@ -352,7 +355,7 @@ static void places(void) {
     if (!are_types(&given)) return;
     iox2sd_places_answer answer = iox2sd_message_places(&given, header);
     say(answer.status);
-    if (answer.status != IOX2SD_DONE) return;
+    if (answer.status != IOX2SD_STATUS_DONE) return;
     say_number(answer.user_header);
     say_number(answer.payload);
 }
@@ -361,7 +364,7 @@ static void compatible(void) {
     iox2sd_message_details opener = details(), service = details();
     iox2sd_part_answer answer = iox2sd_message_is_compatible_to(&opener, &service);
     say(answer.status);
-    if (answer.status == IOX2SD_DONE) return;
+    if (answer.status == IOX2SD_STATUS_DONE) return;
     say_number(answer.side);
     say_number(answer.part);
 }
@@ -381,7 +384,8 @@ static void requests(void) {
 static void responses(void) {
     size_t n[5];
     for (size_t i = 0; i < 5; i++) n[i] = number();
-    answer_count(iox2sd_required_amount_of_chunks_per_server_data_segment(n[0], n[1], n[2], n[3], n[4]));
+    answer_count(
+        iox2sd_required_amount_of_chunks_per_server_data_segment(n[0], n[1], n[2], n[3], n[4]));
 }
 
 /* ---- Settings ---- */
@@ -458,7 +462,7 @@ static void defaults_of_blackboard(void) {
 
 static void global_defaults(void) {
     iox2sd_global_settings s = iox2sd_global_defaults();
-    say(IOX2SD_DONE);
+    say(IOX2SD_STATUS_DONE);
     say_duration(s.creation_timeout.seconds, s.creation_timeout.nanoseconds);
     say_number(s.cleanup_dead_nodes_on_open);
     say_number(s.cleanup_dead_nodes_on_creation);
@@ -469,7 +473,7 @@ static void defaults(void) {
     static void (*const of[])(void) = {defaults_of_publish_subscribe, defaults_of_event,
                                        defaults_of_request_response, defaults_of_blackboard};
     uint32_t pattern = number32();
-    say(IOX2SD_DONE);
+    say(IOX2SD_STATUS_DONE);
     of[pattern]();
 }
 
@@ -484,16 +488,16 @@ static void duration(void) {
 
 static void ids(void) {
     iox2sd_id one = id(), other = id();
-    say(IOX2SD_DONE);
+    say(IOX2SD_STATUS_DONE);
     say_id(one);
     say_id(other);
     say_number(iox2sd_id_is_before(one, other));
     say_number(iox2sd_id_is_before(other, one));
     if (!iox2sd_id_is_node(one)) {
-        say_also(IOX2SD_NO_NODE);
+        say_also(IOX2SD_STATUS_NO_NODE);
         return;
     }
-    say_also(IOX2SD_DONE);
+    say_also(IOX2SD_STATUS_DONE);
     say_number(iox2sd_id_owner_id(one));
 }
 
@@ -540,12 +544,12 @@ static void dead(void) {
     size_t count = number();
     if (count > MOST_PAIRS) give_up("a line has too many ids");
     for (size_t i = 0; i < count; i++) {
-        kept[i].role = IOX2SD_PUBLISHER;
+        kept[i].role = IOX2SD_ROLE_PUBLISHER;
         kept[i].port = id();
     }
     iox2sd_dead_node_removal answer = iox2sd_remove_dead_node_id(&service, node, kept, count);
     say(answer.status);
-    if (answer.status != IOX2SD_DONE && answer.status != IOX2SD_DONE_LOCKED) return;
+    if (answer.status != IOX2SD_STATUS_DONE && answer.status != IOX2SD_STATUS_DONE_LOCKED) return;
     say_number(answer.first);
     say_number(answer.second);
 }
@@ -564,7 +568,7 @@ static void service_number(void) { answer_number(iox2sd_service_number(&service)
 static void roles(void) {
     iox2sd_roles_answer answer = iox2sd_port_roles(&service);
     say(answer.status);
-    if (answer.status != IOX2SD_DONE) return;
+    if (answer.status != IOX2SD_STATUS_DONE) return;
     say_number(answer.first);
     say_number(answer.second);
 }
@@ -572,13 +576,13 @@ static void roles(void) {
 static void find_node(void) {
     iox2sd_id_answer answer = iox2sd_node(&service, handle());
     say(answer.status);
-    if (answer.status == IOX2SD_DONE) say_id(answer.id);
+    if (answer.status == IOX2SD_STATUS_DONE) say_id(answer.id);
 }
 
 static void find_port(void) {
     iox2sd_port_answer answer = iox2sd_port(&service, handle());
     say(answer.status);
-    if (answer.status == IOX2SD_DONE) say_port(&answer.port);
+    if (answer.status == IOX2SD_STATUS_DONE) say_port(&answer.port);
 }
 
 static void nodes(void) {

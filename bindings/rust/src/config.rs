@@ -96,19 +96,19 @@ default_texts! {
     /// The name of a configuration file.
     =>
     /// assert_eq!(Config::default_config_file_name(), "iceoryx2.toml");
-    default_config_file_name -> FileName = IOX2SD_CONFIG_FILE_NAME;
+    default_config_file_name -> FileName = IOX2SD_TEXT_CONFIG_FILE_NAME;
     /// The configuration file of a working directory.
     =>
     /// assert_eq!(Config::default_config_file_path(), "config/iceoryx2.toml");
-    default_config_file_path -> FilePath = IOX2SD_CONFIG_FILE_PATH;
+    default_config_file_path -> FilePath = IOX2SD_TEXT_CONFIG_FILE_PATH;
     /// The directory, below one for configurations, that has this system's configuration.
     =>
     /// assert_eq!(Config::relative_config_path(), "iceoryx2");
-    relative_config_path -> Path = IOX2SD_RELATIVE_CONFIG_PATH;
+    relative_config_path -> Path = IOX2SD_TEXT_RELATIVE_CONFIG_PATH;
     /// The configuration file below a user's directory for configurations.
     =>
     /// assert_eq!(Config::default_user_config_file_path(), "iceoryx2/iceoryx2.toml");
-    default_user_config_file_path -> FilePath = IOX2SD_USER_CONFIG_FILE_PATH;
+    default_user_config_file_path -> FilePath = IOX2SD_TEXT_USER_CONFIG_FILE_PATH;
 }
 
 /// A text that stands where nothing else is said.

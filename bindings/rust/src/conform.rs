@@ -166,15 +166,15 @@ choices! {
     #[non_exhaustive]
     Expected of u32 in "conform" {
         /// The line of a service.
-        Service = IOX2SD_NO_SERVICE_LINE;
+        Service = IOX2SD_STATUS_NO_SERVICE_LINE;
         /// The line of a command.
-        Command = IOX2SD_NO_COMMAND_LINE;
+        Command = IOX2SD_STATUS_NO_COMMAND_LINE;
         /// The line of a reply.
-        Reply = IOX2SD_NO_REPLY_LINE;
+        Reply = IOX2SD_STATUS_NO_REPLY_LINE;
         /// The line of a call of a group, or the group's end.
-        GroupLine = IOX2SD_NO_GROUP_LINE;
+        GroupLine = IOX2SD_STATUS_NO_GROUP_LINE;
         /// The end of a group that has eight calls.
-        GroupEnd = IOX2SD_NO_GROUP_END;
+        GroupEnd = IOX2SD_STATUS_NO_GROUP_END;
     }
 }
 
@@ -196,13 +196,13 @@ pub fn check_log(log: &str) -> Result<Verdict, AllocError> {
     let judged = library::conform_run(log);
     let line = judged.line;
     Ok(match judged.status {
-        sys::IOX2SD_DONE => Verdict::Conforms {
+        sys::IOX2SD_STATUS_DONE => Verdict::Conforms {
             calls: judged.calls,
         },
-        sys::IOX2SD_NO_RUN => Verdict::NoRun(Refusal::of(line, &judged.report)),
-        sys::IOX2SD_NO_ORDER => Verdict::NoOrder(GroupRefusal::of(line, &judged.report)),
-        sys::IOX2SD_TOO_MANY_STATES => Verdict::TooManyStates { line },
-        sys::IOX2SD_NO_MEMORY => return Err(AllocError),
+        sys::IOX2SD_STATUS_NO_RUN => Verdict::NoRun(Refusal::of(line, &judged.report)),
+        sys::IOX2SD_STATUS_NO_ORDER => Verdict::NoOrder(GroupRefusal::of(line, &judged.report)),
+        sys::IOX2SD_STATUS_TOO_MANY_STATES => Verdict::TooManyStates { line },
+        sys::IOX2SD_STATUS_NO_MEMORY => return Err(AllocError),
         expected => Verdict::BadLine {
             line,
             expected: Expected::of_c(&expected),
@@ -258,7 +258,7 @@ impl fmt::Display for Verdict {
             Verdict::Conforms { calls } => padded(f, format_args!("conforms, {calls} calls")),
             Verdict::NoRun(refusal) => refusal.fmt(f),
             Verdict::NoOrder(refusal) => refusal.fmt(f),
-            Verdict::TooManyStates { line } => at_line(f, *line, sys::IOX2SD_TOO_MANY_STATES),
+            Verdict::TooManyStates { line } => at_line(f, *line, sys::IOX2SD_STATUS_TOO_MANY_STATES),
             Verdict::BadLine { line, expected } => at_line(f, *line, expected.as_c()),
         }
     }
@@ -293,7 +293,7 @@ impl Error for Refusal {}
 /// The line of the group's end.
 impl fmt::Display for GroupRefusal {
     fn fmt(&self, f: &mut fmt::Formatter<'_>) -> fmt::Result {
-        at_line(f, self.line, sys::IOX2SD_NO_ORDER)
+        at_line(f, self.line, sys::IOX2SD_STATUS_NO_ORDER)
     }
 }
 

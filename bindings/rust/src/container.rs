@@ -29,23 +29,23 @@ choices! {
     /// ```
     Role of u64 in "container" {
         /// A node.
-        Node = IOX2SD_NODE;
+        Node = IOX2SD_ROLE_NODE;
         /// A port that sends samples.
-        Publisher = IOX2SD_PUBLISHER;
+        Publisher = IOX2SD_ROLE_PUBLISHER;
         /// A port that receives samples.
-        Subscriber = IOX2SD_SUBSCRIBER;
+        Subscriber = IOX2SD_ROLE_SUBSCRIBER;
         /// A port that signals events.
-        Notifier = IOX2SD_NOTIFIER;
+        Notifier = IOX2SD_ROLE_NOTIFIER;
         /// A port that waits for events.
-        Listener = IOX2SD_LISTENER;
+        Listener = IOX2SD_ROLE_LISTENER;
         /// A port that sends requests.
-        Client = IOX2SD_CLIENT;
+        Client = IOX2SD_ROLE_CLIENT;
         /// A port that answers requests.
-        Server = IOX2SD_SERVER;
+        Server = IOX2SD_ROLE_SERVER;
         /// A port that reads a blackboard.
-        Reader = IOX2SD_READER;
+        Reader = IOX2SD_ROLE_READER;
         /// A port that writes to a blackboard.
-        Writer = IOX2SD_WRITER;
+        Writer = IOX2SD_ROLE_WRITER;
     }
 }
 
@@ -142,7 +142,7 @@ errors! {
     /// ```
     ContainerRemoveError {
         /// No entry of the service has this handle.
-        ContainerHandleNotOwnedByContainer = IOX2SD_FOREIGN_HANDLE,
+        ContainerHandleNotOwnedByContainer = IOX2SD_STATUS_FOREIGN_HANDLE,
     }
 }
 

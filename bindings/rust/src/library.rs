@@ -18,11 +18,11 @@ pub(crate) use service::Service;
 
 use crate::sys;
 
-/// `Ok` exactly for `IOX2SD_DONE`.
+/// `Ok` exactly for `IOX2SD_STATUS_DONE`.
 #[inline]
 fn done(status: u32) -> Result<(), u32> {
     match status {
-        sys::IOX2SD_DONE => Ok(()),
+        sys::IOX2SD_STATUS_DONE => Ok(()),
         refusal => Err(refusal),
     }
 }
@@ -52,8 +52,8 @@ fn text(call: impl Fn(&mut [u8]) -> sys::iox2sd_text_answer) -> Result<String, u
     loop {
         let answer = call(&mut bytes);
         match answer.status {
-            sys::IOX2SD_DONE => break,
-            sys::IOX2SD_BUFFER_TOO_SHORT => bytes.resize(answer.length, 0),
+            sys::IOX2SD_STATUS_DONE => break,
+            sys::IOX2SD_STATUS_BUFFER_TOO_SHORT => bytes.resize(answer.length, 0),
             refusal => return Err(refusal),
         }
     }
@@ -141,8 +141,8 @@ values! {
 /// A count of chunks, or `None` where it passes its range.
 pub(crate) fn chunks(answer: &sys::iox2sd_count_answer) -> Option<usize> {
     match answer.status {
-        sys::IOX2SD_DONE => Some(answer.count),
-        sys::IOX2SD_TOO_LARGE => None,
+        sys::IOX2SD_STATUS_DONE => Some(answer.count),
+        sys::IOX2SD_STATUS_TOO_LARGE => None,
         other => unexpected(other),
     }
 }
@@ -185,8 +185,8 @@ pub(crate) fn next_service_number(last: u64) -> Option<u64> {
     // SAFETY: the pointer is that of one struct, which the call may write to.
     let answer = unsafe { sys::iox2sd_next_service_number_at(&mut numbers, 1) };
     match answer.status {
-        sys::IOX2SD_DONE => Some(answer.number),
-        sys::IOX2SD_OUT_OF_SPACE => None,
+        sys::IOX2SD_STATUS_DONE => Some(answer.number),
+        sys::IOX2SD_STATUS_OUT_OF_SPACE => None,
         other => unexpected(other),
     }
 }
@@ -209,7 +209,7 @@ fn written<A>(
         let answer = call(&mut out);
         let (status, length) = parts(&answer);
         out.resize(length, 0);
-        if status != sys::IOX2SD_BUFFER_TOO_SHORT {
+        if status != sys::IOX2SD_STATUS_BUFFER_TOO_SHORT {
             let text = String::from_utf8(out);
             return (answer, text.expect("the library writes texts of texts"));
         }

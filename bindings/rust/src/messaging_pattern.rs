@@ -21,12 +21,12 @@ choices! {
     /// ```
     MessagingPattern of u64 in "messaging_pattern" {
         /// Publishers send samples to all subscribers.
-        PublishSubscribe = IOX2SD_PUBLISH_SUBSCRIBE;
+        PublishSubscribe = IOX2SD_PATTERN_PUBLISH_SUBSCRIBE;
         /// Notifiers wake listeners.
-        Event = IOX2SD_EVENT;
+        Event = IOX2SD_PATTERN_EVENT;
         /// Clients send requests, and servers answer them.
-        RequestResponse = IOX2SD_REQUEST_RESPONSE;
+        RequestResponse = IOX2SD_PATTERN_REQUEST_RESPONSE;
         /// A writer keeps values that readers look up by key.
-        Blackboard = IOX2SD_BLACKBOARD;
+        Blackboard = IOX2SD_PATTERN_BLACKBOARD;
     }
 }

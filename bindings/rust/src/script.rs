@@ -66,12 +66,12 @@ impl Error for ScriptError {}
 pub fn run(script: &str) -> Result<String, ScriptError> {
     let run = library::script_run(script);
     match run.status {
-        sys::IOX2SD_DONE => Ok(run.replies),
-        sys::IOX2SD_BAD_LINE => Err(ScriptError::BadLine {
+        sys::IOX2SD_STATUS_DONE => Ok(run.replies),
+        sys::IOX2SD_STATUS_BAD_LINE => Err(ScriptError::BadLine {
             line: run.line,
             replies: run.replies,
         }),
-        sys::IOX2SD_NO_MEMORY => Err(ScriptError::NoMemory),
+        sys::IOX2SD_STATUS_NO_MEMORY => Err(ScriptError::NoMemory),
         other => library::unexpected(other),
     }
 }

@@ -35,9 +35,9 @@ errors! {
     /// ```
     SemanticStringError {
         /// The text is empty, or has a byte or a form, that its kind does not allow.
-        InvalidContent = IOX2SD_EMPTY | IOX2SD_ILLEGAL_BYTE | IOX2SD_NO_FILE_NAME,
+        InvalidContent = IOX2SD_STATUS_EMPTY | IOX2SD_STATUS_ILLEGAL_BYTE | IOX2SD_STATUS_NO_FILE_NAME,
         /// The text has more bytes than its kind allows. This is reported before an illegal byte.
-        ExceedsMaximumLength = IOX2SD_TOO_LONG,
+        ExceedsMaximumLength = IOX2SD_STATUS_TOO_LONG,
     }
 }
 
@@ -59,9 +59,9 @@ errors! {
     /// ```
     StringModificationError {
         /// The text has too many bytes. This is reported before an illegal byte.
-        InsertWouldExceedCapacity = IOX2SD_TOO_LONG,
+        InsertWouldExceedCapacity = IOX2SD_STATUS_TOO_LONG,
         /// The text has a byte that is not from 1 to 127.
-        InvalidCharacter = IOX2SD_ILLEGAL_BYTE,
+        InvalidCharacter = IOX2SD_STATUS_ILLEGAL_BYTE,
     }
 }
 

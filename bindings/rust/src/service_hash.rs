@@ -30,7 +30,7 @@ errors! {
     ServiceHashError {
         /// The text cannot be the name of a file. The library's hasher, SHA-1, is proved to make no such
         /// text.
-        IllegalText = IOX2SD_ILLEGAL_HASH,
+        IllegalText = IOX2SD_STATUS_ILLEGAL_HASH,
     }
 }
 

@@ -40,10 +40,10 @@ errors! {
     ServiceNameError {
         /// The name is empty, has a byte that is not from 1 to 127, or begins with the prefix of the
         /// system's own services where that is refused.
-        InvalidContent = IOX2SD_RESERVED_PREFIX | IOX2SD_EMPTY | IOX2SD_ILLEGAL_BYTE,
+        InvalidContent = IOX2SD_STATUS_RESERVED_PREFIX | IOX2SD_STATUS_EMPTY | IOX2SD_STATUS_ILLEGAL_BYTE,
         /// The name has more than [`ServiceName::max_len`] bytes. This is reported before an illegal
         /// byte.
-        ExceedsMaximumLength = IOX2SD_TOO_LONG,
+        ExceedsMaximumLength = IOX2SD_STATUS_TOO_LONG,
     }
 }
 

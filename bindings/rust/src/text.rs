@@ -131,15 +131,15 @@ choices! {
     #[non_exhaustive]
     TextCause of u32 in "semantic_string" {
         /// It has no byte.
-        Empty = IOX2SD_EMPTY, "the text is empty";
+        Empty = IOX2SD_STATUS_EMPTY, "the text is empty";
         /// It has more bytes than its kind allows.
-        TooLong = IOX2SD_TOO_LONG, "the text is too long";
+        TooLong = IOX2SD_STATUS_TOO_LONG, "the text is too long";
         /// It has a byte that its kind does not allow.
-        IllegalByte = IOX2SD_ILLEGAL_BYTE, "a byte may not stand in the text";
+        IllegalByte = IOX2SD_STATUS_ILLEGAL_BYTE, "a byte may not stand in the text";
         /// It is no name of a file, or does not end in one: it is `.` or `..`, or ends in `/`.
-        NoFileName = IOX2SD_NO_FILE_NAME, "not the name of a file";
+        NoFileName = IOX2SD_STATUS_NO_FILE_NAME, "not the name of a file";
         /// It begins with the prefix of the system's own services.
-        ReservedPrefix = IOX2SD_RESERVED_PREFIX, "the name begins with a reserved prefix";
+        ReservedPrefix = IOX2SD_STATUS_RESERVED_PREFIX, "the name begins with a reserved prefix";
     }
 }
 
@@ -167,7 +167,7 @@ pub struct TextFault {
 impl TextFault {
     /// The answer of a check: the fault, if there is one.
     pub(crate) fn checked(answer: &sys::iox2sd_place_answer) -> Result<(), Self> {
-        if answer.status == sys::IOX2SD_DONE {
+        if answer.status == sys::IOX2SD_STATUS_DONE {
             return Ok(());
         }
         Err(TextFault {

@@ -28,7 +28,7 @@ errors! {
     /// ```
     AttributeDefinitionError {
         /// There are as many already as there may be.
-        ExceedsMaxSupportedAttributes = IOX2SD_TOO_MANY | IOX2SD_TOO_MANY_REQUIRED,
+        ExceedsMaxSupportedAttributes = IOX2SD_STATUS_TOO_MANY | IOX2SD_STATUS_TOO_MANY_REQUIRED,
     }
 }
 
@@ -162,7 +162,7 @@ impl AttributeSet {
                 let is_it = |a: &&Attribute| a.key() == key && a.value().as_str() == text;
                 self.iter().find(is_it).map(Attribute::value)
             }
-            Err(sys::IOX2SD_NO_SUCH_VALUE) => None,
+            Err(sys::IOX2SD_STATUS_NO_SUCH_VALUE) => None,
             Err(other) => library::unexpected(other),
         }
     }

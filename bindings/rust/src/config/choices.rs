@@ -13,9 +13,9 @@ choices! {
     /// ```
     BackpressureStrategy of u32 in "config" {
         /// It tries again until the receiver can take the message.
-        RetryUntilDelivered = IOX2SD_RETRY_UNTIL_DELIVERED;
+        RetryUntilDelivered = IOX2SD_BACKPRESSURE_RETRY_UNTIL_DELIVERED;
         /// It skips this receiver.
-        DiscardData = IOX2SD_DISCARD_DATA;
+        DiscardData = IOX2SD_BACKPRESSURE_DISCARD_DATA;
     }
 }
 
@@ -50,9 +50,9 @@ choices! {
     /// ```
     DataSegmentType of u32 in "config" {
         /// It may be replaced by a larger one.
-        Dynamic = IOX2SD_DYNAMIC_SEGMENT;
+        Dynamic = IOX2SD_SEGMENT_DYNAMIC;
         /// It keeps its size.
-        Static = IOX2SD_STATIC_SEGMENT;
+        Static = IOX2SD_SEGMENT_STATIC;
     }
 }
 

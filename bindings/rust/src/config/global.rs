@@ -96,21 +96,21 @@ files! {
     /// ```
     Service of service {
         /// The directory of services, below the root path.
-        directory: Path = service_directory IOX2SD_SERVICE_DIRECTORY,
+        directory: Path = service_directory IOX2SD_TEXT_SERVICE_DIRECTORY,
         /// The end of the name of a port's data segment.
-        data_segment_suffix: FileName = data_segment_suffix IOX2SD_DATA_SEGMENT_SUFFIX,
+        data_segment_suffix: FileName = data_segment_suffix IOX2SD_TEXT_DATA_SEGMENT_SUFFIX,
         /// The end of the name of a service's static configuration.
-        static_config_storage_suffix: FileName = static_config_storage_suffix IOX2SD_STATIC_CONFIG_STORAGE_SUFFIX,
+        static_config_storage_suffix: FileName = static_config_storage_suffix IOX2SD_TEXT_STATIC_CONFIG_STORAGE_SUFFIX,
         /// The end of the name of a service's dynamic configuration.
-        dynamic_config_storage_suffix: FileName = dynamic_config_storage_suffix IOX2SD_DYNAMIC_CONFIG_STORAGE_SUFFIX,
+        dynamic_config_storage_suffix: FileName = dynamic_config_storage_suffix IOX2SD_TEXT_DYNAMIC_CONFIG_STORAGE_SUFFIX,
         /// The end of the name of a connection between two ports.
-        connection_suffix: FileName = connection_suffix IOX2SD_CONNECTION_SUFFIX,
+        connection_suffix: FileName = connection_suffix IOX2SD_TEXT_CONNECTION_SUFFIX,
         /// The end of the name of a connection for events.
-        event_connection_suffix: FileName = event_connection_suffix IOX2SD_EVENT_CONNECTION_SUFFIX,
+        event_connection_suffix: FileName = event_connection_suffix IOX2SD_TEXT_EVENT_CONNECTION_SUFFIX,
         /// The end of the name of the segment by which a blackboard is managed.
-        blackboard_mgmt_suffix: FileName = blackboard_mgmt_suffix IOX2SD_BLACKBOARD_MGMT_SUFFIX,
+        blackboard_mgmt_suffix: FileName = blackboard_mgmt_suffix IOX2SD_TEXT_BLACKBOARD_MGMT_SUFFIX,
         /// The end of the name of the segment with a blackboard's values.
-        blackboard_data_suffix: FileName = blackboard_data_suffix IOX2SD_BLACKBOARD_DATA_SUFFIX,
+        blackboard_data_suffix: FileName = blackboard_data_suffix IOX2SD_TEXT_BLACKBOARD_DATA_SUFFIX,
     } and {
         /// Whether somebody who opens a service first removes what dead nodes left; so by default.
         cleanup_dead_nodes_on_open,
@@ -130,17 +130,17 @@ files! {
     /// ```
     Node of node {
         /// The directory of nodes, below the root path.
-        directory: Path = node_directory IOX2SD_NODE_DIRECTORY,
+        directory: Path = node_directory IOX2SD_TEXT_NODE_DIRECTORY,
         /// The end of the name of the token by which others see that a node lives.
-        monitor_suffix: FileName = monitor_suffix IOX2SD_MONITOR_SUFFIX,
+        monitor_suffix: FileName = monitor_suffix IOX2SD_TEXT_MONITOR_SUFFIX,
         /// The end of the name of a node's static configuration.
-        static_config_suffix: FileName = node_static_config_suffix IOX2SD_NODE_STATIC_CONFIG_SUFFIX,
+        static_config_suffix: FileName = node_static_config_suffix IOX2SD_TEXT_NODE_STATIC_CONFIG_SUFFIX,
         /// The end of the name of the tag that a node leaves for each service that it uses.
-        service_tag_suffix: FileName = service_tag_suffix IOX2SD_SERVICE_TAG_SUFFIX,
+        service_tag_suffix: FileName = service_tag_suffix IOX2SD_TEXT_SERVICE_TAG_SUFFIX,
         /// The end of the name of the tag that a node leaves for each of its ports.
-        port_tag_suffix: FileName = port_tag_suffix IOX2SD_PORT_TAG_SUFFIX,
+        port_tag_suffix: FileName = port_tag_suffix IOX2SD_TEXT_PORT_TAG_SUFFIX,
         /// The end of the name of the segment with which nodes are managed.
-        global_mgmt_suffix: FileName = global_mgmt_suffix IOX2SD_GLOBAL_MGMT_SUFFIX,
+        global_mgmt_suffix: FileName = global_mgmt_suffix IOX2SD_TEXT_GLOBAL_MGMT_SUFFIX,
     } and {
         /// Whether somebody who creates a node first removes what dead nodes left; so by default.
         cleanup_dead_nodes_on_creation,
@@ -191,8 +191,8 @@ impl Default for Global {
 impl Global {
     fn made(settings: &sys::iox2sd_global_settings, texts: &Texts<'_>) -> Self {
         Global {
-            root_path: texts.text(sys::IOX2SD_ROOT_PATH, |texts| &texts.root_path),
-            prefix: texts.text(sys::IOX2SD_PREFIX, |texts| &texts.prefix),
+            root_path: texts.text(sys::IOX2SD_TEXT_ROOT_PATH, |texts| &texts.root_path),
+            prefix: texts.text(sys::IOX2SD_TEXT_PREFIX, |texts| &texts.prefix),
             service: Service::of(settings, texts),
             node: Node::of(settings, texts),
             creation_timeout: Duration::of_c(&settings.creation_timeout),

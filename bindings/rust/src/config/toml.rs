@@ -103,20 +103,20 @@ impl Fault {
         use SemanticStringError::{ExceedsMaximumLength, InvalidContent};
         let wanted = || SettingKind::of_c(&fault.wanted);
         match fault.status {
-            sys::IOX2SD_WRONG_TYPE => Fault::WrongType {
+            sys::IOX2SD_STATUS_WRONG_TYPE => Fault::WrongType {
                 found: TomlType::of_c(&fault.found),
                 wanted: wanted(),
             },
-            sys::IOX2SD_BELOW_ZERO => Fault::BelowZero,
-            sys::IOX2SD_BAD_PATH => Fault::NoPath(InvalidContent),
-            sys::IOX2SD_NO_FILE_NAME => Fault::NoFileName(InvalidContent),
-            sys::IOX2SD_TOO_LONG if wanted() == SettingKind::Path => {
+            sys::IOX2SD_STATUS_BELOW_ZERO => Fault::BelowZero,
+            sys::IOX2SD_STATUS_BAD_PATH => Fault::NoPath(InvalidContent),
+            sys::IOX2SD_STATUS_NO_FILE_NAME => Fault::NoFileName(InvalidContent),
+            sys::IOX2SD_STATUS_TOO_LONG if wanted() == SettingKind::Path => {
                 Fault::NoPath(ExceedsMaximumLength)
             }
-            sys::IOX2SD_TOO_LONG => Fault::NoFileName(ExceedsMaximumLength),
-            sys::IOX2SD_UNKNOWN_VARIANT => Fault::UnknownVariant(wanted()),
-            sys::IOX2SD_NO_DURATION => Fault::NoDuration,
-            sys::IOX2SD_BAD_DURATION => Fault::NanosTooLarge,
+            sys::IOX2SD_STATUS_TOO_LONG => Fault::NoFileName(ExceedsMaximumLength),
+            sys::IOX2SD_STATUS_UNKNOWN_VARIANT => Fault::UnknownVariant(wanted()),
+            sys::IOX2SD_STATUS_NO_DURATION => Fault::NoDuration,
+            sys::IOX2SD_STATUS_BAD_DURATION => Fault::NanosTooLarge,
             other => library::unexpected(other),
         }
     }
@@ -299,7 +299,7 @@ impl fmt::Display for ConfigWriteError {
     fn fmt(&self, f: &mut fmt::Formatter<'_>) -> fmt::Result {
         match self {
             ConfigWriteError::OutOfRange { key } => {
-                let reason = library::status_text(sys::IOX2SD_NO_TOML_INTEGER);
+                let reason = library::status_text(sys::IOX2SD_STATUS_NO_TOML_INTEGER);
                 padded(f, format_args!("{key}: {}", reason.unwrap_or_default()))
             }
             ConfigWriteError::NoMemory => f.pad("no memory"),
@@ -317,11 +317,11 @@ fn front(bytes: &[u8], length: usize) -> String {
 /// Why a text with this first fault gives no settings.
 fn refusal(text: &str, first: &sys::iox2sd_config_fault) -> ConfigError {
     match first.status {
-        sys::IOX2SD_NO_MEMORY => return ConfigError::NoMemory,
-        sys::IOX2SD_NOT_TOML => {
+        sys::IOX2SD_STATUS_NO_MEMORY => return ConfigError::NoMemory,
+        sys::IOX2SD_STATUS_NOT_TOML => {
             return ConfigError::NotToml(front(&first.reason, first.reason_length))
         }
-        sys::IOX2SD_TOO_DEEP => {
+        sys::IOX2SD_STATUS_TOO_DEEP => {
             return ConfigError::TooDeep(front(&first.reason, first.reason_length))
         }
         _ => {}
@@ -341,7 +341,7 @@ fn refusal(text: &str, first: &sys::iox2sd_config_fault) -> ConfigError {
 fn unknown(text: &str) -> Result<Vec<UnknownKey>, ConfigError> {
     let (keys, paths) = match library::config_unknown(text) {
         Ok(found) => found,
-        Err(sys::IOX2SD_NO_MEMORY) => return Err(ConfigError::NoMemory),
+        Err(sys::IOX2SD_STATUS_NO_MEMORY) => return Err(ConfigError::NoMemory),
         Err(other) => library::unexpected(other),
     };
     let mut rest = paths.as_str();
@@ -461,10 +461,10 @@ impl Config {
     /// ```
     pub fn to_toml(&self) -> Result<String, ConfigWriteError> {
         library::config_write(self).map_err(|answer| match answer.status {
-            sys::IOX2SD_NO_TOML_INTEGER => ConfigWriteError::OutOfRange {
+            sys::IOX2SD_STATUS_NO_TOML_INTEGER => ConfigWriteError::OutOfRange {
                 key: front(&answer.key, answer.key_length),
             },
-            sys::IOX2SD_NO_MEMORY => ConfigWriteError::NoMemory,
+            sys::IOX2SD_STATUS_NO_MEMORY => ConfigWriteError::NoMemory,
             other => library::unexpected(other),
         })
     }

@@ -43,9 +43,9 @@ errors! {
     /// ```
     RegisterNodeResult {
         /// The service is locked for good, since its last node left. This is reported first.
-        MarkedForDestruction = IOX2SD_IS_LOCKED,
+        MarkedForDestruction = IOX2SD_STATUS_IS_LOCKED,
         /// There are as many nodes as there may be, or no ticket is left.
-        ExceedsMaxNumberOfNodes = IOX2SD_OUT_OF_SPACE,
+        ExceedsMaxNumberOfNodes = IOX2SD_STATUS_OUT_OF_SPACE,
     }
 }
 
@@ -101,9 +101,9 @@ errors! {
     #[non_exhaustive]
     DeregisterError {
         /// No node of the service has this handle. This is reported first.
-        ContainerHandleNotOwnedByContainer = IOX2SD_FOREIGN_HANDLE,
+        ContainerHandleNotOwnedByContainer = IOX2SD_STATUS_FOREIGN_HANDLE,
         /// The handle is the only one of its node, and some port has that node.
-        PortsStillAttached = IOX2SD_PORTS_STILL_ATTACHED,
+        PortsStillAttached = IOX2SD_STATUS_PORTS_STILL_ATTACHED,
     }
 }
 
@@ -128,13 +128,13 @@ errors! {
     #[non_exhaustive]
     AttachError {
         /// The pattern of the service has no such ports.
-        RoleNotInPattern = IOX2SD_ROLE_NOT_IN_PATTERN,
+        RoleNotInPattern = IOX2SD_STATUS_ROLE_NOT_IN_PATTERN,
         /// The service is locked for good, since its last node left.
-        ServiceIsLocked = IOX2SD_IS_LOCKED,
+        ServiceIsLocked = IOX2SD_STATUS_IS_LOCKED,
         /// The port's node is not registered.
-        NodeNotRegistered = IOX2SD_NODE_NOT_REGISTERED,
+        NodeNotRegistered = IOX2SD_STATUS_NODE_NOT_REGISTERED,
         /// There are as many ports of this kind as there may be, or no ticket is left.
-        OutOfSpace = IOX2SD_OUT_OF_SPACE,
+        OutOfSpace = IOX2SD_STATUS_OUT_OF_SPACE,
     }
 }
 

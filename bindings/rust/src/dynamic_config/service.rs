@@ -295,7 +295,7 @@ impl DynamicConfig {
         };
         match Service::make(kind.as_c(), service_number, capacities, tickets) {
             Ok(service) => Ok(Self::of(kind, service)),
-            Err(sys::IOX2SD_NO_MEMORY) => Err(AllocError),
+            Err(sys::IOX2SD_STATUS_NO_MEMORY) => Err(AllocError),
             Err(other) => library::unexpected(other),
         }
     }

@@ -97,9 +97,9 @@ pub(crate) fn verify(
         )
     };
     match answer.status {
-        sys::IOX2SD_DONE => Ok(None),
-        sys::IOX2SD_MISSING_PAIR => Ok(Some(Missing::Pair(answer.at))),
-        sys::IOX2SD_MISSING_KEY => Ok(Some(Missing::Key(answer.at))),
+        sys::IOX2SD_STATUS_DONE => Ok(None),
+        sys::IOX2SD_STATUS_MISSING_PAIR => Ok(Some(Missing::Pair(answer.at))),
+        sys::IOX2SD_STATUS_MISSING_KEY => Ok(Some(Missing::Key(answer.at))),
         refusal => Err(refusal),
     }
 }

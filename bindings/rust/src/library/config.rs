@@ -27,7 +27,7 @@ pub(crate) fn config_read(text: &str) -> Result<Settings, Fault> {
     // SAFETY: the pointers are those of one slice and one struct, which do not overlap.
     let answer = unsafe { sys::iox2sd_config_read_at(text.as_ptr(), text.len(), &mut *made, 1) };
     match answer.status {
-        sys::IOX2SD_DONE => Ok(made),
+        sys::IOX2SD_STATUS_DONE => Ok(made),
         _ => Err(Box::new(answer.fault)),
     }
 }
@@ -41,8 +41,8 @@ pub(crate) fn config_faults(text: &str) -> Result<Vec<sys::iox2sd_config_fault>,
         let answer =
             unsafe { sys::iox2sd_config_faults_at(text.as_ptr(), text.len(), out, capacity) };
         match answer.status {
-            sys::IOX2SD_DONE => return Ok(faults),
-            sys::IOX2SD_BUFFER_TOO_SHORT => faults.resize_with(answer.count, zeroed),
+            sys::IOX2SD_STATUS_DONE => return Ok(faults),
+            sys::IOX2SD_STATUS_BUFFER_TOO_SHORT => faults.resize_with(answer.count, zeroed),
             refusal => return Err(refusal),
         }
     }
@@ -64,11 +64,11 @@ pub(crate) fn config_unknown(text: &str) -> Result<(Vec<sys::iox2sd_unknown_key>
             )
         };
         match answer.status {
-            sys::IOX2SD_DONE => {
+            sys::IOX2SD_STATUS_DONE => {
                 let paths = String::from_utf8(paths).expect("the library writes texts");
                 return Ok((keys, paths));
             }
-            sys::IOX2SD_BUFFER_TOO_SHORT => {
+            sys::IOX2SD_STATUS_BUFFER_TOO_SHORT => {
                 keys.resize_with(answer.count, zeroed);
                 paths.resize(answer.length, 0);
             }
@@ -86,10 +86,10 @@ pub(crate) fn config_write(config: &Config) -> Result<String, Unwritten> {
         let answer =
             unsafe { sys::iox2sd_config_write_at(&*given, 1, out.as_mut_ptr(), out.len()) };
         match answer.status {
-            sys::IOX2SD_DONE => {
+            sys::IOX2SD_STATUS_DONE => {
                 return Ok(String::from_utf8(out).expect("the library writes texts"))
             }
-            sys::IOX2SD_BUFFER_TOO_SHORT => out.resize(answer.length, 0),
+            sys::IOX2SD_STATUS_BUFFER_TOO_SHORT => out.resize(answer.length, 0),
             _ => return Err(Box::new(answer)),
         }
     }

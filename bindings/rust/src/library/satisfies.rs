@@ -22,8 +22,8 @@ macro_rules! compared {
                     // SAFETY: the pointers are those of one struct each.
                     let answer = unsafe { sys::$export(&service, 1, &required, 1) };
                     match answer.status {
-                        sys::IOX2SD_DONE => None,
-                        sys::IOX2SD_UNMET => Some(Setting::of_c(&answer.field)),
+                        sys::IOX2SD_STATUS_DONE => None,
+                        sys::IOX2SD_STATUS_UNMET => Some(Setting::of_c(&answer.field)),
                         other => unexpected(other),
                     }
                 }

@@ -190,7 +190,7 @@ impl Service {
         // SAFETY: the export writes so.
         match unsafe { listed(call, read) } {
             Ok(ports) => Some(ports),
-            Err(sys::IOX2SD_ROLE_NOT_IN_PATTERN) => None,
+            Err(sys::IOX2SD_STATUS_ROLE_NOT_IN_PATTERN) => None,
             Err(other) => unexpected(other),
         }
     }
@@ -220,7 +220,7 @@ impl Drop for Service {
 ///
 /// # Safety
 ///
-/// The call is passed a pointer to memory for so many items. It answers `IOX2SD_DONE` with a count
+/// The call is passed a pointer to memory for so many items. It answers `IOX2SD_STATUS_DONE` with a count
 /// only where it wrote so many, and the same count of a second call as of the first.
 #[inline]
 unsafe fn listed<T, R>(
@@ -229,7 +229,7 @@ unsafe fn listed<T, R>(
 ) -> Result<R, u32> {
     let mut short = MaybeUninit::<[T; SHORT]>::uninit();
     let answer = call(short.as_mut_ptr().cast(), SHORT);
-    if answer.status == sys::IOX2SD_BUFFER_TOO_SHORT {
+    if answer.status == sys::IOX2SD_STATUS_BUFFER_TOO_SHORT {
         let mut long = Vec::with_capacity(answer.count);
         done(call(long.as_mut_ptr(), answer.count).status)?;
         // SAFETY: the call wrote so many.
@@ -246,8 +246,8 @@ unsafe fn listed<T, R>(
 #[inline]
 fn locked(status: u32) -> Result<bool, u32> {
     match status {
-        sys::IOX2SD_DONE => Ok(false),
-        sys::IOX2SD_DONE_LOCKED => Ok(true),
+        sys::IOX2SD_STATUS_DONE => Ok(false),
+        sys::IOX2SD_STATUS_DONE_LOCKED => Ok(true),
         refusal => Err(refusal),
     }
 }
@@ -256,7 +256,7 @@ fn locked(status: u32) -> Result<bool, u32> {
 #[inline]
 fn granted<T>(status: u32, answer: T) -> T {
     match status {
-        sys::IOX2SD_DONE => answer,
+        sys::IOX2SD_STATUS_DONE => answer,
         other => unexpected(other),
     }
 }
@@ -265,8 +265,8 @@ fn granted<T>(status: u32, answer: T) -> T {
 #[inline]
 fn of_role<T>(status: u32, answer: T) -> Option<T> {
     match status {
-        sys::IOX2SD_DONE => Some(answer),
-        sys::IOX2SD_ROLE_NOT_IN_PATTERN => None,
+        sys::IOX2SD_STATUS_DONE => Some(answer),
+        sys::IOX2SD_STATUS_ROLE_NOT_IN_PATTERN => None,
         other => unexpected(other),
     }
 }
@@ -275,8 +275,8 @@ fn of_role<T>(status: u32, answer: T) -> Option<T> {
 #[inline]
 fn of_handle<T>(status: u32, answer: T) -> Option<T> {
     match status {
-        sys::IOX2SD_DONE => Some(answer),
-        sys::IOX2SD_FOREIGN_HANDLE => None,
+        sys::IOX2SD_STATUS_DONE => Some(answer),
+        sys::IOX2SD_STATUS_FOREIGN_HANDLE => None,
         other => unexpected(other),
     }
 }

@@ -118,7 +118,7 @@ impl TryFrom<&str> for TypeName {
     /// ([`InvalidCharacter`](StringModificationError::InvalidCharacter)).
     fn try_from(name: &str) -> Result<Self, StringModificationError> {
         match library::check_type_name(name) {
-            sys::IOX2SD_DONE => Ok(TypeName {
+            sys::IOX2SD_STATUS_DONE => Ok(TypeName {
                 text: Text::copy_of(name),
             }),
             refusal => Err(StringModificationError::of(refusal)),
@@ -226,8 +226,8 @@ impl TypeDetail {
             alignment,
         };
         match library::check_type(&detail) {
-            sys::IOX2SD_DONE => Ok(detail),
-            sys::IOX2SD_BAD_ALIGNMENT => Err(TypeDetailError::AlignmentNotPowerOfTwo),
+            sys::IOX2SD_STATUS_DONE => Ok(detail),
+            sys::IOX2SD_STATUS_BAD_ALIGNMENT => Err(TypeDetailError::AlignmentNotPowerOfTwo),
             other => library::unexpected(other),
         }
     }
@@ -284,10 +284,10 @@ errors! {
     #[non_exhaustive]
     LayoutError {
         /// The details of a part were not given: they are the default ones.
-        DetailsNotGiven = IOX2SD_BAD_ALIGNMENT,
+        DetailsNotGiven = IOX2SD_STATUS_BAD_ALIGNMENT,
         /// A message would need more than 2^63 - 1 bytes, or the offset of its payload would pass
         /// 2^64 - 1.
-        TooLarge = IOX2SD_TOO_LARGE,
+        TooLarge = IOX2SD_STATUS_TOO_LARGE,
     }
 }
 
@@ -340,7 +340,7 @@ impl MessageTypeDetails {
     /// ```
     #[must_use]
     pub fn has_alignments(&self) -> bool {
-        library::layout(self, 0) != Err(sys::IOX2SD_BAD_ALIGNMENT)
+        library::layout(self, 0) != Err(sys::IOX2SD_STATUS_BAD_ALIGNMENT)
     }
 
     /// Whether a message with its header at the offset `header` has an offset for its payload.
@@ -477,7 +477,7 @@ impl MessageTypeDetails {
     /// ```
     pub fn check_compatible_to(&self, rhs: &Self) -> Result<(), Incompatibility> {
         let answer = library::compatible(self, rhs);
-        if answer.status == sys::IOX2SD_DONE {
+        if answer.status == sys::IOX2SD_STATUS_DONE {
             return Ok(());
         }
         Err(Incompatibility {
@@ -496,11 +496,11 @@ choices! {
     /// ```
     MessagePart of u32 in "static_config::message_type_details" {
         /// The header, which belongs to the system.
-        Header = IOX2SD_HEADER, "header";
+        Header = IOX2SD_PART_HEADER, "header";
         /// The user header.
-        UserHeader = IOX2SD_USER_HEADER, "user header";
+        UserHeader = IOX2SD_PART_USER_HEADER, "user header";
         /// The payload.
-        Payload = IOX2SD_PAYLOAD, "payload";
+        Payload = IOX2SD_PART_PAYLOAD, "payload";
     }
 }
 
@@ -514,17 +514,17 @@ choices! {
     #[non_exhaustive]
     IncompatibilityCause of u32 in "static_config::message_type_details" {
         /// Its details were not given, by the opener or by the service.
-        DetailsNotGiven = IOX2SD_BAD_ALIGNMENT, "no details";
+        DetailsNotGiven = IOX2SD_STATUS_BAD_ALIGNMENT, "no details";
         /// The names of the types differ.
-        OtherName = IOX2SD_OTHER_NAME, "another type name";
+        OtherName = IOX2SD_STATUS_OTHER_NAME, "another type name";
         /// The numbers of values differ: one, and any number.
-        OtherVariant = IOX2SD_OTHER_VARIANT, "another variant";
+        OtherVariant = IOX2SD_STATUS_OTHER_VARIANT, "another variant";
         /// The sizes differ.
-        OtherSize = IOX2SD_OTHER_SIZE, "another size";
+        OtherSize = IOX2SD_STATUS_OTHER_SIZE, "another size";
         /// The alignments of the headers differ.
-        OtherAlignment = IOX2SD_OTHER_ALIGNMENT, "another alignment";
+        OtherAlignment = IOX2SD_STATUS_OTHER_ALIGNMENT, "another alignment";
         /// The opener's alignment is greater than the service's.
-        GreaterAlignment = IOX2SD_GREATER_ALIGNMENT, "a greater alignment than the service's";
+        GreaterAlignment = IOX2SD_STATUS_GREATER_ALIGNMENT, "a greater alignment than the service's";
     }
 }
 

@@ -58,7 +58,7 @@ impl fmt::Display for Unmet {
             Unmet::ResponseTypes(cause) => padded(f, format_args!("of responses, {cause}")),
             Unmet::KeyType(cause) => padded(f, format_args!("the key has {cause}")),
             Unmet::Setting(setting) => {
-                let reason = library::status_text(sys::IOX2SD_UNMET).unwrap_or_default();
+                let reason = library::status_text(sys::IOX2SD_STATUS_UNMET).unwrap_or_default();
                 padded(f, format_args!("{setting}: {reason}"))
             }
         }
