@@ -206,15 +206,16 @@ hundredths() {
                 END { print int(least) }'
 }
 
-# A header that is included takes at most so many hundredths of a second more than <iostream> alone.
+# The header beside <iostream> takes at most so many hundredths of the time of <iostream> alone more:
+# a ratio, since times grow on a busy machine.
 include_takes() {
     local most=$1 alone taken
     echo '#include <iostream>' > "$work/alone.cpp"
     printf '#include <iostream>\n#include "iox2sd.hpp"\n' > "$work/beside.cpp"
     alone=$(hundredths "${@:2}" -fsyntax-only -I../include "$work/alone.cpp")
     taken=$(hundredths "${@:2}" -fsyntax-only -I../include "$work/beside.cpp")
-    echo "$((taken - alone)) hundredths beside $alone, at most $most"
-    [ "$((taken - alone))" -le "$most" ]
+    echo "$((taken - alone)) hundredths of a second beside $alone, at most $most of each 100"
+    [ "$(((taken - alone) * 100))" -le "$((most * alone))" ]
 }
 
 # Of all warnings of clang++ -Weverything, those about older standards and about padding alone are
@@ -226,8 +227,8 @@ if has g++ && has /usr/bin/time; then
     run "an include of iox2sd.hpp takes at most 100 MB" include_costs 102400 g++ -std=c++17
     for compiler in g++ clang++; do
         if has "$compiler"; then
-            run "$compiler: an include of iox2sd.hpp takes at most 0.25 s beside <iostream>" \
-                include_takes 25 "$compiler" -std=c++17
+            run "$compiler: an include of iox2sd.hpp beside <iostream> takes at most 2.4 times as long" \
+                include_takes 140 "$compiler" -std=c++17
         fi
     done
 fi
